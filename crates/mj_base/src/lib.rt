@@ -1,0 +1,14 @@
+//! Ids, spans, small lists, numbers in bytes, and what a message header is.
+#![tactic(auto)]
+
+mod bytes;
+mod header;
+mod ids;
+mod items;
+mod text;
+
+pub use bytes::{le16, le32, le64, push_le32, round8};
+pub use header::Header;
+pub use ids::{EndId, SeqId, Span};
+pub use items::Items;
+pub use text::Text;

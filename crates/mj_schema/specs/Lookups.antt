@@ -1,0 +1,20 @@
+-- What a schema has under a name or a number.
+use Rattle.std.specs.Prelude.{ℕ, ◌==◌, List, Option, Some, None, find, position, slice_get}
+use Rattle.std.specs.Prelude.{option_and_then}
+use Rattle.std.specs.Str.{bytes_eq}
+use Rattle.mj_schema.specs.declared.schema.Schema.{Schema}
+use Rattle.mj_schema.specs.declared.rows.InterfaceRow.{InterfaceRow}
+use Rattle.mj_schema.specs.declared.rows.MethodRow.{MethodRow}
+use Rattle.mj_schema.specs.declared.rows.StructRow.{StructRow}
+
+-- the number of the interface of this full name
+abbrev pub interface_number : Schema → List ℕ → Option ℕ
+interface_number schema name = position (λ (i : InterfaceRow). bytes_eq i.name name) schema.interfaces
+
+-- an interface's method of this ordinal
+abbrev pub method_of : Schema → ℕ → ℕ → Option MethodRow
+method_of schema interface ordinal = option_and_then (λ (i : InterfaceRow). find (λ (m : MethodRow). m.ordinal == ordinal) i.methods) (slice_get schema.interfaces interface)
+
+-- the struct of that method's parameters
+abbrev pub request_of : Schema → ℕ → ℕ → Option StructRow
+request_of schema interface ordinal = option_and_then (λ (m : MethodRow). slice_get schema.structs m.request) (method_of schema interface ordinal)

@@ -1,0 +1,55 @@
+//! The schema and its look-ups.
+
+ghost use Rattle.std.specs.Prelude.{◌≡◌, ◌<◌, ◌^◌, ◌==◌, length, find};
+ghost use Rattle.std.specs.Option.{option_copied};
+
+use crate::rows::{InterfaceRow, MethodRow, StructRow};
+use mj_base::Items;
+
+/// All structs and interfaces of a file, each list in the order in which the file has them.
+#[derive(Drop)]
+pub struct Schema {
+    pub structs: Items<StructRow>,
+    pub interfaces: Items<InterfaceRow>,
+    pub ghost few: { length interfaces < 2 ^ 32 },
+}
+
+impl Schema {
+    ghost use Rattle.mj_schema.specs.Lookups.{interface_number, method_of, request_of};
+
+    /// The number of the interface of this full name; none exactly where no interface has it.
+    pub fn find_interface(&self, name: &str) -> Option<u32>
+        ensures { result ≡ interface_number self.now name.now }
+    {
+        for (number, interface) in self.interfaces.as_slice().iter().enumerate() {
+            if interface.name.as_str() == name {
+                return Some(number as u32);
+            }
+        }
+        None
+    }
+
+    /// The method of this ordinal; none exactly where the interface isn't there or has none.
+    pub fn method(&self, interface: u32, ordinal: u32) -> Option<&MethodRow>
+        ensures { option_copied result ≡ method_of self.now interface ordinal }
+    {
+        let row = self.interfaces.as_slice().get(interface as usize)?;
+        of_ordinal(row.methods.as_slice(), ordinal)
+    }
+
+    /// The struct of the parameters of a method; none exactly where the method or the struct isn't
+    /// there.
+    pub fn request(&self, interface: u32, ordinal: u32) -> Option<&StructRow>
+        ensures { option_copied result ≡ request_of self.now interface ordinal }
+    {
+        let method = self.method(interface, ordinal)?;
+        self.structs.as_slice().get(method.request as usize)
+    }
+}
+
+/// The method of this ordinal.
+fn of_ordinal(methods: &[MethodRow], ordinal: u32) -> Option<&MethodRow>
+    ensures { option_copied result ≡ find (λ method. method.ordinal == ordinal) methods.now }
+{
+    methods.iter().find(|method| method.ordinal == ordinal)
+}
