@@ -1,0 +1,10 @@
+//! The values of messages, their bytes, and what bytes stand for.
+#![tactic(auto)]
+
+mod target;
+mod wire_decoder;
+mod wire_encoder;
+
+pub use target::{MessageSide, Target, Value};
+pub use wire_decoder::Request;
+pub use wire_encoder::{Head, PrepareError, Prepared};
