@@ -1,0 +1,5 @@
+pub mod Ends
+pub mod Log
+pub mod Machine
+pub mod Ready
+pub mod Laws
