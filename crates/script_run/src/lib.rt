@@ -1,0 +1,2 @@
+//! Runs scripts.
+#![tactic(auto)]
