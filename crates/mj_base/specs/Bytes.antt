@@ -1,6 +1,5 @@
 -- Little-endian numbers in bytes: the least significant byte first.
 use Rattle.std.specs.Prelude.{ℕ, ◌+◌, ◌*◌, ◌/◌, ◌%◌, List, [], ◌∷◌, slice_index}
-use Rattle.std.specs.Int.{to_le_bytes, w32}
 
 -- the number of n bytes from a place on; what is past the end counts as 0
 abbrev pub le16_at : List ℕ → ℕ → ℕ

@@ -1,5 +1,5 @@
 -- The header of a message, as message_internal.h lays it out: u32 num_bytes, version, interface_id, name, flags, trace_nonce.
-use Rattle.std.specs.Prelude.{ℕ, ◌+◌, ◌-◌, ◌%◌, ◌==◌, ◌&&◌, ◌++◌, nat_le, Bool, List, length, Option, Some, None, if◌then◌else◌}
+use Rattle.std.specs.Prelude.{ℕ, ◌-◌, ◌%◌, ◌==◌, ◌&&◌, ◌++◌, nat_le, Bool, List, length, Option, Some, None, if◌then◌else◌}
 use Rattle.mj_base.specs.Bytes.{le32_at, le32_bytes}
 use Rattle.mj_base.specs.declared.header.Header.{Header}
 

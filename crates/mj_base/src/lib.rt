@@ -12,3 +12,6 @@ pub use header::Header;
 pub use ids::{EndId, SeqId, Span};
 pub use items::Items;
 pub use text::Text;
+
+#[cfg(test)]
+mod tests;

@@ -5,7 +5,6 @@ use Rattle.mj_base.specs.Bytes.{rounded8}
 use Rattle.mj_schema.specs.declared.rows.Kind.{Kind}
 use Rattle.mj_schema.specs.declared.rows.Kind.TheVariants.{Uint32}
 use Rattle.mj_schema.specs.declared.rows.FieldRow.{FieldRow}
-use Rattle.mj_schema.specs.declared.rows.VersionRow.{VersionRow}
 use Rattle.mj_schema.specs.declared.rows.StructRow.{StructRow}
 
 -- the size of a field in bytes

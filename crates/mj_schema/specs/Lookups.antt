@@ -1,5 +1,5 @@
 -- What a schema has under a name or a number.
-use Rattle.std.specs.Prelude.{ℕ, ◌==◌, List, Option, Some, None, find, position, slice_get}
+use Rattle.std.specs.Prelude.{ℕ, ◌==◌, List, Option, find, position, slice_get}
 use Rattle.std.specs.Prelude.{option_and_then}
 use Rattle.std.specs.Str.{bytes_eq}
 use Rattle.mj_schema.specs.declared.schema.Schema.{Schema}
