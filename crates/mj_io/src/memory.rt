@@ -27,13 +27,11 @@ pub struct MemoryFiles {
 }
 
 impl MemoryFiles {
-    ghost use Rattle.mj_io.specs.Told.{memory_state, failing_of, calls_of};
+    ghost use Rattle.mj_io.specs.Told.{memory_state};
 
     /// The files, and the numbers of the calls of `fetch`, counted from 0, that are to fail.
     pub fn new(files: Vec<NamedFile>, failing: Vec<u64>) -> MemoryFiles
-        ensures state { memory_state result ≡ record { told = Some (map named files.items); faults = 0; there = 0 } }
-        ensures failing { failing_of result ≡ failing.items }
-        ensures calls { calls_of result ≡ 0 }
+        ensures { memory_state result ≡ record { told = Some (map named files.items); faults = 0; there = 0 } }
     {
         MemoryFiles {
             files,

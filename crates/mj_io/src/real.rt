@@ -1,7 +1,8 @@
 //! Real files. They tell nothing but their faults.
 
-ghost use Rattle.std.specs.Prelude.{◌≡◌, ◌+◌, ◌≤◌, length, None};
+ghost use Rattle.std.specs.Prelude.{◌≡◌, ◌+◌, ◌≤◌, length, None, IfOk};
 ghost use Rattle.std.specs.Io.{StartsWith};
+ghost use Rattle.mj_io.specs.Reading.{ReadUpTo, TakesAtMost};
 
 use crate::{Fetched, Files, FilesError};
 use std::alloc::Global;
@@ -52,6 +53,8 @@ fn read_up_to<R: Read>(
     limit: u64,
     into: &mut Vec<u8>,
 ) -> Result<Fetched, FilesError>
+    ensures read { IfOk result (λ fetched. ReadUpTo (R.remaining reader.old) fetched limit into.old.items into.new.items) }
+    ensures took { TakesAtMost (limit + 1) (R.remaining reader.old) (R.remaining reader.new) }
     ensures kept { StartsWith into.new.items into.old.items }
     ensures short { length into.new.items ≤ length into.old.items + limit }
 {
