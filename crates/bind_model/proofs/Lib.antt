@@ -4,3 +4,7 @@ pub mod NewEnds
 pub mod Pipes
 pub mod Sound
 pub mod Fresh
+pub mod Order
+pub mod TightCalls
+pub mod Counting
+pub mod Places

@@ -1,6 +1,6 @@
 -- Legal histories name only what was made.
 use Rattle.std.proofs.Common.{◌≡◌, ◌<◌, ℕ, ◌+◌, Bool, true, false, List, [], ◌∷◌, ◌++◌, refl, ap, arith, inl, inr}
-use Rattle.std.specs.Prelude.{Some, None, if◌then◌else◌, ◌||◌, ◌==◌}
+use Rattle.std.specs.Prelude.{Option, Some, None, if◌then◌else◌, ◌||◌, ◌==◌}
 use Rattle.std.specs.List.{count_by}
 use Rattle.std.proofs.lemmas.List.{append-nil}
 use Rattle.std.proofs.lemmas.List.Sums.{sum_by-append}
@@ -168,3 +168,11 @@ sound_step schema seqs event past so o = record {
 pub sound : (schema : Schema) (seqs : ℕ) (past : List Event) → legal schema seqs past → Sound past
 sound schema seqs [] h = record { out_made = λ x e. e; bound_made = λ x b e. cc; bound_in = λ x b e. refl; pairs = none_paired; counted = λ x e. cc; mail_made = λ x e. refl; none_taken = λ x e. refl }
 sound schema seqs (event ∷ past) h = sound_step schema seqs event past (sound schema seqs past h.1) (outcome schema seqs past event.seq event.asked event.told h.0)
+
+-- an end that is out is not bound
+pub out_unbound : (past : List Event) → Sound past → (x : EndId) → is_out past x ≡ true → binding past x ≡ None
+out_unbound past so x o = go (binding past x) refl
+  where
+    go : (b : Option Binding) → binding past x ≡ b → b ≡ None
+    go None e = refl
+    go (Some b) e = absurd (let inside : is_out past x ≡ false = so.bound_in x b e in cc)
