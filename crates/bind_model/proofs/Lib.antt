@@ -8,3 +8,7 @@ pub mod Order
 pub mod TightCalls
 pub mod Counting
 pub mod Places
+pub mod Kept
+pub mod Sides
+pub mod Mail
+pub mod Said

@@ -54,7 +54,7 @@ module _ (ends : List EndId) (other : EndId → EndId) (a b : EndId) (old : AreP
       go true e = let there : has_end ends b ≡ true = rw (same_end-true b x e) h in cc
       go false e = refl
 
-  old_next : (x : EndId) → has_end ends x ≡ true → next x ≡ other x
+  pub old_next : (x : EndId) → has_end ends x ≡ true → next x ≡ other x
   old_next x h = next_old x (not_first x h) (not_second x h)
 
   is_old : (x : EndId) → same_end a x ≡ false → same_end b x ≡ false → has_end (ends ++ a ∷ b ∷ []) x ≡ true → has_end ends x ≡ true
