@@ -79,6 +79,10 @@ abbrev pub is_name : List ℕ → Bool
 is_name [] = false
 is_name (c ∷ cs) = is_small_letter c && (list_all is_name_byte cs && nat_le (length cs) 31)
 
+-- a word: no blank and no LF stands in it
+abbrev pub is_plain : List ℕ → Bool
+is_plain word = list_all (λ c. not ((c == 32) || (c == 10))) word
+
 -- whether no text stands twice
 abbrev pub are_distinct : List (List ℕ) → Bool
 are_distinct [] = true
@@ -110,12 +114,13 @@ abbrev pub IsLine : Schema → List Pipe → Line → Type 0
 IsLine schema pipes (Call pipe method value) = IsCall schema pipes pipe method value
 IsLine schema pipes (Take pipe end) = pipe < length pipes
 
--- a script of this schema: a pipe at least, no name twice, and 65,536 lines at most
+-- a script of this schema: a pipe at least, no name twice, words that hold no separator, and 65,536 lines at most
 pub record IsScript (schema : Schema) (script : Script) : Type 0 where
   pub some : 0 < length script.pipes
   pub pipes : AllByRecursion (IsPipe schema) script.pipes
   pub distinct : are_distinct (flat_map names_of script.pipes) ≡ true
   pub lines : AllByRecursion (IsLine schema script.pipes) script.lines
+  pub plain : AllByRecursion (λ (words : List (List ℕ)). list_all is_plain words ≡ true) (script_lines schema script)
   pub few : length (script_lines schema script) ≤ 65536
 
 -- the bytes spell the script
