@@ -1,1 +1,4 @@
 pub mod Spelling
+pub mod Pieces
+pub mod Values
+pub mod Reading

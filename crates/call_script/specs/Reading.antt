@@ -1,0 +1,68 @@
+-- What the readers of a script's parts answer: a part that is spelled so, or none where no such part is.
+use Rattle.std.specs.Prelude.{ℕ, zero, suc, ◌≡◌, ◌<◌, ◌^◌, ◌++◌, Bool, true, false, List, [], ◌∷◌, All, length, map, codes, Option, Some, None, if◌then◌else◌}
+use Rattle.std.specs.List.{flat_map, AllByRecursion}
+use Rattle.std.specs.Str.{bytes_eq}
+use Rattle.mj_schema.specs.declared.schema.Schema.{Schema}
+use Rattle.mj_schema.specs.declared.rows.StructRow.{StructRow}
+use Rattle.mj_schema.specs.Lookups.{request_of}
+use Rattle.call_script.specs.declared.script.Pipe.{Pipe}
+use Rattle.call_script.specs.declared.script.PipeEnd.{PipeEnd}
+use Rattle.call_script.specs.declared.script.PipeEnd.TheVariants.{First, Second}
+use Rattle.call_script.specs.declared.script.Line.{Line}
+use Rattle.call_script.specs.declared.script.Script.{Script}
+use Rattle.call_script.specs.Spelling.{IsPipe, IsLine, are_distinct, names_of, join_words, bind_lines, line_words, script_lines, name_at, interface_at, method_called, method_name, method_text, interface_name, is_name}
+
+-- the word names the method of this ordinal, which its name finds
+pub record NamesMethod (schema : Schema) (interface : ℕ) (word : List ℕ) (ordinal : ℕ) : Type 0 where
+  pub found : method_called schema interface (method_name schema interface ordinal) ≡ Some ordinal
+  pub spelled : word ≡ method_text schema interface ordinal
+
+-- the method of this ordinal has so many parameters
+pub record HasParameters (schema : Schema) (interface ordinal count : ℕ) : Type 0 where
+  pub row : StructRow
+  pub there : request_of schema interface ordinal ≡ Some row
+  pub counted : count ≡ length row.fields
+
+-- a call on a pipe whose first end has this name, of the method that the word names, with so many numbers
+pub record IsCallOn (schema : Schema) (pipe : Pipe) (name word : List ℕ) (count ordinal : ℕ) : Type 0 where
+  pub end : pipe.first ≡ name
+  pub method : NamesMethod schema pipe.interface word ordinal
+  pub parameters : HasParameters schema pipe.interface ordinal count
+
+abbrev pub SpellsPipe : Schema → List (List ℕ) → List (List (List ℕ)) → Option Pipe → Type 0
+SpellsPipe schema join binds (Some pipe) = IsPipe schema pipe × (join ≡ join_words pipe) × (binds ≡ bind_lines schema pipe)
+SpellsPipe schema join binds None = (pipe : Pipe) → IsPipe schema pipe → join ≡ join_words pipe → binds ≡ bind_lines schema pipe → ⊥
+
+abbrev pub SpellsLine : Schema → List Pipe → List (List ℕ) → Option Line → Type 0
+SpellsLine schema pipes words (Some line) = IsLine schema pipes line × (words ≡ line_words schema pipes line)
+SpellsLine schema pipes words None = (line : Line) → IsLine schema pipes line → words ≡ line_words schema pipes line → ⊥
+
+-- the joins and what is behind them are those of these pipes, and then other lines
+pub record ArePipes (schema : Schema) (joins after : List (List (List ℕ))) (pipes : List Pipe) (others : List (List (List ℕ))) : Type 0 where
+  pub sound : AllByRecursion (IsPipe schema) pipes
+  pub joined : joins ≡ map join_words pipes
+  pub bound : after ≡ flat_map (bind_lines schema) pipes ++ others
+
+pub record AreLines (schema : Schema) (pipes : List Pipe) (texts : List (List (List ℕ))) (lines : List Line) : Type 0 where
+  pub sound : AllByRecursion (IsLine schema pipes) lines
+  pub spelled : texts ≡ map (line_words schema pipes) lines
+
+-- all but the words' own form: the pipes, their names and the lines are sound
+pub record IsSoundScript (schema : Schema) (script : Script) : Type 0 where
+  pub some : 0 < length script.pipes
+  pub pipes : AllByRecursion (IsPipe schema) script.pipes
+  pub distinct : are_distinct (flat_map names_of script.pipes) ≡ true
+  pub lines : AllByRecursion (IsLine schema script.pipes) script.lines
+
+abbrev pub SpellsScript : Schema → List (List (List ℕ)) → Option Script → Type 0
+SpellsScript schema texts (Some script) = IsSoundScript schema script × (texts ≡ script_lines schema script)
+SpellsScript schema texts None = (script : Script) → IsSoundScript schema script → texts ≡ script_lines schema script → ⊥
+
+-- how many lines at the front begin with the word join
+abbrev pub begins_join : List (List ℕ) → Bool
+begins_join [] = false
+begins_join (word ∷ words) = bytes_eq word (codes "join")
+
+abbrev pub joins_in_front : List (List (List ℕ)) → ℕ
+joins_in_front [] = 0
+joins_in_front (words ∷ texts) = if begins_join words then suc (joins_in_front texts) else 0
