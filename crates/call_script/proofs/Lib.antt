@@ -1,2 +1,4 @@
 pub mod Fronts
 pub mod MethodWords
+pub mod PipeWords
+pub mod PipesLoop

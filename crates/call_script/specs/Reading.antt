@@ -29,6 +29,25 @@ pub record IsCallOn (schema : Schema) (pipe : Pipe) (name word : List ℕ) (coun
   pub method : NamesMethod schema pipe.interface word ordinal
   pub parameters : HasParameters schema pipe.interface ordinal count
 
+-- a text that is a name
+abbrev pub SpellsName : List ℕ → Option (List ℕ) → Type 0
+SpellsName word (Some name) = (name ≡ word) × (is_name word ≡ true)
+SpellsName word None = is_name word ≡ true → ⊥
+
+-- the words of a join of sequence 0 with itself
+abbrev pub IsJoin : List (List ℕ) → List ℕ → List ℕ → Type 0
+IsJoin words first second = words ≡ codes "join" ∷ codes "0" ∷ codes "0" ∷ first ∷ second ∷ []
+
+-- the words of a binding by sequence 0
+abbrev pub IsBind : List (List ℕ) → List ℕ → List ℕ → List ℕ → Type 0
+IsBind words name side interface = words ≡ codes "0:" ∷ codes "bind" ∷ name ∷ side ∷ interface ∷ []
+
+-- a join, and the bindings of its ends to one interface
+pub record IsNamed (join one two : List (List ℕ)) (first second interface : List ℕ) : Type 0 where
+  pub joined : IsJoin join first second
+  pub remote : IsBind one first (codes "remote") interface
+  pub receiver : IsBind two second (codes "receiver") interface
+
 abbrev pub SpellsPipe : Schema → List (List ℕ) → List (List (List ℕ)) → Option Pipe → Type 0
 SpellsPipe schema join binds (Some pipe) = IsPipe schema pipe × (join ≡ join_words pipe) × (binds ≡ bind_lines schema pipe)
 SpellsPipe schema join binds None = (pipe : Pipe) → IsPipe schema pipe → join ≡ join_words pipe → binds ≡ bind_lines schema pipe → ⊥
@@ -42,6 +61,14 @@ pub record ArePipes (schema : Schema) (joins after : List (List (List ℕ))) (pi
   pub sound : AllByRecursion (IsPipe schema) pipes
   pub joined : joins ≡ map join_words pipes
   pub bound : after ≡ flat_map (bind_lines schema) pipes ++ others
+
+-- the only pipes, and what is behind them
+pub record AreThePipes (schema : Schema) (joins after : List (List (List ℕ))) (pipes : List Pipe) (others : List (List (List ℕ))) : Type 0 where
+  pub are : ArePipes schema joins after pipes others
+  pub only : (ps : List Pipe) (rest : List (List (List ℕ))) → ArePipes schema joins after ps rest → (ps ≡ pipes) × (rest ≡ others)
+
+abbrev pub NoPipes : Schema → List (List (List ℕ)) → List (List (List ℕ)) → Type 0
+NoPipes schema joins after = (pipes : List Pipe) (others : List (List (List ℕ))) → ArePipes schema joins after pipes others → ⊥
 
 pub record AreLines (schema : Schema) (pipes : List Pipe) (texts : List (List (List ℕ))) (lines : List Line) : Type 0 where
   pub sound : AllByRecursion (IsLine schema pipes) lines

@@ -2,6 +2,7 @@
 #![tactic(auto)]
 
 mod methods;
+mod pipes;
 mod script;
 mod split;
 mod words;
