@@ -154,13 +154,17 @@ fn names_of_pipe<'a>(join: &[&'a [u8]], one: &[&'a [u8]], two: &[&'a [u8]]) -> O
 fn read_pipe(
     alloc: Global,
     schema: &Schema,
-    join: &[&[u8]],
-    one: &[&[u8]],
-    two: &[&[u8]],
+    join: &Words,
+    one: &Words,
+    two: &Words,
 ) -> Result<Option<Pipe>, AllocError>
-    ensures { IfOk result (λ found. SpellsPipe schema.now (map (λ word. word.now) join.now) (map (λ word. word.now) one.now ∷ map (λ word. word.now) two.now ∷ []) found) }
+    ensures { IfOk result (λ found. SpellsPipe schema.now (words_now join.now) (words_now one.now ∷ words_now two.now ∷ []) found) }
 {
-    let Some(names) = names_of_pipe(join, one, two) else {
+    let Some(names) = names_of_pipe(
+        join.words.as_slice(),
+        one.words.as_slice(),
+        two.words.as_slice(),
+    ) else {
         return Ok(None);
     };
     let Some(interface) = schema.find_interface_by_bytes(names.interface) else {
@@ -197,16 +201,19 @@ pub(crate) fn read_pipes<'w, 'a>(
         (λ head. AreThePipes schema.now (map words_now joins.now) (map words_now after.now) head.pipes.items (map words_now head.body.now))) }
 {
     let mut pipes = Vec::new(alloc);
-    let mut body = after;
+    let mut at = 0;
     for join in joins {
-        let [one, two, left @ ..] = body else {
+        if after.len() - at < 2 {
             return Ok(None);
-        };
-        match read_pipe(alloc, schema, join.words.as_slice(), one.words.as_slice(), two.words.as_slice())? {
+        }
+        match read_pipe(alloc, schema, join, &after[at], &after[at + 1])? {
             Some(pipe) => pipes.push(pipe)?,
             None => return Ok(None),
         }
-        body = left;
+        at += 2;
     }
-    Ok(Some(Head { pipes, body }))
+    Ok(Some(Head {
+        pipes,
+        body: &after[at..],
+    }))
 }
