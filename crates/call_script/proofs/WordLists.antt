@@ -6,7 +6,8 @@ use Rattle.mj_schema.specs.declared.schema.Schema.{Schema}
 use Rattle.call_script.specs.declared.split.Words.{Words}
 use Rattle.call_script.specs.declared.script.Pipe.{Pipe}
 use Rattle.call_script.specs.Pieces.{words_now}
-use Rattle.call_script.specs.Reading.{SpellsPipe}
+use Rattle.call_script.specs.declared.script.Line.{Line}
+use Rattle.call_script.specs.Reading.{SpellsPipe, SpellsLine}
 
 pub lines_now : List Words → List (List (List ℕ))
 lines_now xs = map words_now xs
@@ -45,3 +46,7 @@ rest_is xs at h = ap (map words_now) (whole xs at h) ∙ sym (drop_now at xs)
 -- the same of equal words
 pub spells_at : (schema : Schema) (w v : List (List ℕ)) (ls : List (List (List ℕ))) (found o : Option Pipe) → v ≡ w → found ≡ o → SpellsPipe schema w ls found → SpellsPipe schema v ls o
 spells_at schema w v ls found o e f spells = subst (λ (x : List (List ℕ)). SpellsPipe schema x ls o) (sym e) (subst (λ (x : Option Pipe). SpellsPipe schema w ls x) f spells)
+
+-- the same for a line
+pub spells_line_at : (schema : Schema) (pipes : List Pipe) (w v : List (List ℕ)) (found o : Option Line) → v ≡ w → found ≡ o → SpellsLine schema pipes w found → SpellsLine schema pipes v o
+spells_line_at schema pipes w v found o e f spells = subst (λ (x : List (List ℕ)). SpellsLine schema pipes x o) (sym e) (subst (λ (x : Option Line). SpellsLine schema pipes w x) f spells)

@@ -1,5 +1,5 @@
 -- What the readers of a script's parts answer: a part that is spelled so, or none where no such part is.
-use Rattle.std.specs.Prelude.{ℕ, zero, suc, ◌≡◌, ◌<◌, ◌^◌, ◌++◌, Bool, true, false, List, [], ◌∷◌, All, length, map, codes, Option, Some, None, if◌then◌else◌}
+use Rattle.std.specs.Prelude.{ℕ, zero, suc, ◌≡◌, ◌<◌, ◌^◌, ◌++◌, Bool, true, false, List, [], ◌∷◌, All, length, map, codes, Option, Some, None, if◌then◌else◌, slice_get}
 use Rattle.std.specs.List.{flat_map, AllByRecursion}
 use Rattle.std.specs.Str.{bytes_eq}
 use Rattle.mj_schema.specs.declared.schema.Schema.{Schema}
@@ -10,7 +10,7 @@ use Rattle.call_script.specs.declared.script.PipeEnd.{PipeEnd}
 use Rattle.call_script.specs.declared.script.PipeEnd.TheVariants.{First, Second}
 use Rattle.call_script.specs.declared.script.Line.{Line}
 use Rattle.call_script.specs.declared.script.Script.{Script}
-use Rattle.call_script.specs.Spelling.{IsPipe, IsLine, are_distinct, names_of, join_words, bind_lines, line_words, script_lines, name_at, interface_at, method_called, method_name, method_text, interface_name, is_name}
+use Rattle.call_script.specs.Spelling.{IsPipe, IsLine, are_distinct, names_of, value_text, join_words, bind_lines, line_words, script_lines, name_of, method_called, method_name, method_text, interface_name, is_name}
 
 -- the word names the method of this ordinal, which its name finds
 pub record NamesMethod (schema : Schema) (interface : ℕ) (word : List ℕ) (ordinal : ℕ) : Type 0 where
@@ -70,9 +70,42 @@ pub record AreThePipes (schema : Schema) (joins after : List (List (List ℕ))) 
 abbrev pub NoPipes : Schema → List (List (List ℕ)) → List (List (List ℕ)) → Type 0
 NoPipes schema joins after = (pipes : List Pipe) (others : List (List (List ℕ))) → ArePipes schema joins after pipes others → ⊥
 
+-- an end of the pipe of this number has this name
+pub record IsEndNamed (pipes : List Pipe) (name : List ℕ) (k : ℕ) (end : PipeEnd) : Type 0 where
+  pub pipe : Pipe
+  pub there : slice_get pipes k ≡ Some pipe
+  pub named : name_of end pipe ≡ name
+
+-- a call on the pipe of this number
+pub record IsCallAt (schema : Schema) (pipes : List Pipe) (name word : List ℕ) (count k ordinal : ℕ) : Type 0 where
+  pub pipe : Pipe
+  pub there : slice_get pipes k ≡ Some pipe
+  pub call : IsCallOn schema pipe name word count ordinal
+
+-- the words of a take at an end of this name
+pub record IsTake (pipes : List Pipe) (spelled : List (List ℕ)) (k : ℕ) (end : PipeEnd) : Type 0 where
+  pub name : List ℕ
+  pub named : IsEndNamed pipes name k end
+  pub words : spelled ≡ codes "0:" ∷ codes "take" ∷ name ∷ []
+
+-- the words of a call on endpoint 0 of a pipe's first end
+pub record IsCallLine (schema : Schema) (pipes : List Pipe) (spelled : List (List ℕ)) (k ordinal : ℕ) (value : List ℕ) : Type 0 where
+  pub name : List ℕ
+  pub word : List ℕ
+  pub at : IsCallAt schema pipes name word (length value) k ordinal
+  pub small : All (λ n. n < 2 ^ 32) value
+  pub words : spelled ≡ codes "0:" ∷ codes "call" ∷ (name ++ codes "#0") ∷ word ∷ value_text value ∷ []
+
+abbrev pub NoCall : Schema → List Pipe → List (List ℕ) → Type 0
+NoCall schema pipes words = (k ordinal : ℕ) (value : List ℕ) → IsCallLine schema pipes words k ordinal value → ⊥
+
+-- the lines that the texts spell
 pub record AreLines (schema : Schema) (pipes : List Pipe) (texts : List (List (List ℕ))) (lines : List Line) : Type 0 where
   pub sound : AllByRecursion (IsLine schema pipes) lines
   pub spelled : texts ≡ map (line_words schema pipes) lines
+
+abbrev pub NoLines : Schema → List Pipe → List (List (List ℕ)) → Type 0
+NoLines schema pipes texts = (lines : List Line) → AreLines schema pipes texts lines → ⊥
 
 -- all but the words' own form: the pipes, their names and the lines are sound
 pub record IsSoundScript (schema : Schema) (script : Script) : Type 0 where

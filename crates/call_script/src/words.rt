@@ -1,7 +1,7 @@
 //! stub
 ghost use Rattle.std.specs.Prelude.{◌≡◌, map, IfOk};
 ghost use Rattle.call_script.specs.Values.{SpellsValue};
-ghost use Rattle.call_script.specs.Spelling.{is_name, is_small_letter, is_name_byte};
+ghost use Rattle.call_script.specs.Spelling.{is_name, is_small_letter, is_name_byte, are_distinct};
 
 use std::alloc::{AllocError, Global};
 use wire_model::Value;
@@ -31,4 +31,13 @@ fn is_name_byte(c: u8) -> bool
     ensures { result ≡ is_name_byte c }
 {
     is_letter(c) || (48 <= c && c <= 57) || c == 95
+}
+
+pub(crate) fn distinct(names: &[&[u8]]) -> bool
+    ensures { result ≡ are_distinct (map (λ name. name.now) names.now) }
+{
+    match names {
+        [] => true,
+        [first, rest @ ..] => !rest.iter().any(|name| *name == *first) && distinct(rest),
+    }
 }

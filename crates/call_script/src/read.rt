@@ -1,0 +1,91 @@
+//! Reads a whole script.
+
+ghost use Rattle.std.specs.Prelude.{◌≡◌, ◌<◌, ◌≤◌, ◌^◌, ℕ, List, [], ◌∷◌, IfOk, Err, map, codes, length, IsTrue, ◌↔◌, MatchOption, true};
+ghost use Rattle.std.specs.List.{flat_map};
+ghost use Rattle.call_script.specs.declared.script.Script.{Script};
+ghost use Rattle.call_script.specs.Pieces.{words_now, word_lines};
+ghost use Rattle.call_script.specs.Spelling.{IsScriptOf, are_distinct, names_of};
+ghost use Rattle.call_script.specs.Reading.{SpellsScript, begins_join, joins_in_front};
+
+use crate::lines::read_lines;
+use crate::pipes::read_pipes;
+use crate::script::{Pipe, Script};
+use crate::split::{Words, word_lines};
+use crate::words::distinct;
+use mj_base::Items;
+use mj_schema::Schema;
+use std::alloc::{AllocError, Global};
+
+/// The most lines that a script may have.
+const MOST_LINES: usize = 65_536;
+
+/// Why a script is not read.
+#[derive(Clone, Copy, Debug, PartialEq, Eq)]
+pub enum ScriptError {
+    /// The text isn't of the form that is read today, or names what isn't there.
+    Unsupported,
+    Memory,
+}
+
+/// Whether the line begins with the word `join`.
+fn begins_join(words: &[&[u8]]) -> bool
+    ensures { result ≡ begins_join (map (λ word. word.now) words.now) }
+{
+    match words {
+        [] => false,
+        [first, ..] => *first == b"join".as_slice(),
+    }
+}
+
+/// How many lines at the front begin with the word `join`.
+fn joins_in_front(lines: &[Words]) -> usize
+    ensures value { result ≡ joins_in_front (map words_now lines.now) }
+    ensures within { result ≤ length lines.now }
+{
+    for (count, line) in lines.iter().enumerate() {
+        if !begins_join(line.words.as_slice()) {
+            return count;
+        }
+    }
+    lines.len()
+}
+
+/// Whether no name of the pipes stands twice.
+fn names_differ(alloc: Global, pipes: &[Pipe]) -> Result<bool, AllocError>
+    ensures { IfOk result (λ differ. differ ≡ are_distinct (flat_map names_of pipes.now)) }
+{
+    let mut names = Vec::new(alloc);
+    for pipe in pipes {
+        names.push(pipe.first.as_str().as_bytes())?;
+        names.push(pipe.second.as_str().as_bytes())?;
+    }
+    Ok(distinct(names.as_slice()))
+}
+
+/// The script of these lines behind `seqs 1`.
+fn read_rest(
+    alloc: Global,
+    schema: &Schema,
+    lines: &[Words],
+) -> Result<Option<Script>, AllocError>
+    requires { length lines.now < 2 ^ 32 }
+    ensures { IfOk result (λ found. SpellsScript schema.now ((codes "seqs" ∷ codes "1" ∷ []) ∷ map words_now lines.now) found) }
+{
+    let (joins, after) = lines.split_at(joins_in_front(lines));
+    if joins.is_empty() {
+        return Ok(None);
+    }
+    let Some(head) = read_pipes(alloc, schema, joins, after)? else {
+        return Ok(None);
+    };
+    if !names_differ(alloc, head.pipes.as_slice())? {
+        return Ok(None);
+    }
+    let Some(lines) = read_lines(alloc, schema, head.pipes.as_slice(), head.body)? else {
+        return Ok(None);
+    };
+    Ok(Some(Script {
+        pipes: Items::from_vec(head.pipes),
+        lines: Items::from_vec(lines),
+    }))
+}
