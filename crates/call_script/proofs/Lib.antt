@@ -6,3 +6,4 @@ pub mod WordLists
 pub mod LineWords
 pub mod Values
 pub mod LinesLoop
+pub mod ScriptWords

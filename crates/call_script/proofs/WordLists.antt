@@ -1,6 +1,8 @@
 -- Lines as lists of words.
 use Rattle.std.proofs.Common.{◌≡◌, ◌<◌, ◌≤◌, ◌+◌, ◌-◌, ℕ, zero, suc, List, [], ◌∷◌, ◌++◌, length, take, drop, get_or, refl, sym, ap, ◌∙◌, subst, arith, add-one, drop-cons}
-use Rattle.std.specs.Prelude.{map, Option}
+use Rattle.std.proofs.Common.{true, false}
+use Rattle.std.proofs.lemmas.Bool.Decides.{nat_tests}
+use Rattle.std.specs.Prelude.{map, Option, ◌==◌}
 use Rattle.std.proofs.lemmas.Grind.{common_steps}
 use Rattle.mj_schema.specs.declared.schema.Schema.{Schema}
 use Rattle.call_script.specs.declared.split.Words.{Words}
@@ -50,3 +52,22 @@ spells_at schema w v ls found o e f spells = subst (λ (x : List (List ℕ)). Sp
 -- the same for a line
 pub spells_line_at : (schema : Schema) (pipes : List Pipe) (w v : List (List ℕ)) (found o : Option Line) → v ≡ w → found ≡ o → SpellsLine schema pipes w found → SpellsLine schema pipes v o
 spells_line_at schema pipes w v found o e f spells = subst (λ (x : List (List ℕ)). SpellsLine schema pipes x o) (sym e) (subst (λ (x : Option Line). SpellsLine schema pipes w x) f spells)
+
+pub take_now : (n : ℕ) (xs : List Words) → take n (map words_now xs) ≡ map words_now (take n xs)
+take_now zero xs = refl
+take_now (suc n) [] = refl
+take_now (suc n) (x ∷ xs) = ap (λ ws. words_now x ∷ ws) (take_now n xs)
+
+pub front_now : (xs front : List Words) (n m : ℕ) → front ≡ take n xs → n ≡ m → map words_now front ≡ take m (map words_now xs)
+front_now xs front n m f e = ap (map words_now) f ∙ sym (take_now n xs) ∙ ap (λ k. take k (map words_now xs)) e
+
+pub back_now : (xs back : List Words) (n m : ℕ) → back ≡ drop n xs → n ≡ m → map words_now back ≡ drop m (map words_now xs)
+back_now xs back n m f e = ap (map words_now) f ∙ sym (drop_now n xs) ∙ ap (λ k. drop k (map words_now xs)) e
+
+pub none_now : (xs : List Words) → true ≡ (length xs == 0) → map words_now xs ≡ []
+none_now [] e = refl
+none_now (x ∷ xs) e = absurd (grind (arith, nat_tests))
+
+pub some_now : (xs : List Words) → false ≡ (length xs == 0) → map words_now xs ≡ [] → ⊥
+some_now [] e none = cc
+some_now (x ∷ xs) e none = cc

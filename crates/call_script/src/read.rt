@@ -89,3 +89,35 @@ fn read_rest(
         lines: Items::from_vec(lines),
     }))
 }
+
+/// Whether the line is `seqs 1`.
+fn is_header(words: &[&[u8]]) -> bool
+    ensures { IsTrue result ↔ (map (λ word. word.now) words.now ≡ codes "seqs" ∷ codes "1" ∷ []) }
+{
+    match words {
+        [command, count] => is_seqs(command, count),
+        _ => false,
+    }
+}
+
+/// Whether the words are `seqs` and `1`.
+fn is_seqs(command: &[u8], count: &[u8]) -> bool
+    ensures { IsTrue result ↔ ((command.now ≡ codes "seqs") × (count.now ≡ codes "1")) }
+{
+    command == b"seqs".as_slice() && count == b"1".as_slice()
+}
+
+/// The script of these lines.
+fn read_words(alloc: Global, schema: &Schema, lines: &[Words]) -> Result<Option<Script>, AllocError>
+    requires { length lines.now < 2 ^ 32 }
+    ensures { IfOk result (λ found. SpellsScript schema.now (map words_now lines.now) found) }
+{
+    let Some((first, rest)) = lines.split_first() else {
+        return Ok(None);
+    };
+    if is_header(first.words.as_slice()) {
+        read_rest(alloc, schema, rest)
+    } else {
+        Ok(None)
+    }
+}
