@@ -7,3 +7,8 @@ pub mod LineWords
 pub mod Values
 pub mod LinesLoop
 pub mod ScriptWords
+pub mod Parts
+pub mod Splits
+pub mod WordLines
+pub mod Whole
+pub mod NameBytes

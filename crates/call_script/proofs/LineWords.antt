@@ -1,9 +1,10 @@
 -- The words of a line spell at most what was read.
-use Rattle.std.proofs.Common.{◌≡◌, ◌<◌, ◌≤◌, ◌+◌, ℕ, zero, suc, List, [], ◌∷◌, ◌++◌, length, get_or, Some, None, sym, ap, ◌∙◌, subst, false, true}
+use Rattle.std.proofs.Common.{◌≡◌, ◌<◌, ◌≤◌, ℕ, List, [], ◌∷◌, ◌++◌, length, get_or, Some, None, sym, ap, ◌∙◌, subst, false}
 use denote.Ref.{Bor}
 use Rattle.std.proofs.Common.{arith}
 use Rattle.std.proofs.Common.{refl}
-use Rattle.std.specs.Prelude.{MatchOption, map, Option, slice_get, codes, unwrap_or}
+use Rattle.std.proofs.Common.{◌^◌}
+use Rattle.std.specs.Prelude.{All, MatchOption, map, Option, slice_get, codes, unwrap_or}
 use Rattle.std.specs.Option.{option_map}
 use Rattle.std.proofs.lemmas.Option.{slice_get_within}
 use Rattle.mj_schema.specs.Lookups.{request_of}
@@ -17,7 +18,7 @@ use Rattle.call_script.specs.declared.script.PipeEnd.{PipeEnd}
 use Rattle.call_script.specs.declared.script.PipeEnd.TheVariants.{First, Second}
 use Rattle.call_script.specs.Reading.{IsEndNamed, IsCallAt, IsCallOn, IsTake, IsCallLine, SpellsLine}
 use Rattle.std.proofs.lemmas.List.{append_cancel_right}
-use Rattle.call_script.proofs.Fronts.{never_false}
+use Rattle.call_script.proofs.Parts.{never_false}
 use Rattle.call_script.proofs.Values.{value_text-injective}
 use Rattle.call_script.specs.Values.{SpellsValue}
 
@@ -54,17 +55,18 @@ module _ (schema : Schema) (pipes : List Pipe) (words : List (List ℕ)) where
   pub call_line : (k ordinal : ℕ) (value : List ℕ) → IsCallLine schema pipes words k ordinal value → SpellsLine schema pipes words (Some (Call k ordinal value))
   call_line k ordinal value is =
       let i : interface_at pipes k ≡ is.at.pipe.interface = interface_there pipes k is.at.pipe is.at.there in
-      let n : name_at pipes k First ≡ is.name = name_there pipes k First is.at.pipe is.at.there ∙ is.at.call.end in
-      (record {
-        inside = slice_get_within pipes k is.at.pipe is.at.there;
-        named = subst (λ (x : ℕ). method_called schema x (method_name schema x ordinal) ≡ Some ordinal) (sym i) is.at.call.method.found;
-        row = is.at.call.parameters.row;
-        there = ap (λ x. request_of schema x ordinal) i ∙ is.at.call.parameters.there;
-        count = is.at.call.parameters.counted;
-        small = is.small;
-      },
-      is.words ∙ ap (λ x. codes "0:" ∷ codes "call" ∷ (is.name ++ codes "#0") ∷ x ∷ value_text value ∷ []) (is.at.call.method.spelled ∙ ap (λ x. method_text schema x ordinal) (sym i))
-      ∙ ap (λ x. codes "0:" ∷ codes "call" ∷ (x ++ codes "#0") ∷ method_text schema (interface_at pipes k) ordinal ∷ value_text value ∷ []) (sym n))
+      let n : name_at pipes k First ≡ is.name = name_there pipes k First is.at.pipe is.at.there ∙ is.at.call.end in (
+        record {
+          inside = slice_get_within pipes k is.at.pipe is.at.there;
+          named = subst (λ (x : ℕ). method_called schema x (method_name schema x ordinal) ≡ Some ordinal) (sym i) is.at.call.method.found;
+          row = is.at.call.parameters.row;
+          there = ap (λ x. request_of schema x ordinal) i ∙ is.at.call.parameters.there;
+          count = is.at.call.parameters.counted;
+          small = is.small;
+        },
+        is.words ∙ ap (λ x. codes "0:" ∷ codes "call" ∷ (is.name ++ codes "#0") ∷ x ∷ value_text value ∷ []) (is.at.call.method.spelled ∙ ap (λ x. method_text schema x ordinal) (sym i))
+            ∙ ap (λ x. codes "0:" ∷ codes "call" ∷ (x ++ codes "#0") ∷ method_text schema (interface_at pipes k) ordinal ∷ value_text value ∷ []) (sym n),
+      )
 
   default_pipe : Pipe
   default_pipe = record { first = []; second = []; interface = 0 }
@@ -119,15 +121,15 @@ pub no_end_named : (pipes : List Pipe) (a b n : List ℕ) → ((k : ℕ) (end : 
 no_end_named pipes a b n none k end is = let w = is.words in let e : is.name ≡ n = cc in none k end (subst (λ (x : List ℕ). IsEndNamed pipes x k end) e is.named)
 
 -- where no pipe has such a call, the words are no call
-pub no_call_at : (schema : Schema) (pipes : List Pipe) (a b end method numbers name value : List ℕ) (count : ℕ) → end ≡ name ++ codes "#0" → numbers ≡ value_text value → count ≡ length value
+pub no_call_at : (schema : Schema) (pipes : List Pipe) (a b end method numbers name value : List ℕ) (count : ℕ) → end ≡ name ++ codes "#0" → numbers ≡ value_text value → All (λ n. n < 2 ^ 32) value → count ≡ length value
     → ((k ordinal : ℕ) → IsCallAt schema pipes name method count k ordinal → ⊥) → (k ordinal : ℕ) (other : List ℕ) → IsCallLine schema pipes (a ∷ b ∷ end ∷ method ∷ numbers ∷ []) k ordinal other → ⊥
-no_call_at schema pipes a b end method numbers name value count e n c none k ordinal other is =
+no_call_at schema pipes a b end method numbers name value count e n small c none k ordinal other is =
     let w = is.words in
     let end_is : end ≡ is.name ++ codes "#0" = cc in
     let method_is : is.word ≡ method = cc in
     let numbers_is : numbers ≡ value_text other = cc in
     let names : is.name ≡ name = append_cancel_right is.name name (codes "#0") (sym end_is ∙ e) in
-    let values : other ≡ value = value_text-injective other value (sym numbers_is ∙ n) in
+    let values : other ≡ value = value_text-injective other value is.small small (sym numbers_is ∙ n) in
     let counts : length other ≡ count = ap length values ∙ sym c in
     none k ordinal
     (subst (λ (x : List ℕ). IsCallAt schema pipes x method count k ordinal) names

@@ -1,13 +1,13 @@
 -- A word names at most one method.
-use Rattle.std.proofs.Common.{◌≡◌, ℕ, List, [], ◌∷◌, ◌++◌, Some, None, refl, sym, ap, ◌∙◌, subst, false, true}
-use Rattle.std.specs.Prelude.{codes, Option}
+use Rattle.std.proofs.Common.{◌≡◌, ℕ, List, ◌++◌, Some, None, sym, ap, ◌∙◌, subst, false}
+use Rattle.std.specs.Prelude.{codes}
 use Rattle.std.specs.Str.{bytes_eq}
 use Rattle.std.proofs.lemmas.List.{append_cancel_left}
 use Rattle.mj_schema.specs.declared.schema.Schema.{Schema}
 use Rattle.call_script.specs.declared.script.Pipe.{Pipe}
-use Rattle.call_script.specs.Spelling.{interface_name, method_called, method_name, method_text}
+use Rattle.call_script.specs.Spelling.{interface_name, method_called, method_name}
 use Rattle.call_script.specs.Reading.{NamesMethod, HasParameters, IsCallOn}
-use Rattle.call_script.proofs.Fronts.{never_false}
+use Rattle.call_script.proofs.Parts.{never_false}
 
 module _ (schema : Schema) (interface : ℕ) (word : List ℕ) where
   -- behind the interface's name stand the dot and the method's name

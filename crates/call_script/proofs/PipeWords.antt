@@ -1,5 +1,5 @@
 -- The words of a pipe's lines spell at most one pipe.
-use Rattle.std.proofs.Common.{◌≡◌, ℕ, List, [], ◌∷◌, ◌++◌, length, Some, None, refl, sym, ap, ◌∙◌, subst, false, true}
+use Rattle.std.proofs.Common.{◌≡◌, ℕ, List, [], ◌∷◌, Some, sym, ap, ◌∙◌, subst, true}
 use Rattle.std.proofs.Common.{get_or}
 use Rattle.std.specs.Prelude.{codes, Option, unwrap_or, slice_get}
 use Rattle.std.specs.Option.{option_map}
@@ -32,10 +32,11 @@ name_found schema name n found =
 pub pipe_spelled : (schema : Schema) (join one two : List (List ℕ)) (x y i first second : List ℕ) (n : ℕ) → IsNamed join one two x y i → Some n ≡ interface_number schema i → first ≡ x → is_name x ≡ true → second ≡ y → is_name y ≡ true
     → SpellsPipe schema join (one ∷ two ∷ []) (Some (record { first = first; second = second; interface = n }))
 pipe_spelled schema join one two x y i first second n named found f fx s sy =
-    let name : interface_name schema n ≡ i = name_found schema i n found in
-    (record { first = rw f fx; second = rw s sy; interface = ap (interface_number schema) name ∙ sym found },
-    rw (f, s) named.joined,
-    rw (f, s, name) (ap (λ a. a ∷ two ∷ []) named.remote ∙ ap (λ b. (codes "0:" ∷ codes "bind" ∷ x ∷ codes "remote" ∷ i ∷ []) ∷ b ∷ []) named.receiver))
+    let name : interface_name schema n ≡ i = name_found schema i n found in (
+      record { first = rw f fx; second = rw s sy; interface = ap (interface_number schema) name ∙ sym found },
+      rw (f, s) named.joined,
+      rw (f, s, name) (ap (λ a. a ∷ two ∷ []) named.remote ∙ ap (λ b. (codes "0:" ∷ codes "bind" ∷ x ∷ codes "remote" ∷ i ∷ []) ∷ b ∷ []) named.receiver),
+    )
 
 -- pipes of one spelling are one
 same_pipe : (p q : Pipe) → p.first ≡ q.first → p.second ≡ q.second → p.interface ≡ q.interface → p ≡ q

@@ -1,5 +1,5 @@
 -- One pipe more is read.
-use Rattle.std.proofs.Common.{◌≡◌, ◌<◌, ◌≤◌, ◌+◌, ◌-◌, ℕ, List, [], ◌∷◌, ◌++◌, length, take, drop, get_or, refl, sym, ap, ◌∙◌, subst, arith, add-one, drop-cons, append_assoc, append-nil, lit≤}
+use Rattle.std.proofs.Common.{◌≡◌, ◌<◌, ◌≤◌, ◌+◌, ℕ, List, [], ◌∷◌, ◌++◌, length, take, drop, get_or, refl, sym, ap, ◌∙◌, subst, arith, add-one, drop-cons, append_assoc, append-nil}
 use Rattle.std.specs.Prelude.{map}
 use Rattle.std.specs.List.{flat_map, AllByRecursion}
 use Rattle.std.proofs.lemmas.Grind.{flat_map-append}
@@ -54,7 +54,7 @@ module _ (schema : Schema) (joins after : List (List (List ℕ))) where
       sound = all_snoc (IsPipe schema) pipes pipe so.read.sound spells.0;
       joined = take_more joins k [] h ∙ ap (λ xs. xs ++ get_or joins k [] ∷ []) so.read.joined ∙ ap (λ w. map join_words pipes ++ w ∷ []) spells.1 ∙ sym (map-append join_words pipes (pipe ∷ []));
       bound = so.read.bound ∙ ap (λ xs. flat_map (bind_lines schema) pipes ++ xs) (e ∙ ap (λ xs. xs ++ left) spells.2) ∙ sym (append_assoc (flat_map (bind_lines schema) pipes) (bind_lines schema pipe) left)
-      ∙ ap (λ xs. xs ++ left) (sym (flat_map-append (bind_lines schema) pipes (pipe ∷ [])));
+          ∙ ap (λ xs. xs ++ left) (sym (flat_map-append (bind_lines schema) pipes (pipe ∷ [])));
     };
     only = λ ps others are. go ps others (so.only ps others are);
   }
@@ -98,8 +98,10 @@ module _ (schema : Schema) (joins after : List (List (List ℕ))) where
     where
       take_all : (xs : List (List (List ℕ))) (n : ℕ) → length xs ≤ n → take n xs ≡ xs
       take_all xs n le = grind (arith, common_steps)
+
       none_left : (xs : List (List (List ℕ))) (n : ℕ) → length xs ≤ n → drop n xs ≡ []
       none_left xs n le = grind (arith, common_steps)
+
       go : (ps : List Pipe) (others : List (List (List ℕ))) → IsLeft schema joins after k pipes body ps others → (ps ≡ pipes) × (others ≡ body)
       go ps others is = ended is.rest is.whole (record { sound = is.left.sound; joined = sym (none_left joins k h) ∙ is.left.joined; bound = is.left.bound })
         where

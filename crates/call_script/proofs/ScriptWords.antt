@@ -1,6 +1,6 @@
 -- The lines behind the header spell at most one script.
-use Rattle.std.proofs.Common.{◌≡◌, ◌<◌, ◌≤◌, ◌+◌, ℕ, zero, suc, List, [], ◌∷◌, ◌++◌, length, take, drop, Some, None, refl, sym, ap, ◌∙◌, subst, true, false, arith, zero-add, add-one}
-use Rattle.std.specs.Prelude.{map, codes, Bool, if◌then◌else◌}
+use Rattle.std.proofs.Common.{◌≡◌, ◌<◌, ◌+◌, ℕ, suc, List, [], ◌∷◌, ◌++◌, length, take, drop, Some, None, refl, sym, ap, ◌∙◌, subst, true, false, arith, zero-add}
+use Rattle.std.specs.Prelude.{map, codes, if◌then◌else◌}
 use Rattle.std.specs.List.{flat_map}
 use Rattle.std.proofs.lemmas.List.{take-append-drop, length-map}
 use Rattle.std.proofs.Math.Seq.{take-append_seam, drop-append_seam}
@@ -8,8 +8,6 @@ use Rattle.mj_schema.specs.declared.schema.Schema.{Schema}
 use Rattle.call_script.specs.declared.script.Pipe.{Pipe}
 use Rattle.call_script.specs.declared.script.Line.{Line}
 use Rattle.call_script.specs.declared.script.Script.{Script}
-use Rattle.call_script.specs.declared.split.Words.{Words}
-use Rattle.call_script.specs.Pieces.{words_now}
 use Rattle.call_script.specs.Spelling.{join_words, bind_lines, line_words, script_lines, are_distinct, names_of}
 use Rattle.call_script.specs.Reading.{ArePipes, AreThePipes, NoPipes, AreLines, NoLines, IsSoundScript, SpellsScript, begins_join, joins_in_front}
 
@@ -82,7 +80,7 @@ module _ (schema : Schema) (texts : List (List (List ℕ))) where
     whole_script some distinct ls lines = (
       record { some = more ps some the.are.joined; pipes = the.are.sound; distinct = distinct; lines = lines.sound },
       ap (λ ts. (codes "seqs" ∷ codes "1" ∷ []) ∷ ts)
-      (sym (take-append-drop (joins_in_front texts) texts) ∙ ap (λ js. js ++ after) the.are.joined ∙ ap (λ more. map join_words ps ++ more) (the.are.bound ∙ ap (λ b. flat_map (bind_lines schema) ps ++ b) lines.spelled)),
+          (sym (take-append-drop (joins_in_front texts) texts) ∙ ap (λ js. js ++ after) the.are.joined ∙ ap (λ more. map join_words ps ++ more) (the.are.bound ∙ ap (λ b. flat_map (bind_lines schema) ps ++ b) lines.spelled)),
     )
       where
         more : (qs : List Pipe) → (joins ≡ [] → ⊥) → joins ≡ map join_words qs → 0 < length qs

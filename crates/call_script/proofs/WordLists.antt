@@ -1,5 +1,5 @@
 -- Lines as lists of words.
-use Rattle.std.proofs.Common.{◌≡◌, ◌<◌, ◌≤◌, ◌+◌, ◌-◌, ℕ, zero, suc, List, [], ◌∷◌, ◌++◌, length, take, drop, get_or, refl, sym, ap, ◌∙◌, subst, arith, add-one, drop-cons}
+use Rattle.std.proofs.Common.{◌≡◌, ◌<◌, ◌≤◌, ◌+◌, ◌-◌, ℕ, zero, suc, List, [], ◌∷◌, length, take, drop, get_or, refl, sym, ap, ◌∙◌, subst, arith, add-one, drop-cons}
 use Rattle.std.proofs.Common.{true, false}
 use Rattle.std.proofs.lemmas.Bool.Decides.{nat_tests}
 use Rattle.std.specs.Prelude.{map, Option, ◌==◌}
@@ -7,7 +7,7 @@ use Rattle.std.proofs.lemmas.Grind.{common_steps}
 use Rattle.mj_schema.specs.declared.schema.Schema.{Schema}
 use Rattle.call_script.specs.declared.split.Words.{Words}
 use Rattle.call_script.specs.declared.script.Pipe.{Pipe}
-use Rattle.call_script.specs.Pieces.{words_now}
+use Rattle.call_script.specs.Words.{words_now}
 use Rattle.call_script.specs.declared.script.Line.{Line}
 use Rattle.call_script.specs.Reading.{SpellsPipe, SpellsLine}
 

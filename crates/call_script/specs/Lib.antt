@@ -2,3 +2,4 @@ pub mod Spelling
 pub mod Pieces
 pub mod Values
 pub mod Reading
+pub mod Words

@@ -1,5 +1,5 @@
 -- What the readers of a script's parts answer: a part that is spelled so, or none where no such part is.
-use Rattle.std.specs.Prelude.{ℕ, zero, suc, ◌≡◌, ◌<◌, ◌^◌, ◌++◌, Bool, true, false, List, [], ◌∷◌, All, length, map, codes, Option, Some, None, if◌then◌else◌, slice_get}
+use Rattle.std.specs.Prelude.{ℕ, suc, ◌≡◌, ◌<◌, ◌≤◌, ◌^◌, ◌++◌, Bool, true, false, List, [], ◌∷◌, All, length, map, codes, Option, Some, None, if◌then◌else◌, slice_get}
 use Rattle.std.specs.List.{flat_map, AllByRecursion}
 use Rattle.std.specs.Str.{bytes_eq}
 use Rattle.mj_schema.specs.declared.schema.Schema.{Schema}
@@ -7,10 +7,9 @@ use Rattle.mj_schema.specs.declared.rows.StructRow.{StructRow}
 use Rattle.mj_schema.specs.Lookups.{request_of}
 use Rattle.call_script.specs.declared.script.Pipe.{Pipe}
 use Rattle.call_script.specs.declared.script.PipeEnd.{PipeEnd}
-use Rattle.call_script.specs.declared.script.PipeEnd.TheVariants.{First, Second}
 use Rattle.call_script.specs.declared.script.Line.{Line}
 use Rattle.call_script.specs.declared.script.Script.{Script}
-use Rattle.call_script.specs.Spelling.{IsPipe, IsLine, are_distinct, names_of, value_text, join_words, bind_lines, line_words, script_lines, name_of, method_called, method_name, method_text, interface_name, is_name}
+use Rattle.call_script.specs.Spelling.{IsPipe, IsLine, are_distinct, names_of, value_text, join_words, bind_lines, line_words, script_lines, name_of, method_called, method_name, method_text, is_name}
 
 -- the word names the method of this ordinal, which its name finds
 pub record NamesMethod (schema : Schema) (interface : ℕ) (word : List ℕ) (ordinal : ℕ) : Type 0 where
@@ -117,6 +116,11 @@ pub record IsSoundScript (schema : Schema) (script : Script) : Type 0 where
 abbrev pub SpellsScript : Schema → List (List (List ℕ)) → Option Script → Type 0
 SpellsScript schema texts (Some script) = IsSoundScript schema script × (texts ≡ script_lines schema script)
 SpellsScript schema texts None = (script : Script) → IsSoundScript schema script → texts ≡ script_lines schema script → ⊥
+
+-- with at most 65,536 lines
+abbrev pub SpellsShort : Schema → List (List (List ℕ)) → Option Script → Type 0
+SpellsShort schema texts (Some script) = IsSoundScript schema script × (texts ≡ script_lines schema script) × (length texts ≤ 65536)
+SpellsShort schema texts None = (script : Script) → IsSoundScript schema script → length (script_lines schema script) ≤ 65536 → texts ≡ script_lines schema script → ⊥
 
 -- how many lines at the front begin with the word join
 abbrev pub begins_join : List (List ℕ) → Bool

@@ -9,5 +9,5 @@ mod script;
 mod split;
 mod words;
 
-pub use read::ScriptError;
+pub use read::{ScriptError, read_script};
 pub use script::{Line, Pipe, PipeEnd, Script};

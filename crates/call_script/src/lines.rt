@@ -4,7 +4,7 @@ ghost use Rattle.std.specs.Prelude.{◌≡◌, ◌<◌, ◌^◌, ◌++◌, ℕ, 
 ghost use Rattle.call_script.specs.declared.script.Pipe.{Pipe};
 ghost use Rattle.call_script.specs.declared.script.PipeEnd.{PipeEnd};
 ghost use Rattle.call_script.specs.declared.script.PipeEnd.TheVariants.{First};
-ghost use Rattle.call_script.specs.Pieces.{words_now};
+ghost use Rattle.call_script.specs.Words.{words_now};
 ghost use Rattle.call_script.specs.Spelling.{name_at};
 ghost use Rattle.call_script.specs.Reading.{IsEndNamed, IsCallAt, IsTake, IsCallLine, NoCall, SpellsLine, NoLines, AreLines};
 
@@ -73,12 +73,7 @@ fn is_command(start: &[u8], word: &[u8], command: &[u8]) -> bool
 }
 
 /// The end of a take of these words.
-fn take_of(
-    pipes: &[Pipe],
-    start: &[u8],
-    command: &[u8],
-    name: &[u8],
-) -> Option<(u32, PipeEnd)>
+fn take_of(pipes: &[Pipe], start: &[u8], command: &[u8], name: &[u8]) -> Option<(u32, PipeEnd)>
     requires { length pipes.now < 2 ^ 32 }
     ensures some { IfSome result (λ place. IsTake pipes.now (start.now ∷ command.now ∷ name.now ∷ []) place.0 place.1) }
     ensures none { IfNone result ((k : ℕ) (end : PipeEnd) → IsTake pipes.now (start.now ∷ command.now ∷ name.now ∷ []) k end → ⊥) }

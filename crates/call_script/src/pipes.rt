@@ -2,7 +2,7 @@
 
 ghost use Rattle.std.specs.Prelude.{◌≡◌, ◌++◌, ℕ, List, [], ◌∷◌, true, false, IfOk, IfSome, IfNone, map, codes, IsTrue, ◌↔◌, MatchOption};
 ghost use Rattle.call_script.specs.declared.script.Pipe.{Pipe};
-ghost use Rattle.call_script.specs.Pieces.{words_now};
+ghost use Rattle.call_script.specs.Words.{words_now};
 ghost use Rattle.call_script.specs.Spelling.{is_name};
 ghost use Rattle.call_script.specs.Reading.{SpellsName, SpellsPipe, IsJoin, IsBind, IsNamed, NoPipes, AreThePipes};
 
@@ -55,14 +55,7 @@ fn joined<'a>(words: &[&'a [u8]]) -> Option<(&'a [u8], &'a [u8])>
 }
 
 /// Whether the words bind the end of this name as this side.
-fn is_bind(
-    start: &[u8],
-    command: &[u8],
-    end: &[u8],
-    role: &[u8],
-    name: &[u8],
-    side: &[u8],
-) -> bool
+fn is_bind(start: &[u8], command: &[u8], end: &[u8], role: &[u8], name: &[u8], side: &[u8]) -> bool
     ensures { IsTrue result ↔ ((start.now ≡ codes "0:") × (command.now ≡ codes "bind") × (end.now ≡ name.now) × (role.now ≡ side.now)) }
 {
     start == b"0:".as_slice() && command == b"bind".as_slice() && end == name && role == side

@@ -3,9 +3,10 @@
 ghost use Rattle.std.specs.Prelude.{◌≡◌, ◌<◌, ◌≤◌, ◌^◌, ℕ, List, [], ◌∷◌, IfOk, Err, map, codes, length, IsTrue, ◌↔◌, MatchOption, true};
 ghost use Rattle.std.specs.List.{flat_map};
 ghost use Rattle.call_script.specs.declared.script.Script.{Script};
-ghost use Rattle.call_script.specs.Pieces.{words_now, word_lines};
+ghost use Rattle.call_script.specs.Pieces.{word_lines};
+ghost use Rattle.call_script.specs.Words.{words_now};
 ghost use Rattle.call_script.specs.Spelling.{IsScriptOf, are_distinct, names_of};
-ghost use Rattle.call_script.specs.Reading.{SpellsScript, begins_join, joins_in_front};
+ghost use Rattle.call_script.specs.Reading.{SpellsScript, SpellsShort, begins_join, joins_in_front};
 
 use crate::lines::read_lines;
 use crate::pipes::read_pipes;
@@ -63,11 +64,7 @@ fn names_differ(alloc: Global, pipes: &[Pipe]) -> Result<bool, AllocError>
 }
 
 /// The script of these lines behind `seqs 1`.
-fn read_rest(
-    alloc: Global,
-    schema: &Schema,
-    lines: &[Words],
-) -> Result<Option<Script>, AllocError>
+fn read_rest(alloc: Global, schema: &Schema, lines: &[Words]) -> Result<Option<Script>, AllocError>
     requires { length lines.now < 2 ^ 32 }
     ensures { IfOk result (λ found. SpellsScript schema.now ((codes "seqs" ∷ codes "1" ∷ []) ∷ map words_now lines.now) found) }
 {
@@ -119,5 +116,35 @@ fn read_words(alloc: Global, schema: &Schema, lines: &[Words]) -> Result<Option<
         read_rest(alloc, schema, rest)
     } else {
         Ok(None)
+    }
+}
+
+/// The script of these lines, of which there are at most 65,536.
+fn read_short(alloc: Global, schema: &Schema, lines: &[Words]) -> Result<Option<Script>, AllocError>
+    ensures { IfOk result (λ found. SpellsShort schema.now (map words_now lines.now) found) }
+{
+    if lines.len() > MOST_LINES {
+        return Ok(None);
+    }
+    read_words(alloc, schema, lines)
+}
+
+/// Reads a script of today's form for this schema: a header, joins, the bindings of each pipe in
+/// order, and then calls on first ends and takes.
+///
+/// # Errors
+///
+/// `Unsupported` exactly where the text spells no such script, and `Memory`.
+pub fn read_script(alloc: Global, schema: &Schema, bytes: &[u8]) -> Result<Script, ScriptError>
+    ensures ok { IfOk result (λ script. IsScriptOf schema.now bytes.now script) }
+    ensures unsupported { result ≡ Err ScriptError.Unsupported → (script : Script) → IsScriptOf schema.now bytes.now script → ⊥ }
+{
+    let Ok(lines) = word_lines(alloc, bytes) else {
+        return Err(ScriptError::Memory);
+    };
+    match read_short(alloc, schema, lines.as_slice()) {
+        Ok(Some(script)) => Ok(script),
+        Ok(None) => Err(ScriptError::Unsupported),
+        Err(_) => Err(ScriptError::Memory),
     }
 }

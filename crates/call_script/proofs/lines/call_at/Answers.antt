@@ -1,4 +1,4 @@
-use Rattle.std.proofs.Common.{below_more, arith, length}
+use Rattle.std.proofs.Common.{below_more, arith}
 use Rattle.std.proofs.lemmas.Option.{slice_get_within}
 use Rattle.call_script.proofs.LineWords.{there_at, not_called}
 use Rattle.call_script.proofs.lines.call_at.Goals as goal

@@ -1,4 +1,4 @@
-use Rattle.std.proofs.Common.{below_more, ◌∙◌, sym, length, arith}
+use Rattle.std.proofs.Common.{below_more, ◌∙◌, sym, arith}
 use Rattle.std.proofs.lemmas.Slice.Eq.{bytes_eq-Decides}
 use Rattle.std.proofs.lemmas.Option.{slice_get_within}
 use Rattle.call_script.proofs.LineWords.{there_at, not_named}

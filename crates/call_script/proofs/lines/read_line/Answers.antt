@@ -1,4 +1,4 @@
-use Rattle.std.proofs.Common.{subst, sym, List, ℕ, arith, length, ◌≤◌, ◌<◌}
+use Rattle.std.proofs.Common.{subst, sym, List, ℕ, arith}
 use Rattle.std.proofs.lemmas.List.{length-map}
 use Rattle.call_script.specs.Reading.{IsTake, IsCallLine}
 use Rattle.call_script.proofs.LineWords.{take_line, call_line, no_take, no_call, three_words, five_words, said_of, said_none}

@@ -1,6 +1,6 @@
-use Rattle.std.proofs.Common.{◌∙◌, ap, sym, arith, length}
+use Rattle.std.proofs.Common.{◌∙◌, ap, sym, arith}
 use Rattle.std.specs.Prelude.{map}
-use Rattle.call_script.specs.Pieces.{words_now}
+use Rattle.call_script.specs.Words.{words_now}
 use Rattle.call_script.proofs.LinesLoop.{line_more, no_line_there}
 use Rattle.call_script.proofs.WordLists.{length_now, word_at, spells_line_at}
 use Rattle.call_script.proofs.lines.read_lines.Goals as goal

@@ -1,6 +1,5 @@
-use Rattle.std.proofs.Common.{take, drop}
 use Rattle.std.specs.Prelude.{map}
-use Rattle.call_script.specs.Pieces.{words_now}
+use Rattle.call_script.specs.Words.{words_now}
 use Rattle.call_script.proofs.LinesLoop.{LinesRead}
 use Rattle.call_script.proofs.lines.read_lines.Given as goal
 

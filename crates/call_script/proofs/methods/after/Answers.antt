@@ -1,4 +1,5 @@
-use Rattle.call_script.proofs.Fronts.{front_is, never_false}
+use Rattle.call_script.proofs.Fronts.{front_is}
+use Rattle.call_script.proofs.Parts.{never_false}
 use Rattle.call_script.proofs.methods.after.Goals as goal
 
 pub returns-else-eq-clause-none : goal.returns-else-eq-clause-none

@@ -1,7 +1,7 @@
 use Rattle.call_script.proofs.MethodWords.{dotted_is, not_found, not_its_own}
 use Rattle.call_script.specs.Spelling.{method_name}
 use Rattle.call_script.proofs.methods.method_named.Goals as goal
-use Rattle.std.proofs.Common.{◌≡◌, ◌++◌, ◌∙◌, ap, sym}
+use Rattle.std.proofs.Common.{◌++◌, ◌∙◌, ap}
 
 pub returns-in_default-after-clause-none : goal.returns-in_default-after-clause-none
 returns-in_default-after-clause-none c ordinal names =

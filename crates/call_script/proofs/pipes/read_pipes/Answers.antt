@@ -1,10 +1,8 @@
-use Rattle.std.proofs.Common.{◌≡◌, ◌<◌, ◌≤◌, ◌+◌, length, arith, subst, List, ℕ, sym, Some, None, drop, ap, ◌∙◌, length-drop}
+use Rattle.std.proofs.Common.{◌≤◌, ◌+◌, length, arith, length-drop}
 use Rattle.std.specs.Prelude.{map}
-use Rattle.call_script.specs.Pieces.{words_now}
-use Rattle.call_script.specs.Reading.{AreThePipes}
-use Rattle.call_script.specs.declared.script.Pipe.{Pipe}
-use Rattle.call_script.proofs.PipesLoop.{AreRead, too_few, no_pipe, one_more, all_read, none_read}
-use Rattle.call_script.proofs.WordLists.{length_now, word_at, two_at, rest_is, spells_at, drop_now}
+use Rattle.call_script.specs.Words.{words_now}
+use Rattle.call_script.proofs.PipesLoop.{too_few, no_pipe, one_more, all_read}
+use Rattle.call_script.proofs.WordLists.{length_now, word_at, two_at, rest_is, spells_at}
 use Rattle.call_script.proofs.pipes.read_pipes.Goals as goal
 
 pub returns-then-after-at-lt2 : goal.returns-then-after-at-lt2
@@ -25,8 +23,8 @@ loop-join-preserved c =
     record {
       within = there;
       read = rw c.in_ok-push-in-Some.ensures.items (one_more c.args.schema.now (map words_now c.args.joins.now) (map words_now c.args.after.now) c.loop-join.join-index c.loop-join.pipes.items _ _ _ _ c.in-Some.pipe (omega (arith, length_now c.args.joins.now)) c.loop-join.invariant.read
-      (two_at c.args.after.now c.loop-join.at c.index-after-at.result c.index-after-at-in-loop-join.result there c.index-after-at.is c.index-after-at-in-loop-join.is)
-      (spells_at _ _ _ _ _ _ (word_at c.args.joins.now c.loop-join.join-index c.join-item.result c.loop-join-test.true c.join-item.is) c.in-Some.is c.in_ok-pipe.ensures));
+          (two_at c.args.after.now c.loop-join.at c.index-after-at.result c.index-after-at-in-loop-join.result there c.index-after-at.is c.index-after-at-in-loop-join.is)
+          (spells_at _ _ _ _ _ _ (word_at c.args.joins.now c.loop-join.join-index c.join-item.result c.loop-join-test.true c.join-item.is) c.in-Some.is c.in_ok-pipe.ensures));
     }
 
 pub returns : goal.returns

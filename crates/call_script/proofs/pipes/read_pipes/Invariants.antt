@@ -1,6 +1,6 @@
 use Rattle.std.proofs.Common.{drop, length, ◌≤◌}
 use Rattle.std.specs.Prelude.{map}
-use Rattle.call_script.specs.Pieces.{words_now}
+use Rattle.call_script.specs.Words.{words_now}
 use Rattle.call_script.proofs.PipesLoop.{AreRead}
 use Rattle.call_script.proofs.pipes.read_pipes.Given as goal
 

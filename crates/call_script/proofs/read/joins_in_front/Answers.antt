@@ -1,6 +1,6 @@
-use Rattle.std.proofs.Common.{◌∙◌, sym, ap, refl}
+use Rattle.std.proofs.Common.{◌∙◌, sym, ap}
 use Rattle.std.specs.Prelude.{map}
-use Rattle.call_script.specs.Pieces.{words_now}
+use Rattle.call_script.specs.Words.{words_now}
 use Rattle.call_script.specs.Reading.{begins_join}
 use Rattle.call_script.proofs.WordLists.{line_at}
 use Rattle.call_script.proofs.ScriptWords.{joins_end, joins_go_on}

@@ -1,6 +1,6 @@
 use Rattle.std.proofs.Common.{◌≡◌, ◌+◌, drop}
 use Rattle.std.specs.Prelude.{map}
-use Rattle.call_script.specs.Pieces.{words_now}
+use Rattle.call_script.specs.Words.{words_now}
 use Rattle.call_script.specs.Reading.{joins_in_front}
 use Rattle.call_script.proofs.read.joins_in_front.Given as goal
 
