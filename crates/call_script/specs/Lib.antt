@@ -1,1 +1,5 @@
 pub mod Spelling
+pub mod Pieces
+pub mod Values
+pub mod Reading
+pub mod Words

@@ -1,5 +1,5 @@
 -- How a script is spelled: lines that each end with LF, which the last may lack, and words parted by one blank.
-use Rattle.std.specs.Prelude.{ℕ, ◌≡◌, ◌<◌, ◌≤◌, ◌^◌, ◌+◌, ◌*◌, ◌++◌, ◌⊎◌, Bool, true, false, ◌&&◌, ◌||◌, ◌==◌, nat_le, not, List, [], ◌∷◌, All, length, map, slice_get, codes, decimal, Option, Some, None, option_and_then, unwrap_or, find}
+use Rattle.std.specs.Prelude.{ℕ, ◌≡◌, ◌<◌, ◌≤◌, ◌^◌, ◌++◌, ◌⊎◌, Bool, true, false, ◌&&◌, ◌||◌, ◌==◌, nat_le, not, List, [], ◌∷◌, All, length, map, slice_get, codes, decimal, Option, Some, option_and_then, unwrap_or, find}
 use Rattle.std.specs.Option.{option_map}
 use Rattle.std.specs.List.{flat_map, list_all, list_any, AllByRecursion}
 use Rattle.std.specs.Str.{bytes_eq}
@@ -99,7 +99,7 @@ pub record IsPipe (schema : Schema) (pipe : Pipe) : Type 0 where
 
 -- the ordinal of the first method of this name
 abbrev pub method_called : Schema → ℕ → List ℕ → Option ℕ
-method_called schema interface name = option_and_then (λ (i : InterfaceRow). option_map (λ (m : MethodRow). m.ordinal) (find (λ (m : MethodRow). bytes_eq m.name name) i.methods)) (slice_get schema.interfaces interface)
+method_called schema interface name = option_map (λ (m : MethodRow). m.ordinal) (option_and_then (λ (i : InterfaceRow). find (λ (m : MethodRow). bytes_eq m.name name) i.methods) (slice_get schema.interfaces interface))
 
 -- a call names a method, which its name finds, and has a number below 2 ^ 32 for each parameter; a take names an end
 pub record IsCall (schema : Schema) (pipes : List Pipe) (pipe method : ℕ) (value : List ℕ) : Type 0 where

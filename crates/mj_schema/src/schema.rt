@@ -21,8 +21,15 @@ impl Schema {
     pub fn find_interface(&self, name: &str) -> Option<u32>
         ensures { result ≡ interface_number self.now name.now }
     {
+        self.find_interface_by_bytes(name.as_bytes())
+    }
+
+    /// The number of the interface whose full name has these bytes.
+    pub fn find_interface_by_bytes(&self, name: &[u8]) -> Option<u32>
+        ensures { result ≡ interface_number self.now name.now }
+    {
         for (number, interface) in self.interfaces.as_slice().iter().enumerate() {
-            if interface.name.as_str() == name {
+            if interface.name.as_str().as_bytes() == name {
                 return Some(number as u32);
             }
         }

@@ -3,7 +3,7 @@ use Rattle.std.specs.Prelude.{position}
 use Rattle.std.specs.Option.{option_map}
 use Rattle.std.specs.Str.{bytes_eq}
 use Rattle.mj_schema.specs.declared.rows.InterfaceRow.{InterfaceRow}
-use Rattle.mj_schema.proofs.schema.Schema.find_interface.Given as goal
+use Rattle.mj_schema.proofs.schema.Schema.find_interface_by_bytes.Given as goal
 
 -- the interface isn't among those that were passed
 abbrev pub invariant-loop-number : goal.invariant-loop-number

@@ -1,0 +1,14 @@
+pub mod Fronts
+pub mod MethodWords
+pub mod PipeWords
+pub mod PipesLoop
+pub mod WordLists
+pub mod LineWords
+pub mod Values
+pub mod LinesLoop
+pub mod ScriptWords
+pub mod Parts
+pub mod Splits
+pub mod WordLines
+pub mod Whole
+pub mod NameBytes

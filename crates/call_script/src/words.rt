@@ -1,0 +1,120 @@
+//! Names, numbers and values, each in its one spelling.
+
+ghost use Rattle.std.specs.Prelude.{◌≡◌, ◌<◌, ◌^◌, ℕ, List, All, IfOk, map, decimal, Some, None, MatchOption};
+ghost use Rattle.std.specs.List.{list_all, list_any};
+ghost use Rattle.std.specs.Str.{bytes_eq};
+ghost use Rattle.call_script.specs.Spelling.{is_name, is_small_letter, is_name_byte, are_distinct};
+ghost use Rattle.call_script.specs.Values.{SpellsNumber, SpellsValue, NoNumbers, AreNumbers, NoBrackets, IsInside};
+
+use crate::split::split;
+use mj_base::Items;
+use std::alloc::{AllocError, Global};
+use wire_model::Value;
+
+/// Whether the word is a name: a small letter, then small letters, digits and `_`, 32 at most in all.
+pub(crate) fn is_name(word: &[u8]) -> bool
+    ensures { result ≡ is_name word.now }
+{
+    match word.split_first() {
+        None => false,
+        Some((first, rest)) => is_small_letter(*first) && are_name_bytes(rest) && rest.len() <= 31,
+    }
+}
+
+fn is_small_letter(c: u8) -> bool
+    ensures { result ≡ is_small_letter c }
+{
+    97 <= c && c <= 122
+}
+
+fn is_name_byte(c: u8) -> bool
+    ensures { result ≡ is_name_byte c }
+{
+    is_small_letter(c) || (48 <= c && c <= 57) || c == 95
+}
+
+fn are_name_bytes(bytes: &[u8]) -> bool
+    ensures { result ≡ list_all is_name_byte bytes.now }
+{
+    bytes.iter().all(|c| is_name_byte(*c))
+}
+
+/// Whether no name stands twice.
+pub(crate) fn distinct(names: &[&[u8]]) -> bool
+    ensures { result ≡ are_distinct (map (λ name. name.now) names.now) }
+{
+    match names.split_first() {
+        None => true,
+        Some((first, rest)) => !has(rest, first) && distinct(rest),
+    }
+}
+
+fn has(names: &[&[u8]], name: &[u8]) -> bool
+    ensures { result ≡ list_any (bytes_eq name.now) (map (λ other. other.now) names.now) }
+{
+    match names.split_first() {
+        None => false,
+        Some((first, rest)) => name == *first || has(rest, name),
+    }
+}
+
+/// The number that the word spells.
+pub(crate) fn number(alloc: Global, word: &[u8]) -> Result<Option<u32>, AllocError>
+    ensures { IfOk result (λ found. SpellsNumber word.now found) }
+{
+    match str::from_utf8(word) {
+        Ok(text) => match text.parse::<u32>() {
+            Ok(n) => {
+                let spelled = n.to_string(alloc)?;
+                if spelled.as_bytes() == word {
+                    Ok(Some(n))
+                } else {
+                    Ok(None)
+                }
+            }
+            Err(_) => Ok(None),
+        },
+        Err(_) => Ok(None),
+    }
+}
+
+/// The numbers that the words spell, each its own.
+fn numbers(alloc: Global, words: &[&[u8]]) -> Result<Option<Vec<u32>>, AllocError>
+    ensures { IfOk result (λ found. MatchOption found (NoNumbers (map (λ word. word.now) words.now)) (λ ns. AreNumbers (map (λ word. word.now) words.now) ns.items)) }
+{
+    let mut found = Vec::new(alloc);
+    for word in words {
+        match number(alloc, word)? {
+            Some(n) => found.push(n)?,
+            None => return Ok(None),
+        }
+    }
+    Ok(Some(found))
+}
+
+/// What stands between the brackets of the word.
+fn inside(word: &[u8]) -> Option<&[u8]>
+    ensures { MatchOption result (NoBrackets word.now) (λ text. IsInside word.now text.now) }
+{
+    match word {
+        [b'(', text @ .., b')'] => Some(text),
+        _ => None,
+    }
+}
+
+/// The value that the word spells, as `(1,2)`.
+pub(crate) fn value(alloc: Global, word: &[u8]) -> Result<Option<Value>, AllocError>
+    ensures { IfOk result (λ found. SpellsValue word.now found) }
+{
+    let Some(text) = inside(word) else {
+        return Ok(None);
+    };
+    if text.is_empty() {
+        return Ok(Some(Items::new(alloc)));
+    }
+    let words = split(alloc, text, b',')?;
+    match numbers(alloc, words.as_slice())? {
+        Some(found) => Ok(Some(Items::from_vec(found))),
+        None => Ok(None),
+    }
+}
