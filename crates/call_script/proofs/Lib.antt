@@ -12,3 +12,4 @@ pub mod Splits
 pub mod WordLines
 pub mod Whole
 pub mod NameBytes
+pub mod TextLines

@@ -3,3 +3,4 @@ pub mod Pieces
 pub mod Values
 pub mod Reading
 pub mod Words
+pub mod Text
