@@ -1,18 +1,13 @@
 -- How a file is spelled in tokens: `module NAME;` and then interfaces, whose methods have parameters of the type `uint32` alone.
 use Rattle.std.specs.Prelude.{ℕ, List, [], ◌∷◌, ◌++◌, codes}
-use Rattle.std.specs.List.{flat_map}
+use Rattle.std.specs.List.{flat_map, join_by}
 use Rattle.mojom_compile.specs.declared.tree.Method.{Method}
 use Rattle.mojom_compile.specs.declared.tree.Interface.{Interface}
 use Rattle.mojom_compile.specs.declared.tree.File.{File}
 
--- a list of things with a separator between them
-abbrev pub parted : {A : Type 0} → List ℕ → (A → List (List ℕ)) → List A → List (List ℕ)
-parted separator spelled [] = []
-parted separator spelled (x ∷ xs) = spelled x ++ flat_map (λ y. separator ∷ spelled y) xs
-
 -- `a.b.c`
 abbrev pub name_tokens : List (List ℕ) → List (List ℕ)
-name_tokens ids = parted (codes ".") (λ id. id ∷ []) ids
+name_tokens ids = join_by (λ id. id ∷ []) (codes "." ∷ []) ids
 
 -- `uint32 n`
 abbrev pub parameter_tokens : List ℕ → List (List ℕ)
@@ -20,7 +15,7 @@ parameter_tokens id = codes "uint32" ∷ id ∷ []
 
 -- `Ping(uint32 n, uint32 m);`
 abbrev pub method_tokens : Method → List (List ℕ)
-method_tokens method = method.name ∷ codes "(" ∷ (parted (codes ",") parameter_tokens method.parameters ++ (codes ")" ∷ codes ";" ∷ []))
+method_tokens method = method.name ∷ codes "(" ∷ (join_by parameter_tokens (codes "," ∷ []) method.parameters ++ (codes ")" ∷ codes ";" ∷ []))
 
 -- `interface Pinger { .. };`
 abbrev pub interface_tokens : Interface → List (List ℕ)

@@ -1,6 +1,6 @@
 -- The tables of a file.
 use Rattle.std.specs.Prelude.{ℕ, ◌+◌, ◌*◌, ◌≡◌, List, [], ◌∷◌, ◌++◌, codes, length, map}
-use Rattle.std.specs.List.{flat_map}
+use Rattle.std.specs.List.{flat_map, join_by}
 use Rattle.mj_schema.specs.declared.rows.Kind.TheVariants.{Uint32}
 use Rattle.mj_schema.specs.declared.rows.FieldRow.{FieldRow}
 use Rattle.mj_schema.specs.declared.rows.StructRow.{StructRow}
@@ -14,12 +14,11 @@ use Rattle.mojom_compile.specs.declared.tree.File.{File}
 
 -- identifiers with dots between them
 abbrev pub dotted : List (List ℕ) → List ℕ
-dotted [] = []
-dotted (id ∷ ids) = id ++ flat_map (λ other. 46 ∷ other) ids
+dotted ids = join_by (λ id. id) (codes ".") ids
 
 -- the full name of what stands in another thing: the two names with a dot between them
 abbrev pub within : List ℕ → List ℕ → List ℕ
-within outer inner = outer ++ (46 ∷ inner)
+within outer inner = outer ++ (codes "." ++ inner)
 
 -- parameters as fields, from the ordinal k on: in their order, four bytes each
 abbrev pub fields_from : ℕ → List (List ℕ) → List FieldRow

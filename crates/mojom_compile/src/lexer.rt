@@ -68,6 +68,7 @@ fn word_len(bytes: &[u8]) -> usize
 }
 
 /// The bytes after the blanks at the front.
+#[tactic(auto, using(crate::proofs::Runs::run_within))]
 fn after_blanks(bytes: &[u8]) -> &[u8]
     ensures { result.now ≡ after_blanks bytes.now }
 {
@@ -75,6 +76,7 @@ fn after_blanks(bytes: &[u8]) -> &[u8]
 }
 
 /// The token at the front, the longest, and the bytes after it; none where no token begins.
+#[tactic(auto, using(crate::proofs::Runs::run_within, crate::proofs::Runs::run_token))]
 fn token(bytes: &[u8]) -> Option<(&[u8], &[u8])>
     ensures at { option_map (λ x. (x.0.now, x.1.now)) result ≡ token_at bytes.now }
     ensures token { IfSome result (λ x. is_token x.0.now ≡ true) }

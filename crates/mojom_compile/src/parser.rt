@@ -1,9 +1,9 @@
 //! From tokens to the tree, one function for each rule.
 
 ghost use Rattle.std.specs.Prelude.{◌≡◌};
-ghost use Rattle.std.specs.List.{list_any};
+ghost use Rattle.std.specs.List.{list_any, list_all};
 ghost use Rattle.std.specs.Str.{bytes_eq};
-ghost use Rattle.mojom_compile.specs.Tokens.{is_word, is_id, is_keyword};
+ghost use Rattle.mojom_compile.specs.Tokens.{goes_on, is_word, is_id, is_keyword};
 ghost use Rattle.mojom_compile.specs.Reading.{Gives, front_is, after, id_at, with_front, dotted_id_at, dotted_ids_at, name_at, parameter_at, next_parameter_at, next_parameters_at, parameters_at, method_at, begins_method, methods_at, interface_at, interfaces_at, file_at};
 
 use crate::error::CompileError;
@@ -23,7 +23,22 @@ fn is_id(word: &str) -> bool
 fn is_word(token: &[u8]) -> bool
     ensures { result ≡ is_word token.now }
 {
-    !token.is_empty() && is_letter(token[0]) && token[1..].iter().all(|byte| goes_on(*byte))
+    match token {
+        [first, rest @ ..] => is_letter(*first) && all_go_on(rest),
+        [] => false,
+    }
+}
+
+/// Whether all bytes may stand in a word.
+fn all_go_on(bytes: &[u8]) -> bool
+    ensures { result ≡ list_all goes_on bytes.now }
+{
+    for byte in bytes {
+        if !goes_on(*byte) {
+            return false;
+        }
+    }
+    true
 }
 
 /// Whether the word is a keyword.

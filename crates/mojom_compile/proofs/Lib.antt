@@ -1,0 +1,5 @@
+pub mod Loops
+pub mod Runs
+pub mod Many
+pub mod Spaced
+pub mod Rules
