@@ -29,7 +29,7 @@ abbrev pub basic_kinds : List (List ℕ)
 basic_kinds = codes "bool" ∷ codes "int8" ∷ codes "int16" ∷ codes "int32" ∷ codes "int64" ∷ codes "uint8" ∷ codes "uint16" ∷ codes "uint32" ∷ codes "uint64" ∷ codes "string" ∷ codes "float" ∷ codes "double" ∷ []
 
 abbrev pub is_basic_kind : List ℕ → Bool
-is_basic_kind word = list_any (λ kind. bytes_eq kind word) basic_kinds
+is_basic_kind word = list_any (bytes_eq word) basic_kinds
 
 -- no two parameters of one name, and at most 4,096
 pub record IsAllowedMethod (method : Method) : Type 0 where

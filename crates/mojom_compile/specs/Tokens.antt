@@ -35,7 +35,7 @@ abbrev pub keywords : List (List ℕ)
 keywords = codes "module" ∷ codes "import" ∷ codes "struct" ∷ codes "union" ∷ codes "enum" ∷ codes "interface" ∷ codes "const" ∷ codes "true" ∷ codes "false" ∷ codes "array" ∷ codes "map" ∷ codes "handle" ∷ codes "pending_remote" ∷ codes "pending_receiver" ∷ codes "pending_associated_remote" ∷ codes "pending_associated_receiver" ∷ []
 
 abbrev pub is_keyword : List ℕ → Bool
-is_keyword word = list_any (λ keyword. bytes_eq keyword word) keywords
+is_keyword word = list_any (bytes_eq word) keywords
 
 -- an identifier: a word that is no keyword
 abbrev pub is_id : List ℕ → Bool

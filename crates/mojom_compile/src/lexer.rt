@@ -6,6 +6,7 @@ ghost use Rattle.mojom_compile.specs.Tokens.{is_blank, is_letter, goes_on, is_sy
 ghost use Rattle.mojom_compile.specs.Reading.{run_len, after_blanks, token_at, next_token, begins_token, many, lexed, Gives};
 
 use crate::error::CompileError;
+use crate::words::{goes_on, is_letter};
 use mj_base::Text;
 use std::alloc::{AllocError, Global};
 
@@ -14,20 +15,6 @@ fn is_blank(byte: u8) -> bool
     ensures { result ≡ is_blank byte }
 {
     byte == b' ' || byte == b'\t' || byte == b'\r' || byte == b'\n'
-}
-
-/// Whether the byte may begin a word.
-pub fn is_letter(byte: u8) -> bool
-    ensures { result ≡ is_letter byte }
-{
-    (b'a' <= byte && byte <= b'z') || (b'A' <= byte && byte <= b'Z') || byte == b'_'
-}
-
-/// Whether the byte may stand in a word.
-pub fn goes_on(byte: u8) -> bool
-    ensures { result ≡ goes_on byte }
-{
-    is_letter(byte) || (b'0' <= byte && byte <= b'9')
 }
 
 /// Whether the byte is a symbol of the form.

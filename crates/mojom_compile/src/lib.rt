@@ -5,6 +5,9 @@
 mod error;
 mod lexer;
 mod parser;
+mod refusals;
+mod rows;
 mod tree;
+mod words;
 
 pub use error::CompileError;

@@ -1,82 +1,13 @@
 //! From tokens to the tree, one function for each rule.
 
 ghost use Rattle.std.specs.Prelude.{◌≡◌};
-ghost use Rattle.std.specs.List.{list_any, list_all};
-ghost use Rattle.std.specs.Str.{bytes_eq};
-ghost use Rattle.mojom_compile.specs.Tokens.{goes_on, is_word, is_id, is_keyword};
 ghost use Rattle.mojom_compile.specs.Reading.{Gives, front_is, after, id_at, with_front, dotted_id_at, dotted_ids_at, name_at, parameter_at, next_parameter_at, next_parameters_at, parameters_at, method_at, begins_method, methods_at, interface_at, interfaces_at, file_at};
 
 use crate::error::CompileError;
-use crate::lexer::{goes_on, is_letter};
 use crate::tree::{File, Interface, Method};
+use crate::words::is_id;
 use mj_base::{Items, Text};
 use std::alloc::Global;
-
-/// Whether the word is an identifier, and no keyword.
-fn is_id(word: &str) -> bool
-    ensures { result ≡ is_id word.now }
-{
-    is_word(word.as_bytes()) && !is_keyword(word)
-}
-
-/// Whether the token is a word.
-fn is_word(token: &[u8]) -> bool
-    ensures { result ≡ is_word token.now }
-{
-    match token {
-        [first, rest @ ..] => is_letter(*first) && all_go_on(rest),
-        [] => false,
-    }
-}
-
-/// Whether all bytes may stand in a word.
-fn all_go_on(bytes: &[u8]) -> bool
-    ensures { result ≡ list_all goes_on bytes.now }
-{
-    for byte in bytes {
-        if !goes_on(*byte) {
-            return false;
-        }
-    }
-    true
-}
-
-/// Whether the word is a keyword.
-fn is_keyword(word: &str) -> bool
-    ensures { result ≡ is_keyword word.now }
-{
-    let keywords = [
-        "module",
-        "import",
-        "struct",
-        "union",
-        "enum",
-        "interface",
-        "const",
-        "true",
-        "false",
-        "array",
-        "map",
-        "handle",
-        "pending_remote",
-        "pending_receiver",
-        "pending_associated_remote",
-        "pending_associated_receiver",
-    ];
-    is_among(&keywords, word)
-}
-
-/// Whether the word is one of these.
-fn is_among(words: &[&str], word: &str) -> bool
-    ensures { result ≡ list_any (λ other. bytes_eq other.now word.now) words.now }
-{
-    for other in words {
-        if *other == word {
-            return true;
-        }
-    }
-    false
-}
 
 /// Whether this token is next.
 #[tactic(auto, unfolding(crate::specs::Reading::front_is))]
