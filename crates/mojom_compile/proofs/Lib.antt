@@ -3,3 +3,5 @@ pub mod Runs
 pub mod Many
 pub mod Spaced
 pub mod Rules
+pub mod Distinct
+pub mod Whole

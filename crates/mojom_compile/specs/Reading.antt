@@ -129,3 +129,6 @@ file_at ts = do
   rest ← after (codes ";") module_name.1
   interfaces ← interfaces_at rest
   if is_empty interfaces.1 then Some (record { module_name = module_name.0; interfaces = interfaces.0 }) else None
+
+unfoldable pub file_in : List ℕ → Option File
+file_in bytes = lexed bytes >>= file_at

@@ -2,6 +2,7 @@
 //! compiled to their schemas.
 #![tactic(auto)]
 
+mod compiler;
 mod error;
 mod lexer;
 mod parser;
@@ -10,4 +11,5 @@ mod rows;
 mod tree;
 mod words;
 
+pub use compiler::{compile, one_schema};
 pub use error::CompileError;

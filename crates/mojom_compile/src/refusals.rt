@@ -26,13 +26,16 @@ fn is_basic_kind(word: &str) -> bool
 }
 
 /// Whether no two names are the same.
+#[tactic(auto, using(crate::proofs::Distinct::none_same, crate::proofs::Distinct::one_same))]
 fn are_distinct(names: &[&str]) -> bool
     ensures { IsTrue result ↔ IsDistinct bytes_eq (map (λ name. name.now) names.now) }
 {
-    for (at, name) in names.iter().enumerate() {
-        if is_among(&names[at + 1..], name) {
+    let mut left = names;
+    while let Some((name, rest)) = left.split_first() {
+        if is_among(rest, name) {
             return false;
         }
+        left = rest;
     }
     true
 }

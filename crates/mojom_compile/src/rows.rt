@@ -21,14 +21,17 @@ fn within(alloc: Global, outer: &str, inner: &str) -> Result<Text, AllocError>
 fn dotted(alloc: Global, ids: &[Text]) -> Result<Text, AllocError>
     ensures { IfOk result (λ name. name ≡ dotted ids.now) }
 {
-    let mut name = String::new(alloc);
-    for (at, id) in ids.iter().enumerate() {
-        if at > 0 {
-            name.push_str(".")?;
+    match ids {
+        [first, rest @ ..] => {
+            let mut name = String::from_str(alloc, first.as_str())?;
+            for id in rest {
+                name.push_str(".")?;
+                name.push_str(id.as_str())?;
+            }
+            Ok(Text::from_string(name))
         }
-        name.push_str(id.as_str())?;
+        [] => Ok(Text::from_string(String::new(alloc))),
     }
-    Ok(Text::from_string(name))
 }
 
 /// The parameters as fields.

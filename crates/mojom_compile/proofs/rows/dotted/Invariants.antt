@@ -1,5 +1,5 @@
 use Rattle.std.proofs.Common.{◌≡◌, ◌<◌, ◌≤◌, ◌↔◌, take, drop, map, length, ◌++◌, ◌+◌}
-use Rattle.std.specs.Prelude.{string_bytes}
+use Rattle.std.specs.Prelude.{string_bytes, codes}
 use Rattle.std.specs.List.{IsDistinct, AllByRecursion, flat_map, join_by}
 use Rattle.std.specs.Str.{bytes_eq}
 use Rattle.mojom_compile.specs.Sound.{IsAllowedMethod, IsAllowedInterface}
@@ -8,5 +8,5 @@ use Rattle.mojom_compile.specs.declared.tree.Method.{Method}
 use Rattle.mojom_compile.specs.declared.tree.Interface.{Interface}
 use Rattle.mojom_compile.proofs.rows.dotted.Given as goal
 
-abbrev pub invariant-loop-at : goal.invariant-loop-at
-invariant-loop-at l = string_bytes l.name ≡ dotted (take l.at l.ids)
+abbrev pub invariant-loop-id : goal.invariant-loop-id
+invariant-loop-id l = string_bytes l.name ++ flat_map (λ id. codes "." ++ id) (drop l.id-index l.rest) ≡ dotted l.ids

@@ -12,5 +12,6 @@ abbrev pub invariant-loop-interface : goal.invariant-loop-interface
 invariant-loop-interface l = record {
   structs : l.structs.items ++ flat_map (structs_in (dotted l.fn.file.module_name)) (drop l.interface-index l.fn.file.interfaces) ≡ flat_map (structs_in (dotted l.fn.file.module_name)) l.fn.file.interfaces;
   interfaces : l.interfaces.items ++ interfaces_from (dotted l.fn.file.module_name) (length l.structs.items) (drop l.interface-index l.fn.file.interfaces) ≡ interfaces_from (dotted l.fn.file.module_name) 0 l.fn.file.interfaces;
+  count : length l.interfaces.items ≡ l.interface-index;
   allowed : AllByRecursion IsAllowedInterface (drop l.interface-index l.fn.file.interfaces);
 }

@@ -1,0 +1,47 @@
+//! The schema of a file.
+
+ghost use Rattle.std.specs.Prelude.{◌≡◌, ◌≤◌, ℕ, length, All, IfOk, Err};
+ghost use Rattle.mj_schema.specs.declared.schema.Schema.{Schema};
+ghost use Rattle.mojom_compile.specs.Reading.{Gives, file_in};
+ghost use Rattle.mojom_compile.specs.Compiled.{IsSchemaOf, IsLaidOutRow, OneSchema};
+
+use crate::error::CompileError;
+use crate::lexer::tokens;
+use crate::parser::file;
+use crate::refusals::is_allowed;
+use crate::rows::schema;
+use crate::tree::File;
+use mj_schema::Schema;
+use std::alloc::Global;
+
+/// The schema of a file of at most 1,048,576 bytes. `Unsupported` is the answer exactly where the
+/// bytes have none.
+#[tactic(auto, using(crate::proofs::Whole::compiled, crate::proofs::Whole::refused, crate::proofs::Whole::few_structs, crate::proofs::Whole::few_interfaces, crate::proofs::Whole::laid_out))]
+pub fn compile(alloc: Global, bytes: &[u8]) -> Result<Schema, CompileError>
+    requires { length bytes.now ≤ 1048576 }
+    ensures ok { IfOk result (λ schema. IsSchemaOf bytes.now schema) }
+    ensures unsupported { result ≡ Err CompileError.Unsupported → (schema : Schema) → IsSchemaOf bytes.now schema → ⊥ }
+    ensures laid_out { IfOk result (λ schema. All IsLaidOutRow schema.structs) }
+{
+    let file = read(alloc, bytes)?;
+    if !is_allowed(alloc, &file)? {
+        return Err(CompileError::Unsupported);
+    }
+    Ok(schema(alloc, &file)?)
+}
+
+/// The file that the bytes spell.
+#[tactic(auto, unfolding(crate::specs::Reading::file_in))]
+fn read(alloc: Global, bytes: &[u8]) -> Result<File, CompileError>
+    ensures { Gives (λ file. file) result (file_in bytes.now) }
+{
+    let tokens = tokens(alloc, bytes)?;
+    file(alloc, tokens.as_slice())
+}
+
+/// A file has one schema: this is a law and does nothing.
+#[tactic(auto, using(crate::proofs::Whole::one_schema))]
+pub fn one_schema()
+    ensures { OneSchema }
+{
+}
