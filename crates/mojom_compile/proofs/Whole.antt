@@ -46,9 +46,9 @@ unread Unsupported bytes f same schema s = let r = file_read bytes s.0 s.1.spell
 
 -- and neither has what is refused
 pub refused : (bytes : List ℕ) (file : File) → file_in bytes ≡ Some file → (IsAllowed file → ⊥) → (schema : Schema) → IsSchemaOf bytes schema → ⊥
-refused bytes file h no schema s =
+refused bytes file h never schema s =
     let r = file_read bytes s.0 s.1.spelled s.1.named in
-    no (subst IsAllowed (same_some (sym r ∙ h)) s.1.allowed)
+    never (subst IsAllowed (same_some (sym r ∙ h)) s.1.allowed)
 
 -- there are no more rows than bytes
 token_some : (token : List ℕ) → is_token token ≡ true → 1 ≤ length token

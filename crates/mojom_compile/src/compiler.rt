@@ -40,7 +40,7 @@ fn read(alloc: Global, bytes: &[u8]) -> Result<File, CompileError>
 }
 
 /// A file has one schema: this is a law and does nothing.
-#[tactic(auto, using(crate::proofs::Whole::one_schema))]
+
 pub fn one_schema()
     ensures { OneSchema }
 {

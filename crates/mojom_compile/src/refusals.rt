@@ -2,7 +2,7 @@
 //! more methods or parameters than there may be.
 
 ghost use Rattle.std.specs.Prelude.{◌≡◌, ◌↔◌, IsTrue, IfOk, map};
-ghost use Rattle.std.specs.List.{AllByRecursion, IsDistinct};
+ghost use Rattle.std.specs.List.{list_any, AllByRecursion, IsDistinct};
 ghost use Rattle.std.specs.Str.{bytes_eq};
 ghost use Rattle.mojom_compile.specs.Sound.{is_basic_kind, IsAllowedMethod, IsAllowedInterface, IsAllowed};
 
@@ -25,75 +25,70 @@ fn is_basic_kind(word: &str) -> bool
     is_among(&kinds, word)
 }
 
-/// Whether no two names are the same.
-#[tactic(auto, using(crate::proofs::Distinct::none_same, crate::proofs::Distinct::one_same))]
-fn are_distinct(names: &[&str]) -> bool
-    ensures { IsTrue result ↔ IsDistinct bytes_eq (map (λ name. name.now) names.now) }
+/// Whether one of the names is this.
+fn has(names: &[Text], name: &str) -> bool
+    ensures { result ≡ list_any (bytes_eq name.now) names.now }
 {
-    let mut left = names;
-    while let Some((name, rest)) = left.split_first() {
-        if is_among(rest, name) {
+    for other in names {
+        if name == other.as_str() {
+            return true;
+        }
+    }
+    false
+}
+
+/// Whether no two names are the same.
+fn are_distinct(names: &[Text]) -> bool
+    ensures { IsTrue result ↔ IsDistinct bytes_eq names.now }
+{
+    for (at, name) in names.iter().enumerate() {
+        if has(&names[at + 1..], name.as_str()) {
             return false;
         }
-        left = rest;
     }
     true
 }
 
-/// The names as they are.
-fn plain_names(alloc: Global, names: &[Text]) -> Result<Vec<&str>, AllocError>
-    ensures { IfOk result (λ found. map (λ name. name.now) found.items ≡ names.now) }
-{
-    let mut found = Vec::new(alloc);
-    for name in names {
-        found.push(name.as_str())?;
-    }
-    Ok(found)
-}
-
 /// The names of the methods.
-fn method_names(alloc: Global, methods: &[Method]) -> Result<Vec<&str>, AllocError>
-    ensures { IfOk result (λ found. map (λ name. name.now) found.items ≡ map (λ method. method.name) methods.now) }
+fn method_names(alloc: Global, methods: &[Method]) -> Result<Vec<Text>, AllocError>
+    ensures { IfOk result (λ found. found.items ≡ map (λ method. method.name) methods.now) }
 {
     let mut found = Vec::new(alloc);
     for method in methods {
-        found.push(method.name.as_str())?;
+        found.push(Text::from_str(alloc, method.name.as_str())?)?;
     }
     Ok(found)
 }
 
 /// The names of the interfaces.
-fn interface_names(alloc: Global, interfaces: &[Interface]) -> Result<Vec<&str>, AllocError>
-    ensures { IfOk result (λ found. map (λ name. name.now) found.items ≡ map (λ interface. interface.name) interfaces.now) }
+fn interface_names(alloc: Global, interfaces: &[Interface]) -> Result<Vec<Text>, AllocError>
+    ensures { IfOk result (λ found. found.items ≡ map (λ interface. interface.name) interfaces.now) }
 {
     let mut found = Vec::new(alloc);
     for interface in interfaces {
-        found.push(interface.name.as_str())?;
+        found.push(Text::from_str(alloc, interface.name.as_str())?)?;
     }
     Ok(found)
 }
 
 /// Whether nothing in the method is refused.
-fn is_allowed_method(alloc: Global, method: &Method) -> Result<bool, AllocError>
-    ensures { IfOk result (λ allowed. IsTrue allowed ↔ IsAllowedMethod method.now) }
+fn is_allowed_method(method: &Method) -> bool
+    ensures { IsTrue result ↔ IsAllowedMethod method.now }
 {
-    if method.parameters.len() > MOST {
-        return Ok(false);
-    }
-    let names = plain_names(alloc, method.parameters.as_slice())?;
-    Ok(are_distinct(names.as_slice()))
+    let names = method.parameters.as_slice();
+    names.len() <= MOST && are_distinct(names)
 }
 
 /// Whether nothing in the methods is refused, each taken by itself.
-fn are_allowed_methods(alloc: Global, methods: &[Method]) -> Result<bool, AllocError>
-    ensures { IfOk result (λ allowed. IsTrue allowed ↔ AllByRecursion IsAllowedMethod methods.now) }
+fn are_allowed_methods(methods: &[Method]) -> bool
+    ensures { IsTrue result ↔ AllByRecursion IsAllowedMethod methods.now }
 {
     for method in methods {
-        if !is_allowed_method(alloc, method)? {
-            return Ok(false);
+        if !is_allowed_method(method) {
+            return false;
         }
     }
-    Ok(true)
+    true
 }
 
 /// Whether nothing in the interface is refused.
@@ -108,10 +103,7 @@ fn is_allowed_interface(alloc: Global, interface: &Interface) -> Result<bool, Al
         return Ok(false);
     }
     let names = method_names(alloc, methods)?;
-    if !are_distinct(names.as_slice()) {
-        return Ok(false);
-    }
-    are_allowed_methods(alloc, methods)
+    Ok(are_distinct(names.as_slice()) && are_allowed_methods(methods))
 }
 
 /// Whether nothing in the interfaces is refused, each taken by itself.

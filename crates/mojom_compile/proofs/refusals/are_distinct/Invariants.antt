@@ -8,8 +8,5 @@ use Rattle.mojom_compile.specs.declared.tree.Method.{Method}
 use Rattle.mojom_compile.specs.declared.tree.Interface.{Interface}
 use Rattle.mojom_compile.proofs.refusals.are_distinct.Given as goal
 
-abbrev pub invariant-loop-left : goal.invariant-loop-left
-invariant-loop-left l = IsDistinct bytes_eq (map (λ name. name.now) l.names) ↔ IsDistinct bytes_eq (map (λ name. name.now) l.left)
-
-abbrev pub decreases-loop-left : goal.decreases-loop-left
-decreases-loop-left l = length l.left
+abbrev pub invariant-loop-at : goal.invariant-loop-at
+invariant-loop-at l = IsDistinct bytes_eq l.names ↔ IsDistinct bytes_eq (drop l.at l.names)

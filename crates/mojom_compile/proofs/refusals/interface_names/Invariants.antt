@@ -9,4 +9,4 @@ use Rattle.mojom_compile.specs.declared.tree.Interface.{Interface}
 use Rattle.mojom_compile.proofs.refusals.interface_names.Given as goal
 
 abbrev pub invariant-loop-interface : goal.invariant-loop-interface
-invariant-loop-interface l = map (λ name. name.now) l.found.items ≡ map (λ (interface : Interface). interface.name) (take l.interface-index l.interfaces)
+invariant-loop-interface l = l.found.items ≡ map (λ (interface : Interface). interface.name) (take l.interface-index l.interfaces)

@@ -9,4 +9,4 @@ use Rattle.mojom_compile.specs.declared.tree.Interface.{Interface}
 use Rattle.mojom_compile.proofs.refusals.method_names.Given as goal
 
 abbrev pub invariant-loop-method : goal.invariant-loop-method
-invariant-loop-method l = map (λ name. name.now) l.found.items ≡ map (λ (method : Method). method.name) (take l.method-index l.methods)
+invariant-loop-method l = l.found.items ≡ map (λ (method : Method). method.name) (take l.method-index l.methods)
