@@ -1,5 +1,5 @@
 -- Each rule of the form: what is read is spelled so, and what is spelled is read.
-use Rattle.std.proofs.Common.{◌≡◌, ◌≢◌, ℕ, ◌≤◌, ◌<◌, List, [], ◌∷◌, ◌++◌, length, Bool, true, false, cond, not, Option, Some, None, refl, sym, ap, ◌∙◌, subst, append_assoc, arith, rules, length-append}
+use Rattle.std.proofs.Common.{◌≡◌, ◌≢◌, ℕ, ◌<◌, List, [], ◌∷◌, ◌++◌, length, Bool, true, false, cond, not, Option, Some, None, refl, sym, ap, ◌∙◌, subst, append_assoc, arith, length-append}
 use Rattle.std.specs.Prelude.{codes}
 use Rattle.std.specs.List.{flat_map, join_by, AllByRecursion}
 use Rattle.std.specs.Str.{bytes_eq}
@@ -12,8 +12,7 @@ use Rattle.mojom_compile.specs.Tokens.{is_id}
 use Rattle.mojom_compile.specs.Form.{name_tokens, parameter_tokens, method_tokens, interface_tokens, tokens_of}
 use Rattle.mojom_compile.specs.Sound.{AreIds, IsNamedMethod, IsNamedInterface, IsNamed}
 use Rattle.mojom_compile.specs.Reading.{◌>>=◌, many, with_front, is_empty, after, front_is, id_at, dotted_id_at, dotted_ids_at, name_at, parameter_at, next_parameter_at, next_parameters_at, parameters_at, method_at, begins_method, methods_at, interface_at, interfaces_at, file_at}
-use Rattle.mojom_compile.proofs.Many.{bind_some, same_some, same_pair, Chain, many_tells, many_again, Spelled, spelled_chain, chain_spelled}
-
+use Rattle.mojom_compile.proofs.Many.{bind_some, same_some, same_pair, many_tells, many_again, Spelled, spelled_chain, chain_spelled}
 
 same_text : (t u : List ℕ) → bytes_eq t u ≡ true → t ≡ u
 same_text t u e = (bytes_eq-Decides t u).0 e
@@ -50,7 +49,6 @@ id_tells w (t ∷ ts) d h = step (is_id t) refl h
 id_again : (w : List ℕ) (d : List (List ℕ)) → is_id w ≡ true → id_at (w ∷ d) ≡ Some (w, d)
 unfolding id_at
 id_again w d e = rw e refl
-
 
 dotted_id_tells : (w : List ℕ) (ts d : List (List ℕ)) → dotted_id_at ts ≡ Some (w, d) → Spelled (λ y. codes "." ∷ y ∷ []) (λ word. is_id word ≡ true) w ts d
 unfolding dotted_id_at
@@ -159,12 +157,14 @@ method_tells m ts d h =
 method_read : (m : Method) (d : List (List ℕ)) → IsNamedMethod m → method_at (method_tokens m ++ d) ≡ Some (m, d)
 unfolding method_at
 method_read m d s =
-    rw (id_again m.name (codes "(" ∷ ((parameters_tokens m.parameters ++ (codes ")" ∷ codes ";" ∷ [])) ++ d)) s.name,
-        after_again (codes "(") ((parameters_tokens m.parameters ++ (codes ")" ∷ codes ";" ∷ [])) ++ d),
-        append_assoc (parameters_tokens m.parameters) (codes ")" ∷ codes ";" ∷ []) d,
-        parameters_again m.parameters (codes ";" ∷ d) s.parameters,
-        after_again (codes ")") (codes ";" ∷ d),
-        after_again (codes ";") d) refl
+    rw (
+      id_again m.name (codes "(" ∷ ((parameters_tokens m.parameters ++ (codes ")" ∷ codes ";" ∷ [])) ++ d)) s.name,
+      after_again (codes "(") ((parameters_tokens m.parameters ++ (codes ")" ∷ codes ";" ∷ [])) ++ d),
+      append_assoc (parameters_tokens m.parameters) (codes ")" ∷ codes ";" ∷ []) d,
+      parameters_again m.parameters (codes ";" ∷ d) s.parameters,
+      after_again (codes ")") (codes ";" ∷ d),
+      after_again (codes ";") d,
+    ) refl
 
 id_no_brace : (w : List ℕ) → is_id w ≡ true → bytes_eq w (codes "}") ≡ false
 id_no_brace w e = step (bytes_eq w (codes "}")) refl
@@ -175,10 +175,11 @@ id_no_brace w e = step (bytes_eq w (codes "}")) refl
 
 method_again : (m : Method) (ts d : List (List ℕ)) → Spelled method_tokens IsNamedMethod m ts d → (begins_method ts ≡ true) × (method_at ts ≡ Some (m, d)) × (length d < length ts)
 unfolding begins_method front_is
-method_again m ts d h =
-    (ap begins_method h.0 ∙ ap not (id_no_brace m.name h.1.name),
-     ap method_at h.0 ∙ method_read m d h.1,
-     omega (arith, ap length h.0, length-append (parameters_tokens m.parameters ++ (codes ")" ∷ codes ";" ∷ [])) d))
+method_again m ts d h = (
+  ap begins_method h.0 ∙ ap not (id_no_brace m.name h.1.name),
+  ap method_at h.0 ∙ method_read m d h.1,
+  omega (arith, ap length h.0, length-append (parameters_tokens m.parameters ++ (codes ")" ∷ codes ";" ∷ [])) d),
+)
 
 methods_tells : (ms : List Method) (ts d : List (List ℕ)) → methods_at ts ≡ Some (ms, d) → (ts ≡ flat_map method_tokens ms ++ d) × AllByRecursion IsNamedMethod ms
 unfolding methods_at
@@ -209,19 +210,22 @@ interface_tells i ts d h =
 interface_read : (i : Interface) (d : List (List ℕ)) → IsNamedInterface i → interface_at (interface_tokens i ++ d) ≡ Some (i, d)
 unfolding interface_at
 interface_read i d s =
-    rw (after_again (codes "interface") (i.name ∷ codes "{" ∷ ((flat_map method_tokens i.methods ++ (codes "}" ∷ codes ";" ∷ [])) ++ d)),
-        id_again i.name (codes "{" ∷ ((flat_map method_tokens i.methods ++ (codes "}" ∷ codes ";" ∷ [])) ++ d)) s.name,
-        after_again (codes "{") ((flat_map method_tokens i.methods ++ (codes "}" ∷ codes ";" ∷ [])) ++ d),
-        append_assoc (flat_map method_tokens i.methods) (codes "}" ∷ codes ";" ∷ []) d,
-        methods_again i.methods (codes ";" ∷ d) s.methods,
-        after_again (codes "}") (codes ";" ∷ d),
-        after_again (codes ";") d) refl
+    rw (
+      after_again (codes "interface") (i.name ∷ codes "{" ∷ ((flat_map method_tokens i.methods ++ (codes "}" ∷ codes ";" ∷ [])) ++ d)),
+      id_again i.name (codes "{" ∷ ((flat_map method_tokens i.methods ++ (codes "}" ∷ codes ";" ∷ [])) ++ d)) s.name,
+      after_again (codes "{") ((flat_map method_tokens i.methods ++ (codes "}" ∷ codes ";" ∷ [])) ++ d),
+      append_assoc (flat_map method_tokens i.methods) (codes "}" ∷ codes ";" ∷ []) d,
+      methods_again i.methods (codes ";" ∷ d) s.methods,
+      after_again (codes "}") (codes ";" ∷ d),
+      after_again (codes ";") d,
+    ) refl
 
 interface_again : (i : Interface) (ts d : List (List ℕ)) → Spelled interface_tokens IsNamedInterface i ts d → (front_is (codes "interface") ts ≡ true) × (interface_at ts ≡ Some (i, d)) × (length d < length ts)
-interface_again i ts d h =
-    (ap (front_is (codes "interface")) h.0 ∙ front_on (codes "interface") (i.name ∷ codes "{" ∷ ((flat_map method_tokens i.methods ++ (codes "}" ∷ codes ";" ∷ [])) ++ d)),
-     ap interface_at h.0 ∙ interface_read i d h.1,
-     omega (arith, ap length h.0, length-append (flat_map method_tokens i.methods ++ (codes "}" ∷ codes ";" ∷ [])) d))
+interface_again i ts d h = (
+  ap (front_is (codes "interface")) h.0 ∙ front_on (codes "interface") (i.name ∷ codes "{" ∷ ((flat_map method_tokens i.methods ++ (codes "}" ∷ codes ";" ∷ [])) ++ d)),
+  ap interface_at h.0 ∙ interface_read i d h.1,
+  omega (arith, ap length h.0, length-append (flat_map method_tokens i.methods ++ (codes "}" ∷ codes ";" ∷ [])) d),
+)
 
 interfaces_tells : (is : List Interface) (ts d : List (List ℕ)) → interfaces_at ts ≡ Some (is, d) → (ts ≡ flat_map interface_tokens is ++ d) × AllByRecursion IsNamedInterface is
 unfolding interfaces_at
@@ -258,7 +262,9 @@ pub file_again : (f : File) → IsNamed f → file_at (tokens_of f) ≡ Some f
 unfolding file_at front_is
 file_again f s =
     let all : interfaces_at (flat_map interface_tokens f.interfaces) ≡ Some (f.interfaces, []) = ap interfaces_at (sym (append-nil (flat_map interface_tokens f.interfaces))) ∙ interfaces_again f.interfaces s.interfaces in
-    rw (after_again (codes "module") (name_tokens f.module_name ++ (codes ";" ∷ flat_map interface_tokens f.interfaces)),
-        name_again f.module_name (codes ";" ∷ flat_map interface_tokens f.interfaces) s.module_name s.some refl,
-        after_again (codes ";") (flat_map interface_tokens f.interfaces),
-        all) refl
+    rw (
+      after_again (codes "module") (name_tokens f.module_name ++ (codes ";" ∷ flat_map interface_tokens f.interfaces)),
+      name_again f.module_name (codes ";" ∷ flat_map interface_tokens f.interfaces) s.module_name s.some refl,
+      after_again (codes ";") (flat_map interface_tokens f.interfaces),
+      all,
+    ) refl

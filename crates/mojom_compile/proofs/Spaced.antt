@@ -1,9 +1,9 @@
 -- The tokens that are read are those that stand in the bytes.
-use Rattle.std.proofs.Common.{◌≡◌, ℕ, zero, suc, ◌+◌, ◌≤◌, ◌<◌, List, [], ◌∷◌, ◌++◌, length, take, drop, Bool, true, false, cond, not, ◌&&◌, ◌||◌, Option, Some, None, refl, sym, ap, ◌∙◌, subst, arith, length-append}
+use Rattle.std.proofs.Common.{◌≡◌, ℕ, zero, suc, ◌<◌, List, [], ◌∷◌, ◌++◌, length, take, drop, Bool, true, false, cond, not, ◌&&◌, Option, Some, None, refl, sym, ap, ◌∙◌, subst, arith, length-append}
 use Rattle.std.specs.List.{list_all}
 use Rattle.std.proofs.lemmas.Bool.Decides.{nat_tests}
-use Rattle.mojom_compile.specs.Tokens.{is_blank, is_letter, goes_on, is_symbol, is_word, is_token, begins_so, Ends, AreBlank, IsSpaced}
-use Rattle.mojom_compile.specs.Reading.{◌>>=◌, run_len, after_blanks, token_at, next_token, begins_token, is_empty, many, all_read, lexed}
+use Rattle.mojom_compile.specs.Tokens.{is_blank, is_letter, goes_on, is_symbol, is_token, begins_so, Ends, AreBlank, IsSpaced}
+use Rattle.mojom_compile.specs.Reading.{run_len, after_blanks, token_at, next_token, begins_token, is_empty, many, all_read, lexed}
 use Rattle.mojom_compile.proofs.Runs.{left, right, both, one_of, run_passes, run_word, word_token}
 use Rattle.mojom_compile.proofs.Many.{bind_some, same_some, same_pair, Chain, many_tells, many_again}
 
@@ -66,16 +66,18 @@ token_tells [] token after h = absurd (cc)
 token_tells (c ∷ cs) token after h = step (is_letter c) (is_symbol c) refl refl h
   where
     word : is_letter c ≡ true → (take (run_len goes_on (c ∷ cs)) (c ∷ cs) ≡ token) → (drop (run_len goes_on (c ∷ cs)) (c ∷ cs) ≡ after) → (is_token token ≡ true) × Ends token after × (c ∷ cs ≡ token ++ after)
-    word l t a =
-        (subst (λ (u : List ℕ). is_token u ≡ true) t (word_token (take (run_len goes_on (c ∷ cs)) (c ∷ cs)) (run_word (c ∷ cs) (omega arith) l)),
-         λ _. subst (λ (u : List ℕ). begins_so goes_on u ≡ false) a (run_stops goes_on (c ∷ cs)),
-         cut (run_len goes_on (c ∷ cs)) (c ∷ cs) ∙ ap (λ u. u ++ drop (run_len goes_on (c ∷ cs)) (c ∷ cs)) t ∙ ap (λ u. token ++ u) a)
+    word l t a = (
+      subst (λ (u : List ℕ). is_token u ≡ true) t (word_token (take (run_len goes_on (c ∷ cs)) (c ∷ cs)) (run_word (c ∷ cs) (omega arith) l)),
+      λ _. subst (λ (u : List ℕ). begins_so goes_on u ≡ false) a (run_stops goes_on (c ∷ cs)),
+      cut (run_len goes_on (c ∷ cs)) (c ∷ cs) ∙ ap (λ u. u ++ drop (run_len goes_on (c ∷ cs)) (c ∷ cs)) t ∙ ap (λ u. token ++ u) a,
+    )
 
     symbol : is_letter c ≡ false → is_symbol c ≡ true → (c ∷ [] ≡ token) → (cs ≡ after) → (is_token token ≡ true) × Ends token after × (c ∷ cs ≡ token ++ after)
-    symbol l s t a =
-        (subst (λ (u : List ℕ). is_token u ≡ true) t (rw (l, s) refl),
-         subst (λ (u : List ℕ). Ends u after) t (λ w. let x : is_letter c ≡ true = left (is_letter c) true w in absurd (cc)),
-         ap (λ u. c ∷ u) a ∙ ap (λ u. u ++ after) t)
+    symbol l s t a = (
+      subst (λ (u : List ℕ). is_token u ≡ true) t (rw (l, s) refl),
+      subst (λ (u : List ℕ). Ends u after) t (λ w. let x : is_letter c ≡ true = left (is_letter c) true w in absurd (cc)),
+      ap (λ u. c ∷ u) a ∙ ap (λ u. u ++ after) t,
+    )
 
     step : (v w : Bool) → is_letter c ≡ v → is_symbol c ≡ w → cond {A = Option (List ℕ × List ℕ)} v (Some (take (run_len goes_on (c ∷ cs)) (c ∷ cs), drop (run_len goes_on (c ∷ cs)) (c ∷ cs))) (cond w (Some (c ∷ [], cs)) None) ≡ Some (token, after) → (is_token token ≡ true) × Ends token after × (c ∷ cs ≡ token ++ after)
     step true w l s g = let p = same_pair g in word l p.0 p.1
@@ -119,10 +121,11 @@ token_longer (c ∷ cs) e = omega arith
 next_again : (token bytes after : List ℕ) → Stands token bytes after → (begins_token bytes ≡ true) × (next_token bytes ≡ Some (token, after)) × (length after < length bytes)
 next_again token bytes after s =
     let there = passed token bytes after s in
-    let some : (t : List ℕ) → is_token t ≡ true → not (is_empty (t ++ after)) ≡ true = some_token in
-    (ap (λ u. not (is_empty u)) there ∙ some token s.is,
-     ap token_at there ∙ token_again token after s.is s.ends,
-     omega (arith, ap length s.whole ∙ length-append s.before (token ++ after), length-append token after, token_longer token s.is))
+    let some : (t : List ℕ) → is_token t ≡ true → not (is_empty (t ++ after)) ≡ true = some_token in (
+      ap (λ u. not (is_empty u)) there ∙ some token s.is,
+      ap token_at there ∙ token_again token after s.is s.ends,
+      omega (arith, ap length s.whole ∙ length-append s.before (token ++ after), length-append token after, token_longer token s.is),
+    )
   where
     some_token : (t : List ℕ) → is_token t ≡ true → not (is_empty (t ++ after)) ≡ true
     some_token [] e = absurd (cc)

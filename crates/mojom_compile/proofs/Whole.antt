@@ -1,24 +1,24 @@
 -- From the laws of reading to the schema of a file.
-use Rattle.std.proofs.Common.{◌≡◌, ◌≢◌, ℕ, zero, suc, ◌+◌, ◌*◌, ◌^◌, ◌≤◌, ◌<◌, List, [], ◌∷◌, ◌++◌, length, map, Option, Some, None, true, refl, sym, ap, ◌∙◌, subst, arith, length-append}
+use Rattle.std.proofs.Common.{◌≡◌, ℕ, suc, ◌+◌, ◌^◌, ◌≤◌, ◌<◌, List, [], ◌∷◌, ◌++◌, length, map, Some, true, refl, sym, ap, ◌∙◌, subst, arith, length-append}
 use Rattle.std.specs.Prelude.{codes, All}
-use Rattle.std.specs.List.{flat_map, join_by, AllByRecursion}
+use Rattle.std.specs.List.{flat_map, AllByRecursion}
 use Rattle.std.proofs.lemmas.List.{length-map}
 use Rattle.std.proofs.lemmas.List.Elements.{All-from_recursion}
 use Rattle.std.proofs.Math.Bridge.{le_prop}
 use Rattle.mj_schema.specs.declared.schema.Schema.{Schema}
 use Rattle.mj_schema.specs.declared.rows.StructRow.{StructRow}
 use Rattle.mj_schema.specs.declared.rows.InterfaceRow.{InterfaceRow}
-use Rattle.mj_schema.specs.Layout.{AreFieldsFrom, IsLaidOut, struct_bytes}
+use Rattle.mj_schema.specs.Layout.{AreFieldsFrom, struct_bytes}
 use Rattle.mojom_compile.specs.declared.error.CompileError.{CompileError}
 use Rattle.mojom_compile.specs.declared.error.CompileError.TheVariants.{Unsupported, Memory}
 use Rattle.mojom_compile.specs.declared.tree.Method.{Method}
 use Rattle.mojom_compile.specs.declared.tree.Interface.{Interface}
 use Rattle.mojom_compile.specs.declared.tree.File.{File}
 use Rattle.mojom_compile.specs.Tokens.{is_token, IsSpaced}
-use Rattle.mojom_compile.specs.Form.{name_tokens, parameter_tokens, method_tokens, interface_tokens, tokens_of}
+use Rattle.mojom_compile.specs.Form.{name_tokens, method_tokens, interface_tokens, tokens_of}
 use Rattle.mojom_compile.specs.Sound.{IsNamed, IsAllowedMethod, IsAllowedInterface, IsAllowed}
 use Rattle.mojom_compile.specs.Rows.{dotted, within, fields_from, request_struct, structs_in, IsSchema}
-use Rattle.mojom_compile.specs.Compiled.{IsSchemaFor, IsSchemaOf, OneSchema, IsLaidOutRow}
+use Rattle.mojom_compile.specs.Compiled.{IsSchemaOf, OneSchema, IsLaidOutRow}
 use Rattle.mojom_compile.specs.Reading.{Fails, lexed, file_at, file_in}
 use Rattle.mojom_compile.proofs.Many.{bind_some, same_some}
 use Rattle.mojom_compile.proofs.Spaced.{lexed_tells, lexed_again}
@@ -67,8 +67,15 @@ methods_length (m ∷ ms) = omega (arith, length-append (method_tokens m) (flat_
 interfaces_length : (outer : List ℕ) (interfaces : List Interface) → length (flat_map (structs_in outer) interfaces) + length interfaces ≤ length (flat_map interface_tokens interfaces)
 interfaces_length outer [] = omega arith
 interfaces_length outer (i ∷ is) =
-    omega (arith, length-append (interface_tokens i) (flat_map interface_tokens is), length-append (flat_map method_tokens i.methods) (codes "}" ∷ codes ";" ∷ []), methods_length i.methods,
-        length-append (structs_in outer i) (flat_map (structs_in outer) is), length-map i.methods (request_struct (within outer i.name)), interfaces_length outer is)
+    omega (
+      arith,
+      length-append (interface_tokens i) (flat_map interface_tokens is),
+      length-append (flat_map method_tokens i.methods) (codes "}" ∷ codes ";" ∷ []),
+      methods_length i.methods,
+      length-append (structs_in outer i) (flat_map (structs_in outer) is),
+      length-map i.methods (request_struct (within outer i.name)),
+      interfaces_length outer is,
+    )
 
 file_length : (bytes : List ℕ) (file : File) → file_in bytes ≡ Some file → length (flat_map (structs_in (dotted file.module_name)) file.interfaces) + length file.interfaces ≤ length bytes
 file_length bytes file h =

@@ -43,5 +43,27 @@ fn read(alloc: Global, bytes: &[u8]) -> Result<File, CompileError>
 
 pub fn one_schema()
     ensures { OneSchema }
-{
+{}
+
+#[cfg(test)]
+mod tests {
+    use super::*;
+
+    #[test]
+    fn one_interface(rt: HostRuntime) {
+        let file = b"module t; interface P { Ping(uint32 n); };";
+        let schema = compile(rt.alloc(), file.as_slice()).expect(&rt, "a schema");
+        assert_eq!(rt; schema.find_interface("t.P"), Some(0));
+        let method = schema.method(0, 0).expect(&rt, "a method");
+        assert_eq!(rt; method.name.as_str(), "Ping");
+    }
+
+    #[test]
+    fn another_kind(rt: HostRuntime) {
+        let file = b"module t; interface P { Ping(int32 n); };";
+        match compile(rt.alloc(), file.as_slice()) {
+            Ok(_) => assert!(rt; false),
+            Err(error) => assert_eq!(rt; error, CompileError::Unsupported),
+        }
+    }
 }

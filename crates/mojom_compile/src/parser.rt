@@ -39,10 +39,7 @@ fn after<'a>(tokens: &'a [Text], text: &str) -> Result<&'a [Text], CompileError>
 
 /// An identifier.
 #[tactic(auto, unfolding(crate::specs::Reading::id_at))]
-fn id(
-    alloc: Global,
-    tokens: &[Text],
-) -> Result<(Text, &[Text]), CompileError>
+fn id(alloc: Global, tokens: &[Text]) -> Result<(Text, &[Text]), CompileError>
     ensures { Gives (λ x. (x.0, x.1.now)) result (id_at tokens.now) }
 {
     match tokens {
@@ -59,10 +56,7 @@ fn id(
 
 /// A dot and an identifier.
 #[tactic(auto, unfolding(crate::specs::Reading::dotted_id_at))]
-fn dotted_id(
-    alloc: Global,
-    tokens: &[Text],
-) -> Result<(Text, &[Text]), CompileError>
+fn dotted_id(alloc: Global, tokens: &[Text]) -> Result<(Text, &[Text]), CompileError>
     ensures { Gives (λ x. (x.0, x.1.now)) result (dotted_id_at tokens.now) }
 {
     let rest = after(tokens, ".")?;
@@ -92,10 +86,7 @@ fn dotted_ids(
 
 /// A name: identifiers with dots between them.
 #[tactic(auto, unfolding(crate::specs::Reading::name_at))]
-fn name(
-    alloc: Global,
-    tokens: &[Text],
-) -> Result<(Vec<Text>, &[Text]), CompileError>
+fn name(alloc: Global, tokens: &[Text]) -> Result<(Vec<Text>, &[Text]), CompileError>
     ensures { Gives (λ x. (x.0.items, x.1.now)) result (name_at tokens.now) }
 {
     let (first, rest) = id(alloc, tokens)?;
@@ -106,10 +97,7 @@ fn name(
 
 /// A parameter.
 #[tactic(auto, unfolding(crate::specs::Reading::parameter_at))]
-fn parameter(
-    alloc: Global,
-    tokens: &[Text],
-) -> Result<(Text, &[Text]), CompileError>
+fn parameter(alloc: Global, tokens: &[Text]) -> Result<(Text, &[Text]), CompileError>
     ensures { Gives (λ x. (x.0, x.1.now)) result (parameter_at tokens.now) }
 {
     let rest = after(tokens, "uint32")?;
@@ -118,10 +106,7 @@ fn parameter(
 
 /// A comma and a parameter.
 #[tactic(auto, unfolding(crate::specs::Reading::next_parameter_at))]
-fn next_parameter(
-    alloc: Global,
-    tokens: &[Text],
-) -> Result<(Text, &[Text]), CompileError>
+fn next_parameter(alloc: Global, tokens: &[Text]) -> Result<(Text, &[Text]), CompileError>
     ensures { Gives (λ x. (x.0, x.1.now)) result (next_parameter_at tokens.now) }
 {
     let rest = after(tokens, ",")?;
@@ -151,10 +136,7 @@ fn next_parameters(
 
 /// The parameters up to the closing parenthesis.
 #[tactic(auto, unfolding(crate::specs::Reading::parameters_at))]
-fn parameters(
-    alloc: Global,
-    tokens: &[Text],
-) -> Result<(Vec<Text>, &[Text]), CompileError>
+fn parameters(alloc: Global, tokens: &[Text]) -> Result<(Vec<Text>, &[Text]), CompileError>
     ensures { Gives (λ x. (x.0.items, x.1.now)) result (parameters_at tokens.now) }
 {
     let mut names = Vec::new(alloc);
@@ -168,10 +150,7 @@ fn parameters(
 
 /// A method.
 #[tactic(auto, unfolding(crate::specs::Reading::method_at))]
-fn method(
-    alloc: Global,
-    tokens: &[Text],
-) -> Result<(Method, &[Text]), CompileError>
+fn method(alloc: Global, tokens: &[Text]) -> Result<(Method, &[Text]), CompileError>
     ensures { Gives (λ x. (x.0, x.1.now)) result (method_at tokens.now) }
 {
     let (name, rest) = id(alloc, tokens)?;
@@ -192,10 +171,7 @@ fn begins_method(tokens: &[Text]) -> bool
 }
 
 /// The methods up to the end of the interface.
-fn methods(
-    alloc: Global,
-    tokens: &[Text],
-) -> Result<(Vec<Method>, &[Text]), CompileError>
+fn methods(alloc: Global, tokens: &[Text]) -> Result<(Vec<Method>, &[Text]), CompileError>
     ensures { Gives (λ x. (x.0.items, x.1.now)) result (methods_at tokens.now) }
 {
     let mut methods = Vec::new(alloc);
@@ -213,10 +189,7 @@ fn methods(
 
 /// An interface.
 #[tactic(auto, unfolding(crate::specs::Reading::interface_at))]
-fn interface(
-    alloc: Global,
-    tokens: &[Text],
-) -> Result<(Interface, &[Text]), CompileError>
+fn interface(alloc: Global, tokens: &[Text]) -> Result<(Interface, &[Text]), CompileError>
     ensures { Gives (λ x. (x.0, x.1.now)) result (interface_at tokens.now) }
 {
     let rest = after(tokens, "interface")?;
@@ -230,10 +203,7 @@ fn interface(
 }
 
 /// The interfaces, as many as follow one another.
-fn interfaces(
-    alloc: Global,
-    tokens: &[Text],
-) -> Result<(Vec<Interface>, &[Text]), CompileError>
+fn interfaces(alloc: Global, tokens: &[Text]) -> Result<(Vec<Interface>, &[Text]), CompileError>
     ensures { Gives (λ x. (x.0.items, x.1.now)) result (interfaces_at tokens.now) }
 {
     let mut interfaces = Vec::new(alloc);
@@ -263,5 +233,8 @@ pub fn file(alloc: Global, tokens: &[Text]) -> Result<File, CompileError>
     }
     let module_name = Items::from_vec(module_name);
     let interfaces = Items::from_vec(interfaces);
-    Ok(File { module_name, interfaces })
+    Ok(File {
+        module_name,
+        interfaces,
+    })
 }

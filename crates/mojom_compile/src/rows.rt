@@ -124,7 +124,12 @@ pub fn schema(alloc: Global, file: &File) -> Result<Schema, AllocError>
     for interface in file.interfaces.as_slice() {
         let name = within(alloc, module_name.as_str(), interface.name.as_str())?;
         let first = structs.len() as u32;
-        add_structs(alloc, &mut structs, name.as_str(), interface.methods.as_slice())?;
+        add_structs(
+            alloc,
+            &mut structs,
+            name.as_str(),
+            interface.methods.as_slice(),
+        )?;
         let methods = Items::from_vec(methods(alloc, interface.methods.as_slice(), first)?);
         interfaces.push(InterfaceRow { name, methods })?;
     }

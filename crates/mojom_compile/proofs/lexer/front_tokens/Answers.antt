@@ -1,7 +1,6 @@
 use Rattle.std.proofs.Common.{length, sym, ◌∙◌}
-use Rattle.std.specs.Prelude.{codes}
 use Rattle.std.proofs.lemmas.Result.{err_from_is_err_and}
-use Rattle.mojom_compile.specs.Reading.{many, with_front, front_is, begins_method, begins_token, next_token, begins_token}
+use Rattle.mojom_compile.specs.Reading.{many, begins_token, next_token, begins_token}
 use Rattle.mojom_compile.proofs.Loops.{goes_on, ends, stops, is_done}
 use Rattle.mojom_compile.proofs.lexer.front_tokens.Goals as goal
 

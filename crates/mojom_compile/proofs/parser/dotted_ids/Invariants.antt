@@ -1,6 +1,6 @@
 use Rattle.std.proofs.Common.{◌≡◌, ◌-◌, length}
 use Rattle.std.specs.Prelude.{codes}
-use Rattle.mojom_compile.specs.Reading.{many, with_front, front_is, begins_method, dotted_id_at}
+use Rattle.mojom_compile.specs.Reading.{many, with_front, front_is, dotted_id_at}
 use Rattle.mojom_compile.proofs.parser.dotted_ids.Given as goal
 
 -- those so far, with those that are still read, are all that are read

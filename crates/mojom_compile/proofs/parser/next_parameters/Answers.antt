@@ -1,7 +1,7 @@
 use Rattle.std.proofs.Common.{length, sym, ◌∙◌}
 use Rattle.std.specs.Prelude.{codes}
 use Rattle.std.proofs.lemmas.Result.{err_from_is_err_and}
-use Rattle.mojom_compile.specs.Reading.{many, with_front, front_is, begins_method, begins_token, next_parameter_at, next_parameters_at}
+use Rattle.mojom_compile.specs.Reading.{many, with_front, front_is, next_parameter_at, next_parameters_at}
 use Rattle.mojom_compile.proofs.Loops.{goes_on, ends, stops, is_done}
 use Rattle.mojom_compile.proofs.parser.next_parameters.Goals as goal
 

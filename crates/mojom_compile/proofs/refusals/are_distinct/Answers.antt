@@ -1,4 +1,4 @@
-use Rattle.std.proofs.Common.{refl, sym, ap, ◌∙◌, take, drop, ◌-◌, ◌+◌, length}
+use Rattle.std.proofs.Common.{refl, ap, ◌∙◌, take, drop, ◌-◌, ◌+◌, length}
 use Rattle.std.specs.List.{list_any}
 use Rattle.std.specs.Str.{bytes_eq}
 use Rattle.mojom_compile.proofs.Distinct.{none_same, one_same, all_differ}

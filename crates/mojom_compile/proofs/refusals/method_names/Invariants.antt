@@ -1,11 +1,5 @@
-use Rattle.std.proofs.Common.{◌≡◌, ◌<◌, ◌≤◌, ◌↔◌, take, drop, map, length, ◌++◌, ◌+◌}
-use Rattle.std.specs.Prelude.{string_bytes}
-use Rattle.std.specs.List.{IsDistinct, AllByRecursion, flat_map, join_by}
-use Rattle.std.specs.Str.{bytes_eq}
-use Rattle.mojom_compile.specs.Sound.{IsAllowedMethod, IsAllowedInterface}
-use Rattle.mojom_compile.specs.Rows.{dotted, within, fields_from, request_struct, structs_in, methods_from, interfaces_from}
+use Rattle.std.proofs.Common.{◌≡◌, take, map}
 use Rattle.mojom_compile.specs.declared.tree.Method.{Method}
-use Rattle.mojom_compile.specs.declared.tree.Interface.{Interface}
 use Rattle.mojom_compile.proofs.refusals.method_names.Given as goal
 
 abbrev pub invariant-loop-method : goal.invariant-loop-method
