@@ -16,7 +16,7 @@ use std::alloc::Global;
 
 /// The schema of a file of at most 1,048,576 bytes. `Unsupported` is the answer exactly where the
 /// bytes have none.
-#[tactic(auto, using(crate::proofs::Whole::compiled, crate::proofs::Whole::refused, crate::proofs::Whole::few_structs, crate::proofs::Whole::few_interfaces, crate::proofs::Whole::laid_out))]
+#[tactic(auto, using(crate::proofs::Whole::few_structs, crate::proofs::Whole::few_interfaces))]
 pub fn compile(alloc: Global, bytes: &[u8]) -> Result<Schema, CompileError>
     requires { length bytes.now ≤ 1048576 }
     ensures ok { IfOk result (λ schema. IsSchemaOf bytes.now schema) }
