@@ -34,6 +34,7 @@ is_token (c ∷ d ∷ cs) = is_word (c ∷ d ∷ cs)
 abbrev pub keywords : List (List ℕ)
 keywords = codes "module" ∷ codes "import" ∷ codes "struct" ∷ codes "union" ∷ codes "enum" ∷ codes "interface" ∷ codes "const" ∷ codes "true" ∷ codes "false" ∷ codes "array" ∷ codes "map" ∷ codes "handle" ∷ codes "pending_remote" ∷ codes "pending_receiver" ∷ codes "pending_associated_remote" ∷ codes "pending_associated_receiver" ∷ []
 
+-- the word is one of them
 abbrev pub is_keyword : List ℕ → Bool
 is_keyword word = list_any (bytes_eq word) keywords
 
@@ -41,11 +42,12 @@ is_keyword word = list_any (bytes_eq word) keywords
 abbrev pub is_id : List ℕ → Bool
 is_id word = is_word word && not (is_keyword word)
 
--- a word ends where no byte follows that could stand in it, since the longest token is taken; a symbol ends at once
+-- the first byte passes
 abbrev pub begins_so : (ℕ → Bool) → List ℕ → Bool
 begins_so p [] = false
 begins_so p (c ∷ cs) = p c
 
+-- a word ends where no byte follows that could stand in it, since the longest token is taken; a symbol ends at once
 abbrev pub Ends : List ℕ → List ℕ → Type 0
 Ends token after = is_word token ≡ true → begins_so goes_on after ≡ false
 
