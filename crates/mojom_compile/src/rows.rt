@@ -1,0 +1,140 @@
+//! From the tree to the tables of the schema.
+
+ghost use Rattle.std.specs.Prelude.{◌≡◌, ◌≤◌, ◌<◌, ◌+◌, ◌^◌, ◌++◌, IfOk, OnOk, length, map};
+ghost use Rattle.std.specs.List.{AllByRecursion, flat_map};
+ghost use Rattle.mojom_compile.specs.Sound.{IsAllowedMethod, IsAllowed};
+ghost use Rattle.mojom_compile.specs.Rows.{dotted, within, fields_from, request_struct, structs_in, methods_from, IsSchema};
+
+use crate::tree::{File, Method};
+use mj_base::{Items, Text, round8};
+use mj_schema::{FieldRow, InterfaceRow, Kind, MethodRow, Schema, StructRow, VersionRow};
+use std::alloc::{AllocError, Global};
+
+/// The full name of what stands in another thing.
+fn within(alloc: Global, outer: &str, inner: &str) -> Result<Text, AllocError>
+    ensures { IfOk result (λ name. name ≡ within outer.now inner.now) }
+{
+    Ok(Text::from_string(format!(in alloc; "{outer}.{inner}")?))
+}
+
+/// The identifiers with dots between them.
+fn dotted(alloc: Global, ids: &[Text]) -> Result<Text, AllocError>
+    ensures { IfOk result (λ name. name ≡ dotted ids.now) }
+{
+    match ids {
+        [first, rest @ ..] => {
+            let mut name = String::from_str(alloc, first.as_str())?;
+            for id in rest {
+                name.push_str(".")?;
+                name.push_str(id.as_str())?;
+            }
+            Ok(Text::from_string(name))
+        }
+        [] => Ok(Text::from_string(String::new(alloc))),
+    }
+}
+
+/// The parameters as fields.
+fn fields(alloc: Global, names: &[Text]) -> Result<Vec<FieldRow>, AllocError>
+    requires { length names.now ≤ 4096 }
+    ensures { IfOk result (λ fields. fields.items ≡ fields_from 0 names.now) }
+{
+    let mut fields = Vec::new(alloc);
+    for (at, name) in names.iter().enumerate() {
+        let ordinal = at as u32;
+        let name = Text::from_str(alloc, name.as_str())?;
+        fields.push(FieldRow {
+            name,
+            ordinal,
+            kind: Kind::Uint32,
+            offset: 4 * ordinal,
+        })?;
+    }
+    Ok(fields)
+}
+
+/// The struct of a method's parameters, in the interface of this full name.
+fn request_struct(alloc: Global, interface: &str, method: &Method) -> Result<StructRow, AllocError>
+    requires { length method.now.parameters ≤ 4096 }
+    ensures { IfOk result (λ row. row ≡ request_struct interface.now method.now) }
+{
+    let full = within(alloc, interface, method.name.as_str())?;
+    let name = within(alloc, full.as_str(), "request")?;
+    let count = method.parameters.len();
+    let fields = Items::from_vec(fields(alloc, method.parameters.as_slice())?);
+    let mut versions = Vec::new(alloc);
+    versions.push(VersionRow {
+        version: 0,
+        fields: count as u32,
+        bytes: round8(8 + 4 * count as u64) as u32,
+    })?;
+    let versions = Items::from_vec(versions);
+    Ok(StructRow {
+        name,
+        fields,
+        versions,
+    })
+}
+
+/// Adds the structs of an interface's methods, in order.
+fn add_structs(
+    alloc: Global,
+    structs: &mut Vec<StructRow>,
+    interface: &str,
+    methods: &[Method],
+) -> Result<(), AllocError>
+    requires { AllByRecursion IsAllowedMethod methods.now }
+    ensures { OnOk result (structs.new.items ≡ structs.old.items ++ map (request_struct interface.now) methods.now) }
+{
+    for method in methods {
+        structs.push(request_struct(alloc, interface, method)?)?;
+    }
+    Ok(())
+}
+
+/// The rows of an interface's methods, whose structs begin at this number.
+fn methods(alloc: Global, methods: &[Method], first: u32) -> Result<Vec<MethodRow>, AllocError>
+    requires few { length methods.now ≤ 4096 }
+    requires fits { first + length methods.now < 2 ^ 32 }
+    ensures { IfOk result (λ rows. rows.items ≡ methods_from 0 first methods.now) }
+{
+    let mut rows = Vec::new(alloc);
+    for (at, method) in methods.iter().enumerate() {
+        let ordinal = at as u32;
+        let name = Text::from_str(alloc, method.name.as_str())?;
+        rows.push(MethodRow {
+            name,
+            ordinal,
+            request: first + ordinal,
+        })?;
+    }
+    Ok(rows)
+}
+
+/// The schema of a file in which nothing is refused.
+pub fn schema(alloc: Global, file: &File) -> Result<Schema, AllocError>
+    requires allowed { IsAllowed file.now }
+    requires structs { length (flat_map (structs_in (dotted file.now.module_name)) file.now.interfaces) < 2 ^ 32 }
+    requires interfaces { length file.now.interfaces < 2 ^ 32 }
+    ensures { IfOk result (IsSchema file.now) }
+{
+    let module_name = dotted(alloc, file.module_name.as_slice())?;
+    let mut structs = Vec::new(alloc);
+    let mut interfaces = Vec::new(alloc);
+    for interface in file.interfaces.as_slice() {
+        let name = within(alloc, module_name.as_str(), interface.name.as_str())?;
+        let first = structs.len() as u32;
+        add_structs(
+            alloc,
+            &mut structs,
+            name.as_str(),
+            interface.methods.as_slice(),
+        )?;
+        let methods = Items::from_vec(methods(alloc, interface.methods.as_slice(), first)?);
+        interfaces.push(InterfaceRow { name, methods })?;
+    }
+    Ok(Schema {
+        structs: Items::from_vec(structs),
+        interfaces: Items::from_vec(interfaces),
+    })
+}
