@@ -1,1 +1,6 @@
 pub mod RowLemmas
+pub mod Meaning
+pub mod Changes
+pub mod Calls
+pub mod Joins
+pub mod Held

@@ -1,3 +1,6 @@
 pub mod Rows
+pub mod Calls
+pub mod Fronts
 pub mod Plain
+pub mod Steps
 pub mod Play

@@ -88,8 +88,9 @@ impl Table {
         requires { is_distinct (names_of self.old) ≡ true }
         ensures { self.new ≡ map (changed_at end (bound_as binding)) self.old }
     {
-        if let Some(k) = rows::find(self.rows.as_slice(), end) {
-            self.rows[k].bind(binding);
+        match rows::find(self.rows.as_slice(), end) {
+            Some(k) => self.rows[k].bind(binding),
+            None => {}
         }
     }
 
@@ -110,8 +111,9 @@ impl Table {
         requires { is_distinct (names_of self.old) ≡ true }
         ensures { self.new ≡ map (changed_at end without_front) self.old }
     {
-        if let Some(k) = rows::find(self.rows.as_slice(), end) {
-            self.rows[k].drop_front();
+        match rows::find(self.rows.as_slice(), end) {
+            Some(k) => self.rows[k].drop_front(),
+            None => {}
         }
     }
 }
