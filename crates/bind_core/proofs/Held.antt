@@ -1,6 +1,7 @@
 -- What a state that holds gives to each command.
 use Rattle.std.proofs.Common.{◌≡◌, ◌<◌, ◌≤◌, ℕ, ◌+◌, List, [], ◌∷◌, ◌++◌, length, refl, sym, ap, ◌∙◌, arith, subst}
-use Rattle.std.specs.Prelude.{reverse, map, Option, Some, None, Result, Ok, Err, true, false, ◌==◌, if◌then◌else◌, ◌*◌}
+use Rattle.std.specs.Prelude.{reverse, map, Option, Some, None, Result, Ok, Err, true, false, ◌==◌, if◌then◌else◌, ◌*◌, nat_lt}
+use Rattle.std.proofs.lemmas.Bool.Decides.{nat_tests}
 use Rattle.std.specs.Arc.{arc_value}
 use Rattle.std.proofs.lemmas.List.{reverse-append, length-append, length-map, length-reverse}
 use Rattle.mj_base.specs.declared.ids.EndId.{EndId}
@@ -10,28 +11,31 @@ use Rattle.wire_model.specs.declared.target.Target.{Target}
 use Rattle.wire_model.specs.Tight.{message_bytes}
 use Rattle.bind_model.specs.declared.event.Event.{Event}
 use Rattle.bind_model.specs.declared.event.Told.{Told}
-use Rattle.bind_model.specs.declared.event.Told.TheVariants.{Made, Sent, No, Got}
+use Rattle.bind_model.specs.declared.event.Told.TheVariants.{Made, Sent, No, Got, Bad}
 use Rattle.bind_model.specs.declared.event.Taken.{Taken}
 use Rattle.bind_model.specs.declared.event.Why.{Why}
 use Rattle.bind_model.specs.declared.event.Asked.TheVariants.{Call, Take, Join}
 use Rattle.bind_model.specs.Ends.{is_distinct}
-use Rattle.bind_model.specs.Laws.{AllAllowed}
+use Rattle.bind_model.specs.Laws.{AllAllowed, IsGood, AreGood}
 use Rattle.bind_model.specs.Machine.{answer, legal, made, peer, is_out, serials, joined, binding, took, called}
+use Rattle.bind_model.specs.Ready.{ready}
 use Rattle.bind_model.proofs.Sound.{Sound, sound}
 use Rattle.bind_model.proofs.Outcomes.{AreNew}
 use Rattle.bind_model.proofs.NewEnds.{first_new, second_new, apart}
 use Rattle.bind_model.proofs.Order.{legal_in_order}
+use Rattle.bind_model.proofs.Said.{are_good}
 use Rattle.bind_model.proofs.Fresh.{distinct_made, made_few}
 use Rattle.bind_core.specs.declared.row.Row.{Row}
 use Rattle.bind_core.specs.declared.commands.Command.{Command}
 use Rattle.bind_core.specs.declared.commands.Reply.{Reply}
 use Rattle.bind_core.specs.declared.state.State.{State}
 use Rattle.bind_core.specs.Plain.{asked_of, told_of, HandsBack}
-use Rattle.bind_core.specs.Rows.{rows_of, row_of, row_at, is_out_in, names_of, count_in, fresh_row, changed_at, with_mail, without_front, way, took_in}
+use Rattle.bind_core.specs.Rows.{ready_in, rows_of, row_of, row_at, is_out_in, names_of, count_in, fresh_row, changed_at, with_mail, without_front, way, took_in}
 use Rattle.bind_core.specs.Steps.{Holds, CanDo, Done, past_of, schema_of, told_in}
 use Rattle.bind_core.proofs.Meaning.{names-rows, is_out-rows, took-rows, count-rows}
 use Rattle.bind_core.proofs.Calls.{told_by_way, LeadsTo, way-told, way-peer}
 use Rattle.bind_core.proofs.Changes.{rows_sent, rows_got}
+use Rattle.bind_core.proofs.ReadyRows.{ready_told}
 use Rattle.bind_core.proofs.Joins.{rows_joined}
 
 reverse-snoc : (events : List Event) (event : Event) → reverse (events ++ event ∷ []) ≡ event ∷ reverse events
@@ -67,6 +71,16 @@ module _ (old new : State) (seq : SeqId) (command : Command) (reply : Reply) whe
         few = can.few;
       }
 
+-- what the ends of a new pipe are called
+pub new_of : (past : List Event) (seq t : ℕ) (a b : EndId) → Made (a ∷ b ∷ []) ≡ joined past seq t → AreNew past seq t a b
+new_of past seq t a b h = record { first = cc; second = cc }
+
+pub join_told : (t seqs : ℕ) (made other : Told) → t < seqs → made ≡ (if nat_lt t seqs then made else other)
+join_told t seqs made other h = let e : nat_lt t seqs ≡ true = grind (arith, nat_tests) in rw e refl
+
+pub two_handles : (none one two all : List EndId) (x y a b : EndId) → none ≡ [] → one ≡ none ++ x ∷ [] → two ≡ one ++ y ∷ [] → all ≡ two → x ≡ a → y ≡ b → all ≡ a ∷ b ∷ []
+two_handles none one two all x y a b n o t l e f = rw (l, t, o, n, e, f) refl
+
 module _ (s : State) (holds : Holds s) where
   sound-held : Sound (past_of s)
   sound-held = sound (schema_of s) s.seqs (past_of s) holds.legal
@@ -99,6 +113,14 @@ module _ (s : State) (holds : Holds s) where
   pub take-held : (seq : SeqId) (x : EndId) → took_in (schema_of s) (row_at x s.rows) ≡ answer (schema_of s) s.seqs (past_of s) seq (Take x)
   take-held seq x = rw holds.rows (took-rows (schema_of s) (past_of s) sound-held x)
 
+  -- no message is found bad
+  pub never_bad : (seq : SeqId) (x : EndId) → took_in (schema_of s) (row_at x s.rows) ≡ Bad → ⊥
+  never_bad seq x e =
+      let told : answer (schema_of s) s.seqs (past_of s) seq (Take x) ≡ Bad = sym (take-held seq x) ∙ e in
+      let event : Event = record { seq = seq; asked = Take x; told = answer (schema_of s) s.seqs (past_of s) seq (Take x) } in
+      let good : AreGood (event ∷ past_of s) = are_good (schema_of s) s.seqs (event ∷ past_of s) (refl, holds.legal) (tt, holds.allowed) in
+      subst IsGood told good.0
+
   -- the rows after a message is got
   pub got-held : (seq : SeqId) (x : EndId) (t : Taken) (rows : List Row) → rows ≡ map (changed_at x without_front) s.rows → rows ≡ rows_of (record { seq = seq; asked = Take x; told = Got t } ∷ past_of s)
   got-held seq x t rows w = rw (w, holds.rows) (sym (rows_got seq x t (past_of s)))
@@ -114,3 +136,7 @@ module _ (s : State) (holds : Holds s) where
 
   pub rows_few : length s.rows ≤ 2 * length s.history.events
   rows_few = rw holds.rows (omega (arith, length-map (made (past_of s)) (row_of (past_of s)), made_few (schema_of s) s.seqs (past_of s) holds.legal, length-reverse s.history.events))
+
+  -- what is ready
+  pub ready-held : ready_in s.rows ≡ ready (schema_of s) (past_of s)
+  ready-held = rw holds.rows (ready_told (schema_of s) (past_of s) sound-held)

@@ -3,4 +3,5 @@ pub mod Meaning
 pub mod Changes
 pub mod Calls
 pub mod Joins
+pub mod ReadyRows
 pub mod Held

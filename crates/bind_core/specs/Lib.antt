@@ -4,3 +4,5 @@ pub mod Fronts
 pub mod Plain
 pub mod Steps
 pub mod Play
+pub mod Asks
+pub mod Seen

@@ -1,13 +1,14 @@
 //! Binding an end as a side of an interface.
 
-ghost use Rattle.std.specs.Prelude.{◌≡◌, IfOk, IfErr};
-ghost use Rattle.bind_core.specs.Steps.{CanDo, Done, Undone};
+ghost use Rattle.std.specs.Prelude.{◌≡◌, ◌&&◌, nat_lt, length, IfOk, IfErr};
+ghost use Rattle.bind_model.specs.Machine.{is_out};
+ghost use Rattle.bind_core.specs.Steps.{CanDo, Done, Undone, Holds, past_of, schema_of};
 
 use crate::commands::{Command, Refused, Reply};
 use crate::handle::Handle;
 use crate::state::{State, refuse};
 use bind_model::{Asked, Binding, Event, Side, Told, Why};
-use mj_base::SeqId;
+use mj_base::{EndId, SeqId};
 
 /// Binds the handle's end on the sequence that asks. The core keeps the handle.
 pub fn bind(
@@ -22,8 +23,7 @@ pub fn bind(
     ensures undone { IfErr result (λ refused. Undone state.old state.new (Command.Bind handle side interface) refused) }
 {
     let end = handle.id();
-    let known = (interface as usize) < state.schema.interfaces.len();
-    if !(state.rows.is_out(end) && known) {
+    if !may_bind(state, end, interface) {
         return refuse(
             state,
             seq,
@@ -48,4 +48,12 @@ pub fn bind(
         told: Told::Bound(end),
     });
     Ok(Reply::Bound(end))
+}
+
+/// Whether the end's handle is with a caller, and the interface is there.
+fn may_bind(state: &State, end: EndId, interface: u32) -> bool
+    requires { Holds state.now }
+    ensures { result ≡ (is_out (past_of state.now) end && nat_lt interface (length (schema_of state.now).interfaces)) }
+{
+    state.rows.is_out(end) && (interface as usize) < state.schema.interfaces.len()
 }

@@ -147,9 +147,9 @@ fn send(
     let Ok(writes) = writes_of(alloc, end, id, &prepared) else {
         return Err(Refused::Memory(Command::Call(end, id, prepared)));
     };
-    if state.rows.put(peer, writes.message).is_err() {
+    let Ok(()) = state.rows.put(peer, writes.message) else {
         return Err(Refused::Memory(Command::Call(end, id, prepared)));
-    }
+    };
     state.history.push_reserved(Event {
         seq,
         asked: writes.asked,

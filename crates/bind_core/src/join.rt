@@ -77,10 +77,10 @@ fn make(
         Err(_) => return Err(Refused::Memory(Command::Join(other))),
     };
     let (one, two) = (Row::new(alloc, first, second), Row::new(alloc, second, first));
-    if state.rows.add(one, two).is_err() {
+    let Ok(()) = state.rows.add(one, two) else {
         handles.destroy_empty();
         return Err(Refused::Memory(Command::Join(other)));
-    }
+    };
     handles.push_reserved(Handle::new(first));
     handles.push_reserved(Handle::new(second));
     state.history.push_reserved(Event {

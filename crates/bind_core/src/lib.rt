@@ -6,13 +6,16 @@ mod call;
 mod commands;
 mod handle;
 mod join;
+mod machine;
 mod mail;
 mod row;
 mod rows;
 mod state;
+mod stepper;
 mod table;
 mod take;
 
 pub use commands::{Command, Refused, Reply};
 pub use handle::{Ended, Handle, Handles};
-pub use state::{State, step};
+pub use machine::Core;
+pub use stepper::{Alone, Stepper};

@@ -38,8 +38,8 @@ pub fn take(
     match look(&state.rows, alloc, &state.schema, end) {
         Ok(Front::Value(taken)) => receive(state, alloc, seq, end, taken),
         Ok(Front::Nothing(why)) => refuse(state, seq, Asked::Take(end), why, Command::Take(end)),
-        // Not reached: every message is of an allowed call, and stands for its value.
-        Ok(Front::Bad) => Err(Refused::Memory(Command::Take(end))),
+        // Every message is of an allowed call, and stands for its value.
+        Ok(Front::Bad) => unreachable!(),
         Err(_) => Err(Refused::Memory(Command::Take(end))),
     }
 }
