@@ -1,3 +1,3 @@
-pub mod Preparing
+pub mod Behind
 pub mod ReadsBack
 pub mod RoundTrip

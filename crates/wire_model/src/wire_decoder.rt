@@ -21,9 +21,9 @@ pub struct Request {
     pub value: Value,
 }
 
-#[tactic(auto, unfolding(crate::specs::Stands::request_in))]
 /// The request that the bytes stand for at an endpoint of this interface; none exactly where they
 /// stand for none. What lies behind the parameters is ignored.
+#[tactic(auto, unfolding(crate::specs::Stands::request_in))]
 pub fn read_request(
     alloc: Global,
     schema: &Schema,
@@ -38,7 +38,13 @@ pub fn read_request(
     let Some(row) = schema.request(interface, header.name) else {
         return Ok(None);
     };
-    let Some(value) = read_struct(alloc, bytes, header.payload.start, row.fields.as_slice().len())? else {
+    let Some(value) = read_struct(
+        alloc,
+        bytes,
+        header.payload.start,
+        row.fields.as_slice().len(),
+    )?
+    else {
         return Ok(None);
     };
     Ok(Some(Request {

@@ -89,10 +89,8 @@ pub fn prepare(
     value: &Value,
 ) -> Result<Prepared, PrepareError>
     requires { HasTarget schema.now target }
-    ensures ok {
-        IfOk result (λ prepared.
-            (prepared ≡ record { target = target; value = value.now }) × IsPrepared schema.now target value.now)
-    }
+    ensures ok { IfOk result (λ prepared.
+        (prepared ≡ record { target = target; value = value.now }) × IsPrepared schema.now target value.now) }
     ensures refused { IfErr result (IsRefused schema.now target value.now) }
 {
     let numbers = value.as_slice();
@@ -149,8 +147,8 @@ fn params_payload(alloc: Global, values: &[u32]) -> Result<Items<u8>, AllocError
     Ok(Items::from_vec(payload))
 }
 
-#[tactic(auto, unfolding(crate::specs::Tight::message_bytes))]
 /// The bytes of the message for the endpoint of this id.
+#[tactic(auto, unfolding(crate::specs::Tight::message_bytes))]
 pub fn seal(alloc: Global, prepared: &Prepared, head: Head) -> Result<Items<u8>, AllocError>
     ensures { IfOk result (λ bytes. bytes ≡ message_bytes head.interface_id prepared.now.target.method prepared.now.value) }
 {
