@@ -12,3 +12,6 @@ pub mod Kept
 pub mod Sides
 pub mod Mail
 pub mod Said
+pub mod Totals
+pub mod Least
+pub mod Pending
