@@ -13,7 +13,7 @@ use Rattle.bind_model.specs.declared.event.Why.TheVariants.{NoName, WrongSide, W
 use Rattle.bind_model.specs.Ends.{has_end}
 use Rattle.bind_model.specs.Machine.{made, peer, binding, unread, is_receiver, asks_of, called}
 use Rattle.bind_model.proofs.Sound.{Sound}
-use Rattle.bind_core.specs.Rows.{row_of, rows_of, row_at, room_at, way_bound, way_from, way}
+use Rattle.bind_core.specs.Rows.{row_of, rows_of, way_bound, way_from, way}
 use Rattle.bind_core.proofs.Meaning.{row_at-map, row_at-made, unbound}
 
 -- what a call is told, by its way
@@ -49,9 +49,10 @@ module _ (past : List Event) (so : Sound past) (x : EndId) (id : ℕ) (target : 
       → (told_by_way (message_bytes 0 target.method value) (way_bound (rows_of past) id target (peer past x) b) ≡ called past x id target value b) × LeadsTo (peer past x) (way_bound (rows_of past) id target (peer past x) b)
   bound None known = (refl, tt)
   bound (Some b) known =
-      rw (row_at-made past (peer past x) (so.pairs.peer_made x known))
-      ( tests (id == 0) (is_receiver b.side) (asks_of b.interface target) (nat_le 4096 (length (unread past (peer past x)))) (message_bytes 0 target.method value) (peer past x)
-      , leads (id == 0) (is_receiver b.side) (asks_of b.interface target) (nat_le 4096 (length (unread past (peer past x)))) (peer past x))
+      rw (row_at-made past (peer past x) (so.pairs.peer_made x known)) (
+        tests (id == 0) (is_receiver b.side) (asks_of b.interface target) (nat_le 4096 (length (unread past (peer past x)))) (message_bytes 0 target.method value) (peer past x),
+        leads (id == 0) (is_receiver b.side) (asks_of b.interface target) (nat_le 4096 (length (unread past (peer past x)))) (peer past x),
+      )
 
   way_is : (told_by_way (message_bytes 0 target.method value) (way (rows_of past) x id target) ≡ called past x id target value (binding past x)) × LeadsTo (peer past x) (way (rows_of past) x id target)
   way_is = rw (row_at-map past (made past) x) (go (has_end (made past) x) refl)

@@ -1,6 +1,6 @@
 -- What an event makes of the rows: nothing where it refuses, and else a change of one.
 use Rattle.std.proofs.Common.{zero, suc, ◌≡◌, ℕ, ◌+◌, Bool, true, false, List, [], ◌∷◌, ◌++◌, length, drop, refl, ◌∙◌, ap, add-one}
-use Rattle.std.specs.Prelude.{Option, Some, if◌then◌else◌, map, not, ◌&&◌, ◌||◌}
+use Rattle.std.specs.Prelude.{Some, if◌then◌else◌, map, not, ◌&&◌, ◌||◌}
 use Rattle.std.proofs.lemmas.List.{append-nil, length-append, drop-append-le}
 use Rattle.mj_base.specs.declared.ids.EndId.{EndId}
 use Rattle.mj_base.specs.declared.ids.SeqId.{SeqId}

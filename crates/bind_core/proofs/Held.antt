@@ -1,8 +1,7 @@
 -- What a state that holds gives to each command.
-use Rattle.std.proofs.Common.{◌≡◌, ◌<◌, ◌≤◌, ℕ, ◌+◌, List, [], ◌∷◌, ◌++◌, length, refl, sym, ap, ◌∙◌, arith, subst}
-use Rattle.std.specs.Prelude.{reverse, map, Option, Some, None, Result, Ok, Err, true, false, ◌==◌, if◌then◌else◌, ◌*◌, nat_lt}
+use Rattle.std.proofs.Common.{◌≡◌, ◌<◌, ◌≤◌, ℕ, List, [], ◌∷◌, ◌++◌, length, refl, sym, ap, ◌∙◌, arith, subst}
+use Rattle.std.specs.Prelude.{reverse, map, Result, Ok, true, if◌then◌else◌, ◌*◌, nat_lt}
 use Rattle.std.proofs.lemmas.Bool.Decides.{nat_tests}
-use Rattle.std.specs.Arc.{arc_value}
 use Rattle.std.proofs.lemmas.List.{reverse-append, length-append, length-map, length-reverse}
 use Rattle.mj_base.specs.declared.ids.EndId.{EndId}
 use Rattle.mj_base.specs.declared.ids.SeqId.{SeqId}
@@ -11,13 +10,13 @@ use Rattle.wire_model.specs.declared.target.Target.{Target}
 use Rattle.wire_model.specs.Tight.{message_bytes}
 use Rattle.bind_model.specs.declared.event.Event.{Event}
 use Rattle.bind_model.specs.declared.event.Told.{Told}
-use Rattle.bind_model.specs.declared.event.Told.TheVariants.{Made, Sent, No, Got, Bad}
+use Rattle.bind_model.specs.declared.event.Told.TheVariants.{Made, Sent, Got, Bad}
 use Rattle.bind_model.specs.declared.event.Taken.{Taken}
 use Rattle.bind_model.specs.declared.event.Why.{Why}
 use Rattle.bind_model.specs.declared.event.Asked.TheVariants.{Call, Take, Join}
 use Rattle.bind_model.specs.Ends.{is_distinct}
 use Rattle.bind_model.specs.Laws.{AllAllowed, IsGood, AreGood}
-use Rattle.bind_model.specs.Machine.{answer, legal, made, peer, is_out, serials, joined, binding, took, called}
+use Rattle.bind_model.specs.Machine.{answer, legal, made, peer, is_out, serials, joined}
 use Rattle.bind_model.specs.Ready.{ready}
 use Rattle.bind_model.proofs.Sound.{Sound, sound}
 use Rattle.bind_model.proofs.Outcomes.{AreNew}

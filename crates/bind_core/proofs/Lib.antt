@@ -5,3 +5,4 @@ pub mod Calls
 pub mod Joins
 pub mod ReadyRows
 pub mod Held
+pub mod SoleStepper

@@ -1,5 +1,5 @@
 -- What is read of the rows is what the events give.
-use Rattle.std.proofs.Common.{◌≡◌, ℕ, ◌+◌, Bool, true, false, List, [], ◌∷◌, refl, ap, ◌∙◌, arith}
+use Rattle.std.proofs.Common.{◌≡◌, ℕ, Bool, true, false, List, [], ◌∷◌, refl, ap, ◌∙◌, arith}
 use Rattle.std.specs.Prelude.{Option, Some, None, if◌then◌else◌, map, ◌||◌, ◌==◌}
 use Rattle.std.specs.List.{count_by}
 use Rattle.std.proofs.lemmas.List.Sums.{sum_by-append}
@@ -7,11 +7,8 @@ use Rattle.mj_base.specs.declared.ids.EndId.{EndId}
 use Rattle.mj_schema.specs.declared.schema.Schema.{Schema}
 use Rattle.bind_model.specs.declared.event.Binding.{Binding}
 use Rattle.bind_model.specs.declared.event.Event.{Event}
-use Rattle.bind_model.specs.declared.event.Told.{Told}
-use Rattle.bind_model.specs.declared.event.Told.TheVariants.{No}
-use Rattle.bind_model.specs.declared.event.Why.TheVariants.{NoName}
 use Rattle.bind_model.specs.Ends.{same_end, has_end}
-use Rattle.bind_model.specs.Machine.{made, is_out, binding, unread, serials, took, took_at}
+use Rattle.bind_model.specs.Machine.{made, is_out, binding, unread, serials, took}
 use Rattle.bind_model.proofs.EndsLemmas.{same_end-true}
 use Rattle.bind_model.proofs.Sound.{Sound}
 use Rattle.bind_core.specs.declared.row.Row.{Row}

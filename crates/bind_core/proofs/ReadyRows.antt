@@ -1,10 +1,9 @@
 -- What is ready by the rows is ready by the events.
-use Rattle.std.proofs.Common.{◌≡◌, Bool, true, false, List, [], ◌∷◌, length, refl, ap, ◌∙◌, arith}
-use Rattle.std.specs.Prelude.{Option, Some, None, if◌then◌else◌, map, filter, cond, is_some, ◌&&◌, nat_lt, option_and_then}
+use Rattle.std.proofs.Common.{◌≡◌, Bool, true, false, List, [], ◌∷◌, length, refl, ◌∙◌, arith}
+use Rattle.std.specs.Prelude.{Option, Some, None, if◌then◌else◌, map, filter, is_some, ◌&&◌, nat_lt, option_and_then}
 use Rattle.std.specs.Option.{option_map}
 use Rattle.std.proofs.lemmas.Bool.Decides.{nat_tests}
 use Rattle.mj_base.specs.declared.ids.EndId.{EndId}
-use Rattle.mj_base.specs.declared.ids.SeqId.{SeqId}
 use Rattle.mj_schema.specs.declared.schema.Schema.{Schema}
 use Rattle.bind_model.specs.declared.event.Binding.{Binding}
 use Rattle.bind_model.specs.declared.event.Event.{Event}
@@ -14,8 +13,7 @@ use Rattle.bind_model.specs.Ends.{has_end}
 use Rattle.bind_model.specs.Machine.{made, binding, unread, took, took_at, told_of_front, stands_for}
 use Rattle.bind_model.specs.Ready.{is_settled, is_ready, least, ready}
 use Rattle.bind_model.proofs.Sound.{Sound}
-use Rattle.bind_core.specs.declared.row.Row.{Row}
-use Rattle.bind_core.specs.Rows.{row_of, rows_of, row_at, names_of, row_ready, least_ready, bound_on, ready_in}
+use Rattle.bind_core.specs.Rows.{row_of, rows_of, row_at, names_of, row_ready, bound_on, ready_in}
 use Rattle.bind_core.proofs.Meaning.{row_at-map, unbound}
 
 module _ (schema : Schema) (past : List Event) where

@@ -1,7 +1,7 @@
 -- The rows: finding one, and changing one.
 use Rattle.std.proofs.Common.{zero, suc, set, ◌≡◌, ◌<◌, ℕ, ◌+◌, Bool, true, false, List, [], ◌∷◌, length, drop, get_or, refl, sym, ap, ◌∙◌, subst, add-one, drop-cons}
-use Rattle.std.specs.Prelude.{Option, Some, None, if◌then◌else◌, map, slice_get, not}
-use Rattle.std.proofs.lemmas.Option.{slice_get-get_or, get_or_from_slice_get}
+use Rattle.std.specs.Prelude.{Some, None, if◌then◌else◌, map, slice_get, not}
+use Rattle.std.proofs.lemmas.Option.{slice_get-get_or}
 use Rattle.mj_base.specs.declared.ids.EndId.{EndId}
 use Rattle.bind_model.specs.Ends.{same_end, has_end, is_distinct}
 use Rattle.bind_model.proofs.EndsLemmas.{not_left, not_right, not-true, and_left, and_right, same_end-true, same_end-refl, or_left, or_right}

@@ -1,6 +1,5 @@
 -- What contracts see of a core.
-use Rattle.std.specs.Prelude.{ℕ, List, reverse}
-use Rattle.mj_base.specs.declared.ids.SeqId.{SeqId}
+use Rattle.std.specs.Prelude.{ℕ, List}
 use Rattle.mj_schema.specs.declared.schema.Schema.{Schema}
 use Rattle.bind_model.specs.declared.event.Event.{Event}
 

@@ -14,12 +14,7 @@ use mj_base::{EndId, Items, SeqId};
 use std::alloc::{AllocError, Global};
 
 /// Makes a pipe, whose second end is numbered by the other sequence.
-pub fn join(
-    state: &mut State,
-    alloc: Global,
-    seq: SeqId,
-    other: SeqId,
-) -> Result<Reply, Refused>
+pub fn join(state: &mut State, alloc: Global, seq: SeqId, other: SeqId) -> Result<Reply, Refused>
     requires { CanDo state.old (Command.Join other) }
     ensures done { IfOk result (λ reply. Done state.old state.new seq (Command.Join other) reply) }
     ensures undone { IfErr result (λ refused. Undone state.old state.new (Command.Join other) refused) }
@@ -76,7 +71,10 @@ fn make(
         Ok(handles) => handles,
         Err(_) => return Err(Refused::Memory(Command::Join(other))),
     };
-    let (one, two) = (Row::new(alloc, first, second), Row::new(alloc, second, first));
+    let (one, two) = (
+        Row::new(alloc, first, second),
+        Row::new(alloc, second, first),
+    );
     let Ok(()) = state.rows.add(one, two) else {
         handles.destroy_empty();
         return Err(Refused::Memory(Command::Join(other)));

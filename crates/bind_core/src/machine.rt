@@ -6,7 +6,7 @@ ghost use Rattle.bind_model.specs.Laws.{IsAllowed, AllAllowed, InOrder, OnePlace
 ghost use Rattle.bind_model.specs.Machine.{Legal};
 ghost use Rattle.bind_model.specs.Ready.{ready};
 ghost use Rattle.bind_core.specs.Plain.{asked_of, told_of, HandsBack, command_of, IsSpentAt};
-ghost use Rattle.bind_core.specs.Asks.{told_at, MayAskAt};
+ghost use Rattle.bind_core.specs.Asks.{told_at};
 
 use crate::commands::{Command, Refused, Reply};
 use crate::handle::{Ended, Handles};
@@ -58,7 +58,7 @@ impl Core {
     /// give, or, without memory or with 16,777,216 events, nothing happens and the command comes back.
     pub fn step(&mut self, alloc: Global, seq: SeqId, command: Command) -> Result<Reply, Refused>
         requires seq { seq.0 < self.old.seqs }
-        requires allowed { MayAskAt self.old command }
+        requires allowed { IsAllowed self.old.schema (reverse self.old.events) (asked_of command) }
         ensures same { (self.new.schema ≡ self.old.schema) × (self.new.seqs ≡ self.old.seqs) }
         // The history gains this one event, with the reply that the events before it give.
         ensures event { IfOk result (λ reply. self.new.events ≡

@@ -6,8 +6,9 @@ ghost use Rattle.bind_core.specs.Plain.{asked_of};
 ghost use Rattle.bind_core.specs.Steps.{Holds, CanDo, Done, Undone, told_in, MayAsk};
 
 use crate::commands::{Command, Refused, Reply};
+use crate::handle::Handle;
 use crate::table::Table;
-use crate::{bind, call, handle::Handle, join, take};
+use crate::{bind, call, join, take};
 use bind_model::{Asked, Event, History, Told, Why};
 use mj_base::SeqId;
 use mj_schema::Schema;

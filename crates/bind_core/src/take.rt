@@ -25,12 +25,7 @@ enum Front {
 }
 
 /// Takes the oldest unread message of a bound end.
-pub fn take(
-    state: &mut State,
-    alloc: Global,
-    seq: SeqId,
-    end: EndId,
-) -> Result<Reply, Refused>
+pub fn take(state: &mut State, alloc: Global, seq: SeqId, end: EndId) -> Result<Reply, Refused>
     requires { CanDo state.old (Command.Take end) }
     ensures done { IfOk result (λ reply. Done state.old state.new seq (Command.Take end) reply) }
     ensures undone { IfErr result (λ refused. Undone state.old state.new (Command.Take end) refused) }

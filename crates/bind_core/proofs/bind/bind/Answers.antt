@@ -1,4 +1,4 @@
-use Rattle.std.proofs.Common.{◌≡◌, ◌∙◌, sym, refl, ap, false, true}
+use Rattle.std.proofs.Common.{◌≡◌, ◌∙◌, sym, refl, false, true}
 use Rattle.std.specs.Prelude.{◌&&◌, nat_lt, length}
 use Rattle.bind_model.specs.Machine.{is_out}
 use Rattle.bind_core.specs.Steps.{past_of, schema_of}

@@ -1,4 +1,4 @@
-use Rattle.std.proofs.Common.{◌∙◌, sym}
+use Rattle.std.proofs.Common.{sym}
 use Rattle.std.specs.Prelude.{Err}
 use Rattle.bind_core.proofs.Held.{call-held}
 use Rattle.bind_core.proofs.call.call.Goals as goal

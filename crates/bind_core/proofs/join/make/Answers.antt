@@ -1,4 +1,4 @@
-use Rattle.std.proofs.Common.{◌≡◌, ◌∷◌, [], ◌∙◌, sym, refl, ap}
+use Rattle.std.proofs.Common.{◌≡◌, ◌∷◌, [], ◌∙◌, refl}
 use Rattle.bind_core.specs.Steps.{past_of}
 use Rattle.bind_core.proofs.Held.{finish, join-held, new_of, join_told, two_handles}
 use Rattle.bind_core.proofs.join.make.Goals as goal
@@ -8,8 +8,8 @@ returns-clause-done c =
     let a = c.args.ends.0 in
     let b = c.args.ends.1 in
     let handles : c.from_vec.result ≡ a ∷ b ∷ [] =
-        two_handles c.in-Ok-with_capacity.handles.items c.push_reserved.new.self.items c.push_reserved-2.new.self.items c.from_vec.result c.new.result c.new-2.result a b
-        c.in-Ok-with_capacity.ensures.items c.push_reserved.ensures.items c.push_reserved-2.ensures.items c.from_vec.ensures c.new.ensures c.new-2.ensures in
+    two_handles c.in-Ok-with_capacity.handles.items c.push_reserved.new.self.items c.push_reserved-2.new.self.items c.from_vec.result c.new.result c.new-2.result a b
+    c.in-Ok-with_capacity.ensures.items c.push_reserved.ensures.items c.push_reserved-2.ensures.items c.from_vec.ensures c.new.ensures c.new-2.ensures in
     rw handles (finish c.args.state.now _ c.args.seq _ _ c.requires.can refl refl
     (c.push_reserved-3.ensures ∙ rw c.in-Ok.ensures refl)
     (c.requires.next ∙ join_told c.args.other.0 c.args.state.now.seqs _ _ c.requires.there)

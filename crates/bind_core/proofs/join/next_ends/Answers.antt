@@ -1,5 +1,5 @@
 use Rattle.std.proofs.Common.{arith}
-use Rattle.bind_core.proofs.Held.{rows_few, count-held}
+use Rattle.bind_core.proofs.Held.{rows_few}
 use Rattle.bind_core.proofs.join.next_ends.Goals as goal
 use Rattle.bind_core.proofs.join.next_ends.Goals.{then-other-seq, else-other-seq}
 

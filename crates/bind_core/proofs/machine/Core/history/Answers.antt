@@ -1,4 +1,3 @@
-use Rattle.std.specs.Prelude.{reverse}
 use Rattle.bind_model.proofs.Order.{legal_in_order}
 use Rattle.bind_model.proofs.Places.{one_place}
 use Rattle.bind_model.proofs.Said.{as_said, are_good}

@@ -1,5 +1,4 @@
-use Rattle.std.proofs.Common.{◌∙◌, ap}
-use Rattle.bind_core.specs.Steps.{past_of, schema_of}
+use Rattle.std.proofs.Common.{◌∙◌}
 use Rattle.bind_core.proofs.Held.{ready-held}
 use Rattle.bind_core.proofs.machine.Core.ready.Goals as goal
 

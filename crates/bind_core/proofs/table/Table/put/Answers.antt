@@ -1,5 +1,4 @@
 use Rattle.std.proofs.Common.{◌∙◌, ap, set}
-use Rattle.std.specs.Prelude.{slice_set}
 use Rattle.std.proofs.lemmas.Result.{on_ok_weaker}
 use Rattle.bind_core.specs.Rows.{with_mail}
 use Rattle.bind_core.proofs.RowLemmas.{write_is_map, unchanged}
