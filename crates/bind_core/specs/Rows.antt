@@ -26,6 +26,7 @@ row_of past x = record { id = x; peer = peer past x; out = is_out past x; bound 
 abbrev pub rows_of : List Event → List Row
 rows_of past = map (row_of past) (made past)
 
+-- the ends of the rows, in order
 abbrev pub names_of : List Row → List EndId
 names_of rows = map (λ (row : Row). row.id) rows
 
@@ -34,6 +35,7 @@ abbrev pub row_at : EndId → List Row → Option Row
 row_at x [] = None
 row_at x (row ∷ rows) = if same_end row.id x then Some row else row_at x rows
 
+-- whether a row is there, and its handle with a caller
 abbrev pub out_of : Option Row → Bool
 out_of None = false
 out_of (Some row) = row.out
@@ -71,6 +73,7 @@ abbrev pub room_at : EndId → Option Row → Result EndId Why
 room_at y None = Err NoName
 room_at y (Some row) = if nat_le 4096 (length row.mail) then Err Full else Ok y
 
+-- the end y that a call at its peer goes to, by the peer's binding: each refusal in its turn
 abbrev pub way_bound : List Row → ℕ → Target → EndId → Option Binding → Result EndId Why
 way_bound rows id target y None = Err NoName
 way_bound rows id target y (Some b) =
@@ -79,6 +82,7 @@ way_bound rows id target y (Some b) =
     else (if not (asks_of b.interface target) then Err WrongMethod
     else room_at y (row_at y rows)))
 
+-- the end that a call goes to, by the row of the end that it is made at
 abbrev pub way_from : List Row → ℕ → Target → Option Row → Result EndId Why
 way_from rows id target None = Err NoName
 way_from rows id target (Some row) = way_bound rows id target row.peer row.bound
@@ -87,6 +91,7 @@ way_from rows id target (Some row) = way_bound rows id target row.peer row.bound
 abbrev pub way : List Row → EndId → ℕ → Target → Result EndId Why
 way rows x id target = way_from rows id target (row_at x rows)
 
+-- what a take is told, by the mail and the binding of its end
 abbrev pub took_from : Schema → List Message → Option Binding → Told
 took_from schema mail None = No NoName
 took_from schema mail (Some b) = took_at schema b mail

@@ -18,6 +18,7 @@ use Rattle.bind_core.specs.declared.state.State.{State}
 abbrev pub past_of : State → List Event
 past_of s = reverse s.history.events
 
+-- the schema
 abbrev pub schema_of : State → Schema
 schema_of s = arc_value s.schema
 
@@ -28,6 +29,7 @@ pub record Holds (s : State) : Type 0 where
   pub rows : s.rows ≡ rows_of (past_of s)
   pub few : length s.history.events ≤ 16777216
 
+-- what the command asks is allowed by the events so far
 abbrev pub MayAsk : State → Command → Type 0
 MayAsk s command = IsAllowed (schema_of s) (past_of s) (asked_of command)
 

@@ -1,6 +1,6 @@
 //! Handles: who holds one may bind its end. They can't be copied, and aren't let go.
 
-ghost use Rattle.std.specs.Prelude.{◌≡◌, IfOk, length};
+ghost use Rattle.std.specs.Prelude.{◌≡◌, IfOk};
 
 use mj_base::EndId;
 use std::alloc::{AllocError, Global};
@@ -82,13 +82,6 @@ impl Handles {
     {
         let Handles { items } = self;
         items
-    }
-
-    /// How many handles there are.
-    pub fn len(&self) -> usize
-        ensures { result ≡ length self.now }
-    {
-        self.items.len()
     }
 
     /// The end of each, in order.

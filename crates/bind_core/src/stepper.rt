@@ -36,6 +36,7 @@ pub trait Stepper {
 }
 
 /// The only one that steps a core.
+#[derive(Drop)]
 pub struct Alone<'a> {
     pub core: &'a mut Core,
     pub seq: SeqId,

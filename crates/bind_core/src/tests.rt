@@ -11,7 +11,7 @@ ghost use Rattle.bind_core.specs.Plain.{asked_of};
 
 use super::*;
 use bind_model::{Side, Taken, Why};
-use mj_base::{Items, SeqId, Text};
+use mj_base::{EndId, Items, SeqId, Text};
 use mj_schema::{FieldRow, InterfaceRow, Kind, MethodRow, Schema, StructRow, VersionRow};
 use std::alloc::{AllocError, Global};
 use std::sync::Arc;
@@ -127,6 +127,23 @@ fn hear(core: &mut Core, alloc: Global, command: Command) -> Heard
     }
 }
 
+/// Takes at an end, whoever does the commands.
+fn take_at<S: Stepper>(stepper: &mut S, alloc: Global, end: EndId) -> Heard
+    requires { (S.me stepper.old).0 < S.seqs stepper.old }
+{
+    match stepper.step(alloc, Command::Take(end)) {
+        Ok(Reply::Got(taken)) => Heard::Got(taken),
+        Ok(other) => {
+            other.retire(&Ended::new());
+            Heard::Other
+        }
+        Err(refused) => {
+            refused.retire(&Ended::new());
+            Heard::Other
+        }
+    }
+}
+
 /// Joins a pipe, binds both ends, takes at the second, calls at the first, and takes again.
 fn ping(core: &mut Core, alloc: Global, prepared: Prepared) -> Option<(Heard, Heard)>
     requires seqs { core.old.seqs ≡ 1 }
@@ -139,7 +156,7 @@ fn ping(core: &mut Core, alloc: Global, prepared: Prepared) -> Option<(Heard, He
     let _bound = hear(core, alloc, Command::Bind(second, Side::Receiver, 0));
     let before = hear(core, alloc, Command::Take(to));
     let _sent = hear(core, alloc, Command::Call(from, 0, prepared));
-    let after = hear(core, alloc, Command::Take(to));
+    let after = take_at(&mut Alone { core, seq: ONLY }, alloc, to);
     Some((before, after))
 }
 
