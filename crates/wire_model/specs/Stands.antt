@@ -1,5 +1,5 @@
 -- What the bytes of a message stand for.
-use Rattle.std.specs.Prelude.{ℕ, zero, suc, Bool, true, false, ◌+◌, ◌==◌, ◌&&◌, nat_le, List, [], ◌∷◌, length, Option, Some, None, if◌then◌else◌, option_and_then}
+use Rattle.std.specs.Prelude.{ℕ, zero, suc, Bool, ◌+◌, ◌==◌, ◌&&◌, nat_le, List, [], ◌∷◌, length, Option, Some, None, if◌then◌else◌, option_and_then}
 use Rattle.mj_base.specs.Bytes.{le32_at}
 use Rattle.mj_base.specs.Header.{header_of}
 use Rattle.mj_base.specs.declared.header.Header.{Header}
