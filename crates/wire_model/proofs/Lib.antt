@@ -1,2 +1,3 @@
-pub mod Numbers
+pub mod Preparing
+pub mod ReadsBack
 pub mod RoundTrip

@@ -11,7 +11,7 @@ use Rattle.mj_schema.specs.Layout.{struct_bytes}
 use Rattle.wire_model.specs.declared.target.Target.{Target}
 use Rattle.wire_model.specs.Tight.{params_bytes, message_bytes, IsPrepared}
 use Rattle.wire_model.specs.Stands.{numbers_at, struct_at, request_in}
-use Rattle.wire_model.proofs.Numbers.{le32_at-le32_bytes, le32_at-append, numbers_at-append, numbers_at-flat_map}
+use Rattle.wire_model.proofs.ReadsBack.{le32_at-le32_bytes, le32_at-append, numbers_at-append, numbers_at-flat_map}
 
 -- as many bytes as the struct's header says
 length-flat_map : (values : List ℕ) → length (flat_map le32_bytes values) ≡ 4 * length values

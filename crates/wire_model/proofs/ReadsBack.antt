@@ -1,5 +1,5 @@
 -- Numbers that were written are read again, whatever stands around them.
-use Rattle.std.proofs.Common.{◌≡◌, ℕ, zero, suc, ◌+◌, ◌^◌, ◌<◌, List, [], ◌∷◌, ◌++◌, length, refl, ap, ◌∙◌, arith, add_assoc}
+use Rattle.std.proofs.Common.{◌≡◌, ℕ, zero, suc, ◌+◌, ◌*◌, ◌^◌, ◌<◌, List, [], ◌∷◌, ◌++◌, length, refl, ap, ◌∙◌, arith, add_assoc}
 use Rattle.std.specs.List.{All, flat_map}
 use Rattle.std.proofs.lemmas.List.{get_or-append-add}
 use Rattle.std.proofs.lemmas.List.Elements.{All-head, All-tail}
@@ -19,6 +19,14 @@ numbers_at-append front rest at zero = refl
 numbers_at-append front rest at (suc n) =
     let next : length front + at + 4 ≡ length front + (at + 4) = omega arith in
     rw next (rw (le32_at-append front rest at, numbers_at-append front rest (at + 4) n))
+
+-- one number more at the end
+pub numbers_at_more : (bytes : List ℕ) (at n : ℕ) → numbers_at bytes at (n + 1) ≡ numbers_at bytes at n ++ le32_at bytes (at + 4 * n) ∷ []
+numbers_at_more bytes at zero = let here : at + 4 * 0 ≡ at = omega arith in rw here refl
+numbers_at_more bytes at (suc n) =
+    let further : at + 4 * suc n ≡ at + 4 + 4 * n = omega arith in
+    let one : suc n + 1 ≡ suc (n + 1) = omega arith in
+    rw (further, one) (ap (λ ns. le32_at bytes at ∷ ns) (numbers_at_more bytes (at + 4) n))
 
 -- the numbers that were written one behind the other
 pub numbers_at-flat_map : (values rest : List ℕ) → All (λ n. n < 2 ^ 32) values → numbers_at (flat_map le32_bytes values ++ rest) 0 (length values) ≡ values
