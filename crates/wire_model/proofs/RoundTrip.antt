@@ -1,5 +1,5 @@
 -- What is sealed for a target is read again as the same request.
-use Rattle.std.proofs.Common.{◌≡◌, ℕ, ◌+◌, ◌-◌, ◌*◌, ◌^◌, ◌<◌, ◌≤◌, true, List, [], ◌∷◌, ◌++◌, length, length-append, drop, Some, replicate, refl, ap, ◌∙◌, arith}
+use Rattle.std.proofs.Common.{◌≡◌, ℕ, ◌+◌, ◌-◌, ◌*◌, ◌^◌, ◌<◌, ◌≤◌, true, List, [], ◌∷◌, ◌++◌, length, length-append, drop, Some, replicate, refl, sym, ap, ◌∙◌, arith}
 use Rattle.std.specs.Prelude.{nat_le, ◌==◌}
 use Rattle.std.specs.List.{All, flat_map}
 use Rattle.std.proofs.lemmas.Bool.Decides.{nat_tests}
@@ -9,6 +9,7 @@ use Rattle.mj_base.specs.Header.{header_of, header_bytes}
 use Rattle.mj_schema.specs.declared.schema.Schema.{Schema}
 use Rattle.mj_schema.specs.Layout.{struct_bytes}
 use Rattle.wire_model.specs.declared.target.Target.{Target}
+use Rattle.wire_model.specs.declared.wire_decoder.Request.{Request}
 use Rattle.wire_model.specs.Tight.{params_bytes, message_bytes, IsPrepared}
 use Rattle.wire_model.specs.Stands.{numbers_at, struct_at, request_in}
 use Rattle.wire_model.proofs.ReadsBack.{le32_at-le32_bytes, le32_at-append, numbers_at-append, numbers_at-flat_map}
@@ -55,9 +56,9 @@ struct_at-params_bytes front values small short =
     let zeros : List ℕ = replicate (size - (8 + 4 * length values)) 0 in
     let front8 : List ℕ = le32_bytes size ++ le32_bytes 0 in
     let numbers : numbers_at bytes (at + 8) (length values) ≡ values =
-      numbers_at-append front (params_bytes values) 8 (length values)
-      ∙ numbers_at-append front8 (flat_map le32_bytes values ++ zeros) 0 (length values)
-      ∙ numbers_at-flat_map values zeros small in
+    numbers_at-append front (params_bytes values) 8 (length values)
+    ∙ numbers_at-append front8 (flat_map le32_bytes values ++ zeros) 0 (length values)
+    ∙ numbers_at-flat_map values zeros small in
     let header : nat_le (at + 8) (length bytes) ≡ true = grind (arith, nat_tests) in
     let same : (size == size) ≡ true = grind (arith, nat_tests) in
     let inside : nat_le (at + size) (length bytes) ≡ true = grind (arith, nat_tests) in
@@ -69,3 +70,15 @@ request_in-message_bytes schema target value id prepared small =
     let header = header_of-header_bytes id target.method (params_bytes value) small prepared.named in
     let struct_is = struct_at-params_bytes (header_bytes id target.method) value prepared.small prepared.short in
     rw (header, prepared.there, ← prepared.count, struct_is) refl
+
+-- requests that are found are the same in their parts
+same_parts : {r q : Request} → Some r ≡ Some q → (r.interface_id ≡ q.interface_id) × (r.method ≡ q.method) × (r.value ≡ q.value)
+same_parts e = (cc, cc, cc)
+
+-- two messages to one interface have the same bytes only where they are for the same endpoint and method, with the same value
+pub one_form : (schema : Schema) (target other : Target) (value others : List ℕ) (id other_id : ℕ) → IsPrepared schema target value → IsPrepared schema other others → target.interface ≡ other.interface → id < 2 ^ 32 → other_id < 2 ^ 32 → message_bytes id target.method value ≡ message_bytes other_id other.method others → (id ≡ other_id) × (target.method ≡ other.method) × (value ≡ others)
+one_form schema target other value others id other_id prepared prepared' there small small' same =
+    same_parts (sym (request_in-message_bytes schema target value id prepared small)
+    ∙ ap (request_in schema target.interface) same
+    ∙ ap (λ i. request_in schema i (message_bytes other_id other.method others)) there
+    ∙ request_in-message_bytes schema other others other_id prepared' small')

@@ -20,7 +20,12 @@ pub fn push_numbers(out: &mut Vec<u8>, numbers: &[u32]) -> Result<(), AllocError
 
 #[tactic(auto, using(crate::proofs::ReadsBack::numbers_at_more))]
 /// The numbers that stand in the bytes from a place on.
-pub fn read_numbers(alloc: Global, bytes: &[u8], at: u64, count: usize) -> Result<Vec<u32>, AllocError>
+pub fn read_numbers(
+    alloc: Global,
+    bytes: &[u8],
+    at: u64,
+    count: usize,
+) -> Result<Vec<u32>, AllocError>
     requires { at + 4 * count ≤ length bytes.now }
     ensures { IfOk result (λ numbers. numbers.items ≡ numbers_at bytes.now at count) }
 {

@@ -38,7 +38,13 @@ pub fn read_request(
     let Some(row) = schema.request(interface, header.name) else {
         return Ok(None);
     };
-    let Some(value) = read_struct(alloc, bytes, header.payload.start, row.fields.as_slice().len())? else {
+    let Some(value) = read_struct(
+        alloc,
+        bytes,
+        header.payload.start,
+        row.fields.as_slice().len(),
+    )?
+    else {
         return Ok(None);
     };
     Ok(Some(Request {

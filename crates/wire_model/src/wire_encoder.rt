@@ -89,10 +89,8 @@ pub fn prepare(
     value: &Value,
 ) -> Result<Prepared, PrepareError>
     requires { HasTarget schema.now target }
-    ensures ok {
-        IfOk result (λ prepared.
-            (prepared ≡ record { target = target; value = value.now }) × IsPrepared schema.now target value.now)
-    }
+    ensures ok { IfOk result (λ prepared.
+        (prepared ≡ record { target = target; value = value.now }) × IsPrepared schema.now target value.now) }
     ensures refused { IfErr result (IsRefused schema.now target value.now) }
 {
     let numbers = value.as_slice();

@@ -1,0 +1,84 @@
+//! One request in bytes, and a value that misfits.
+
+ghost use Rattle.std.specs.Prelude.{◌≡◌, IfOk};
+ghost use Rattle.wire_model.specs.Tight.{HasTarget};
+
+use super::*;
+use mj_base::{Items, Text};
+use mj_schema::{FieldRow, InterfaceRow, Kind, MethodRow, Schema, StructRow, VersionRow};
+use std::alloc::{AllocError, Global};
+use std::test::Fail;
+
+const PING: Target = Target {
+    interface: 0,
+    method: 0,
+    side: MessageSide::Request,
+};
+
+/// The schema of `module t; interface P { Ping(uint32 n); };`.
+fn ping_schema(alloc: Global) -> Result<Schema, AllocError>
+    ensures { IfOk result (λ schema. HasTarget schema PING) }
+{
+    let field = FieldRow {
+        name: Text::from_str(alloc, "n")?,
+        ordinal: 0,
+        kind: Kind::Uint32,
+        offset: 0,
+    };
+    let version = VersionRow {
+        version: 0,
+        fields: 1,
+        bytes: 16,
+    };
+    let params = StructRow {
+        name: Text::from_str(alloc, "t.P.Ping")?,
+        fields: Items::from_vec(vec![in alloc; field]?),
+        versions: Items::from_vec(vec![in alloc; version]?),
+    };
+    let method = MethodRow {
+        name: Text::from_str(alloc, "Ping")?,
+        ordinal: 0,
+        request: 0,
+    };
+    let interface = InterfaceRow {
+        name: Text::from_str(alloc, "t.P")?,
+        methods: Items::from_vec(vec![in alloc; method]?),
+    };
+    Ok(Schema {
+        structs: Items::from_vec(vec![in alloc; params]?),
+        interfaces: Items::from_vec(vec![in alloc; interface]?),
+    })
+}
+
+#[test]
+fn a_request_is_sealed_and_read(rt: HostRuntime) -> Result<(), Fail> {
+    let alloc = rt.alloc();
+    let schema = ping_schema(alloc)?;
+    let value = Items::from_vec(vec![in alloc; 7]?);
+    let Ok(prepared) = prepare(alloc, &schema, PING, &value) else {
+        return Err(AllocError.into());
+    };
+    assert_eq!(rt; prepared.target(), PING);
+    assert_eq!(rt; prepared.value().as_slice(), [7].as_slice());
+    let bytes = seal(alloc, &prepared, Head { interface_id: 0 })?;
+    let wanted = [
+        24, 0, 0, 0, 0, 0, 0, 0, 0, 0, 0, 0, 0, 0, 0, 0, 0, 0, 0, 0, 0, 0, 0, 0, // header
+        16, 0, 0, 0, 0, 0, 0, 0, 7, 0, 0, 0, 0, 0, 0, 0, // parameters
+    ];
+    assert_eq!(rt; bytes.as_slice(), wanted.as_slice());
+
+    let found = read_request(alloc, &schema, 0, bytes.as_slice())?;
+    let values = found.as_ref().map(|request| request.value.as_slice());
+    assert_eq!(rt; values, Some([7].as_slice()));
+    Ok(())
+}
+
+#[test]
+fn a_value_of_two_numbers_misfits_one_parameter(rt: HostRuntime) -> Result<(), Fail> {
+    let alloc = rt.alloc();
+    let schema = ping_schema(alloc)?;
+    let value = Items::from_vec(vec![in alloc; 7, 8]?);
+    let refused = prepare(alloc, &schema, PING, &value);
+    assert!(rt; matches!(&refused, Err(PrepareError::Misfit(path)) if path.len() == 0));
+    Ok(())
+}
