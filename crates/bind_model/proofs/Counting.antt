@@ -20,20 +20,6 @@ times-present z (x ∷ xs) h = elim (or_cases (same_end x z) (has_end xs z) h) [
   | inr s ↦ omega (arith, times-present z xs s)
 ]
 
-pub present : (z : EndId) (xs : List EndId) → 1 ≤ times z xs → has_end xs z ≡ true
-present z xs h = go (has_end xs z) refl
-  where
-    go : (b : Bool) → has_end xs z ≡ b → b ≡ true
-    go true e = refl
-    go false e = absurd (let none : times z xs ≡ 0 = times-absent z xs e in omega arith)
-
-pub absent : (z : EndId) (xs : List EndId) → times z xs ≡ 0 → has_end xs z ≡ false
-absent z xs h = go (has_end xs z) refl
-  where
-    go : (b : Bool) → has_end xs z ≡ b → b ≡ false
-    go true e = absurd (let some : 1 ≤ times z xs = times-present z xs e in omega arith)
-    go false e = refl
-
 distinct_case : (z x : EndId) (xs : List EndId) (b : Bool) → same_end x z ≡ b → has_end xs x ≡ false → times z xs ≤ 1 → (if b then 1 else 0) + times z xs ≤ 1
 distinct_case z x xs true e none rest = let gone : times z xs ≡ 0 = times-absent z xs (rw (← same_end-true x z e) none) in omega arith
 distinct_case z x xs false e none rest = omega arith

@@ -4,7 +4,6 @@ use Rattle.std.specs.Prelude.{◌==◌, ◌&&◌, ◌||◌, not}
 use Rattle.std.proofs.lemmas.Bool.{eqb-true, eq-eqb}
 use Rattle.std.proofs.Common.{◌⊎◌, inl, inr}
 use Rattle.std.specs.Prelude.{if◌then◌else◌}
-use Rattle.std.specs.List.{list_all}
 use Rattle.std.proofs.lemmas.List.Folds.{list_any-append}
 use Rattle.mj_base.specs.declared.ids.EndId.{EndId}
 use Rattle.bind_model.specs.Ends.{same_end, has_end, without}
@@ -61,14 +60,6 @@ without_step gone ys y x false rest e = elim (or_cases (same_end y x) (has_end (
 pub has_end-without : (gone xs : List EndId) (x : EndId) → has_end (without gone xs) x ≡ true → has_end xs x ≡ true
 has_end-without gone [] x h = h
 has_end-without gone (y ∷ ys) x h = without_step gone ys y x (has_end gone y) (has_end-without gone ys x) h
-
--- each of these ends is in the list
-pub all_in : (p : EndId → Bool) (xs : List EndId) (x : EndId) → list_all p xs ≡ true → has_end xs x ≡ true → p x ≡ true
-all_in p [] x all h = cc
-all_in p (y ∷ ys) x all h = elim (or_cases (same_end y x) (has_end ys x) h) [
-  | inl s ↦ rw (← same_end-true y x s) (and_left (p y) (list_all p ys) all)
-  | inr s ↦ all_in p ys x (and_right (p y) (list_all p ys) all) s
-]
 
 pub has_end-not_front : (xs ys : List EndId) (x : EndId) → has_end (xs ++ ys) x ≡ false → has_end xs x ≡ false
 has_end-not_front xs ys x h = go (has_end xs x) refl

@@ -32,7 +32,7 @@ module _ (g : Message → Option Taken) (ts : List Taken) (ws : List Message) (h
 
   -- the front is taken
   takes_front : (m : Message) (rest : List Message) (t : Taken) → drop (length ts) ws ≡ m ∷ rest → g m ≡ Some t → map g (take (length (ts ++ t ∷ [])) ws) ≡ map Some (ts ++ t ∷ [])
-  takes_front m rest t front gives = rw (length-append, take-add, front, map-append, map-append, h, gives) refl
+  takes_front m rest t front gives = rw (length-append ts (t ∷ []), take-add (length ts) 1 ws, front, map-append g (take (length ts) ws) (m ∷ []), map-append (λ (u : Taken). Some u) ts (t ∷ []), h, gives) refl
 
 -- what a message gives where an end is bound so, or not at all
 abbrev pub gives : Schema → Option Binding → Message → Option Taken

@@ -1,8 +1,10 @@
-//! What holds of all messages: they are read as what was written, and have one form.
+//! What holds of all messages: they are read as what was written, have one form, and end with their
+//! parameters.
 
-ghost use Rattle.std.specs.Prelude.{◌≡◌, ◌<◌, ◌^◌, ℕ, List, Some};
+ghost use Rattle.std.specs.Prelude.{◌≡◌, ◌<◌, ◌^◌, ◌++◌, ℕ, List, Some};
 ghost use Rattle.mj_schema.specs.declared.schema.Schema.{Schema};
 ghost use Rattle.wire_model.specs.declared.target.Target.{Target};
+ghost use Rattle.wire_model.specs.declared.wire_decoder.Request.{Request};
 ghost use Rattle.wire_model.specs.Stands.{request_in};
 ghost use Rattle.wire_model.specs.Tight.{message_bytes, IsPrepared};
 
@@ -22,4 +24,11 @@ pub fn one_form()
         target.interface ≡ other.interface → id < 2 ^ 32 → other_id < 2 ^ 32 →
         message_bytes id target.method value ≡ message_bytes other_id other.method others →
         (id ≡ other_id) × (target.method ≡ other.method) × (value ≡ others) }
+{}
+
+/// Bytes behind those that stand for a request change nothing.
+pub fn behind_is_ignored()
+    ensures { (schema : Schema) (interface : ℕ) (bytes more : List ℕ) (request : Request) →
+        request_in schema interface bytes ≡ Some request →
+        request_in schema interface (bytes ++ more) ≡ Some request }
 {}

@@ -18,8 +18,8 @@ pub fn push_numbers(out: &mut Vec<u8>, numbers: &[u32]) -> Result<(), AllocError
     Ok(())
 }
 
-#[tactic(auto, using(crate::proofs::ReadsBack::numbers_at_more))]
 /// The numbers that stand in the bytes from a place on.
+#[tactic(auto, using(crate::proofs::ReadsBack::numbers_at_more))]
 pub fn read_numbers(
     alloc: Global,
     bytes: &[u8],

@@ -21,9 +21,9 @@ pub struct Request {
     pub value: Value,
 }
 
-#[tactic(auto, unfolding(crate::specs::Stands::request_in))]
 /// The request that the bytes stand for at an endpoint of this interface; none exactly where they
 /// stand for none. What lies behind the parameters is ignored.
+#[tactic(auto, unfolding(crate::specs::Stands::request_in))]
 pub fn read_request(
     alloc: Global,
     schema: &Schema,

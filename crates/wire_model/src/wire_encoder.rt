@@ -147,8 +147,8 @@ fn params_payload(alloc: Global, values: &[u32]) -> Result<Items<u8>, AllocError
     Ok(Items::from_vec(payload))
 }
 
-#[tactic(auto, unfolding(crate::specs::Tight::message_bytes))]
 /// The bytes of the message for the endpoint of this id.
+#[tactic(auto, unfolding(crate::specs::Tight::message_bytes))]
 pub fn seal(alloc: Global, prepared: &Prepared, head: Head) -> Result<Items<u8>, AllocError>
     ensures { IfOk result (λ bytes. bytes ≡ message_bytes head.interface_id prepared.now.target.method prepared.now.value) }
 {
