@@ -1,6 +1,6 @@
 -- The bindings of a run, one after the other.
-use Rattle.std.proofs.Common.{◌≡◌, ◌≢◌, ◌+◌, ◌*◌, ◌<◌, ◌≤◌, ℕ, zero, suc, List, [], ◌∷◌, length, drop, get_or, refl, sym, ap, ◌∙◌, arith, Some, None}
-use Rattle.std.specs.Prelude.{Option, slice_get, replicate}
+use Rattle.std.proofs.Common.{◌≡◌, ◌≢◌, ◌+◌, ◌*◌, ◌<◌, ◌≤◌, ℕ, zero, suc, List, [], ◌∷◌, length, drop, get_or, refl, sym, ap, ◌∙◌, arith, Some}
+use Rattle.std.specs.Prelude.{slice_get}
 use Rattle.std.proofs.lemmas.Option.{slice_get_read}
 use Rattle.std.proofs.lemmas.List.{length-replicate}
 use Rattle.mj_base.specs.declared.ids.EndId.{EndId}
@@ -15,8 +15,8 @@ use Rattle.call_script.specs.declared.script.PipeEnd.TheVariants.{First, Second}
 use Rattle.call_script.specs.Spelling.{interface_at}
 use Rattle.script_run.specs.declared.run.Run.{Run}
 use Rattle.script_run.specs.OfScript.{IsPart, next_of, joins_of, binds_from, place_of, end_at, sequence_0}
-use Rattle.script_run.specs.Going.{past_of, IsGoing, Went, BoundFirst, DidPart, with_asked}
-use Rattle.script_run.proofs.FirstEnds.{numbered, numbered_from, numbered_length, end_numbered, first_left, some_left, place_few}
+use Rattle.script_run.specs.Going.{past_of, IsGoing, BoundFirst, DidPart, with_asked}
+use Rattle.script_run.proofs.FirstEnds.{numbered, numbered_from, end_numbered, first_left, some_left, place_few}
 use Rattle.script_run.proofs.Joined.{joined}
 use Rattle.script_run.proofs.Parts.{Phase, phase_none, phase_length, listed_more, listed_done, part_length}
 use Rattle.script_run.proofs.Steps.{past_length}

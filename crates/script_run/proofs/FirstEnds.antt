@@ -1,6 +1,6 @@
 -- The ends that joins of one sequence with itself make: numbered from 0.
-use Rattle.std.proofs.Common.{◌≡◌, ◌≢◌, ◌+◌, ◌*◌, ◌<◌, ◌≤◌, ℕ, zero, suc, List, [], ◌∷◌, ◌++◌, length, refl, sym, ap, ◌∙◌, arith, drop, drop-cons, get_or, add-one, Some, None, true, false}
-use Rattle.std.specs.Prelude.{Option, slice_get, ◌==◌, unwrap_or, cond}
+use Rattle.std.proofs.Common.{◌≡◌, ◌≢◌, ◌+◌, ◌*◌, ◌<◌, ℕ, zero, suc, List, [], ◌∷◌, ◌++◌, length, refl, sym, ap, ◌∙◌, arith, drop, drop-cons, get_or, add-one, Some}
+use Rattle.std.specs.Prelude.{slice_get, ◌==◌, cond}
 use Rattle.std.specs.List.{count_by}
 use Rattle.std.proofs.lemmas.Option.{slice_get-get_or, same_Some}
 use Rattle.std.proofs.lemmas.List.Sums.{sum_by-append}

@@ -1,6 +1,6 @@
 -- What the joins leave: two ends for each, numbered in order, of which each is the other's peer.
-use Rattle.std.proofs.Common.{◌≡◌, ◌+◌, ◌*◌, ◌<◌, ◌≤◌, ℕ, zero, suc, List, [], ◌∷◌, ◌++◌, length, refl, sym, ap, ◌∙◌, arith, Some, None, true, false, append_assoc, inl, inr}
-use Rattle.std.specs.Prelude.{Option, Bool, slice_get, replicate, ◌⊎◌, ◌==◌, ◌&&◌, if◌then◌else◌}
+use Rattle.std.proofs.Common.{◌≡◌, ◌+◌, ◌*◌, ◌<◌, ℕ, zero, suc, List, [], ◌∷◌, length, refl, ap, ◌∙◌, arith, Some, None, true, false, inl, inr}
+use Rattle.std.specs.Prelude.{slice_get, replicate, ◌⊎◌}
 use Rattle.std.specs.Option.{option_map}
 use Rattle.std.proofs.lemmas.Bool.Decides.{nat_tests}
 use Rattle.std.proofs.lemmas.List.{length-replicate, append-nil}
@@ -50,9 +50,9 @@ below j k h = grind arith
 one_more : (k : ℕ) (past : List Event) (seq : SeqId) (asked : Asked) (told : Told) → Joined k past → told ≡ pair k → Joined (k + 1) (record { seq = seq; asked = asked; told = told } ∷ past)
 one_more k past seq asked told p e = record {
   ends =
-    let m : 2 * (k + 1) ≡ 2 * k + 2 = omega arith in
-    let z : 0 + 2 * k ≡ 2 * k = omega arith in
-    rw (e, p.ends, m) (rw z at (numbered_more 0 (2 * k)));
+      let m : 2 * (k + 1) ≡ 2 * k + 2 = omega arith in
+      let z : 0 + 2 * k ≡ 2 * k = omega arith in
+      rw (e, p.ends, m) (rw z at (numbered_more 0 (2 * k)));
   peers = λ j end h. elim (below j k h) [
     | inl s ↦ rw e (old_peer k j end (peer past (numbered (place_of j end))) s ∙ p.peers j end s)
     | inr s ↦ rw (e, s) (new_peer k end (peer past (numbered (place_of k end))))

@@ -1,5 +1,5 @@
 -- One join more, and one line more.
-use Rattle.std.proofs.Common.{◌≡◌, ◌+◌, ◌<◌, ℕ, zero, suc, List, [], length, get_or, refl, ap, ◌∙◌, arith, Some}
+use Rattle.std.proofs.Common.{◌≡◌, ◌+◌, ◌<◌, ℕ, zero, suc, List, [], length, get_or, refl, arith, Some}
 use Rattle.std.specs.Prelude.{map, replicate, slice_get}
 use Rattle.std.proofs.lemmas.Option.{slice_get-map, slice_get_read}
 use Rattle.mj_base.specs.declared.ids.EndId.{EndId}

@@ -1,6 +1,6 @@
 -- The ends of each pipe are peers, and are bound as the two sides of its interface.
-use Rattle.std.proofs.Common.{◌≡◌, ◌≢◌, ◌+◌, ◌*◌, ◌<◌, ℕ, zero, suc, List, [], ◌∷◌, length, refl, sym, ap, ◌∙◌, arith, Some, None, true, false}
-use Rattle.std.specs.Prelude.{Option, Bool, slice_get, if◌then◌else◌}
+use Rattle.std.proofs.Common.{◌≡◌, ◌≢◌, ◌<◌, ℕ, List, ◌∷◌, length, refl, sym, ap, arith, Some, None, true, false}
+use Rattle.std.specs.Prelude.{Option, Bool, if◌then◌else◌}
 use Rattle.mj_base.specs.declared.ids.EndId.{EndId}
 use Rattle.mj_schema.specs.declared.schema.Schema.{Schema}
 use Rattle.bind_model.specs.declared.event.Asked.{Asked}

@@ -1,6 +1,6 @@
 -- The takes of a run's drain.
-use Rattle.std.proofs.Common.{◌≡◌, ◌+◌, ◌<◌, ◌≤◌, ℕ, List, [], ◌∷◌, ◌++◌, length, refl, sym, ap, ◌∙◌, arith, Some, None, true, false}
-use Rattle.std.specs.Prelude.{Option, Bool, if◌then◌else◌}
+use Rattle.std.proofs.Common.{◌≡◌, ◌+◌, ◌≤◌, ℕ, List, [], ◌∷◌, length, refl, sym, ap, ◌∙◌, arith, Some, None, true, false}
+use Rattle.std.specs.Prelude.{Bool, if◌then◌else◌}
 use Rattle.std.specs.List.{AllByRecursion}
 use Rattle.mj_base.specs.declared.ids.EndId.{EndId}
 use Rattle.mj_base.specs.declared.ids.SeqId.{SeqId}
@@ -9,11 +9,10 @@ use Rattle.bind_model.specs.declared.event.Asked.{Asked}
 use Rattle.bind_model.specs.declared.event.Asked.TheVariants as asks
 use Rattle.bind_model.specs.declared.event.Binding.{Binding}
 use Rattle.bind_model.specs.declared.event.Event.{Event}
-use Rattle.bind_model.specs.declared.event.Side.{Side}
 use Rattle.bind_model.specs.declared.event.Told.{Told}
-use Rattle.bind_model.specs.declared.event.Told.TheVariants.{Made, Bound, Sent, Got, Bad, No}
+use Rattle.bind_model.specs.declared.event.Told.TheVariants.{Bound}
 use Rattle.bind_model.specs.Ends.{same_end}
-use Rattle.bind_model.specs.Machine.{binding, bound_by, legal, answer}
+use Rattle.bind_model.specs.Machine.{binding, bound_by, legal}
 use Rattle.bind_model.specs.Laws.{AllAllowed}
 use Rattle.bind_model.specs.Ready.{ready, pending}
 use Rattle.bind_model.proofs.Least.{ready_end}

@@ -1,5 +1,5 @@
 -- The parts of a run, one behind the other, are a script's.
-use Rattle.std.proofs.Common.{◌≡◌, ◌+◌, ◌*◌, ◌<◌, ◌≤◌, ℕ, List, [], ◌∷◌, ◌++◌, length, length-append, refl, sym, ap, ◌∙◌, arith}
+use Rattle.std.proofs.Common.{◌≡◌, ◌+◌, ◌*◌, List, [], ◌∷◌, ◌++◌, length, length-append, refl, sym, ap, ◌∙◌, arith}
 use Rattle.std.specs.Prelude.{map}
 use Rattle.std.specs.List.{flat_map}
 use Rattle.std.proofs.lemmas.List.{length-map, length-replicate}
@@ -12,7 +12,7 @@ use Rattle.call_script.specs.declared.script.Line.{Line}
 use Rattle.call_script.specs.declared.script.Script.{Script}
 use Rattle.call_script.specs.Spelling.{script_lines, bind_lines, join_words, line_words}
 use Rattle.script_run.specs.declared.run.Run.{Run}
-use Rattle.script_run.specs.OfScript.{IsPart, PastOfScript, next_of, next_take, joins_of, binds_from, line_asks, commands_of, sequence_0}
+use Rattle.script_run.specs.OfScript.{IsPart, PastOfScript, next_of, next_take, joins_of, binds_from, line_asks, sequence_0}
 use Rattle.script_run.specs.Going.{past_of, DidPart}
 use Rattle.script_run.proofs.Parts.{parts, part_length}
 use Rattle.script_run.proofs.Binds.{binds_length}
@@ -58,7 +58,7 @@ module _ (pipes : List Pipe) (start joined bound : Run) (fresh : past_of start �
       after_lines = past_of lined;
       joins = let at_start : IsPart (next_of (joins_of pipes)) [] (past_of joined) = rw fresh at j.part in rw (← p) at_start;
       lines = rw (← p, ← q) (
-        rw (← held, ← named) (parts (binds_from ends 0 pipes) (map (line_asks pipes ends) lines) (past_of joined) (past_of bound) (past_of lined) (rw named b.part) l.part)
-      );
+          rw (← held, ← named) (parts (binds_from ends 0 pipes) (map (line_asks pipes ends) lines) (past_of joined) (past_of bound) (past_of lined) (rw named b.part) l.part)
+          );
       drain = rw (sym (l.schema ∙ (b.schema ∙ (j.schema ∙ s)))) d.part;
     }

@@ -64,7 +64,13 @@ pub fn command_of_line(
                 method: *method,
                 side: MessageSide::Request,
             };
-            call(alloc, schema, end_of(ends, *pipe, PipeEnd::First), target, value)
+            call(
+                alloc,
+                schema,
+                end_of(ends, *pipe, PipeEnd::First),
+                target,
+                value,
+            )
         }
         Line::Take(pipe, end) => Ok(Command::Take(end_of(ends, *pipe, *end))),
     }

@@ -141,7 +141,8 @@ impl Run {
                 Ok(())
             }
             Err(_) => {
-                self.told.push_reserved(Reply::Made(Handles::from_vec(more)));
+                self.told
+                    .push_reserved(Reply::Made(Handles::from_vec(more)));
                 Err(NoMemory)
             }
         }
@@ -246,7 +247,13 @@ impl Run {
         self.join_all(alloc, pipes)?;
         let ends = names(alloc, self.held.as_slice())?;
         self.bind_all(alloc, pipes)?;
-        self.do_lines(alloc, schema, pipes, ends.as_slice(), script.lines.as_slice())?;
+        self.do_lines(
+            alloc,
+            schema,
+            pipes,
+            ends.as_slice(),
+            script.lines.as_slice(),
+        )?;
         self.drain(alloc)
     }
 

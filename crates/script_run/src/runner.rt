@@ -20,11 +20,7 @@ pub struct NoMemory;
 
 /// Runs a script of one sequence to its end: all that it asks, and then takes until no message is
 /// ready. The history has 131,072 events at most.
-pub fn run_alone(
-    alloc: Global,
-    schema: Arc<Schema>,
-    script: &Script,
-) -> Result<History, NoMemory>
+pub fn run_alone(alloc: Global, schema: Arc<Schema>, script: &Script) -> Result<History, NoMemory>
     requires script { IsScript (arc_value schema) script.now }
     requires narrow { IsNarrow (arc_value schema) }
     ensures legal { IfOk result (λ history. Legal (arc_value schema) 1 history.events) }

@@ -1,4 +1,4 @@
-use Rattle.std.proofs.Common.{◌+◌, ◌*◌, arith}
+use Rattle.std.proofs.Common.{◌*◌, arith}
 use Rattle.call_script.specs.declared.script.PipeEnd.TheVariants.{First, Second}
 use Rattle.script_run.proofs.Binds.{binds_none, binds_some, binds_few, binds_done, first_more, second_more, first_allowed, second_allowed}
 use Rattle.script_run.proofs.run.Run.bind_all.Goals as goal

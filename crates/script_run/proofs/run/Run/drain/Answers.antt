@@ -1,14 +1,12 @@
-use Rattle.std.proofs.Common.{◌≡◌, ◌+◌, arith, ap, sym, ◌∙◌, rules, Some, None}
-use Rattle.std.specs.Prelude.{length}
-use Rattle.bind_core.specs.Play.{Play}
+use Rattle.std.proofs.Common.{◌≡◌, ◌+◌, arith, sym, ◌∙◌, rules, Some}
 use Rattle.bind_model.specs.declared.event.Asked.TheVariants as asks
 use Rattle.bind_model.specs.Ready.{ready}
 use Rattle.bind_model.proofs.Pending.{pending_few}
 use Rattle.script_run.specs.OfScript.{next_take}
 use Rattle.script_run.specs.Going.{past_of}
-use Rattle.script_run.proofs.Parts.{phase_none, phase_length}
+use Rattle.script_run.proofs.Parts.{phase_none}
 use Rattle.script_run.proofs.Steps.{past_length, went_same}
-use Rattle.script_run.proofs.Takes.{ready_alone, take_more, no_more, one_less}
+use Rattle.script_run.proofs.Takes.{ready_alone, take_more, one_less}
 use Rattle.script_run.proofs.run.Run.drain.Goals as goal
 
 pub loop-seq-init : goal.loop-seq-init
@@ -43,8 +41,8 @@ loop-seq-preserved c =
       phase = (
         c.loop-seq.invariant.phase.0 + 1,
         let same = c.loop-seq.invariant.schema in
-        take_more c.args.self.now.core.schema (past_of c.args.self.now) (past_of c.loop-seq.self) (past_of c.ask.new.self) c.in-Some.seq c.in-Some.end c.loop-seq.invariant.phase.0 alone (rw (← same) there)
-        c.loop-seq.invariant.phase.1 (rw (← same) went.past),
+            take_more c.args.self.now.core.schema (past_of c.args.self.now) (past_of c.loop-seq.self) (past_of c.ask.new.self) c.in-Some.seq c.in-Some.end c.loop-seq.invariant.phase.0 alone (rw (← same) there)
+            c.loop-seq.invariant.phase.1 (rw (← same) went.past),
       );
       few = omega (arith, less.0, less.1, c.loop-seq.invariant.few);
     }

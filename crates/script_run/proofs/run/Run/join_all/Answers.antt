@@ -25,7 +25,7 @@ returns-clause-did c = record {
   going = c.loop-pipe.invariant.going;
   schema = c.loop-pipe.invariant.schema;
   part = rw c.requires.fresh (
-    listed_done (joins_of c.args.pipes.now) _ (past_of c.loop-pipe.self) c.loop-pipe._pipe-index (omega (arith, c.loop-pipe-test.false, length-replicate (length c.args.pipes.now) (asks.Join sequence_0)))
-    c.loop-pipe.invariant.phase
-  );
+      listed_done (joins_of c.args.pipes.now) _ (past_of c.loop-pipe.self) c.loop-pipe._pipe-index (omega (arith, c.loop-pipe-test.false, length-replicate (length c.args.pipes.now) (asks.Join sequence_0)))
+      c.loop-pipe.invariant.phase
+      );
 }
