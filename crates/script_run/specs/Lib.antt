@@ -1,1 +1,3 @@
 pub mod OfScript
+pub mod Narrow
+pub mod Going

@@ -1,0 +1,9 @@
+pub mod Parts
+pub mod FirstEnds
+pub mod Joined
+pub mod Suited
+pub mod Binds
+pub mod Takes
+pub mod Steps
+pub mod Listed
+pub mod Whole
