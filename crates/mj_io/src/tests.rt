@@ -74,30 +74,31 @@ fn a_sink_that_fails_in_the_middle(rt: HostRuntime) -> Result<(), Fail> {
     Ok(())
 }
 
+/// A file that each Linux system has, with the text `Linux` and a line feed.
+const KNOWN_FILE: &str = "/proc/sys/kernel/ostype";
+
 #[test]
-fn real_files_and_writers(rt: HostRuntime) -> Result<(), Fail> {
+fn real_files(rt: HostRuntime) -> Result<(), Fail> {
     let alloc = rt.alloc();
     let mut files = RealFiles::new(&rt);
     let mut into = Vec::new(alloc);
-    assert_eq!(rt;
-        files.fetch(alloc, "/no/such/file", 9, &mut into),
-        Err(FilesError::Failed)
-    );
-    assert_eq!(rt;
-        files.fetch(alloc, "/dev/null", 0, &mut into),
-        Ok(Fetched::Whole)
-    );
-    assert_eq!(rt;
-        files.fetch(alloc, "/dev/zero", 5000, &mut into),
-        Ok(Fetched::Longer)
-    );
-    assert_eq!(rt;
-        files.fetch(alloc, "/proc/self/comm", 100, &mut into),
-        Ok(Fetched::Whole)
-    );
+    let absent = files.fetch(alloc, "/no/such/file", 9, &mut into);
+    assert_eq!(rt; absent, Err(FilesError::Failed));
+    let longer = files.fetch(alloc, KNOWN_FILE, 5, &mut into);
+    assert_eq!(rt; longer, Ok(Fetched::Longer));
+    let mut text = Vec::new(alloc);
+    let whole = files.fetch(alloc, KNOWN_FILE, 6, &mut text);
+    assert_eq!(rt; whole, Ok(Fetched::Whole));
+    assert_eq!(rt; text.as_slice(), b"Linux\n".as_slice());
+    let endless = files.fetch(alloc, "/dev/zero", 5000, &mut into);
+    assert_eq!(rt; endless, Ok(Fetched::Longer));
+    Ok(())
+}
+
+#[test]
+fn standard_output(rt: HostRuntime) {
     let mut out = WriterSink::new(rt.stdout());
     assert_eq!(rt; write_all(&mut out, b"written\n"), Ok(()));
-    Ok(())
 }
 
 #[test]
