@@ -63,7 +63,7 @@ read_longer limit left n old new None b c piece r taken long more = tt
 read_longer limit left n old new (Some a) None c piece r taken long more = absurd r.taken
 read_longer limit left n old new (Some a) (Some b) None piece r taken long more = absurd taken
 read_longer limit left n old new (Some a) (Some b) (Some c) piece r taken long more =
-  omega (arith, ap length r.taken, length-append r.got b, ap length taken, length-append piece c, r.room)
+    omega (arith, ap length r.taken, length-append r.got b, ap length taken, length-append piece c, r.room)
 
 -- a piece that fits the room and one byte more is no more than the limit and one byte
 pub takes_few : (limit left n : ℕ) (old new : List ℕ) (a b c : Option (List ℕ)) (piece : List ℕ) → ReadSoFar limit left old new a b → Consumes b c piece → length piece ≡ n → n ≤ left + 1 → TakesAtMost (limit + 1) a c

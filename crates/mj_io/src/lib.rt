@@ -11,17 +11,18 @@ mod memory;
 mod memory_sink;
 mod real;
 mod steady;
+#[cfg(test)]
+mod tests;
 mod writer;
 
 pub use gate::{Gate, OpenGate};
 pub use memory::{MemoryFiles, NamedFile};
 pub use memory_sink::MemorySink;
 pub use real::RealFiles;
-pub use steady::SteadyFiles;
-pub use writer::WriterSink;
-
 use std::alloc::Global;
+pub use steady::SteadyFiles;
 use thiserror::Error;
+pub use writer::WriterSink;
 
 /// Whether a file was fetched whole, or has more bytes than the limit.
 #[derive(Clone, Copy, Debug, PartialEq, Eq)]

@@ -21,7 +21,9 @@ pub struct RealFiles<'r, R: std::rt::Files> {
 
 impl<'r, R: std::rt::Files> RealFiles<'r, R> {
     /// The files that the runtime reaches.
-    pub fn new(rt: &'r R) -> RealFiles<'r, R> {
+    pub fn new(rt: &'r R) -> RealFiles<'r, R>
+        ensures { result.faults ≡ 0 }
+    {
         RealFiles { rt, faults: 0 }
     }
 }

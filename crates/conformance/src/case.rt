@@ -1,0 +1,62 @@
+//! A case: a call of the product, and the answer that is wanted.
+
+use crate::answer::Answer;
+use crate::lines::LineError;
+use mj_io::NamedFile;
+use std::alloc::{AllocError, Global};
+use thiserror::Error;
+
+/// A call of the product over files in memory, with the answer that is wanted.
+#[derive(Drop)]
+pub struct Case {
+    pub name: String,
+    /// The words of the command line, the program's name first.
+    pub words: Vec<String>,
+    pub files: Vec<NamedFile>,
+    pub wanted: Answer,
+}
+
+impl Case {
+    /// A case that wants status 0 and no text.
+    pub fn new(alloc: Global, name: &str) -> Result<Case, AllocError> {
+        Ok(Case {
+            name: String::from_str(alloc, name)?,
+            words: Vec::new(alloc),
+            files: Vec::new(alloc),
+            wanted: Answer {
+                status: 0,
+                out: Vec::new(alloc),
+                err: Vec::new(alloc),
+            },
+        })
+    }
+}
+
+/// Why a file of cases was not read.
+#[derive(Clone, Copy, Debug, PartialEq, Eq, Error)]
+pub enum CaseError {
+    #[error("it is not there, or too long")]
+    NoFile,
+    #[error("it is not UTF-8")]
+    NotText,
+    #[error("line {0} has another form")]
+    BadLine(u64),
+    #[error("out of memory")]
+    Memory,
+}
+
+impl From<AllocError> for CaseError {
+    fn from(_: AllocError) -> CaseError {
+        CaseError::Memory
+    }
+}
+
+impl CaseError {
+    /// The error of a line, with the line's number, counted from 1.
+    pub fn at_line(error: LineError, number: u64) -> CaseError {
+        match error {
+            LineError::BadForm => CaseError::BadLine(number),
+            LineError::Memory => CaseError::Memory,
+        }
+    }
+}

@@ -1,0 +1,94 @@
+//! Runs the product on the cases of the files that the words name, over memory, and says which
+//! answers differ. `docs/conformance.md` has the form of the files.
+#![tactic(auto)]
+
+mod answer;
+mod case;
+mod lines;
+mod reader;
+
+use crate::case::{Case, CaseError};
+use mj_io::{Fetched, Files, RealFiles};
+use std::alloc::Global;
+use std::env::Env;
+use std::io::Print;
+use std::process::ExitCode;
+use std::sync::Wait;
+use std::thread::Threads;
+use std::{env, io};
+
+/// The bytes that a file of cases has at most.
+const MOST_BYTES: u64 = 16777216;
+
+/// How many cases went which way.
+#[derive(Clone, Copy, Default)]
+struct Tally {
+    passed: u64,
+    failed: u64,
+}
+
+/// The cases of a file.
+fn cases_of<F: Files>(alloc: Global, files: &mut F, name: &str) -> Result<Vec<Case>, CaseError> {
+    let mut bytes = Vec::new(alloc);
+    match files.fetch(alloc, name, MOST_BYTES, &mut bytes) {
+        Ok(Fetched::Whole) => {}
+        Ok(Fetched::Longer) | Err(_) => return Err(CaseError::NoFile),
+    }
+    match str::from_utf8(bytes.as_slice()) {
+        Ok(text) => reader::read_cases(alloc, text),
+        Err(_) => Err(CaseError::NotText),
+    }
+}
+
+/// Runs the cases, and prints how those that fail differ.
+fn run_cases<R: Print + AllocGlobal + Wait + Threads + Sync>(
+    rt: &R,
+    cases: Vec<Case>,
+    tally: &mut Tally,
+) -> io::Result<()> {
+    for case in cases {
+        let Case {
+            name,
+            words,
+            files,
+            wanted,
+        } = case;
+        let answer = answer::run(rt, rt.alloc(), words.as_slice(), files)?;
+        if answer.is_wanted(&wanted) {
+            tally.passed = tally.passed.saturating_add(1);
+        } else {
+            tally.failed = tally.failed.saturating_add(1);
+            println!(rt; "{name}")?;
+            answer.print_against(rt, &wanted)?;
+        }
+    }
+    Ok(())
+}
+
+/// Runs the cases of each file that the words name.
+fn run_files<R: std::rt::Files + Env + Print + AllocGlobal + Wait + Threads + Sync>(
+    rt: &R,
+) -> io::Result<Tally> {
+    let alloc = rt.alloc();
+    let mut files = RealFiles::new(rt);
+    let mut tally = Tally::default();
+    for name in env::args(rt)?.skip(1) {
+        match cases_of(alloc, &mut files, name.as_str()) {
+            Ok(cases) => run_cases(rt, cases, &mut tally)?,
+            Err(error) => {
+                tally.failed = tally.failed.saturating_add(1);
+                println!(rt; "{name}: {error}")?;
+            }
+        }
+    }
+    Ok(tally)
+}
+
+fn main(rt: HostRuntime) -> io::Result<ExitCode> {
+    let tally = run_files(&rt)?;
+    println!(rt; "{} passed, {} failed", tally.passed, tally.failed)?;
+    if tally.failed > 0 {
+        return Ok(ExitCode::FAILURE);
+    }
+    Ok(ExitCode::SUCCESS)
+}
