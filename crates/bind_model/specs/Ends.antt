@@ -1,5 +1,5 @@
 -- Ends, and lists of them.
-use Rattle.std.specs.Prelude.{ℕ, Bool, true, false, ◌==◌, ◌&&◌, ◌||◌, ◌+◌, nat_lt, if◌then◌else◌, List, [], ◌∷◌, not}
+use Rattle.std.specs.Prelude.{ℕ, Bool, true, ◌==◌, ◌&&◌, ◌||◌, ◌+◌, nat_lt, if◌then◌else◌, List, [], ◌∷◌, not}
 use Rattle.std.specs.List.{list_any, filter}
 use Rattle.mj_base.specs.declared.ids.EndId.{EndId}
 

@@ -1,12 +1,12 @@
 -- What every legal history keeps. A history of allowed commands has prepared calls alone, and binds the ends of a pipe as the two sides of one interface.
-use Rattle.std.specs.Prelude.{ℕ, ◌≡◌, ◌≢◌, ◌+◌, ◌++◌, Bool, true, List, [], ◌∷◌, length, map, take, Option, Some, None, if◌then◌else◌, option_and_then}
+use Rattle.std.specs.Prelude.{ℕ, ◌≡◌, ◌≢◌, ◌+◌, ◌++◌, true, List, [], ◌∷◌, map, take, Option, Some, None, if◌then◌else◌, option_and_then}
 use Rattle.mj_base.specs.declared.ids.EndId.{EndId}
 use Rattle.mj_schema.specs.declared.schema.Schema.{Schema}
 use Rattle.wire_model.specs.Tight.{message_bytes, IsPrepared}
 use Rattle.bind_model.specs.declared.event.Asked.{Asked}
 use Rattle.bind_model.specs.declared.event.Asked.TheVariants.{Join, Bind, Call, Take}
 use Rattle.bind_model.specs.declared.event.Told.{Told}
-use Rattle.bind_model.specs.declared.event.Told.TheVariants.{Made, Bound, Sent, Got, Bad, No}
+use Rattle.bind_model.specs.declared.event.Told.TheVariants.{Bound, Sent, Bad}
 use Rattle.bind_model.specs.declared.event.Side.{Side}
 use Rattle.bind_model.specs.declared.event.Taken.{Taken}
 use Rattle.bind_model.specs.declared.event.Message.{Message}

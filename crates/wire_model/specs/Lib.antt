@@ -1,3 +1,4 @@
 pub mod Parts
 pub mod Tight
 pub mod Stands
+pub mod Refusals

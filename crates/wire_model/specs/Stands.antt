@@ -1,5 +1,5 @@
 -- What the bytes of a message stand for.
-use Rattle.std.specs.Prelude.{ℕ, zero, suc, Bool, true, false, ◌+◌, ◌==◌, ◌&&◌, nat_le, List, [], ◌∷◌, length, Option, Some, None, if◌then◌else◌, option_and_then}
+use Rattle.std.specs.Prelude.{ℕ, zero, suc, Bool, ◌+◌, ◌==◌, ◌&&◌, nat_le, List, [], ◌∷◌, length, Option, Some, None, if◌then◌else◌, option_and_then}
 use Rattle.mj_base.specs.Bytes.{le32_at}
 use Rattle.mj_base.specs.Header.{header_of}
 use Rattle.mj_base.specs.declared.header.Header.{Header}
@@ -18,11 +18,13 @@ abbrev pub numbers_at : List ℕ → ℕ → ℕ → List ℕ
 numbers_at bytes at zero = []
 numbers_at bytes at (suc fields) = le32_at bytes at ∷ numbers_at bytes (at + 4) fields
 
--- the value of the struct at a place: its header is within the bytes and follows the row rule, and all its bytes are there
+-- a struct of so many fields stands at a place: its header is within the bytes and follows the row rule, and all its bytes are there
+abbrev pub has_struct : List ℕ → ℕ → ℕ → Bool
+has_struct bytes at fields = nat_le (at + 8) (length bytes) && (has_row (le32_at bytes at) (le32_at bytes (at + 4)) fields && nat_le (at + le32_at bytes at) (length bytes))
+
+-- the value of the struct at a place
 abbrev pub struct_at : List ℕ → ℕ → ℕ → Option (List ℕ)
-struct_at bytes at fields =
-    if nat_le (at + 8) (length bytes) && (has_row (le32_at bytes at) (le32_at bytes (at + 4)) fields && nat_le (at + le32_at bytes at) (length bytes))
-    then Some (numbers_at bytes (at + 8) fields) else None
+struct_at bytes at fields = if has_struct bytes at fields then Some (numbers_at bytes (at + 8) fields) else None
 
 -- a request that the header and the struct of its method's parameters give
 abbrev pub request_with : List ℕ → Header → StructRow → Option Request

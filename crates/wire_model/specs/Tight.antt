@@ -1,5 +1,5 @@
 -- The one tight encoding of a message: each object directly behind the one before, rounded up to 8, and zeros in all gaps.
-use Rattle.std.specs.Prelude.{ℕ, ◌≡◌, ◌≤◌, ◌<◌, ◌^◌, ◌+◌, ◌-◌, ◌*◌, ◌++◌, List, [], ◌∷◌, All, length, replicate, Option, Some, IsSome}
+use Rattle.std.specs.Prelude.{ℕ, ◌≡◌, ◌≤◌, ◌<◌, ◌^◌, ◌+◌, ◌-◌, ◌*◌, ◌++◌, List, All, length, replicate, Some, IsSome}
 use Rattle.std.specs.List.{flat_map}
 use Rattle.mj_base.specs.Bytes.{le32_bytes}
 use Rattle.mj_base.specs.Header.{header_bytes}
@@ -8,7 +8,7 @@ use Rattle.mj_schema.specs.declared.rows.StructRow.{StructRow}
 use Rattle.mj_schema.specs.Layout.{struct_bytes}
 use Rattle.mj_schema.specs.Lookups.{request_of}
 use Rattle.wire_model.specs.declared.target.Target.{Target}
-use Rattle.wire_model.specs.declared.target.MessageSide.TheVariants.{Request, Response}
+use Rattle.wire_model.specs.declared.target.MessageSide.TheVariants.{Request}
 
 -- a parameter struct: num_bytes, version 0, its numbers, and zeros up to a multiple of 8
 abbrev pub params_bytes : List ℕ → List ℕ

@@ -1,6 +1,9 @@
 //! The values of messages, their bytes, and what bytes stand for.
 #![tactic(auto)]
 
+mod message_header;
+mod numbers;
+mod struct_size;
 mod target;
 mod wire_decoder;
 mod wire_encoder;

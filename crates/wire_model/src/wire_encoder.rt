@@ -1,13 +1,21 @@
 //! Encoding: a value is prepared first, and sealed when its endpoint is known.
 
-ghost use Rattle.std.specs.Prelude.{◌≡◌, ◌≢◌, ◌<◌, ◌≤◌, ◌↔◌, [], length, Ok, Err, IfOk};
-ghost use Rattle.wire_model.specs.Tight.{message_bytes, HasTarget, IsPrepared};
+ghost use Rattle.std.specs.Prelude.{◌≡◌, ◌++◌, ◌<◌, ◌^◌, OnOk, IfOk, IfErr, Some, length};
+ghost use Rattle.mj_schema.specs.Layout.{struct_bytes};
+ghost use Rattle.wire_model.specs.Refusals.{parameter_count, IsRefused};
+ghost use Rattle.wire_model.specs.Tight.{message_bytes, params_bytes, HasTarget, IsPrepared};
 
+use crate::message_header::push_header;
+use crate::numbers::push_numbers;
+use crate::struct_size::struct_size;
 use crate::target::{Target, Value};
 use mj_base::{Items, push_le32};
 use mj_schema::Schema;
 use std::alloc::{AllocError, Global};
 use std::marker::Model;
+
+/// The greatest payload that is sent, in bytes.
+const MAX_PAYLOAD: u64 = 16_777_216;
 
 /// A value that fits its target, with its payload made. Contracts see the target and the value.
 #[derive(Drop)]
@@ -29,7 +37,24 @@ impl Model for Prepared {
     ghost invariant = { λ p. p.payload ≡ params_bytes p.value };
 }
 
+impl Prepared {
+    /// The target that the value was prepared for.
+    pub fn target(&self) -> Target
+        ensures { result ≡ self.now.target }
+    {
+        self.target
+    }
+
+    /// The value that was prepared.
+    pub fn value(&self) -> &Value
+        ensures { result.now ≡ self.now.value }
+    {
+        &self.value
+    }
+}
+
 /// Why a value is not prepared.
+#[derive(Drop)]
 pub enum PrepareError {
     /// The value at this path isn't one of its kind. The empty path is the parameter struct.
     Misfit(Items<u32>),
@@ -38,7 +63,99 @@ pub enum PrepareError {
     Memory,
 }
 
+impl From<AllocError> for PrepareError {
+    ghost use Rattle.std.specs.Prelude.{◌≡◌};
+    ghost use Rattle.wire_model.specs.declared.wire_encoder.PrepareError.TheVariants.{Memory};
+
+    ghost from_gives = { λ _ error. error ≡ Memory };
+
+    fn from(_error: AllocError) -> PrepareError {
+        PrepareError::Memory
+    }
+}
+
 /// What is known of a message only when it is sent: the id of the endpoint that it is for.
+#[derive(Clone, Copy, Debug, PartialEq, Eq)]
 pub struct Head {
     pub interface_id: u32,
+}
+
+/// Prepares a value for a target: the value is copied and its payload made, so that sealing it
+/// can only want for memory. A value that doesn't fit is refused with the path of what misfits.
+pub fn prepare(
+    alloc: Global,
+    schema: &Schema,
+    target: Target,
+    value: &Value,
+) -> Result<Prepared, PrepareError>
+    requires { HasTarget schema.now target }
+    ensures ok {
+        IfOk result (λ prepared.
+            (prepared ≡ record { target = target; value = value.now }) × IsPrepared schema.now target value.now)
+    }
+    ensures refused { IfErr result (IsRefused schema.now target value.now) }
+{
+    let numbers = value.as_slice();
+    check_value(alloc, schema, target, numbers)?;
+    Ok(Prepared {
+        target,
+        value: value.copy(alloc)?,
+        payload: params_payload(alloc, numbers)?,
+    })
+}
+
+/// Refuses a value that isn't one of its target's parameters.
+fn check_value(
+    alloc: Global,
+    schema: &Schema,
+    target: Target,
+    numbers: &[u32],
+) -> Result<(), PrepareError>
+    requires { HasTarget schema.now target }
+    ensures ok { OnOk result (IsPrepared schema.now target numbers.now) }
+    ensures refused { IfErr result (IsRefused schema.now target numbers.now) }
+{
+    if numbers.len() != parameter_count(schema, target) {
+        return Err(PrepareError::Misfit(Items::new(alloc)));
+    }
+    if struct_size(numbers.len()) > MAX_PAYLOAD {
+        return Err(PrepareError::TooLong);
+    }
+    Ok(())
+}
+
+/// How many parameters the target's method has.
+fn parameter_count(schema: &Schema, target: Target) -> usize
+    requires { HasTarget schema.now target }
+    ensures { parameter_count schema.now target ≡ Some result }
+{
+    let Some(row) = schema.request(target.interface, target.method) else {
+        unreachable!()
+    };
+    row.fields.len()
+}
+
+/// The struct of the parameters.
+fn params_payload(alloc: Global, values: &[u32]) -> Result<Items<u8>, AllocError>
+    requires { struct_bytes (length values.now) < 2 ^ 32 }
+    ensures { IfOk result (λ bytes. bytes ≡ params_bytes values.now) }
+{
+    let mut payload = Vec::new(alloc);
+    push_numbers(&mut payload, &[struct_size(values.len()) as u32, 0])?;
+    push_numbers(&mut payload, values)?;
+    if values.len() % 2 == 1 {
+        push_le32(&mut payload, 0)?;
+    }
+    Ok(Items::from_vec(payload))
+}
+
+#[tactic(auto, unfolding(crate::specs::Tight::message_bytes))]
+/// The bytes of the message for the endpoint of this id.
+pub fn seal(alloc: Global, prepared: &Prepared, head: Head) -> Result<Items<u8>, AllocError>
+    ensures { IfOk result (λ bytes. bytes ≡ message_bytes head.interface_id prepared.now.target.method prepared.now.value) }
+{
+    let mut bytes = Vec::new(alloc);
+    push_header(&mut bytes, head.interface_id, prepared.target.method)?;
+    bytes.extend_from_slice(prepared.payload.as_slice())?;
+    Ok(Items::from_vec(bytes))
 }

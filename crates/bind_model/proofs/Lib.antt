@@ -1,0 +1,17 @@
+pub mod EndsLemmas
+pub mod Outcomes
+pub mod NewEnds
+pub mod Pipes
+pub mod Sound
+pub mod Fresh
+pub mod Order
+pub mod TightCalls
+pub mod Counting
+pub mod Places
+pub mod Kept
+pub mod Sides
+pub mod Mail
+pub mod Said
+pub mod Totals
+pub mod Least
+pub mod Pending

@@ -1,0 +1,101 @@
+//! Files in memory, with a list of calls that are to fail.
+
+ghost use Rattle.std.specs.Prelude.{◌≡◌, ◌≤◌, ◌+◌, map, length, IfOk, IfErr};
+ghost use Rattle.std.specs.Io.{StartsWith};
+ghost use Rattle.std.specs.Option.{option_map};
+ghost use Rattle.mj_io.specs.Outside.{find_file, FetchedOf};
+ghost use Rattle.mj_io.specs.Told.{named};
+
+use crate::{Fetched, Files, FilesError};
+use std::alloc::Global;
+
+/// A file: its name and its bytes.
+#[derive(Drop)]
+pub struct NamedFile {
+    pub name: String,
+    pub bytes: Vec<u8>,
+}
+
+/// Files in memory. Of two files of one name the first counts.
+#[derive(Drop)]
+pub struct MemoryFiles {
+    files: Vec<NamedFile>,
+    failing: Vec<u64>,
+    calls: u64,
+    faults: u64,
+    there: u64,
+}
+
+impl MemoryFiles {
+    ghost use Rattle.mj_io.specs.Told.{memory_state};
+
+    /// The files, and the numbers of the calls of `fetch`, counted from 0, that are to fail.
+    pub fn new(files: Vec<NamedFile>, failing: Vec<u64>) -> MemoryFiles
+        ensures { memory_state result ≡ record { told = Some (map named files.items); faults = 0; there = 0 } }
+    {
+        MemoryFiles {
+            files,
+            failing,
+            calls: 0,
+            faults: 0,
+            there: 0,
+        }
+    }
+}
+
+impl Files for MemoryFiles {
+    ghost use Rattle.mj_io.specs.Told.{memory_state};
+
+    ghost state = { memory_state };
+
+    fn fetch(
+        &mut self,
+        _alloc: Global,
+        name: &str,
+        limit: u64,
+        into: &mut Vec<u8>,
+    ) -> Result<Fetched, FilesError> {
+        let fails = self.failing.contains(&self.calls);
+        self.calls = self.calls.saturating_add(1);
+        match find(self.files.as_slice(), name) {
+            None => {
+                self.faults = self.faults.saturating_add(1);
+                Err(FilesError::Failed)
+            }
+            Some(_) if fails => {
+                self.faults = self.faults.saturating_add(1);
+                self.there = self.there.saturating_add(1);
+                Err(FilesError::Failed)
+            }
+            Some(bytes) => copy(bytes, limit, into),
+        }
+    }
+}
+
+/// The bytes of the first file of that name.
+pub(crate) fn find<'a>(files: &'a [NamedFile], name: &str) -> Option<&'a [u8]>
+    ensures { option_map (λ bytes. bytes.now) result ≡ find_file (map named files.now) name.now }
+{
+    for file in files {
+        if file.name.as_str() == name {
+            return Some(file.bytes.as_slice());
+        }
+    }
+    None
+}
+
+/// Appends the bytes, if there are at most `limit`.
+pub(crate) fn copy(bytes: &[u8], limit: u64, into: &mut Vec<u8>) -> Result<Fetched, FilesError>
+    ensures fetched { IfOk result (λ fetched. FetchedOf fetched limit bytes.now into.old.items into.new.items) }
+    ensures failed { IfErr result (λ error. error ≡ FilesError.Memory) }
+    ensures kept { StartsWith into.new.items into.old.items }
+    ensures short { length into.new.items ≤ length into.old.items + limit }
+{
+    if bytes.len() as u64 > limit {
+        return Ok(Fetched::Longer);
+    }
+    match into.extend_from_slice(bytes) {
+        Ok(()) => Ok(Fetched::Whole),
+        Err(_) => Err(FilesError::Memory),
+    }
+}

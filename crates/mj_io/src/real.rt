@@ -1,0 +1,80 @@
+//! Real files. They tell nothing but their faults.
+
+ghost use Rattle.std.specs.Prelude.{◌≡◌, ◌+◌, ◌≤◌, length, None, IfOk};
+ghost use Rattle.std.specs.Io.{StartsWith};
+ghost use Rattle.mj_io.specs.Reading.{ReadUpTo, TakesAtMost};
+
+use crate::{Fetched, Files, FilesError};
+use std::alloc::Global;
+use std::fs::File;
+use std::io::Read;
+
+/// How many bytes are read at once.
+const PIECE: usize = 4096;
+
+/// Real files.
+#[derive(Drop)]
+pub struct RealFiles<'r, R: std::rt::Files> {
+    rt: &'r R,
+    faults: u64,
+}
+
+impl<'r, R: std::rt::Files> RealFiles<'r, R> {
+    /// The files that the runtime reaches.
+    pub fn new(rt: &'r R) -> RealFiles<'r, R> {
+        RealFiles { rt, faults: 0 }
+    }
+}
+
+impl<R: std::rt::Files> Files for RealFiles<'_, R> {
+    ghost state = { λ s. record { told = None; faults = s.faults; there = s.faults } };
+
+    fn fetch(
+        &mut self,
+        _alloc: Global,
+        name: &str,
+        limit: u64,
+        into: &mut Vec<u8>,
+    ) -> Result<Fetched, FilesError> {
+        let fetched = match File::open(self.rt, name) {
+            Ok(mut file) => read_up_to(&mut file, limit, into),
+            Err(_) => Err(FilesError::Failed),
+        };
+        if let Err(FilesError::Failed) = fetched {
+            self.faults = self.faults.saturating_add(1);
+        }
+        fetched
+    }
+}
+
+/// Appends what the reader has left, if it is at most `limit` bytes. Reads at most `limit + 1`.
+fn read_up_to<R: Read>(
+    reader: &mut R,
+    limit: u64,
+    into: &mut Vec<u8>,
+) -> Result<Fetched, FilesError>
+    ensures read { IfOk result (λ fetched. ReadUpTo (R.remaining reader.old) fetched limit into.old.items into.new.items) }
+    ensures took { TakesAtMost (limit + 1) (R.remaining reader.old) (R.remaining reader.new) }
+    ensures kept { StartsWith into.new.items into.old.items }
+    ensures short { length into.new.items ≤ length into.old.items + limit }
+{
+    let mut left = limit;
+    let mut piece = [0u8; PIECE];
+    for _ in 0..u64::MAX {
+        let room = left.saturating_add(1).min(PIECE as u64) as usize;
+        match reader.read(&mut piece[..room]) {
+            Ok(0) => return Ok(Fetched::Whole),
+            Ok(count) => {
+                if count as u64 > left {
+                    return Ok(Fetched::Longer);
+                }
+                left -= count as u64;
+                if into.extend_from_slice(&piece[..count]).is_err() {
+                    return Err(FilesError::Memory);
+                }
+            }
+            Err(_) => return Err(FilesError::Failed),
+        }
+    }
+    Err(FilesError::Failed)
+}

@@ -1,0 +1,3 @@
+pub mod Preparing
+pub mod ReadsBack
+pub mod RoundTrip

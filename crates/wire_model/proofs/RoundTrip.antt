@@ -1,0 +1,71 @@
+-- What is sealed for a target is read again as the same request.
+use Rattle.std.proofs.Common.{◌≡◌, ℕ, ◌+◌, ◌-◌, ◌*◌, ◌^◌, ◌<◌, ◌≤◌, true, List, [], ◌∷◌, ◌++◌, length, length-append, drop, Some, replicate, refl, ap, ◌∙◌, arith}
+use Rattle.std.specs.Prelude.{nat_le, ◌==◌}
+use Rattle.std.specs.List.{All, flat_map}
+use Rattle.std.proofs.lemmas.Bool.Decides.{nat_tests}
+use Rattle.std.proofs.lemmas.List.{length-replicate}
+use Rattle.mj_base.specs.Bytes.{le32_at, le32_bytes}
+use Rattle.mj_base.specs.Header.{header_of, header_bytes}
+use Rattle.mj_schema.specs.declared.schema.Schema.{Schema}
+use Rattle.mj_schema.specs.Layout.{struct_bytes}
+use Rattle.wire_model.specs.declared.target.Target.{Target}
+use Rattle.wire_model.specs.Tight.{params_bytes, message_bytes, IsPrepared}
+use Rattle.wire_model.specs.Stands.{numbers_at, struct_at, request_in}
+use Rattle.wire_model.proofs.ReadsBack.{le32_at-le32_bytes, le32_at-append, numbers_at-append, numbers_at-flat_map}
+
+-- as many bytes as the struct's header says
+length-flat_map : (values : List ℕ) → length (flat_map le32_bytes values) ≡ 4 * length values
+length-flat_map [] = refl
+length-flat_map (n ∷ values) = omega (arith, length-flat_map values)
+
+pub length-params_bytes : (values : List ℕ) → length (params_bytes values) ≡ struct_bytes (length values)
+length-params_bytes values =
+    let zeros : List ℕ = replicate (struct_bytes (length values) - (8 + 4 * length values)) 0 in
+    omega (arith, length-append (flat_map le32_bytes values) zeros, length-flat_map values, length-replicate {A = ℕ} (struct_bytes (length values) - (8 + 4 * length values)) 0)
+
+-- the header is one, of this id and this name
+pub header_of-header_bytes : (id name : ℕ) (payload : List ℕ) → id < 2 ^ 32 → name < 2 ^ 32 → header_of (header_bytes id name ++ payload) ≡ Some (record {
+  version = 0;
+  size = 24;
+  interface_id = id;
+  name = name;
+  flags = 0;
+  request_id = 0;
+  payload = record { start = 24; len = length payload };
+  ids = record { start = 24 + length payload; len = 0 };
+})
+header_of-header_bytes id name payload small named =
+    let id_is : le32_at (le32_bytes id ++ []) 0 ≡ id = le32_at-le32_bytes id [] small in
+    let name_is : le32_at (le32_bytes name ++ []) 0 ≡ name = le32_at-le32_bytes name [] named in
+    let whole : length (header_bytes id name ++ payload) ≡ 24 + length payload = omega arith in
+    let long : nat_le 24 (24 + length payload) ≡ true = grind (arith, nat_tests) in
+    let left : 24 + length payload - 24 ≡ length payload = omega arith in
+    rw (whole, long, id_is, name_is, left) refl
+
+-- a struct that was written gives its numbers
+pub struct_at-params_bytes : (front values : List ℕ) → All (λ n. n < 2 ^ 32) values → struct_bytes (length values) ≤ 16777216 → struct_at (front ++ params_bytes values) (length front) (length values) ≡ Some values
+struct_at-params_bytes front values small short =
+    let bytes = front ++ params_bytes values in
+    let at = length front in
+    let size = struct_bytes (length values) in
+    let whole : length bytes ≡ at + size = length-append front (params_bytes values) ∙ ap (λ n. at + n) (length-params_bytes values) in
+    let there : at + 0 ≡ at = omega arith in
+    let size_is : le32_at bytes at ≡ size = rw there at (le32_at-append front (params_bytes values) 0) ∙ le32_at-le32_bytes size (drop 4 (params_bytes values)) (omega arith) in
+    let version_is : le32_at bytes (at + 4) ≡ 0 = le32_at-append front (params_bytes values) 4 in
+    let zeros : List ℕ = replicate (size - (8 + 4 * length values)) 0 in
+    let front8 : List ℕ = le32_bytes size ++ le32_bytes 0 in
+    let numbers : numbers_at bytes (at + 8) (length values) ≡ values =
+      numbers_at-append front (params_bytes values) 8 (length values)
+      ∙ numbers_at-append front8 (flat_map le32_bytes values ++ zeros) 0 (length values)
+      ∙ numbers_at-flat_map values zeros small in
+    let header : nat_le (at + 8) (length bytes) ≡ true = grind (arith, nat_tests) in
+    let same : (size == size) ≡ true = grind (arith, nat_tests) in
+    let inside : nat_le (at + size) (length bytes) ≡ true = grind (arith, nat_tests) in
+    rw (header, size_is, version_is, same, inside) (ap Some numbers)
+
+pub request_in-message_bytes : (schema : Schema) (target : Target) (value : List ℕ) (id : ℕ) → IsPrepared schema target value → id < 2 ^ 32 → request_in schema target.interface (message_bytes id target.method value) ≡ Some (record { interface_id = id; method = target.method; request_id = 0; value = value })
+unfolding message_bytes request_in
+request_in-message_bytes schema target value id prepared small =
+    let header = header_of-header_bytes id target.method (params_bytes value) small prepared.named in
+    let struct_is = struct_at-params_bytes (header_bytes id target.method) value prepared.small prepared.short in
+    rw (header, prepared.there, ← prepared.count, struct_is) refl
