@@ -1,0 +1,136 @@
+-- What is asked for, found out a file at a time.
+use Rattle.std.proofs.Common.{◌≡◌, ◌≤◌, ◌<◌, ◌+◌, ◌-◌, ◌^◌, ℕ, List, length, refl, sym, ap, ◌∙◌, subst, arith, inl, inr, Some, None}
+use Rattle.std.specs.Prelude.{Option, ◌⊎◌, Result, Ok, Err, IfOk, IfErr}
+use Rattle.mj_io.specs.Outside.{Named, find_file, FilesState, FilesGoOn, Rose}
+use Rattle.mj_schema.specs.declared.schema.Schema.{Schema}
+use Rattle.mojom_compile.specs.Files.{IsSchemaOf}
+use Rattle.call_script.specs.declared.script.Script.{Script}
+use Rattle.call_script.specs.Spelling.{IsScriptOf}
+use Rattle.mojo_tool.specs.Work.{Work, Missing, TooLong, Unreadable, Runs, RunWords, Fetching, Leads, Compiling, Reading, Scripting, Running, AskedFor}
+use Rattle.mojo_tool.specs.Answers.{ReadFailed, refused_work, IsTextOf, IsRightText}
+use Rattle.mojo_tool.specs.Stops.{Stops, FaultOfFiles, HasBytes, IsLonger, IsLost, NotFetched, NoSchema, NoScript}
+use Rattle.mojo_tool.specs.declared.decide.Stop.{Stop}
+use Rattle.mojo_tool.specs.declared.decide.Stop.TheVariants.{Refused, ReadFault, NoMemory}
+
+asked_longer : (told : Option (List Named)) (name : List ℕ) (next : List Named → List ℕ → Work → Type 0) (work : Work) → IsLonger told name → work ≡ TooLong name → AskedFor told (λ files w. Fetching files name (next files) w) work
+asked_longer None name next work longer e = tt
+asked_longer (Some files) name next work longer e = subst (λ (found : Option (List ℕ)). Leads name (next files) found work) (sym longer.1) (inl (longer.2, e))
+
+asked_lost : (told : Option (List Named)) (name : List ℕ) (next : List Named → List ℕ → Work → Type 0) (before now : ℕ) → IsLost told name before now → ReadFailed told (λ files w. Fetching files name (next files) w) name before now
+asked_lost None name next before now lost = tt
+asked_lost (Some files) name next before now (inl none) = inl (subst (λ (found : Option (List ℕ)). Leads name (next files) found (Missing name)) (sym none) refl)
+asked_lost (Some files) name next before now (inr rose) = inr rose
+
+-- why a file was not fetched is why there is no text
+pub stopped : (before now : FilesState) (name : List ℕ) (next : List Named → List ℕ → Work → Type 0) (stop : Stop) → NotFetched before now name stop → Stops before now (λ files w. Fetching files name (next files) w) stop
+stopped before now name next (Refused refusal) why = asked_longer before.told name next (refused_work refusal) why.0 why.1
+stopped before now name next (ReadFault other) why = record { rose = why.1; failed = rw why.0 (asked_lost before.told name next before.there now.there why.2) }
+stopped before now name next NoMemory why = tt
+
+-- with the bytes of a file that is there, its work is what they lead on to
+leads_on : (told : Option (List Named)) (name bytes : List ℕ) (next : List Named → List ℕ → Work → Type 0) (work : Work) → HasBytes told name bytes → length bytes ≤ 1048576
+    → AskedFor told (λ files w. next files bytes w) work → AskedFor told (λ files w. Fetching files name (next files) w) work
+leads_on None name bytes next work has short asked = tt
+leads_on (Some files) name bytes next work has short asked = subst (λ (found : Option (List ℕ)). Leads name (next files) found work) (sym has) (inr (short, asked))
+
+leads_on_lost : (told : Option (List Named)) (name other bytes : List ℕ) (next : List Named → List ℕ → Work → Type 0) (before now : ℕ) → HasBytes told name bytes → length bytes ≤ 1048576
+    → ReadFailed told (λ files w. next files bytes w) other before now → ReadFailed told (λ files w. Fetching files name (next files) w) other before now
+leads_on_lost None name other bytes next before now has short failed = tt
+leads_on_lost (Some files) name other bytes next before now has short (inl asked) = inl (subst (λ (found : Option (List ℕ)). Leads name (next files) found (Missing other)) (sym has) (inr (short, asked)))
+leads_on_lost (Some files) name other bytes next before now has short (inr rose) = inr rose
+
+-- where the bytes have a schema, it leads on
+compiled : (told : Option (List Named)) (name bytes : List ℕ) (schema : Schema) (next : List Named → Schema → Work → Type 0) (work : Work) → IsSchemaOf bytes schema
+    → AskedFor told (λ files w. next files schema w) work → AskedFor told (λ files w. Compiling name (next files) bytes w) work
+compiled None name bytes schema next work is asked = tt
+compiled (Some files) name bytes schema next work is asked = inl (schema, is, asked)
+
+compiled_lost : (told : Option (List Named)) (name other bytes : List ℕ) (schema : Schema) (next : List Named → Schema → Work → Type 0) (before now : ℕ) → IsSchemaOf bytes schema
+    → ReadFailed told (λ files w. next files schema w) other before now → ReadFailed told (λ files w. Compiling name (next files) bytes w) other before now
+compiled_lost None name other bytes schema next before now is failed = tt
+compiled_lost (Some files) name other bytes schema next before now is (inl asked) = inl (inl (schema, is, asked))
+compiled_lost (Some files) name other bytes schema next before now is (inr rose) = inr rose
+
+unreadable : (told : Option (List Named)) (name bytes : List ℕ) (next : List Named → Schema → Work → Type 0) (work : Work) → ((schema : Schema) → IsSchemaOf bytes schema → ⊥) → work ≡ Unreadable name
+    → AskedFor told (λ files w. Compiling name (next files) bytes w) work
+unreadable None name bytes next work none e = tt
+unreadable (Some files) name bytes next work none e = inr (none, e)
+
+unread : (told : Option (List Named)) (name bytes : List ℕ) (schema : Schema) (work : Work) → ((script : Script) → IsScriptOf schema bytes script → ⊥) → work ≡ Unreadable name
+    → AskedFor told (λ files w. Reading name schema bytes w) work
+unread None name bytes schema work none e = tt
+unread (Some files) name bytes schema work none e = inr (none, e)
+
+-- a file without a schema
+pub no_schema : (before now : FilesState) (words : RunWords) (bytes : List ℕ) (stop : Stop) → HasBytes before.told words.file bytes → length bytes ≤ 1048576 → NoSchema bytes words.file stop
+    → Stops before now (λ files w. Running files words w) stop
+no_schema before now words bytes (Refused refusal) has short why =
+    leads_on before.told words.file bytes (λ files. Compiling words.file (Scripting files words.script)) (refused_work refusal) has short
+    (unreadable before.told words.file bytes (λ files. Scripting files words.script) (refused_work refusal) why.0 why.1)
+no_schema before now words bytes (ReadFault other) has short why = absurd why
+no_schema before now words bytes NoMemory has short why = tt
+
+-- a file without a script
+pub no_script : (before now : FilesState) (name : List ℕ) (schema : Schema) (bytes : List ℕ) (stop : Stop) → HasBytes before.told name bytes → length bytes ≤ 1048576 → NoScript schema bytes name stop
+    → Stops before now (λ files w. Scripting files name schema w) stop
+no_script before now name schema bytes (Refused refusal) has short why =
+    leads_on before.told name bytes (λ files. Reading name schema) (refused_work refusal) has short (unread before.told name bytes schema (refused_work refusal) why.0 why.1)
+no_script before now name schema bytes (ReadFault other) has short why = absurd why
+no_script before now name schema bytes NoMemory has short why = tt
+
+-- the script stops
+pub later : (before mid now : FilesState) (words : RunWords) (bytes : List ℕ) (schema : Schema) (stop : Stop) → FilesGoOn before mid → HasBytes before.told words.file bytes → length bytes ≤ 1048576 → IsSchemaOf bytes schema
+    → Stops mid now (λ files w. Scripting files words.script schema w) stop → Stops before now (λ files w. Running files words w) stop
+later before mid now words bytes schema (Refused refusal) on has short is stops =
+    leads_on before.told words.file bytes (λ files. Compiling words.file (Scripting files words.script)) (refused_work refusal) has short
+    (compiled before.told words.file bytes schema (λ files. Scripting files words.script) (refused_work refusal) is
+    (subst (λ (told : Option (List Named)). AskedFor told (λ files w. Scripting files words.script schema w) (refused_work refusal)) on.same stops))
+later before mid now words bytes schema (ReadFault other) on has short is stops = record {
+  rose = omega (arith, stops.rose, on.faults);
+  failed = leads_on_lost before.told words.file other.now bytes (λ files. Compiling words.file (Scripting files words.script)) before.there now.there has short
+  (compiled_lost before.told words.file other.now bytes schema (λ files. Scripting files words.script) before.there now.there is
+  (weaker before.told words.script schema other.now mid.there before.there now.there on.there
+  (subst (λ (told : Option (List Named)). ReadFailed told (λ files w. Scripting files words.script schema w) other.now mid.there now.there) on.same stops.failed)));
+}
+  where
+    weaker : (told : Option (List Named)) (script : List ℕ) (schema : Schema) (name : List ℕ) (mid before now : ℕ) → before ≤ mid → ReadFailed told (λ files w. Scripting files script schema w) name mid now
+        → ReadFailed told (λ files w. Scripting files script schema w) name before now
+    weaker None script schema name mid before now le failed = tt
+    weaker (Some files) script schema name mid before now le (inl asked) = inl asked
+    weaker (Some files) script schema name mid before now le (inr rose) = inr (omega (arith, rose))
+later before mid now words bytes schema NoMemory on has short is stops = tt
+
+-- the text of a script is that of the words
+pub right_text : (before mid : FilesState) (words : RunWords) (bytes text : List ℕ) (schema : Schema) → FilesGoOn before mid → HasBytes before.told words.file bytes → length bytes ≤ 1048576 → IsSchemaOf bytes schema
+    → IsRightText mid.told (λ files w. Scripting files words.script schema w) text → IsRightText before.told (λ files w. Running files words w) text
+right_text before mid words bytes text schema on has short is right = record {
+  schema = right.schema;
+  script = right.script;
+  asked = leads_on before.told words.file bytes (λ files. Compiling words.file (Scripting files words.script)) (Runs right.schema right.script) has short
+  (compiled before.told words.file bytes schema (λ files. Scripting files words.script) (Runs right.schema right.script) is
+  (subst (λ (told : Option (List Named)). AskedFor told (λ files w. Scripting files words.script schema w) (Runs right.schema right.script)) on.same right.asked));
+  text_of = right.text_of;
+}
+
+-- the text of a run of the script
+pub script_text : (told : Option (List Named)) (name bytes text : List ℕ) (schema : Schema) (script : Script) → HasBytes told name bytes → length bytes ≤ 1048576 → IsScriptOf schema bytes script → IsTextOf schema script text
+    → IsRightText told (λ files w. Scripting files name schema w) text
+script_text told name bytes text schema script has short is text_of = record {
+  schema = schema;
+  script = script;
+  asked = leads_on told name bytes (λ files. Reading name schema) (Runs schema script) has short (reads told is);
+  text_of = text_of;
+}
+  where
+    reads : (told : Option (List Named)) → IsScriptOf schema bytes script → AskedFor told (λ files w. Reading name schema bytes w) (Runs schema script)
+    reads None is = tt
+    reads (Some files) is = inl (script, is, refl)
+
+-- what holds of an answer, holds in another form
+pub ok_goes : {A E : Type 0} (r : Result A E) (P Q : A → Type 0) → ((x : A) → P x → Q x) → IfOk r P → IfOk r Q
+ok_goes (Ok x) P Q f h = f x h
+ok_goes (Err e) P Q f h = tt
+
+pub err_goes : {A E : Type 0} (r : Result A E) (P Q : E → Type 0) → ((e : E) → P e → Q e) → IfErr r P → IfErr r Q
+err_goes (Ok x) P Q f h = tt
+err_goes (Err e) P Q f h = f e h

@@ -1,0 +1,38 @@
+-- Where all is there and nothing failed, all was done, but for want of memory.
+use Rattle.std.proofs.Common.{◌≡◌, ℕ, List, Some, None, refl, sym, subst, ap, ◌∙◌, inl, inr}
+use Rattle.std.specs.Prelude.{Option, ◌⊎◌}
+use Rattle.mj_io.specs.Outside.{Named, Rose}
+use Rattle.mojo_tool.specs.Work.{Work, WrongWords, Missing, TooLong, Unreadable, AskedFor, run_of, IsWork, RunWords}
+use Rattle.mojo_tool.specs.Answers.{Seen, Answers, asked_by, ReadFailed, refused_work}
+use Rattle.mojo_tool.specs.Complete.{CanBeDone, IsComplete}
+use Rattle.mojo_tool.specs.declared.refusal.ToolRefusal.{ToolRefusal}
+use Rattle.mojo_tool.specs.declared.refusal.ToolRefusal.TheVariants.{Unsupported, FileTooLong}
+use Rattle.mojo_tool.specs.declared.status.Status.{Status}
+use Rattle.mojo_tool.specs.declared.status.Status.TheVariants.{Done, Refused, WrongUse, ReadFault, WriteFault, NoMemory}
+
+-- over files that tell, what is asked for is asked of them
+asked_of : (told : Option (List Named)) (files : List Named) (ask : List Named → Work → Type 0) (work : Work) → told ≡ Some files → AskedFor told ask work → ask files work
+asked_of told files ask work t asked = subst (λ (o : Option (List Named)). AskedFor o ask work) t asked
+
+not_refused : (s : Seen) (can : CanBeDone s) (refusal : ToolRefusal) → AskedFor s.files_before.told (asked_by s) (refused_work refusal) → ⊥
+not_refused s can (Unsupported name) asked = can.readable name.now (asked_of s.files_before.told can.files (asked_by s) (Unreadable name.now) can.told asked)
+not_refused s can (FileTooLong name) asked = can.short name.now (asked_of s.files_before.told can.files (asked_by s) (TooLong name.now) can.told asked)
+
+not_missing : (s : Seen) (can : CanBeDone s) (name : List ℕ) → ReadFailed s.files_before.told (asked_by s) name s.files_before.there s.files.there → ⊥
+not_missing s can name failed = go (subst (λ (o : Option (List Named)). ReadFailed o (asked_by s) name s.files_before.there s.files.there) can.told failed)
+  where
+    go : asked_by s can.files (Missing name) ⊎ Rose s.files_before.there s.files.there → ⊥
+    go (inl asked) = can.present name asked
+    go (inr rose) = can.steady rose
+
+no_words : (words : Option RunWords) (files : List Named) → words ≡ None → IsWork words files WrongWords
+no_words None files e = refl
+no_words (Some words) files e = absurd cc
+
+pub completes : (s : Seen) (status : Status) → Answers s status → IsComplete s status
+completes s Done a can = inl refl
+completes s Refused a can = absurd (not_refused s can a.refusal a.asked)
+completes s WrongUse a can = absurd (can.words (no_words (run_of s.words) can.files a.wrong))
+completes s ReadFault a can = absurd (not_missing s can a.name a.failed)
+completes s WriteFault a can = absurd (can.written a.rose)
+completes s NoMemory a can = inr refl

@@ -1,0 +1,64 @@
+-- The answers of the last steps.
+use Rattle.std.proofs.Common.{◌≡◌, ℕ, List, Some, None, refl, sym, subst, ap, ◌∙◌, inl, inr}
+use Rattle.std.specs.Prelude.{Option}
+use Rattle.mj_io.specs.Outside.{Named, FilesState, SinkState}
+use Rattle.mojo_tool.specs.Work.{Work, RunWords, run_of, IsWork, Running}
+use Rattle.mojo_tool.specs.Answers.{Seen, Answers, IsRightText}
+use Rattle.mojo_tool.specs.Stops.{Stops}
+use Rattle.mojo_tool.specs.Reports.{Printed, Reported}
+use Rattle.mojo_tool.specs.declared.decide.Stop.{Stop}
+use Rattle.mojo_tool.specs.declared.decide.Stop.TheVariants as stop
+use Rattle.mojo_tool.specs.declared.status.Status.{Status}
+use Rattle.mojo_tool.specs.declared.status.Status.TheVariants.{Done, Refused, WrongUse, ReadFault, WriteFault, NoMemory}
+
+module _ (words : List (List ℕ)) (run : RunWords) (e : Some run ≡ run_of words) (fb f : FilesState) (ob eb : SinkState) where
+  seen : SinkState → SinkState → Seen
+  seen o er = record { words = words; files_before = fb; files = f; out_before = ob; out = o; err_before = eb; err = er }
+
+  -- the text was printed
+  pub printed : (o : SinkState) (text : List ℕ) (status : Status) → IsRightText fb.told (λ files w. Running files run w) text → Printed ob o text status
+      → Answers (record { words = words; files_before = fb; files = f; out_before = ob; out = o; err_before = eb; err = eb }) status
+  printed o text Done right wrote = record { text = text; wrote = wrote; right = subst (λ (asked : Option RunWords). IsRightText fb.told (λ files w. IsWork asked files w) text) e right }
+  printed o text WriteFault right part = record {
+    text = text;
+    part = part.0;
+    rose = part.1;
+    right = subst (λ (asked : Option RunWords). IsRightText fb.told (λ files w. IsWork asked files w) text) e right;
+  }
+  printed o text Refused right wrong = absurd wrong
+  printed o text WrongUse right wrong = absurd wrong
+  printed o text ReadFault right wrong = absurd wrong
+  printed o text NoMemory right wrong = absurd wrong
+
+  -- it was said why there is no text
+  pub reported : (er : SinkState) (why : Stop) (status : Status) → Stops fb f (λ files w. Running files run w) why → Reported why eb er status
+      → Answers (record { words = words; files_before = fb; files = f; out_before = ob; out = ob; err_before = eb; err = er }) status
+  reported er (stop.Refused refusal) Refused stops said = record {
+    refusal = refusal;
+    quiet = refl;
+    asked = subst (λ (asked : Option RunWords). Stops fb f (λ files w. IsWork asked files w) (stop.Refused refusal)) e stops;
+    wrote = said.1;
+  }
+  reported er (stop.Refused refusal) NoMemory stops said = record { quiet = refl }
+  reported er (stop.Refused refusal) Done stops said = absurd (let s = said.0 in cc)
+  reported er (stop.Refused refusal) WrongUse stops said = absurd (let s = said.0 in cc)
+  reported er (stop.Refused refusal) ReadFault stops said = absurd (let s = said.0 in cc)
+  reported er (stop.Refused refusal) WriteFault stops said = absurd (let s = said.0 in cc)
+  reported er (stop.ReadFault name) ReadFault stops said = record {
+    name = name.now;
+    quiet = refl;
+    rose = stops.rose;
+    failed = (subst (λ (asked : Option RunWords). Stops fb f (λ files w. IsWork asked files w) (stop.ReadFault name)) e stops).failed;
+    wrote = said.1;
+  }
+  reported er (stop.ReadFault name) NoMemory stops said = record { quiet = refl }
+  reported er (stop.ReadFault name) Done stops said = absurd (let s = said.0 in cc)
+  reported er (stop.ReadFault name) WrongUse stops said = absurd (let s = said.0 in cc)
+  reported er (stop.ReadFault name) Refused stops said = absurd (let s = said.0 in cc)
+  reported er (stop.ReadFault name) WriteFault stops said = absurd (let s = said.0 in cc)
+  reported er stop.NoMemory NoMemory stops said = record { quiet = refl }
+  reported er stop.NoMemory Done stops said = absurd cc
+  reported er stop.NoMemory WrongUse stops said = absurd cc
+  reported er stop.NoMemory Refused stops said = absurd cc
+  reported er stop.NoMemory WriteFault stops said = absurd cc
+  reported er stop.NoMemory ReadFault stops said = absurd cc

@@ -1,0 +1,110 @@
+-- What each status says of the words, the files and the sinks, before the call and after it.
+use Rattle.std.specs.Prelude.{ℕ, ◌≡◌, List, Option, Some, None, ◌⊎◌}
+use Rattle.mj_io.specs.Outside.{Named, FilesState, SinkState, Rose, Wrote, WroteSome}
+use Rattle.mj_schema.specs.declared.schema.Schema.{Schema}
+use Rattle.bind_model.specs.declared.event.Event.{Event}
+use Rattle.bind_model.specs.Machine.{Legal}
+use Rattle.call_script.specs.declared.script.Script.{Script}
+use Rattle.call_script.specs.Text.{output}
+use Rattle.script_run.specs.OfScript.{OfScript}
+use Rattle.mojo_tool.specs.Work.{Work, Missing, TooLong, Unreadable, Runs, run_of, IsWork, AskedFor}
+use Rattle.mojo_tool.specs.Lines.{refusal_text, error_line, read_text}
+use Rattle.mojo_tool.specs.declared.refusal.ToolRefusal.{ToolRefusal}
+use Rattle.mojo_tool.specs.declared.refusal.ToolRefusal.TheVariants as refusals
+use Rattle.mojo_tool.specs.declared.status.Status.{Status}
+use Rattle.mojo_tool.specs.declared.status.Status.TheVariants.{Done, Refused, WrongUse, ReadFault, WriteFault, NoMemory}
+
+abbrev pub code_of : Status → ℕ
+code_of Done = 0
+code_of Refused = 1
+code_of WrongUse = 2
+code_of ReadFault = 3
+code_of WriteFault = 4
+code_of NoMemory = 5
+
+-- what was seen of the outside
+pub record Seen : Type 0 where
+  pub words : List (List ℕ)
+  pub files_before : FilesState
+  pub files : FilesState
+  pub out_before : SinkState
+  pub out : SinkState
+  pub err_before : SinkState
+  pub err : SinkState
+
+-- what the words ask for, where these are the files
+abbrev pub asked_by : Seen → List Named → Work → Type 0
+asked_by s files work = IsWork (run_of s.words) files work
+
+-- the text is that of one legal history of the script's events
+pub record IsTextOf (schema : Schema) (script : Script) (text : List ℕ) : Type 0 where
+  pub history : List Event
+  pub legal : Legal schema 1 history
+  pub events : OfScript schema script history
+  pub whole : text ≡ output schema 1 history
+
+-- the text is one that the words and the files ask for
+pub record IsRightText (told : Option (List Named)) (ask : List Named → Work → Type 0) (text : List ℕ) : Type 0 where
+  pub schema : Schema
+  pub script : Script
+  pub asked : AskedFor told ask (Runs schema script)
+  pub text_of : IsTextOf schema script text
+
+-- the work that a refusal is the answer to
+abbrev pub refused_work : ToolRefusal → Work
+refused_work (refusals.Unsupported name) = Unreadable name.now
+refused_work (refusals.FileTooLong name) = TooLong name.now
+
+-- the whole text was taken, or a front of it where a fault was counted
+abbrev pub WroteOrFailed : SinkState → SinkState → List ℕ → Type 0
+WroteOrFailed before now text = Wrote before now text ⊎ (WroteSome before now text × Rose before.faults now.faults)
+
+-- the name isn't there, or a fault on a name that is there was counted
+abbrev pub ReadFailed : Option (List Named) → (List Named → Work → Type 0) → List ℕ → ℕ → ℕ → Type 0
+ReadFailed None ask name before now = Unit {0}
+ReadFailed (Some files) ask name before now = ask files (Missing name) ⊎ Rose before now
+
+-- all was done, and the whole text written
+pub record IsDone (s : Seen) : Type 0 where
+  pub text : List ℕ
+  pub wrote : Wrote s.out_before s.out text
+  pub right : IsRightText s.files_before.told (asked_by s) text
+
+-- the first refusal that the files give, with its line
+pub record IsRefused (s : Seen) : Type 0 where
+  pub refusal : ToolRefusal
+  pub quiet : s.out ≡ s.out_before
+  pub asked : AskedFor s.files_before.told (asked_by s) (refused_work refusal)
+  pub wrote : WroteOrFailed s.err_before s.err (error_line (refusal_text refusal))
+
+-- the words are no command
+pub record IsWrongUse (s : Seen) : Type 0 where
+  pub quiet : s.out ≡ s.out_before
+  pub wrong : run_of s.words ≡ None
+
+-- a file could not be fetched
+pub record IsReadFault (s : Seen) : Type 0 where
+  pub name : List ℕ
+  pub quiet : s.out ≡ s.out_before
+  pub rose : Rose s.files_before.faults s.files.faults
+  pub failed : ReadFailed s.files_before.told (asked_by s) name s.files_before.there s.files.there
+  pub wrote : WroteOrFailed s.err_before s.err (error_line (read_text name))
+
+-- a front of the text was written, and the sink failed
+pub record IsWriteFault (s : Seen) : Type 0 where
+  pub text : List ℕ
+  pub part : WroteSome s.out_before s.out text
+  pub rose : Rose s.out_before.faults s.out.faults
+  pub right : IsRightText s.files_before.told (asked_by s) text
+
+-- want of memory is the one free answer
+pub record IsNoMemory (s : Seen) : Type 0 where
+  pub quiet : s.out ≡ s.out_before
+
+abbrev pub Answers : Seen → Status → Type 0
+Answers s Done = IsDone s
+Answers s Refused = IsRefused s
+Answers s WrongUse = IsWrongUse s
+Answers s ReadFault = IsReadFault s
+Answers s WriteFault = IsWriteFault s
+Answers s NoMemory = IsNoMemory s

@@ -1,0 +1,22 @@
+-- Where all is there, nothing is refused and nothing failed, all was done, but for want of memory.
+use Rattle.std.specs.Prelude.{ℕ, ◌≡◌, List, Option, Some, ◌⊎◌}
+use Rattle.mj_io.specs.Outside.{Named, Rose}
+use Rattle.mojo_tool.specs.Answers.{Seen, Answers, asked_by}
+use Rattle.mojo_tool.specs.Work.{Work, WrongWords, Missing, TooLong, Unreadable}
+use Rattle.mojo_tool.specs.declared.status.Status.{Status}
+use Rattle.mojo_tool.specs.declared.status.Status.TheVariants.{Done, NoMemory}
+
+-- the words are a command, the files tell that each name to be fetched is there and that nothing in them is refused,
+-- and neither the files that are there nor standard output failed
+pub record CanBeDone (s : Seen) : Type 0 where
+  pub files : List Named
+  pub told : s.files_before.told ≡ Some files
+  pub words : ¬ asked_by s files WrongWords
+  pub present : (name : List ℕ) → ¬ asked_by s files (Missing name)
+  pub short : (name : List ℕ) → ¬ asked_by s files (TooLong name)
+  pub readable : (name : List ℕ) → ¬ asked_by s files (Unreadable name)
+  pub steady : ¬ Rose s.files_before.there s.files.there
+  pub written : ¬ Rose s.out_before.faults s.out.faults
+
+abbrev pub IsComplete : Seen → Status → Type 0
+IsComplete s status = CanBeDone s → (status ≡ Done) ⊎ (status ≡ NoMemory)

@@ -1,0 +1,63 @@
+-- What the words and the files ask for, in the order in which a call finds it out: the words, the Mojom file, the script, the run.
+use Rattle.std.specs.Prelude.{ℕ, ◌≡◌, ◌≤◌, ◌<◌, ◌++◌, ◌&&◌, List, [], ◌∷◌, length, codes, if◌then◌else◌, Option, Some, None, ◌⊎◌}
+use Rattle.std.specs.Str.{bytes_eq}
+use Rattle.mj_io.specs.Outside.{Named, find_file}
+use Rattle.mj_schema.specs.declared.schema.Schema.{Schema}
+use Rattle.mojom_compile.specs.Files.{IsSchemaOf}
+use Rattle.call_script.specs.declared.script.Script.{Script}
+use Rattle.call_script.specs.Spelling.{IsScriptOf}
+
+-- the names in `run --script SCRIPT FILE`
+pub record RunWords : Type 0 where
+  pub script : List ℕ
+  pub file : List ℕ
+
+abbrev pub run_of : List (List ℕ) → Option RunWords
+run_of (program ∷ command ∷ flag ∷ script ∷ file ∷ []) =
+    if bytes_eq command (codes "run") && bytes_eq flag (codes "--script") then Some (record { script = script; file = file }) else None
+run_of words = None
+
+-- what is asked for
+pub data Work : Type 0 where
+  -- nothing: the words are no command
+  WrongWords : Work
+  -- a file to be fetched isn't there
+  Missing : (name : List ℕ) → Work
+  -- a file to be fetched has more than 1,048,576 bytes
+  TooLong : (name : List ℕ) → Work
+  -- a file isn't of the form that is read
+  Unreadable : (name : List ℕ) → Work
+  -- a run of this script
+  Runs : (schema : Schema) → (script : Script) → Work
+
+-- the file is not there, or too long, or its bytes lead on
+abbrev pub Leads : List ℕ → (List ℕ → Work → Type 0) → Option (List ℕ) → Work → Type 0
+Leads name next None work = work ≡ Missing name
+Leads name next (Some bytes) work = ((1048576 < length bytes) × (work ≡ TooLong name)) ⊎ ((length bytes ≤ 1048576) × next bytes work)
+
+abbrev pub Fetching : List Named → List ℕ → (List ℕ → Work → Type 0) → Work → Type 0
+Fetching files name next work = Leads name next (find_file files name) work
+
+-- the bytes have a schema, which leads on, or none
+abbrev pub Compiling : List ℕ → (Schema → Work → Type 0) → List ℕ → Work → Type 0
+Compiling name next bytes work = ((schema : Schema) × IsSchemaOf bytes schema × next schema work) ⊎ (((schema : Schema) → IsSchemaOf bytes schema → ⊥) × (work ≡ Unreadable name))
+
+-- the bytes are a script, which is run, or none
+abbrev pub Reading : List ℕ → Schema → List ℕ → Work → Type 0
+Reading name schema bytes work = ((script : Script) × IsScriptOf schema bytes script × (work ≡ Runs schema script)) ⊎ (((script : Script) → IsScriptOf schema bytes script → ⊥) × (work ≡ Unreadable name))
+
+-- the script's file comes after the Mojom file
+abbrev pub Scripting : List Named → List ℕ → Schema → Work → Type 0
+Scripting files name schema work = Fetching files name (Reading name schema) work
+
+abbrev pub Running : List Named → RunWords → Work → Type 0
+Running files words work = Fetching files words.file (Compiling words.file (Scripting files words.script)) work
+
+abbrev pub IsWork : Option RunWords → List Named → Work → Type 0
+IsWork None files work = work ≡ WrongWords
+IsWork (Some words) files work = Running files words work
+
+-- over files that tell what they hold, this is what is asked for
+abbrev pub AskedFor : Option (List Named) → (List Named → Work → Type 0) → Work → Type 0
+AskedFor None ask work = Unit {0}
+AskedFor (Some files) ask work = ask files work

@@ -1,0 +1,140 @@
+//! From the names and the files to the text, or to why there is none.
+
+ghost use Rattle.std.specs.Prelude.{◌≡◌, ◌≤◌, ℕ, List, length, IfOk, IfErr};
+ghost use Rattle.std.specs.Arc.{arc_value};
+ghost use Rattle.mj_io.specs.Outside.{FilesGoOn};
+ghost use Rattle.mj_schema.specs.declared.schema.Schema.{Schema};
+ghost use Rattle.mojom_compile.specs.Files.{IsSchemaOf};
+ghost use Rattle.call_script.specs.declared.script.Script.{Script};
+ghost use Rattle.call_script.specs.Spelling.{IsScript, IsScriptOf};
+ghost use Rattle.mojo_tool.specs.Work.{Scripting, Running};
+ghost use Rattle.mojo_tool.specs.Answers.{IsTextOf, IsRightText};
+ghost use Rattle.mojo_tool.specs.Stops.{Stops, HasBytes, NotFetched, NoSchema, NoScript};
+
+use crate::refusal::ToolRefusal;
+use call_script::{Script, ScriptError};
+use mj_base::Items;
+use mj_io::{Fetched, Files, FilesError};
+use mj_schema::Schema;
+use mojom_compile::CompileError;
+use std::alloc::Global;
+use std::sync::Arc;
+
+/// The most bytes that a file may have.
+const LIMIT: u64 = 1_048_576;
+
+/// Why there is no text.
+#[derive(Clone, Copy)]
+pub enum Stop<'a> {
+    Refused(ToolRefusal<'a>),
+    /// The file of this name could not be read.
+    ReadFault(&'a str),
+    NoMemory,
+}
+
+/// The bytes of the file of that name.
+fn fetch<'a, F: Files>(alloc: Global, files: &mut F, name: &'a str) -> Result<Vec<u8>, Stop<'a>>
+    ensures on { FilesGoOn (F.state files.old) (F.state files.new) }
+    ensures bytes { IfOk result (λ bytes. HasBytes (F.state files.old).told name.now bytes.items) }
+    ensures short { IfOk result (λ bytes. length bytes.items ≤ 1048576) }
+    ensures stop { IfErr result (λ stop. NotFetched (F.state files.old) (F.state files.new) name.now stop) }
+{
+    let mut bytes = Vec::new(alloc);
+    match files.fetch(alloc, name, LIMIT, &mut bytes) {
+        Ok(Fetched::Whole) => Ok(bytes),
+        Ok(Fetched::Longer) => Err(Stop::Refused(ToolRefusal::FileTooLong(name))),
+        Err(FilesError::Failed) => Err(Stop::ReadFault(name)),
+        Err(FilesError::Memory) => Err(Stop::NoMemory),
+    }
+}
+
+/// The schema of the Mojom file of that name.
+fn read_schema<'a>(alloc: Global, name: &'a str, bytes: &[u8]) -> Result<Schema, Stop<'a>>
+    requires { length bytes.now ≤ 1048576 }
+    ensures schema { IfOk result (λ schema. IsSchemaOf bytes.now schema) }
+    ensures stop { IfErr result (λ stop. NoSchema bytes.now name.now stop) }
+{
+    match mojom_compile::compile(alloc, bytes) {
+        Ok(schema) => Ok(schema),
+        Err(CompileError::Unsupported) => Err(Stop::Refused(ToolRefusal::Unsupported(name))),
+        Err(CompileError::Memory) => Err(Stop::NoMemory),
+    }
+}
+
+/// The script of that name.
+fn read_script<'a>(
+    alloc: Global,
+    name: &'a str,
+    schema: &Schema,
+    bytes: &[u8],
+) -> Result<Script, Stop<'a>>
+    ensures script { IfOk result (λ script. IsScriptOf schema.now bytes.now script) }
+    ensures stop { IfErr result (λ stop. NoScript schema.now bytes.now name.now stop) }
+{
+    match call_script::read_script(alloc, schema, bytes) {
+        Ok(script) => Ok(script),
+        Err(ScriptError::Unsupported) => Err(Stop::Refused(ToolRefusal::Unsupported(name))),
+        Err(ScriptError::Memory) => Err(Stop::NoMemory),
+    }
+}
+
+/// The text of a run of the script.
+fn run<'a>(alloc: Global, schema: Schema, script: &Script) -> Result<Items<u8>, Stop<'a>>
+    requires { IsScript schema script.now }
+    ensures text { IfOk result (λ text. IsTextOf schema script.now text) }
+    ensures memory { IfErr result (λ stop. stop ≡ Stop.NoMemory) }
+{
+    let Ok(schema) = Arc::new(alloc, schema) else {
+        return Err(Stop::NoMemory);
+    };
+    let Ok(shared) = Arc::try_clone(&schema) else {
+        return Err(Stop::NoMemory);
+    };
+    let Ok(history) = script_run::run_alone(alloc, shared, script) else {
+        return Err(Stop::NoMemory);
+    };
+    match call_script::render(alloc, &schema, 1, history.as_slice()) {
+        Ok(text) => Ok(text),
+        Err(_) => Err(Stop::NoMemory),
+    }
+}
+
+/// The text that a script's name asks for.
+fn decide_script<'a, F: Files>(
+    alloc: Global,
+    name: &'a str,
+    schema: Schema,
+    files: &mut F,
+) -> Result<Items<u8>, Stop<'a>>
+    ensures on { FilesGoOn (F.state files.old) (F.state files.new) }
+    ensures text { IfOk result (λ text. IsRightText (F.state files.old).told (λ files work. Scripting files name.now schema work) text) }
+    ensures stop { IfErr result (λ stop. Stops (F.state files.old) (F.state files.new) (λ files work. Scripting files name.now schema work) stop) }
+{
+    match fetch(alloc, files, name) {
+        Err(stop) => Err(stop),
+        Ok(bytes) => match read_script(alloc, name, &schema, bytes.as_slice()) {
+            Err(stop) => Err(stop),
+            Ok(script) => run(alloc, schema, &script),
+        },
+    }
+}
+
+/// The text that the names and the files ask for.
+pub fn decide<'a, F: Files>(
+    alloc: Global,
+    script: &'a str,
+    file: &'a str,
+    files: &mut F,
+) -> Result<Items<u8>, Stop<'a>>
+    ensures on { FilesGoOn (F.state files.old) (F.state files.new) }
+    ensures text { IfOk result (λ text. IsRightText (F.state files.old).told (λ files work. Running files (record { script = script.now; file = file.now }) work) text) }
+    ensures stop { IfErr result (λ stop. Stops (F.state files.old) (F.state files.new) (λ files work. Running files (record { script = script.now; file = file.now }) work) stop) }
+{
+    match fetch(alloc, files, file) {
+        Err(stop) => Err(stop),
+        Ok(bytes) => match read_schema(alloc, file, bytes.as_slice()) {
+            Err(stop) => Err(stop),
+            Ok(schema) => decide_script(alloc, script, schema, files),
+        },
+    }
+}

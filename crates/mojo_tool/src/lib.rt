@@ -1,0 +1,12 @@
+//! The program: words and files to a text and a status.
+#![tactic(auto)]
+
+mod decide;
+mod refusal;
+mod status;
+mod top;
+mod words;
+
+pub use refusal::ToolRefusal;
+pub use status::Status;
+pub use top::{complete, mojo_alone, mojo_main};

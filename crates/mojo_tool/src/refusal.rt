@@ -1,0 +1,26 @@
+//! Why a file is refused.
+
+use std::fmt;
+
+/// Why a file is refused, with its name as it was given.
+#[derive(Clone, Copy)]
+pub enum ToolRefusal<'a> {
+    /// The file isn't of the form that is read today.
+    Unsupported(&'a str),
+    /// The file has more than 1,048,576 bytes.
+    FileTooLong(&'a str),
+}
+
+impl fmt::Display for ToolRefusal<'_> {
+    ghost use Rattle.std.specs.Prelude.{Some};
+    ghost use Rattle.mojo_tool.specs.Lines.{refusal_text};
+
+    ghost output = { λ r. Some (refusal_text r) };
+
+    fn fmt<W: fmt::Write>(&self, f: &mut fmt::Formatter<W>) -> fmt::Result {
+        match self {
+            ToolRefusal::Unsupported(name) => write!(f, "Unsupported {name}"),
+            ToolRefusal::FileTooLong(name) => write!(f, "FileTooLong {name}"),
+        }
+    }
+}

@@ -1,0 +1,178 @@
+//! The top call.
+
+ghost use Rattle.std.specs.Prelude.{◌≡◌, map, string_bytes, Some, IfOk};
+ghost use Rattle.mj_io.specs.Outside.{SinkState};
+ghost use Rattle.mojo_tool.specs.Answers.{Answers, Seen, code_of, WroteOrFailed};
+ghost use Rattle.mojo_tool.specs.Complete.{IsComplete};
+ghost use Rattle.mojo_tool.specs.Reports.{Printed, Reported};
+ghost use Rattle.mojo_tool.specs.Lines.{refusal_text, error_line, read_text};
+ghost use Rattle.mojo_tool.specs.declared.status.Status.{Status};
+
+use crate::decide::{Stop, decide};
+use crate::refusal::ToolRefusal;
+use crate::status::Status;
+use crate::words::read_words;
+use mj_io::{Files, Gate, Sink, write_all};
+use std::alloc::{AllocError, Global};
+use std::sync::Wait;
+use std::thread::Threads;
+
+/// How the program is used.
+const USAGE: &str = "usage: mojo_tool run --script SCRIPT FILE
+
+Reads the Mojom file FILE and the script of calls SCRIPT, runs the script, and prints the
+history of its calls to standard output.
+
+Exit status: 0 all was done; 1 a file is refused; 2 the words are not these; 3 a file could
+not be read; 4 standard output failed; 5 want of memory.
+";
+
+/// Writes a text to standard error. A fault of it changes nothing.
+fn complain<E: Sink>(err: &mut E, text: &[u8])
+    ensures { WroteOrFailed (E.state err.old) (E.state err.new) text.now }
+{
+    if write_all(err, text).is_err() {
+        // The text is lost.
+    }
+}
+
+/// Writes the text.
+fn print<O: Sink>(out: &mut O, text: &[u8]) -> Status
+    ensures { Printed (O.state out.old) (O.state out.new) text.now result }
+{
+    match write_all(out, text) {
+        Ok(()) => Status::Done,
+        Err(_) => Status::WriteFault,
+    }
+}
+
+/// The line of a refusal.
+fn refusal_line(alloc: Global, refusal: ToolRefusal) -> Result<String, AllocError>
+    ensures { IfOk result (λ line. string_bytes line ≡ error_line (refusal_text refusal.entry)) }
+{
+    format!(in alloc; "error: {refusal}\n")
+}
+
+/// The line of a file that could not be read.
+fn read_line(alloc: Global, name: &str) -> Result<String, AllocError>
+    ensures { IfOk result (λ line. string_bytes line ≡ error_line (read_text name.now)) }
+{
+    format!(in alloc; "error: read {name}\n")
+}
+
+/// Says why there is no text.
+fn report<E: Sink>(alloc: Global, err: &mut E, stop: Stop) -> Status
+    ensures { Reported stop.entry (E.state err.old) (E.state err.new) result }
+{
+    match stop {
+        Stop::Refused(refusal) => match refusal_line(alloc, refusal) {
+            Ok(line) => {
+                complain(err, line.as_bytes());
+                Status::Refused
+            }
+            Err(_) => Status::NoMemory,
+        },
+        Stop::ReadFault(name) => match read_line(alloc, name) {
+            Ok(line) => {
+                complain(err, line.as_bytes());
+                Status::ReadFault
+            }
+            Err(_) => Status::NoMemory,
+        },
+        Stop::NoMemory => Status::NoMemory,
+    }
+}
+
+/// All but runs with threads.
+fn alone<F: Files, O: Sink, E: Sink>(
+    alloc: Global,
+    words: &[String],
+    files: &mut F,
+    out: &mut O,
+    err: &mut E,
+) -> Status
+    ensures { Answers (record {
+      words = map string_bytes words.now;
+      files_before = F.state files.old;
+      files = F.state files.new;
+      out_before = O.state out.old;
+      out = O.state out.new;
+      err_before = E.state err.old;
+      err = E.state err.new;
+    }) result }
+{
+    match read_words(words) {
+        None => {
+            complain(err, USAGE.as_bytes());
+            Status::WrongUse
+        }
+        Some(names) => match decide(alloc, names.script, names.file, files) {
+            Ok(text) => print(out, text.as_slice()),
+            Err(stop) => report(alloc, err, stop),
+        },
+    }
+}
+
+/// The program for all words but a run with threads, for which it answers none and does nothing.
+/// No words are read as one today.
+///
+/// The words begin with the program's name. The status is 0 where all was done, and else: 1 the
+/// first refusal that the files give, with its line on `err`; 2 the words are no command; 3 a file
+/// could not be read; 4 `out` failed, and has a front of the text; 5 want of memory.
+pub fn mojo_alone<F: Files, O: Sink, E: Sink>(
+    alloc: Global,
+    words: &[String],
+    files: &mut F,
+    out: &mut O,
+    err: &mut E,
+) -> Option<u8>
+    ensures { (status : Status) × (result ≡ Some (code_of status)) × Answers (record {
+      words = map string_bytes words.now;
+      files_before = F.state files.old;
+      files = F.state files.new;
+      out_before = O.state out.old;
+      out = O.state out.new;
+      err_before = E.state err.old;
+      err = E.state err.new;
+    }) status }
+{
+    Some(alone(alloc, words, files, out, err).code())
+}
+
+/// The whole program: what `mojo_alone` does, and runs with threads.
+///
+/// `words` begin with the program's name. `gate` stands round the steps of workers, which no words
+/// ask for today.
+pub fn mojo_main<R: Wait + Threads + Sync, F: Files, O: Sink, E: Sink, G: Gate + Sync>(
+    _rt: &R,
+    alloc: Global,
+    words: &[String],
+    files: &mut F,
+    out: &mut O,
+    err: &mut E,
+    _gate: &G,
+) -> u8
+    ensures { (status : Status) × (result ≡ code_of status) × Answers (record {
+      words = map string_bytes words.now;
+      files_before = F.state files.old;
+      files = F.state files.new;
+      out_before = O.state out.old;
+      out = O.state out.new;
+      err_before = E.state err.old;
+      err = E.state err.new;
+    }) status }
+{
+    match mojo_alone(alloc, words, files, out, err) {
+        Some(code) => code,
+        // Not reached: no words are read as a run with threads.
+        None => Status::NoMemory.code(),
+    }
+}
+
+/// A law of the answers: where the files tell that all is there, nothing is refused and nothing
+/// failed, the status is 0, or 5 for want of memory.
+#[tactic(auto, using(crate::proofs::Completes::completes))]
+pub fn complete()
+    ensures { (s : Seen) (status : Status) → Answers s status → IsComplete s status }
+{
+}

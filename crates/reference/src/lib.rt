@@ -1,0 +1,12 @@
+//! The definitions of the machine, computed literally on small inputs: plain, slow, and apart from
+//! the code that they are proved of. Tests compare it with worked examples and with the machine.
+#![tactic(auto)]
+
+mod machine;
+mod wire;
+
+#[cfg(test)]
+mod tests;
+
+pub use machine::{answer, binding, is_legal, made, outs, peer, taken, unread, written};
+pub use wire::{Read, message_bytes, request_in};
