@@ -3,7 +3,7 @@ use Rattle.std.proofs.Common.{◌≡◌, ◌≤◌, ◌<◌, ◌+◌, ◌-◌, �
 use Rattle.std.specs.Prelude.{Option, ◌⊎◌, Result, Ok, Err, IfOk, IfErr}
 use Rattle.mj_io.specs.Outside.{Named, find_file, FilesState, FilesGoOn, Rose}
 use Rattle.mj_schema.specs.declared.schema.Schema.{Schema}
-use Rattle.mojom_compile.specs.Files.{IsSchemaOf}
+use Rattle.mojom_compile.specs.Compiled.{IsSchemaOf}
 use Rattle.call_script.specs.declared.script.Script.{Script}
 use Rattle.call_script.specs.Spelling.{IsScriptOf}
 use Rattle.mojo_tool.specs.Work.{Work, Missing, TooLong, Unreadable, Runs, RunWords, Fetching, Leads, Compiling, Reading, Scripting, Running, AskedFor}

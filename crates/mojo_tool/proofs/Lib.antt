@@ -1,3 +1,4 @@
 pub mod Asking
 pub mod Completes
 pub mod Reporting
+pub mod Narrows

@@ -2,7 +2,7 @@
 use Rattle.std.specs.Prelude.{ℕ, ◌≡◌, ◌<◌, ◌⊎◌, List, length, Option, Some, None}
 use Rattle.mj_io.specs.Outside.{Named, find_file, FilesState, Rose}
 use Rattle.mj_schema.specs.declared.schema.Schema.{Schema}
-use Rattle.mojom_compile.specs.Files.{IsSchemaOf}
+use Rattle.mojom_compile.specs.Compiled.{IsSchemaOf}
 use Rattle.call_script.specs.declared.script.Script.{Script}
 use Rattle.call_script.specs.Spelling.{IsScriptOf}
 use Rattle.mojo_tool.specs.Work.{Work, AskedFor, TooLong, Unreadable}

@@ -4,9 +4,10 @@ ghost use Rattle.std.specs.Prelude.{◌≡◌, ◌≤◌, ℕ, List, length, IfO
 ghost use Rattle.std.specs.Arc.{arc_value};
 ghost use Rattle.mj_io.specs.Outside.{FilesGoOn};
 ghost use Rattle.mj_schema.specs.declared.schema.Schema.{Schema};
-ghost use Rattle.mojom_compile.specs.Files.{IsSchemaOf};
+ghost use Rattle.mojom_compile.specs.Compiled.{IsSchemaOf};
 ghost use Rattle.call_script.specs.declared.script.Script.{Script};
 ghost use Rattle.call_script.specs.Spelling.{IsScript, IsScriptOf};
+ghost use Rattle.script_run.specs.Narrow.{IsNarrow};
 ghost use Rattle.mojo_tool.specs.Work.{Scripting, Running};
 ghost use Rattle.mojo_tool.specs.Answers.{IsTextOf, IsRightText};
 ghost use Rattle.mojo_tool.specs.Stops.{Stops, HasBytes, NotFetched, NoSchema, NoScript};
@@ -49,9 +50,11 @@ fn fetch<'a, F: Files>(alloc: Global, files: &mut F, name: &'a str) -> Result<Ve
 }
 
 /// The schema of the Mojom file of that name.
+#[tactic(auto, using(crate::proofs::Narrows::narrow_schema))]
 fn read_schema<'a>(alloc: Global, name: &'a str, bytes: &[u8]) -> Result<Schema, Stop<'a>>
     requires { length bytes.now ≤ 1048576 }
     ensures schema { IfOk result (λ schema. IsSchemaOf bytes.now schema) }
+    ensures narrow { IfOk result (λ schema. IsNarrow schema) }
     ensures stop { IfErr result (λ stop. NoSchema bytes.now name.now stop) }
 {
     match mojom_compile::compile(alloc, bytes) {
@@ -80,7 +83,8 @@ fn read_script<'a>(
 
 /// The text of a run of the script.
 fn run<'a>(alloc: Global, schema: Schema, script: &Script) -> Result<Items<u8>, Stop<'a>>
-    requires { IsScript schema script.now }
+    requires script { IsScript schema script.now }
+    requires narrow { IsNarrow schema }
     ensures text { IfOk result (λ text. IsTextOf schema script.now text) }
     ensures memory { IfErr result (λ stop. stop ≡ Stop.NoMemory) }
 {
@@ -106,6 +110,7 @@ fn decide_script<'a, F: Files>(
     schema: Schema,
     files: &mut F,
 ) -> Result<Items<u8>, Stop<'a>>
+    requires { IsNarrow schema }
     ensures on { FilesGoOn (F.state files.old) (F.state files.new) }
     ensures text { IfOk result (λ text. IsRightText (F.state files.old).told (λ files work. Scripting files name.now schema work) text) }
     ensures stop { IfErr result (λ stop. Stops (F.state files.old) (F.state files.new) (λ files work. Scripting files name.now schema work) stop) }
