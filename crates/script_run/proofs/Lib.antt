@@ -7,3 +7,4 @@ pub mod Takes
 pub mod Steps
 pub mod Listed
 pub mod Whole
+pub mod PingScript

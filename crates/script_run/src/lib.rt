@@ -4,5 +4,7 @@
 mod lines;
 mod run;
 mod runner;
+#[cfg(test)]
+mod tests;
 
 pub use runner::{NoMemory, run_alone};
