@@ -2,3 +2,4 @@ pub mod Asking
 pub mod Completes
 pub mod Reporting
 pub mod Narrows
+pub mod Laws

@@ -1,9 +1,10 @@
 -- What each status says of the words, the files and the sinks, before the call and after it.
-use Rattle.std.specs.Prelude.{ℕ, ◌≡◌, List, Option, Some, None, ◌⊎◌}
+use Rattle.std.specs.Prelude.{ℕ, ◌≡◌, List, reverse, Option, Some, None, ◌⊎◌}
 use Rattle.mj_io.specs.Outside.{Named, FilesState, SinkState, Rose, Wrote, WroteSome}
 use Rattle.mj_schema.specs.declared.schema.Schema.{Schema}
 use Rattle.bind_model.specs.declared.event.Event.{Event}
 use Rattle.bind_model.specs.Machine.{Legal}
+use Rattle.bind_model.specs.Laws.{InOrder, AsSaid, AreTight, AreGood, OnePlace}
 use Rattle.call_script.specs.declared.script.Script.{Script}
 use Rattle.call_script.specs.Text.{output}
 use Rattle.script_run.specs.OfScript.{OfScript}
@@ -36,11 +37,25 @@ pub record Seen : Type 0 where
 abbrev pub asked_by : Seen → List Named → Work → Type 0
 asked_by s files work = IsWork (run_of s.words) files work
 
--- the text is that of one legal history of the script's events
+-- what a history keeps, said of its events, the newest first
+pub record KeepsLaws (schema : Schema) (past : List Event) : Type 0 where
+  -- at each end the takes were told, in order and once, what a prefix of the messages written there gives
+  pub in_order : InOrder schema past
+  -- what they were told is what the calls at the peer said
+  pub as_said : AsSaid past
+  -- the bytes of each call that was sent are the tight ones
+  pub tight : AreTight past
+  -- no message stands for nothing
+  pub good : AreGood past
+  -- each end is made once, and is either with a caller or bound
+  pub one_place : OnePlace past
+
+-- the text is that of one history, which is legal for the schema, is of the script's events, and keeps the laws
 pub record IsTextOf (schema : Schema) (script : Script) (text : List ℕ) : Type 0 where
   pub history : List Event
   pub legal : Legal schema 1 history
   pub events : OfScript schema script history
+  pub laws : KeepsLaws schema (reverse history)
   pub whole : text ≡ output schema 1 history
 
 -- the text is one that the words and the files ask for

@@ -82,6 +82,7 @@ fn read_script<'a>(
 }
 
 /// The text of a run of the script.
+#[tactic(auto, using(crate::proofs::Laws::keeps_laws))]
 fn run<'a>(alloc: Global, schema: Schema, script: &Script) -> Result<Items<u8>, Stop<'a>>
     requires script { IsScript schema script.now }
     requires narrow { IsNarrow schema }

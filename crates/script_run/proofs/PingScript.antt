@@ -1,6 +1,7 @@
 -- A script of one call.
-use Rattle.std.proofs.Common.{◌≡◌, [], ◌∷◌, length, refl, arith}
-use Rattle.std.specs.Prelude.{codes}
+use Rattle.std.proofs.Common.{◌≡◌, [], ◌∷◌, length, refl, arith, lit<}
+use Rattle.std.specs.Prelude.{codes, decimal}
+use Rattle.std.proofs.lemmas.Fmt.{decimal_digit}
 use Rattle.mj_schema.specs.declared.schema.Schema.{Schema}
 use Rattle.mj_schema.specs.declared.rows.InterfaceRow.{InterfaceRow}
 use Rattle.mj_schema.specs.declared.rows.MethodRow.{MethodRow}
@@ -31,6 +32,7 @@ module _ (s : Schema) (params : StructRow) (i : InterfaceRow) (m : MethodRow) (p
       },
       tt,
     );
+    plain = rw (pipes, lines, first, second, interface, interfaces, name, methods, method, ordinal) (refl, (refl, (refl, (refl, (let seven : decimal 7 ≡ 55 ∷ [] = decimal_digit 7 (lit< tt) in rw seven refl, tt)))));
     few = rw (pipes, lines) (omega arith);
   }
 

@@ -1,8 +1,9 @@
 //! A whole run.
 
-ghost use Rattle.std.specs.Prelude.{◌≤◌, length, IfOk};
+ghost use Rattle.std.specs.Prelude.{◌≤◌, length, reverse, IfOk};
 ghost use Rattle.std.specs.Arc.{arc_value};
 ghost use Rattle.bind_model.specs.Machine.{Legal};
+ghost use Rattle.bind_model.specs.Laws.{AllAllowed};
 ghost use Rattle.call_script.specs.Spelling.{IsScript};
 ghost use Rattle.script_run.specs.OfScript.{OfScript};
 ghost use Rattle.script_run.specs.Narrow.{IsNarrow};
@@ -24,6 +25,8 @@ pub fn run_alone(alloc: Global, schema: Arc<Schema>, script: &Script) -> Result<
     requires script { IsScript (arc_value schema) script.now }
     requires narrow { IsNarrow (arc_value schema) }
     ensures legal { IfOk result (λ history. Legal (arc_value schema) 1 history.events) }
+    // Each call was prepared with the schema, and the bindings of each pipe suit one another.
+    ensures allowed { IfOk result (λ history. AllAllowed (arc_value schema) (reverse history.events)) }
     ensures script { IfOk result (λ history. OfScript (arc_value schema) script.now history.events) }
     ensures few { IfOk result (λ history. length history.events ≤ 131072) }
 {
