@@ -4,6 +4,8 @@
 mod decide;
 mod refusal;
 mod status;
+#[cfg(test)]
+mod tests;
 mod top;
 mod words;
 

@@ -1,0 +1,119 @@
+//! The worked example, and each fault once, over memory.
+
+use crate::{mojo_alone, mojo_main};
+use mj_io::{MemoryFiles, MemorySink, NamedFile, OpenGate};
+use std::alloc::{AllocError, Global};
+use std::test::Fail;
+
+const FILE: &str = "module t; interface P { Ping(uint32 n); };";
+
+const SCRIPT: &str = "seqs 1
+join 0 0 x y
+0: bind x remote t.P
+0: bind y receiver t.P
+0: call x#0 t.P.Ping (7)
+0: take y
+";
+
+const HISTORY: &str = "0 0 join 0 -> made [e0.0,e0.1]
+1 0 bind e0.0 remote t.P -> bound e0.0
+2 0 bind e0.1 receiver t.P -> bound e0.1
+3 0 call e0.0#0 t.P.Ping (7) [] -> sent 0 18000000000000000000000000000000000000000000000010000000000000000700000000000000
+4 0 take e0.1 -> got request 0 t.P.Ping (7) 0 [] [] []
+left e0.0
+left e0.1
+done 5
+";
+
+/// A file by its name and its text.
+fn named(alloc: Global, name: &str, text: &str) -> Result<NamedFile, AllocError> {
+    Ok(NamedFile {
+        name: String::from_str(alloc, name)?,
+        bytes: Vec::from_slice(alloc, text.as_bytes())?,
+    })
+}
+
+/// The two files of the worked example. The fetches of these numbers fail.
+fn files(alloc: Global, failing: Vec<u64>) -> Result<MemoryFiles, AllocError> {
+    let mut files = Vec::new(alloc);
+    files.push(named(alloc, "t.mojom", FILE)?)?;
+    files.push(named(alloc, "s", SCRIPT)?)?;
+    Ok(MemoryFiles::new(files, failing))
+}
+
+/// The words of a run of the worked example.
+fn words(alloc: Global) -> Result<Vec<String>, AllocError> {
+    let mut words = Vec::new(alloc);
+    for word in ["mojo_tool", "run", "--script", "s", "t.mojom"] {
+        words.push(String::from_str(alloc, word)?)?;
+    }
+    Ok(words)
+}
+
+#[test]
+fn the_worked_example(rt: HostRuntime) -> Result<(), Fail> {
+    let alloc = rt.alloc();
+    let words = words(alloc)?;
+    let mut files = files(alloc, Vec::new(alloc))?;
+    let mut out = MemorySink::new(alloc, 100, Vec::new(alloc));
+    let mut err = MemorySink::new(alloc, 100, Vec::new(alloc));
+    let status = mojo_main(
+        &rt,
+        alloc,
+        words.as_slice(),
+        &mut files,
+        &mut out,
+        &mut err,
+        &OpenGate,
+    );
+    assert_eq!(rt; status, 0);
+    assert_eq!(rt; out.text(), HISTORY.as_bytes());
+    assert!(rt; err.text().is_empty());
+    Ok(())
+}
+
+#[test]
+fn each_fetch_fails_once(rt: HostRuntime) -> Result<(), Fail> {
+    let alloc = rt.alloc();
+    let words = words(alloc)?;
+    for (call, line) in [(0, "error: read t.mojom\n"), (1, "error: read s\n")] {
+        let mut files = files(alloc, vec![in alloc; call]?)?;
+        let mut out = MemorySink::new(alloc, 100, Vec::new(alloc));
+        let mut err = MemorySink::new(alloc, 100, Vec::new(alloc));
+        let status = mojo_alone(alloc, words.as_slice(), &mut files, &mut out, &mut err);
+        assert_eq!(rt; status, Some(3));
+        assert!(rt; out.text().is_empty());
+        assert_eq!(rt; err.text(), line.as_bytes());
+    }
+    Ok(())
+}
+
+#[test]
+fn each_write_fails_once(rt: HostRuntime) -> Result<(), Fail> {
+    let alloc = rt.alloc();
+    let words = words(alloc)?;
+    for (call, taken) in [(0, 0usize), (1, 100), (2, 200)] {
+        let mut files = files(alloc, Vec::new(alloc))?;
+        let mut out = MemorySink::new(alloc, 100, vec![in alloc; call]?);
+        let mut err = MemorySink::new(alloc, 100, Vec::new(alloc));
+        let status = mojo_alone(alloc, words.as_slice(), &mut files, &mut out, &mut err);
+        assert_eq!(rt; status, Some(4));
+        assert_eq!(rt; out.text().len(), taken);
+        assert!(rt; err.text().is_empty());
+    }
+    Ok(())
+}
+
+#[test]
+fn wrong_words_show_the_usage_even_where_it_is_lost(rt: HostRuntime) -> Result<(), Fail> {
+    let alloc = rt.alloc();
+    let words: Vec<String> = Vec::new(alloc);
+    let mut files = files(alloc, Vec::new(alloc))?;
+    let mut out = MemorySink::new(alloc, 100, Vec::new(alloc));
+    let mut err = MemorySink::new(alloc, 7, vec![in alloc; 1]?);
+    let status = mojo_alone(alloc, words.as_slice(), &mut files, &mut out, &mut err);
+    assert_eq!(rt; status, Some(2));
+    assert!(rt; out.text().is_empty());
+    assert_eq!(rt; err.text(), b"usage: ".as_slice());
+    Ok(())
+}
