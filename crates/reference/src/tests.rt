@@ -2,7 +2,8 @@
 
 ghost use Rattle.std.specs.Prelude.{◌≡◌, ◌++◌, [], ◌∷◌, reverse, None, IfOk};
 ghost use Rattle.mj_base.specs.declared.ids.EndId.{EndId};
-ghost use Rattle.bind_core.specs.Plain.{asked_of};
+ghost use Rattle.bind_core.specs.Asks.{told_at};
+ghost use Rattle.bind_core.specs.Plain.{HandsBack, asked_of, told_of};
 ghost use Rattle.bind_model.specs.Laws.{IsAllowed, SuitsPeer};
 ghost use Rattle.bind_model.specs.Machine.{binding, peer};
 ghost use Rattle.bind_model.specs.declared.event.Asked.{Asked};
@@ -10,10 +11,13 @@ ghost use Rattle.bind_model.specs.declared.event.Told.{Told};
 ghost use Rattle.wire_model.specs.Tight.{HasTarget};
 
 use super::*;
+use bind_core::{Command, Core, Handle, Reply};
 use bind_model::{Asked, Binding, Event, Side, Taken, Told, Why};
 use mj_base::{EndId, Items, SeqId, Text};
 use mj_schema::{FieldRow, InterfaceRow, Kind, MethodRow, Schema, StructRow, VersionRow};
 use std::alloc::{AllocError, Global};
+use std::process::Abort;
+use std::sync::Arc;
 use std::test::Fail;
 use wire_model::{MessageSide, Target, prepare};
 
@@ -164,5 +168,167 @@ fn a_message_is_written_and_read(rt: HostRuntime) -> Result<(), Fail> {
     let value = found.as_ref().map(|read| read.value.as_slice());
     assert_eq!(rt; value, Some([7].as_slice()));
     assert!(rt; request_in(alloc, &schema, 0, &PING_7[..39])?.is_none());
+    Ok(())
+}
+
+/// Does a command, for which there is memory.
+fn step(rt: &impl Abort, core: &mut Core, alloc: Global, command: Command) -> Reply
+    requires seqs { core.old.seqs ≡ 1 }
+    requires allowed { IsAllowed core.old.schema (reverse core.old.events) (asked_of command) }
+    ensures same { (core.new.schema ≡ core.old.schema) × (core.new.seqs ≡ core.old.seqs) }
+    ensures event { core.new.events ≡ core.old.events ++ record { seq = ONLY; asked = asked_of command; told = told_of result } ∷ [] }
+    ensures told { told_of result ≡ told_at core.old ONLY command }
+    ensures back { HandsBack command result }
+{
+    match core.step(alloc, ONLY, command) {
+        Ok(reply) => reply,
+        Err(_refused) => panic!(rt; "no memory"),
+    }
+}
+
+/// The handles of a new pipe.
+fn join(rt: &impl Abort, core: &mut Core, alloc: Global) -> (Handle, Handle)
+    requires seqs { core.old.seqs ≡ 1 }
+    ensures same { (core.new.schema ≡ core.old.schema) × (core.new.seqs ≡ core.old.seqs) }
+    ensures pair { (peer (reverse core.new.events) result.0 ≡ result.1) × (peer (reverse core.new.events) result.1 ≡ result.0) }
+    ensures unbound { (binding (reverse core.new.events) result.0 ≡ None) × (binding (reverse core.new.events) result.1 ≡ None) }
+{
+    let _history = core.history();
+    let mut items = match step(rt, core, alloc, Command::Join(ONLY)) {
+        Reply::Made(handles) => handles.into_vec(),
+        _other => panic!(rt; "no pipe"),
+    };
+    if items.len() != 2 {
+        panic!(rt; "not two ends");
+    }
+    let first = items.remove(0);
+    let second = items.remove(0);
+    items.destroy_empty();
+    (first, second)
+}
+
+/// Binds an end as a side of interface 0.
+fn bind(rt: &impl Abort, core: &mut Core, alloc: Global, handle: Handle, side: Side) -> EndId
+    requires seqs { core.old.seqs ≡ 1 }
+    requires suits { SuitsPeer side 0 (binding (reverse core.old.events) (peer (reverse core.old.events) handle)) }
+    ensures same { (core.new.schema ≡ core.old.schema) × (core.new.seqs ≡ core.old.seqs) }
+    ensures event { core.new.events ≡ core.old.events ++ record { seq = ONLY; asked = Asked.Bind handle side 0; told = Told.Bound result } ∷ [] }
+{
+    match step(rt, core, alloc, Command::Bind(handle, side, 0)) {
+        Reply::Bound(end) => end,
+        _other => panic!(rt; "not bound"),
+    }
+}
+
+/// A new pipe, bound as the two sides of interface 0.
+fn open(rt: &impl Abort, core: &mut Core, alloc: Global) -> (EndId, EndId)
+    requires seqs { core.old.seqs ≡ 1 }
+    ensures same { (core.new.schema ≡ core.old.schema) × (core.new.seqs ≡ core.old.seqs) }
+{
+    let (first, second) = join(rt, core, alloc);
+    let from = bind(rt, core, alloc, first, Side::Remote);
+    let to = bind(rt, core, alloc, second, Side::Receiver);
+    (from, to)
+}
+
+/// Asks for a binding as the remote of an interface that isn't there.
+fn misbind(rt: &impl Abort, core: &mut Core, alloc: Global, handle: Handle) -> Handle
+    requires seqs { core.old.seqs ≡ 1 }
+    requires unbound { binding (reverse core.old.events) (peer (reverse core.old.events) handle) ≡ None }
+    ensures same { (core.new.schema ≡ core.old.schema) × (core.new.seqs ≡ core.old.seqs) }
+{
+    match step(rt, core, alloc, Command::Bind(handle, Side::Remote, 1)) {
+        Reply::No(_, Command::Bind(handle, _, _)) => handle,
+        _other => panic!(rt; "not refused"),
+    }
+}
+
+/// Does a command that has no handle.
+fn tell(rt: &impl Abort, core: &mut Core, alloc: Global, command: Command)
+    requires seqs { core.old.seqs ≡ 1 }
+    requires allowed { IsAllowed core.old.schema (reverse core.old.events) (asked_of command) }
+    ensures same { (core.new.schema ≡ core.old.schema) × (core.new.seqs ≡ core.old.seqs) }
+{
+    match step(rt, core, alloc, command) {
+        Reply::Bound(_) | Reply::Sent(_, _) | Reply::Got(_) => {}
+        Reply::No(_, Command::Call(_, _, _) | Command::Take(_)) => {}
+        _other => panic!(rt; "handles"),
+    }
+}
+
+/// Calls a method with these numbers.
+fn call(
+    rt: &impl Abort,
+    core: &mut Core,
+    alloc: Global,
+    schema: &Schema,
+    from: EndId,
+    target: Target,
+    numbers: &[u32],
+)
+    requires seqs { core.old.seqs ≡ 1 }
+    requires schema { core.old.schema ≡ schema.now }
+    requires target { HasTarget schema.now target }
+    ensures same { (core.new.schema ≡ core.old.schema) × (core.new.seqs ≡ core.old.seqs) }
+{
+    let value = Items::from_vec(Vec::from_slice(alloc, numbers).expect(rt, "memory"));
+    match prepare(alloc, schema, target, &value) {
+        Ok(prepared) => tell(rt, core, alloc, Command::Call(from, 0, prepared)),
+        Err(_error) => panic!(rt; "not prepared"),
+    }
+}
+
+/// Three pipes, of which the third stays with the caller; calls at three ends, and takes at two.
+fn play(rt: &impl Abort, core: &mut Core, alloc: Global, schema: &Schema) -> (Handle, Handle)
+    requires seqs { core.old.seqs ≡ 1 }
+    requires schema { core.old.schema ≡ schema.now }
+    requires targets { HasTarget schema.now PING × HasTarget schema.now MOVE }
+{
+    let (a, b) = open(rt, core, alloc);
+    let (c, d) = open(rt, core, alloc);
+    let (first, second) = join(rt, core, alloc);
+    let first = misbind(rt, core, alloc, first);
+    tell(rt, core, alloc, Command::Take(b));
+    call(rt, core, alloc, schema, a, PING, &[7]);
+    call(rt, core, alloc, schema, a, MOVE, &[1, 2]);
+    call(rt, core, alloc, schema, c, MOVE, &[3, 4]);
+    call(rt, core, alloc, schema, b, PING, &[7]);
+    tell(rt, core, alloc, Command::Take(b));
+    tell(rt, core, alloc, Command::Take(d));
+    tell(rt, core, alloc, Command::Take(d));
+    (first, second)
+}
+
+#[test]
+fn the_history_of_a_core_is_legal(rt: HostRuntime) -> Result<(), Fail> {
+    let alloc = rt.alloc();
+    let schema = Arc::new(alloc, two_methods(alloc)?)?;
+    let Ok(shared) = Arc::try_clone(&schema) else {
+        return Err(AllocError.into());
+    };
+    let mut core = Core::new(alloc, shared, 1);
+    let (first, second) = play(&rt, &mut core, alloc, &schema);
+    let (history, over) = core.end();
+    first.retire(&over);
+    second.retire(&over);
+    let events = history.as_slice();
+    assert_eq!(rt; events.len(), 16);
+    assert!(rt; is_legal(alloc, &schema, 1, events)?);
+
+    let left = unread(alloc, events, end(1))?;
+    assert_eq!(rt; left.as_slice(), [MOVE_1_2.as_slice()].as_slice());
+    let all = written(alloc, events, end(1))?;
+    assert_eq!(rt; all.as_slice(), [PING_7.as_slice(), MOVE_1_2.as_slice()].as_slice());
+    let told = taken(alloc, events, end(1))?;
+    let seven = matches!(told.as_slice(), [one] if one.value.as_slice() == [7].as_slice());
+    assert!(rt; seven);
+    assert_eq!(rt; peer(events, end(3)), end(2));
+    let bound = Binding {
+        on: ONLY,
+        side: Side::Receiver,
+        interface: 0,
+    };
+    assert_eq!(rt; binding(events, end(1)), Some(bound));
+    assert_eq!(rt; outs(alloc, events)?.as_slice(), [end(4), end(5)].as_slice());
     Ok(())
 }
