@@ -3,10 +3,9 @@
 #![tactic(auto)]
 
 mod machine;
-mod wire;
-
 #[cfg(test)]
 mod tests;
+mod wire;
 
 pub use machine::{answer, binding, is_legal, made, outs, peer, taken, unread, written};
 pub use wire::{Read, message_bytes, request_in};

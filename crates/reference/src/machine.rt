@@ -120,15 +120,30 @@ pub fn unread<'a>(alloc: Global, past: &'a [Event], x: EndId) -> Result<Vec<&'a 
     Ok(left)
 }
 
-/// The ends whose handles are with callers: those made and not bound.
+/// The ends whose handles are with callers: a bind that is done takes its handle in, and a new pipe
+/// hands its two out.
 pub fn outs(alloc: Global, past: &[Event]) -> Result<Vec<EndId>, AllocError> {
     let mut ends = Vec::new(alloc);
-    for end in made(alloc, past)?.as_slice() {
-        if binding(past, *end).is_none() {
-            ends.push(*end)?;
+    for event in past {
+        if let Some(given) = given_by(event) {
+            ends.retain(|end| *end != given);
+        }
+        if let Told::Made(both) = &event.told {
+            ends.extend_from_slice(both.as_slice())?;
         }
     }
     Ok(ends)
+}
+
+/// The end whose handle was given away with a command that was done.
+fn given_by(event: &Event) -> Option<EndId> {
+    match &event.told {
+        Told::Bound(_) => match &event.asked {
+            Asked::Bind(end, _, _) => Some(*end),
+            _ => None,
+        },
+        _ => None,
+    }
 }
 
 /// How many ends the sequence has made.
