@@ -1,14 +1,14 @@
 -- What is asked for, found out a file at a time.
-use Rattle.std.proofs.Common.{◌≡◌, ◌≤◌, ◌<◌, ◌+◌, ◌-◌, ◌^◌, ℕ, List, length, refl, sym, ap, ◌∙◌, subst, arith, inl, inr, Some, None}
-use Rattle.std.specs.Prelude.{Option, ◌⊎◌, Result, Ok, Err, IfOk, IfErr}
-use Rattle.mj_io.specs.Outside.{Named, find_file, FilesState, FilesGoOn, Rose}
+use Rattle.std.proofs.Common.{◌≡◌, ◌≤◌, ℕ, List, length, refl, sym, subst, arith, inl, inr, Some, None}
+use Rattle.std.specs.Prelude.{Option, Result, Ok, Err, IfOk, IfErr}
+use Rattle.mj_io.specs.Outside.{Named, FilesState, FilesGoOn}
 use Rattle.mj_schema.specs.declared.schema.Schema.{Schema}
 use Rattle.mojom_compile.specs.Compiled.{IsSchemaOf}
 use Rattle.call_script.specs.declared.script.Script.{Script}
 use Rattle.call_script.specs.Spelling.{IsScriptOf}
 use Rattle.mojo_tool.specs.Work.{Work, Missing, TooLong, Unreadable, Runs, RunWords, Fetching, Leads, Compiling, Reading, Scripting, Running, AskedFor}
 use Rattle.mojo_tool.specs.Answers.{ReadFailed, refused_work, IsTextOf, IsRightText}
-use Rattle.mojo_tool.specs.Stops.{Stops, FaultOfFiles, HasBytes, IsLonger, IsLost, NotFetched, NoSchema, NoScript}
+use Rattle.mojo_tool.specs.Stops.{Stops, HasBytes, IsLonger, IsLost, NotFetched, NoSchema, NoScript}
 use Rattle.mojo_tool.specs.declared.decide.Stop.{Stop}
 use Rattle.mojo_tool.specs.declared.decide.Stop.TheVariants.{Refused, ReadFault, NoMemory}
 
@@ -88,9 +88,9 @@ later before mid now words bytes schema (Refused refusal) on has short is stops 
 later before mid now words bytes schema (ReadFault other) on has short is stops = record {
   rose = omega (arith, stops.rose, on.faults);
   failed = leads_on_lost before.told words.file other.now bytes (λ files. Compiling words.file (Scripting files words.script)) before.there now.there has short
-  (compiled_lost before.told words.file other.now bytes schema (λ files. Scripting files words.script) before.there now.there is
-  (weaker before.told words.script schema other.now mid.there before.there now.there on.there
-  (subst (λ (told : Option (List Named)). ReadFailed told (λ files w. Scripting files words.script schema w) other.now mid.there now.there) on.same stops.failed)));
+      (compiled_lost before.told words.file other.now bytes schema (λ files. Scripting files words.script) before.there now.there is
+      (weaker before.told words.script schema other.now mid.there before.there now.there on.there
+      (subst (λ (told : Option (List Named)). ReadFailed told (λ files w. Scripting files words.script schema w) other.now mid.there now.there) on.same stops.failed)));
 }
   where
     weaker : (told : Option (List Named)) (script : List ℕ) (schema : Schema) (name : List ℕ) (mid before now : ℕ) → before ≤ mid → ReadFailed told (λ files w. Scripting files script schema w) name mid now
@@ -107,8 +107,8 @@ right_text before mid words bytes text schema on has short is right = record {
   schema = right.schema;
   script = right.script;
   asked = leads_on before.told words.file bytes (λ files. Compiling words.file (Scripting files words.script)) (Runs right.schema right.script) has short
-  (compiled before.told words.file bytes schema (λ files. Scripting files words.script) (Runs right.schema right.script) is
-  (subst (λ (told : Option (List Named)). AskedFor told (λ files w. Scripting files words.script schema w) (Runs right.schema right.script)) on.same right.asked));
+      (compiled before.told words.file bytes schema (λ files. Scripting files words.script) (Runs right.schema right.script) is
+      (subst (λ (told : Option (List Named)). AskedFor told (λ files w. Scripting files words.script schema w) (Runs right.schema right.script)) on.same right.asked));
   text_of = right.text_of;
 }
 

@@ -1,5 +1,5 @@
 -- Where all is there and nothing failed, all was done, but for want of memory.
-use Rattle.std.proofs.Common.{◌≡◌, ℕ, List, Some, None, refl, sym, subst, ap, ◌∙◌, inl, inr}
+use Rattle.std.proofs.Common.{◌≡◌, ℕ, List, Some, None, refl, subst, inl, inr}
 use Rattle.std.specs.Prelude.{Option, ◌⊎◌}
 use Rattle.mj_io.specs.Outside.{Named, Rose}
 use Rattle.mojo_tool.specs.Work.{Work, WrongWords, Missing, TooLong, Unreadable, AskedFor, run_of, IsWork, RunWords}

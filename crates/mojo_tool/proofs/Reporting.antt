@@ -1,8 +1,8 @@
 -- The answers of the last steps.
-use Rattle.std.proofs.Common.{◌≡◌, ℕ, List, Some, None, refl, sym, subst, ap, ◌∙◌, inl, inr}
+use Rattle.std.proofs.Common.{◌≡◌, ℕ, List, Some, refl, subst}
 use Rattle.std.specs.Prelude.{Option}
-use Rattle.mj_io.specs.Outside.{Named, FilesState, SinkState}
-use Rattle.mojo_tool.specs.Work.{Work, RunWords, run_of, IsWork, Running}
+use Rattle.mj_io.specs.Outside.{FilesState, SinkState}
+use Rattle.mojo_tool.specs.Work.{RunWords, run_of, IsWork, Running}
 use Rattle.mojo_tool.specs.Answers.{Seen, Answers, IsRightText}
 use Rattle.mojo_tool.specs.Stops.{Stops}
 use Rattle.mojo_tool.specs.Reports.{Printed, Reported}

@@ -1,8 +1,8 @@
 -- Where all is there, nothing is refused and nothing failed, all was done, but for want of memory.
-use Rattle.std.specs.Prelude.{ℕ, ◌≡◌, List, Option, Some, ◌⊎◌}
+use Rattle.std.specs.Prelude.{ℕ, ◌≡◌, List, Some, ◌⊎◌}
 use Rattle.mj_io.specs.Outside.{Named, Rose}
-use Rattle.mojo_tool.specs.Answers.{Seen, Answers, asked_by}
-use Rattle.mojo_tool.specs.Work.{Work, WrongWords, Missing, TooLong, Unreadable}
+use Rattle.mojo_tool.specs.Answers.{Seen, asked_by}
+use Rattle.mojo_tool.specs.Work.{WrongWords, Missing, TooLong, Unreadable}
 use Rattle.mojo_tool.specs.declared.status.Status.{Status}
 use Rattle.mojo_tool.specs.declared.status.Status.TheVariants.{Done, NoMemory}
 

@@ -1,5 +1,5 @@
 -- What the words and the files ask for, in the order in which a call finds it out: the words, the Mojom file, the script, the run.
-use Rattle.std.specs.Prelude.{ℕ, ◌≡◌, ◌≤◌, ◌<◌, ◌++◌, ◌&&◌, List, [], ◌∷◌, length, codes, if◌then◌else◌, Option, Some, None, ◌⊎◌}
+use Rattle.std.specs.Prelude.{ℕ, ◌≡◌, ◌≤◌, ◌<◌, ◌&&◌, List, [], ◌∷◌, length, codes, if◌then◌else◌, Option, Some, None, ◌⊎◌}
 use Rattle.std.specs.Str.{bytes_eq}
 use Rattle.mj_io.specs.Outside.{Named, find_file}
 use Rattle.mj_schema.specs.declared.schema.Schema.{Schema}

@@ -174,5 +174,4 @@ pub fn mojo_main<R: Wait + Threads + Sync, F: Files, O: Sink, E: Sink, G: Gate +
 #[tactic(auto, using(crate::proofs::Completes::completes))]
 pub fn complete()
     ensures { (s : Seen) (status : Status) → Answers s status → IsComplete s status }
-{
-}
+{}

@@ -1,4 +1,4 @@
-use Rattle.std.proofs.Common.{refl, ap, ◌∙◌, Err}
+use Rattle.std.proofs.Common.{refl, ap, Err}
 use Rattle.mojo_tool.proofs.decide.read_schema.Goals as goal
 
 pub returns-in-Err-Unsupported-clause-stop : goal.returns-in-Err-Unsupported-clause-stop

@@ -1,6 +1,3 @@
-use Rattle.std.proofs.Common.{subst, List, ℕ}
-use Rattle.std.specs.Prelude.{map, string_bytes}
-use Rattle.mojo_tool.specs.Reports.{Printed}
 use Rattle.mojo_tool.specs.Names.{named_by}
 use Rattle.mojo_tool.proofs.Reporting.{printed, reported}
 use Rattle.mojo_tool.proofs.top.alone.Goals as goal
