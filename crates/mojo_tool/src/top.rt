@@ -1,11 +1,12 @@
 //! The top call.
 
-ghost use Rattle.std.specs.Prelude.{◌≡◌, map, string_bytes, Some, IfOk};
+ghost use Rattle.std.specs.Prelude.{◌≡◌, map, string_bytes, Some, None, IfOk};
 ghost use Rattle.mj_io.specs.Outside.{SinkState};
 ghost use Rattle.mojo_tool.specs.Answers.{Answers, Seen, code_of, WroteOrFailed};
 ghost use Rattle.mojo_tool.specs.Complete.{IsComplete};
 ghost use Rattle.mojo_tool.specs.Reports.{Printed, Reported};
 ghost use Rattle.mojo_tool.specs.Lines.{refusal_text, error_line, read_text};
+ghost use Rattle.mojo_tool.specs.Work.{run_of};
 ghost use Rattle.mojo_tool.specs.declared.status.Status.{Status};
 
 use crate::decide::{Stop, decide};
@@ -91,7 +92,8 @@ fn alone<F: Files, O: Sink, E: Sink>(
     out: &mut O,
     err: &mut E,
 ) -> Status
-    ensures { Answers (record {
+    ensures wrong_use { run_of (map string_bytes words.now) ≡ None → result ≡ Status.WrongUse }
+    ensures answers { Answers (record {
       words = map string_bytes words.now;
       files_before = F.state files.old;
       files = F.state files.new;
@@ -126,7 +128,8 @@ pub fn mojo_alone<F: Files, O: Sink, E: Sink>(
     out: &mut O,
     err: &mut E,
 ) -> Option<u8>
-    ensures { (status : Status) × (result ≡ Some (code_of status)) × Answers (record {
+    ensures wrong_use { run_of (map string_bytes words.now) ≡ None → result ≡ Some 2 }
+    ensures answers { (status : Status) × (result ≡ Some (code_of status)) × Answers (record {
       words = map string_bytes words.now;
       files_before = F.state files.old;
       files = F.state files.new;
@@ -152,7 +155,8 @@ pub fn mojo_main<R: Wait + Threads + Sync, F: Files, O: Sink, E: Sink, G: Gate +
     err: &mut E,
     _gate: &G,
 ) -> u8
-    ensures { (status : Status) × (result ≡ code_of status) × Answers (record {
+    ensures wrong_use { run_of (map string_bytes words.now) ≡ None → result ≡ 2 }
+    ensures answers { (status : Status) × (result ≡ code_of status) × Answers (record {
       words = map string_bytes words.now;
       files_before = F.state files.old;
       files = F.state files.new;

@@ -2,8 +2,8 @@ use Rattle.mojo_tool.specs.Names.{named_by}
 use Rattle.mojo_tool.proofs.Reporting.{printed, reported}
 use Rattle.mojo_tool.proofs.top.alone.Goals as goal
 
-pub returns-in-Ok : goal.returns-in-Ok
-returns-in-Ok g c = printed _ (named_by c.in-Some.names) c.in-Some.ensures _ _ _ _ _ _ c.print.result c.in-Ok.ensures.text (rw c.as_slice.ensures at c.print.ensures)
+pub returns-in-Ok-clause-answers : goal.returns-in-Ok-clause-answers
+returns-in-Ok-clause-answers g c = printed _ (named_by c.in-Some.names) c.in-Some.ensures _ _ _ _ _ _ c.print.result c.in-Ok.ensures.text (rw c.as_slice.ensures at c.print.ensures)
 
-pub returns-in-Err : goal.returns-in-Err
-returns-in-Err g c = reported _ (named_by c.in-Some.names) c.in-Some.ensures _ _ _ _ _ c.in-Err.stop c.report.result c.in-Err.ensures.stop c.report.ensures
+pub returns-in-Err-clause-answers : goal.returns-in-Err-clause-answers
+returns-in-Err-clause-answers g c = reported _ (named_by c.in-Some.names) c.in-Some.ensures _ _ _ _ _ c.in-Err.stop c.report.result c.in-Err.ensures.stop c.report.ensures
