@@ -13,7 +13,7 @@ use mj_base::Text;
 use mj_schema::Schema;
 use std::alloc::{AllocError, Global};
 
-/// Whether the words are those of a join of sequence 0 with itself.
+/// Whether a line of these three words and two names is a join of sequence 0 with itself.
 fn is_join(command: &[u8], from: &[u8], to: &[u8]) -> bool
     ensures { IsTrue result ↔ ((command.now ≡ codes "join") × (from.now ≡ codes "0") × (to.now ≡ codes "0")) }
 {
@@ -97,7 +97,7 @@ fn bound_of<'a>(
     }
 }
 
-/// The name that the word is.
+/// The text of the word; none where it isn't a name.
 fn name_text(alloc: Global, word: &[u8]) -> Result<Option<Text>, AllocError>
     ensures { IfOk result (λ found. SpellsName word.now found) }
 {

@@ -25,6 +25,7 @@ const MOST_LINES: usize = 65_536;
 pub enum ScriptError {
     /// The text isn't of the form that is read today, or names what isn't there.
     Unsupported,
+    /// Memory ran out, which may befall any text.
     Memory,
 }
 
@@ -130,11 +131,12 @@ fn read_short(alloc: Global, schema: &Schema, lines: &[Words]) -> Result<Option<
 }
 
 /// Reads a script of today's form for this schema: a header, joins, the bindings of each pipe in
-/// order, and then calls on first ends and takes.
+/// order, and then calls on first ends and takes. It has one pipe at least, no name twice, and 65,536
+/// lines at most.
 ///
 /// # Errors
 ///
-/// `Unsupported` exactly where the text spells no such script, and `Memory`.
+/// `Unsupported` only where the text spells no such script, and `Memory` where memory ran out.
 pub fn read_script(alloc: Global, schema: &Schema, bytes: &[u8]) -> Result<Script, ScriptError>
     ensures ok { IfOk result (λ script. IsScriptOf schema.now bytes.now script) }
     ensures unsupported { result ≡ Err ScriptError.Unsupported → (script : Script) → IsScriptOf schema.now bytes.now script → ⊥ }

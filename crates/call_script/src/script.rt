@@ -19,13 +19,13 @@ pub struct Pipe {
     pub interface: u32,
 }
 
-/// A line of the sequence.
+/// A line of the sequence. Pipes are numbered from 0, in the order of their joins.
 #[derive(Drop)]
 pub enum Line {
-    /// A call on the first end of a pipe, by the pipe's number: the ordinal of the method, and the
+    /// A call on the first end of a pipe: the number of the pipe, the ordinal of the method, and the
     /// value.
     Call(u32, u32, Value),
-    /// A take at an end of a pipe.
+    /// A take at an end of a pipe: the number of the pipe, and which of its ends.
     Take(u32, PipeEnd),
 }
 

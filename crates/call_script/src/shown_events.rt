@@ -10,6 +10,7 @@ use mj_schema::Schema;
 use std::fmt;
 use wire_model::{MessageSide, Target};
 
+/// The word for a side of a pipe.
 fn side(side: Side) -> &'static str
     ensures { result.now ≡ side_text side }
 {
@@ -19,6 +20,7 @@ fn side(side: Side) -> &'static str
     }
 }
 
+/// The word for a kind of message.
 fn message(side: MessageSide) -> &'static str
     ensures { result.now ≡ message_text side }
 {
@@ -28,6 +30,7 @@ fn message(side: MessageSide) -> &'static str
     }
 }
 
+/// The word for the cause of a refusal.
 fn why(why: Why) -> &'static str
     ensures { result.now ≡ why_text why }
 {

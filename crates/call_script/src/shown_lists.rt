@@ -43,6 +43,7 @@ impl fmt::Display for ShownDigits<'_> {
     }
 }
 
+/// The lower-case hexadecimal digit of a number.
 fn digit(n: u8) -> char
     requires { n < 16 }
     ensures { result ≡ hex_digit n }

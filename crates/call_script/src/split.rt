@@ -6,7 +6,7 @@ ghost use Rattle.call_script.specs.Words.{words_now};
 
 use std::alloc::{AllocError, Global};
 
-/// The parts between the separators.
+/// The parts between the separators: one more than there are separators, some of them empty.
 pub(crate) fn split<'a>(
     alloc: Global,
     text: &'a [u8],
@@ -52,7 +52,7 @@ fn split_each<'a>(alloc: Global, lines: &[&'a [u8]]) -> Result<Vec<Words<'a>>, A
     Ok(each)
 }
 
-/// The lines of the text: the last may end in LF or lack it.
+/// The lines of the text: the last may end in LF or lack it, and the empty text has no line.
 fn text_lines<'a>(alloc: Global, text: &'a [u8]) -> Result<Vec<&'a [u8]>, AllocError>
     ensures { IfOk result (λ lines. map (λ line. line.now) lines.items ≡ without_empty_last (pieces 10 text.now)) }
 {

@@ -21,18 +21,21 @@ pub(crate) fn is_name(word: &[u8]) -> bool
     }
 }
 
+/// Whether the byte is one of `a` to `z`.
 fn is_small_letter(c: u8) -> bool
     ensures { result ≡ is_small_letter c }
 {
     97 <= c && c <= 122
 }
 
+/// Whether the byte may stand in a name behind its first letter.
 fn is_name_byte(c: u8) -> bool
     ensures { result ≡ is_name_byte c }
 {
     is_small_letter(c) || (48 <= c && c <= 57) || c == 95
 }
 
+/// Whether all the bytes may stand in a name behind its first letter.
 fn are_name_bytes(bytes: &[u8]) -> bool
     ensures { result ≡ list_all is_name_byte bytes.now }
 {
@@ -49,6 +52,7 @@ pub(crate) fn distinct(names: &[&[u8]]) -> bool
     }
 }
 
+/// Whether the name is one of the names.
 fn has(names: &[&[u8]], name: &[u8]) -> bool
     ensures { result ≡ list_any (bytes_eq name.now) (map (λ other. other.now) names.now) }
 {
@@ -58,7 +62,8 @@ fn has(names: &[&[u8]], name: &[u8]) -> bool
     }
 }
 
-/// The number that the word spells.
+/// The number that the word spells in decimal, with no sign and no leading zero; none where it spells
+/// no number below 2^32 so.
 pub(crate) fn number(alloc: Global, word: &[u8]) -> Result<Option<u32>, AllocError>
     ensures { IfOk result (λ found. SpellsNumber word.now found) }
 {
@@ -78,7 +83,7 @@ pub(crate) fn number(alloc: Global, word: &[u8]) -> Result<Option<u32>, AllocErr
     }
 }
 
-/// The numbers that the words spell, each its own.
+/// The numbers that the words spell, one each; none where a word spells none.
 fn numbers(alloc: Global, words: &[&[u8]]) -> Result<Option<Vec<u32>>, AllocError>
     ensures { IfOk result (λ found. MatchOption found (NoNumbers (map (λ word. word.now) words.now)) (λ ns. AreNumbers (map (λ word. word.now) words.now) ns.items)) }
 {
@@ -92,7 +97,7 @@ fn numbers(alloc: Global, words: &[&[u8]]) -> Result<Option<Vec<u32>>, AllocErro
     Ok(Some(found))
 }
 
-/// What stands between the brackets of the word.
+/// What stands between the brackets of the word; none where it isn't in brackets.
 fn inside(word: &[u8]) -> Option<&[u8]>
     ensures { MatchOption result (NoBrackets word.now) (λ text. IsInside word.now text.now) }
 {
@@ -102,7 +107,7 @@ fn inside(word: &[u8]) -> Option<&[u8]>
     }
 }
 
-/// The value that the word spells, as `(1,2)`.
+/// The value that the word spells, as `(1,2)`; none where it spells none.
 pub(crate) fn value(alloc: Global, word: &[u8]) -> Result<Option<Value>, AllocError>
     ensures { IfOk result (λ found. SpellsValue word.now found) }
 {
