@@ -4,9 +4,11 @@
 
 mod answer;
 mod case;
+mod definitions;
 mod lines;
 mod reader;
 
+use crate::answer::{Answer, print_texts};
 use crate::case::{Case, CaseError};
 use mj_io::{Fetched, Files, RealFiles};
 use std::alloc::Global;
@@ -25,6 +27,8 @@ const MOST_BYTES: u64 = 16777216;
 struct Tally {
     passed: u64,
     failed: u64,
+    /// How many texts were also computed from the definitions.
+    computed: u64,
 }
 
 /// The cases of a file.
@@ -40,6 +44,27 @@ fn cases_of<F: Files>(alloc: Global, files: &mut F, name: &str) -> Result<Vec<Ca
     }
 }
 
+/// Whether the text that the definitions give, where it was computed, is the one that is wanted;
+/// prints how it differs.
+fn is_as_defined<R: Print>(
+    rt: &R,
+    name: &str,
+    computed: Option<String>,
+    wanted: &Answer,
+    tally: &mut Tally,
+) -> io::Result<bool> {
+    let Some(text) = computed else {
+        return Ok(true);
+    };
+    tally.computed = tally.computed.saturating_add(1);
+    if text.as_bytes() == wanted.out.as_slice() {
+        return Ok(true);
+    }
+    println!(rt; "{name}: by the definitions")?;
+    print_texts(rt, "out", wanted.out.as_slice(), text.as_bytes())?;
+    Ok(false)
+}
+
 /// Runs the cases, and prints how those that fail differ.
 fn run_cases<R: Print + AllocGlobal + Wait + Threads + Sync>(
     rt: &R,
@@ -47,14 +72,16 @@ fn run_cases<R: Print + AllocGlobal + Wait + Threads + Sync>(
     tally: &mut Tally,
 ) -> io::Result<()> {
     for case in cases {
+        let computed = definitions::text_of(rt.alloc(), &case)?;
         let Case {
             name,
             words,
             files,
             wanted,
         } = case;
+        let is_defined = is_as_defined(rt, name.as_str(), computed, &wanted, tally)?;
         let answer = answer::run(rt, rt.alloc(), words.as_slice(), files)?;
-        if answer.is_wanted(&wanted) {
+        if answer.is_wanted(&wanted) && is_defined {
             tally.passed = tally.passed.saturating_add(1);
         } else {
             tally.failed = tally.failed.saturating_add(1);
@@ -86,6 +113,7 @@ fn run_files<R: std::rt::Files + Env + Print + AllocGlobal + Wait + Threads + Sy
 
 fn main(rt: HostRuntime) -> io::Result<ExitCode> {
     let tally = run_files(&rt)?;
+    println!(rt; "{} texts computed from the definitions", tally.computed)?;
     println!(rt; "{} passed, {} failed", tally.passed, tally.failed)?;
     if tally.failed > 0 {
         return Ok(ExitCode::FAILURE);

@@ -4,7 +4,8 @@ use Rattle.std.specs.Prelude.{Option, ◌⊎◌}
 use Rattle.mj_io.specs.Outside.{Named, Rose}
 use Rattle.mojo_tool.specs.Work.{Work, WrongWords, Missing, TooLong, Unreadable, AskedFor, run_of, IsWork, RunWords}
 use Rattle.mojo_tool.specs.Answers.{Seen, Answers, asked_by, ReadFailed, refused_work}
-use Rattle.mojo_tool.specs.Complete.{CanBeDone, IsComplete}
+use Rattle.mojo_tool.specs.Complete.{CanBeDone, CanBeRun, IsDoneOrShort, IsComplete}
+use Rattle.mojo_tool.proofs.OnlyRuns.{IsRun, only_runs}
 use Rattle.mojo_tool.specs.declared.refusal.ToolRefusal.{ToolRefusal}
 use Rattle.mojo_tool.specs.declared.refusal.ToolRefusal.TheVariants.{Unsupported, FileTooLong}
 use Rattle.mojo_tool.specs.declared.status.Status.{Status}
@@ -29,10 +30,29 @@ no_words : (words : Option RunWords) (files : List Named) → words ≡ None →
 no_words None files e = refl
 no_words (Some words) files e = absurd cc
 
+is_done : (s : Seen) (status : Status) → Answers s status → CanBeDone s → IsDoneOrShort status
+is_done s Done a can = inl refl
+is_done s Refused a can = absurd (not_refused s can a.refusal a.asked)
+is_done s WrongUse a can = absurd (can.words (no_words (run_of s.words) can.files a.wrong))
+is_done s ReadFault a can = absurd (not_missing s can a.name a.failed)
+is_done s WriteFault a can = absurd (can.written a.rose)
+is_done s NoMemory a can = inr refl
+
+-- where a run is asked for, nothing is refused or missing
+can_be_done : (s : Seen) → CanBeRun s → CanBeDone s
+can_be_done s can = record {
+  files = can.files;
+  told = can.told;
+  words = only WrongWords;
+  present = λ name. only (Missing name);
+  short = λ name. only (TooLong name);
+  readable = λ name. only (Unreadable name);
+  steady = can.steady;
+  written = can.written;
+}
+  where
+    only : (w : Work) → asked_by s can.files w → IsRun w
+    only = only_runs (run_of s.words) can.files can.schema can.script can.asked
+
 pub completes : (s : Seen) (status : Status) → Answers s status → IsComplete s status
-completes s Done a can = inl refl
-completes s Refused a can = absurd (not_refused s can a.refusal a.asked)
-completes s WrongUse a can = absurd (can.words (no_words (run_of s.words) can.files a.wrong))
-completes s ReadFault a can = absurd (not_missing s can a.name a.failed)
-completes s WriteFault a can = absurd (can.written a.rose)
-completes s NoMemory a can = inr refl
+completes s status a = (is_done s status a, λ can. is_done s status a (can_be_done s can))

@@ -1,4 +1,5 @@
 pub mod Asking
+pub mod OnlyRuns
 pub mod Completes
 pub mod Reporting
 pub mod Narrows

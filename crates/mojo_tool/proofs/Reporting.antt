@@ -2,9 +2,9 @@
 use Rattle.std.proofs.Common.{◌≡◌, ℕ, List, Some, refl, subst}
 use Rattle.std.specs.Prelude.{Option}
 use Rattle.mj_io.specs.Outside.{FilesState, SinkState}
-use Rattle.mojo_tool.specs.Work.{RunWords, run_of, IsWork, Running}
+use Rattle.mojo_tool.specs.Work.{RunWords, run_of, NamesFile, IsWork, Running}
 use Rattle.mojo_tool.specs.Answers.{Seen, Answers, IsRightText}
-use Rattle.mojo_tool.specs.Stops.{Stops}
+use Rattle.mojo_tool.specs.Stops.{Stops, IsOf}
 use Rattle.mojo_tool.specs.Reports.{Printed, Reported}
 use Rattle.mojo_tool.specs.declared.decide.Stop.{Stop}
 use Rattle.mojo_tool.specs.declared.decide.Stop.TheVariants as stop
@@ -31,34 +31,36 @@ module _ (words : List (List ℕ)) (run : RunWords) (e : Some run ≡ run_of wor
   printed o text NoMemory right wrong = absurd wrong
 
   -- it was said why there is no text
-  pub reported : (er : SinkState) (why : Stop) (status : Status) → Stops fb f (λ files w. Running files run w) why → Reported why eb er status
+  pub reported : (er : SinkState) (why : Stop) (status : Status) → Stops fb f (λ files w. Running files run w) why → IsOf (NamesFile (Some run)) why → Reported why eb er status
       → Answers (record { words = words; files_before = fb; files = f; out_before = ob; out = ob; err_before = eb; err = er }) status
-  reported er (stop.Refused refusal) Refused stops said = record {
+  reported er (stop.Refused refusal) Refused stops of said = record {
     refusal = refusal;
+    named = subst (λ (asked : Option RunWords). IsOf (NamesFile asked) (stop.Refused refusal)) e of;
     quiet = refl;
     asked = subst (λ (asked : Option RunWords). Stops fb f (λ files w. IsWork asked files w) (stop.Refused refusal)) e stops;
     wrote = said.1;
   }
-  reported er (stop.Refused refusal) NoMemory stops said = record { quiet = refl }
-  reported er (stop.Refused refusal) Done stops said = absurd (let s = said.0 in cc)
-  reported er (stop.Refused refusal) WrongUse stops said = absurd (let s = said.0 in cc)
-  reported er (stop.Refused refusal) ReadFault stops said = absurd (let s = said.0 in cc)
-  reported er (stop.Refused refusal) WriteFault stops said = absurd (let s = said.0 in cc)
-  reported er (stop.ReadFault name) ReadFault stops said = record {
+  reported er (stop.Refused refusal) NoMemory stops of said = record { quiet = refl }
+  reported er (stop.Refused refusal) Done stops of said = absurd (let s = said.0 in cc)
+  reported er (stop.Refused refusal) WrongUse stops of said = absurd (let s = said.0 in cc)
+  reported er (stop.Refused refusal) ReadFault stops of said = absurd (let s = said.0 in cc)
+  reported er (stop.Refused refusal) WriteFault stops of said = absurd (let s = said.0 in cc)
+  reported er (stop.ReadFault name) ReadFault stops of said = record {
     name = name.now;
+    named = subst (λ (asked : Option RunWords). IsOf (NamesFile asked) (stop.ReadFault name)) e of;
     quiet = refl;
     rose = stops.rose;
     failed = (subst (λ (asked : Option RunWords). Stops fb f (λ files w. IsWork asked files w) (stop.ReadFault name)) e stops).failed;
     wrote = said.1;
   }
-  reported er (stop.ReadFault name) NoMemory stops said = record { quiet = refl }
-  reported er (stop.ReadFault name) Done stops said = absurd (let s = said.0 in cc)
-  reported er (stop.ReadFault name) WrongUse stops said = absurd (let s = said.0 in cc)
-  reported er (stop.ReadFault name) Refused stops said = absurd (let s = said.0 in cc)
-  reported er (stop.ReadFault name) WriteFault stops said = absurd (let s = said.0 in cc)
-  reported er stop.NoMemory NoMemory stops said = record { quiet = refl }
-  reported er stop.NoMemory Done stops said = absurd cc
-  reported er stop.NoMemory WrongUse stops said = absurd cc
-  reported er stop.NoMemory Refused stops said = absurd cc
-  reported er stop.NoMemory WriteFault stops said = absurd cc
-  reported er stop.NoMemory ReadFault stops said = absurd cc
+  reported er (stop.ReadFault name) NoMemory stops of said = record { quiet = refl }
+  reported er (stop.ReadFault name) Done stops of said = absurd (let s = said.0 in cc)
+  reported er (stop.ReadFault name) WrongUse stops of said = absurd (let s = said.0 in cc)
+  reported er (stop.ReadFault name) Refused stops of said = absurd (let s = said.0 in cc)
+  reported er (stop.ReadFault name) WriteFault stops of said = absurd (let s = said.0 in cc)
+  reported er stop.NoMemory NoMemory stops of said = record { quiet = refl }
+  reported er stop.NoMemory Done stops of said = absurd cc
+  reported er stop.NoMemory WrongUse stops of said = absurd cc
+  reported er stop.NoMemory Refused stops of said = absurd cc
+  reported er stop.NoMemory WriteFault stops of said = absurd cc
+  reported er stop.NoMemory ReadFault stops of said = absurd cc

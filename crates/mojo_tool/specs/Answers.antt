@@ -8,7 +8,7 @@ use Rattle.bind_model.specs.Laws.{InOrder, AsSaid, AreTight, AreGood, OnePlace}
 use Rattle.call_script.specs.declared.script.Script.{Script}
 use Rattle.call_script.specs.Text.{output}
 use Rattle.script_run.specs.OfScript.{OfScript}
-use Rattle.mojo_tool.specs.Work.{Work, Missing, TooLong, Unreadable, Runs, run_of, IsWork, AskedFor}
+use Rattle.mojo_tool.specs.Work.{Work, Missing, TooLong, Unreadable, Runs, run_of, NamesFile, IsWork, AskedFor}
 use Rattle.mojo_tool.specs.Lines.{refusal_text, error_line, read_text}
 use Rattle.mojo_tool.specs.declared.refusal.ToolRefusal.{ToolRefusal}
 use Rattle.mojo_tool.specs.declared.refusal.ToolRefusal.TheVariants as refusals
@@ -70,6 +70,11 @@ abbrev pub refused_work : ToolRefusal → Work
 refused_work (refusals.Unsupported name) = Unreadable name.now
 refused_work (refusals.FileTooLong name) = TooLong name.now
 
+-- the file that it names
+abbrev pub refused_name : ToolRefusal → List ℕ
+refused_name (refusals.Unsupported name) = name.now
+refused_name (refusals.FileTooLong name) = name.now
+
 -- the whole text was taken, or a front of it where a fault was counted
 abbrev pub WroteOrFailed : SinkState → SinkState → List ℕ → Type 0
 WroteOrFailed before now text = Wrote before now text ⊎ (WroteSome before now text × Rose before.faults now.faults)
@@ -85,9 +90,10 @@ pub record IsDone (s : Seen) : Type 0 where
   pub wrote : Wrote s.out_before s.out text
   pub right : IsRightText s.files_before.told (asked_by s) text
 
--- the first refusal that the files give, with its line
+-- the first refusal that the files give, of a file that the words name, with its line
 pub record IsRefused (s : Seen) : Type 0 where
   pub refusal : ToolRefusal
+  pub named : NamesFile (run_of s.words) (refused_name refusal)
   pub quiet : s.out ≡ s.out_before
   pub asked : AskedFor s.files_before.told (asked_by s) (refused_work refusal)
   pub wrote : WroteOrFailed s.err_before s.err (error_line (refusal_text refusal))
@@ -97,9 +103,10 @@ pub record IsWrongUse (s : Seen) : Type 0 where
   pub quiet : s.out ≡ s.out_before
   pub wrong : run_of s.words ≡ None
 
--- a file could not be fetched
+-- a file that the words name could not be fetched
 pub record IsReadFault (s : Seen) : Type 0 where
   pub name : List ℕ
+  pub named : NamesFile (run_of s.words) name
   pub quiet : s.out ≡ s.out_before
   pub rose : Rose s.files_before.faults s.files.faults
   pub failed : ReadFailed s.files_before.told (asked_by s) name s.files_before.there s.files.there

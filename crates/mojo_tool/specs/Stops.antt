@@ -6,7 +6,7 @@ use Rattle.mojom_compile.specs.Compiled.{IsSchemaOf}
 use Rattle.call_script.specs.declared.script.Script.{Script}
 use Rattle.call_script.specs.Spelling.{IsScriptOf}
 use Rattle.mojo_tool.specs.Work.{Work, AskedFor, TooLong, Unreadable}
-use Rattle.mojo_tool.specs.Answers.{ReadFailed, refused_work}
+use Rattle.mojo_tool.specs.Answers.{ReadFailed, refused_work, refused_name}
 use Rattle.mojo_tool.specs.declared.decide.Stop.{Stop}
 use Rattle.mojo_tool.specs.declared.decide.Stop.TheVariants.{Refused, ReadFault, NoMemory}
 
@@ -52,3 +52,9 @@ abbrev pub NoScript : Schema → List ℕ → List ℕ → Stop → Type 0
 NoScript schema bytes name (Refused refusal) = ((script : Script) → IsScriptOf schema bytes script → ⊥) × (refused_work refusal ≡ Unreadable name)
 NoScript schema bytes name (ReadFault other) = ⊥
 NoScript schema bytes name NoMemory = Unit {0}
+
+-- the file that is named is such a one
+abbrev pub IsOf : (List ℕ → Type 0) → Stop → Type 0
+IsOf Such (Refused refusal) = Such (refused_name refusal)
+IsOf Such (ReadFault name) = Such name.now
+IsOf Such NoMemory = Unit {0}

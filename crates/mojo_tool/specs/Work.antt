@@ -17,6 +17,11 @@ run_of (program ∷ command ∷ flag ∷ script ∷ file ∷ []) =
     if bytes_eq command (codes "run") && bytes_eq flag (codes "--script") then Some (record { script = script; file = file }) else None
 run_of words = None
 
+-- the words name this file, as the Mojom file or as the script
+abbrev pub NamesFile : Option RunWords → List ℕ → Type 0
+NamesFile None name = ⊥
+NamesFile (Some words) name = (name ≡ words.file) ⊎ (name ≡ words.script)
+
 -- what is asked for
 pub data Work : Type 0 where
   -- nothing: the words are no command

@@ -1,6 +1,6 @@
 //! From the names and the files to the text, or to why there is none.
 
-ghost use Rattle.std.specs.Prelude.{◌≡◌, ◌≤◌, ℕ, List, length, IfOk, IfErr};
+ghost use Rattle.std.specs.Prelude.{◌≡◌, ◌≤◌, ℕ, List, length, Some, IfOk, IfErr};
 ghost use Rattle.std.specs.Arc.{arc_value};
 ghost use Rattle.mj_io.specs.Outside.{FilesGoOn};
 ghost use Rattle.mj_schema.specs.declared.schema.Schema.{Schema};
@@ -8,9 +8,9 @@ ghost use Rattle.mojom_compile.specs.Compiled.{IsSchemaOf};
 ghost use Rattle.call_script.specs.declared.script.Script.{Script};
 ghost use Rattle.call_script.specs.Spelling.{IsScript, IsScriptOf};
 ghost use Rattle.script_run.specs.Narrow.{IsNarrow};
-ghost use Rattle.mojo_tool.specs.Work.{Scripting, Running};
+ghost use Rattle.mojo_tool.specs.Work.{NamesFile, Scripting, Running};
 ghost use Rattle.mojo_tool.specs.Answers.{IsTextOf, IsRightText};
-ghost use Rattle.mojo_tool.specs.Stops.{Stops, HasBytes, NotFetched, NoSchema, NoScript};
+ghost use Rattle.mojo_tool.specs.Stops.{Stops, IsOf, HasBytes, NotFetched, NoSchema, NoScript};
 
 use crate::refusal::ToolRefusal;
 use call_script::{Script, ScriptError};
@@ -39,6 +39,7 @@ fn fetch<'a, F: Files>(alloc: Global, files: &mut F, name: &'a str) -> Result<Ve
     ensures bytes { IfOk result (λ bytes. HasBytes (F.state files.old).told name.now bytes.items) }
     ensures short { IfOk result (λ bytes. length bytes.items ≤ 1048576) }
     ensures stop { IfErr result (λ stop. NotFetched (F.state files.old) (F.state files.new) name.now stop) }
+    ensures named { IfErr result (IsOf (λ named. named ≡ name.now)) }
 {
     let mut bytes = Vec::new(alloc);
     match files.fetch(alloc, name, LIMIT, &mut bytes) {
@@ -56,6 +57,7 @@ fn read_schema<'a>(alloc: Global, name: &'a str, bytes: &[u8]) -> Result<Schema,
     ensures schema { IfOk result (λ schema. IsSchemaOf bytes.now schema) }
     ensures narrow { IfOk result (λ schema. IsNarrow schema) }
     ensures stop { IfErr result (λ stop. NoSchema bytes.now name.now stop) }
+    ensures named { IfErr result (IsOf (λ named. named ≡ name.now)) }
 {
     match mojom_compile::compile(alloc, bytes) {
         Ok(schema) => Ok(schema),
@@ -73,6 +75,7 @@ fn read_script<'a>(
 ) -> Result<Script, Stop<'a>>
     ensures script { IfOk result (λ script. IsScriptOf schema.now bytes.now script) }
     ensures stop { IfErr result (λ stop. NoScript schema.now bytes.now name.now stop) }
+    ensures named { IfErr result (IsOf (λ named. named ≡ name.now)) }
 {
     match call_script::read_script(alloc, schema, bytes) {
         Ok(script) => Ok(script),
@@ -115,6 +118,7 @@ fn decide_script<'a, F: Files>(
     ensures on { FilesGoOn (F.state files.old) (F.state files.new) }
     ensures text { IfOk result (λ text. IsRightText (F.state files.old).told (λ files work. Scripting files name.now schema work) text) }
     ensures stop { IfErr result (λ stop. Stops (F.state files.old) (F.state files.new) (λ files work. Scripting files name.now schema work) stop) }
+    ensures named { IfErr result (IsOf (λ named. named ≡ name.now)) }
 {
     match fetch(alloc, files, name) {
         Err(stop) => Err(stop),
@@ -135,6 +139,7 @@ pub fn decide<'a, F: Files>(
     ensures on { FilesGoOn (F.state files.old) (F.state files.new) }
     ensures text { IfOk result (λ text. IsRightText (F.state files.old).told (λ files work. Running files (record { script = script.now; file = file.now }) work) text) }
     ensures stop { IfErr result (λ stop. Stops (F.state files.old) (F.state files.new) (λ files work. Running files (record { script = script.now; file = file.now }) work) stop) }
+    ensures named { IfErr result (IsOf (NamesFile (Some (record { script = script.now; file = file.now })))) }
 {
     match fetch(alloc, files, file) {
         Err(stop) => Err(stop),

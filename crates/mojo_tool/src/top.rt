@@ -173,9 +173,8 @@ pub fn mojo_main<R: Wait + Threads + Sync, F: Files, O: Sink, E: Sink, G: Gate +
     }
 }
 
-/// A law of the answers: where the files tell that all is there, nothing is refused and nothing
-/// failed, the status is 0, or 5 for want of memory.
-#[tactic(auto, using(crate::proofs::Completes::completes))]
+/// A law of the answers: where the files tell that all is there and nothing is refused, or that a run
+/// is asked for, and nothing failed, the status is 0, or 5 for want of memory.
 pub fn complete()
     ensures { (s : Seen) (status : Status) → Answers s status → IsComplete s status }
 {}

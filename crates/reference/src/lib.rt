@@ -1,11 +1,17 @@
-//! The definitions of the machine, computed literally on small inputs: plain, slow, and apart from
-//! the code that they are proved of. Tests compare it with worked examples and with the machine.
+//! The definitions computed literally on small inputs: plain, slow, and apart from the code that they
+//! are proved of. Tests compare it with worked examples and with the machine.
 #![tactic(auto)]
 
+#[cfg(test)]
+mod history_tests;
 mod machine;
+mod script;
 #[cfg(test)]
 mod tests;
+mod text;
 mod wire;
 
 pub use machine::{answer, binding, is_legal, made, outs, peer, taken, unread, written};
+pub use script::{events_of, next_command, ready};
+pub use text::output;
 pub use wire::{Read, message_bytes, request_in};

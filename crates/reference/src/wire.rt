@@ -1,6 +1,6 @@
 //! Messages: the bytes of a request, and the request that bytes stand for.
 
-use mj_schema::Schema;
+use mj_schema::{Schema, StructRow};
 use std::alloc::{AllocError, Global};
 
 /// A request as its bytes give it.
@@ -66,6 +66,17 @@ pub fn message_bytes(alloc: Global, method: u32, value: &[u32]) -> Result<Vec<u8
     Ok(bytes)
 }
 
+/// The struct of the parameters of the first method of this ordinal.
+fn parameters(schema: &Schema, interface: u32, ordinal: u32) -> Option<&StructRow> {
+    let row = schema.interfaces.as_slice().get(interface as usize)?;
+    for method in row.methods.as_slice() {
+        if method.ordinal == ordinal {
+            return schema.structs.as_slice().get(method.request as usize);
+        }
+    }
+    None
+}
+
 /// The request that the bytes stand for at an endpoint of this interface.
 pub fn request_in(
     alloc: Global,
@@ -82,7 +93,7 @@ pub fn request_in(
     let Ok(method) = u32::try_from(method) else {
         return Ok(None);
     };
-    let Some(row) = schema.request(interface, method) else {
+    let Some(row) = parameters(schema, interface, method) else {
         return Ok(None);
     };
     let fields = row.fields.len();

@@ -1,0 +1,100 @@
+//! The events of scripts and the texts of their histories, against worked examples.
+
+use super::*;
+use call_script::{Line, Pipe, PipeEnd, Script};
+use mj_base::{Items, Text};
+use mj_schema::{FieldRow, InterfaceRow, Kind, MethodRow, Schema, StructRow, VersionRow};
+use std::alloc::{AllocError, Global};
+use std::test::Fail;
+
+/// A call of 7 and its take.
+const TAKEN: &str = "0 0 join 0 -> made [e0.0,e0.1]
+1 0 bind e0.0 remote t.P -> bound e0.0
+2 0 bind e0.1 receiver t.P -> bound e0.1
+3 0 call e0.0#0 t.P.Ping (7) [] -> sent 0 18000000000000000000000000000000000000000000000010000000000000000700000000000000
+4 0 take e0.1 -> got request 0 t.P.Ping (7) 0 [] [] []
+left e0.0
+left e0.1
+done 5
+";
+
+/// A take where nothing is unread.
+const EMPTY: &str = "0 0 join 0 -> made [e0.0,e0.1]
+1 0 bind e0.0 remote t.P -> bound e0.0
+2 0 bind e0.1 receiver t.P -> bound e0.1
+3 0 take e0.1 -> no empty
+left e0.0
+left e0.1
+done 4
+";
+
+/// The schema of `module t; interface P { Ping(uint32 n); };`.
+fn ping(alloc: Global) -> Result<Schema, AllocError> {
+    let field = FieldRow {
+        name: Text::from_str(alloc, "n")?,
+        ordinal: 0,
+        kind: Kind::Uint32,
+        offset: 0,
+    };
+    let version = VersionRow {
+        version: 0,
+        fields: 1,
+        bytes: 16,
+    };
+    let params = StructRow {
+        name: Text::from_str(alloc, "t.P.Ping.request")?,
+        fields: Items::from_vec(vec![in alloc; field]?),
+        versions: Items::from_vec(vec![in alloc; version]?),
+    };
+    let method = MethodRow {
+        name: Text::from_str(alloc, "Ping")?,
+        ordinal: 0,
+        request: 0,
+    };
+    let interface = InterfaceRow {
+        name: Text::from_str(alloc, "t.P")?,
+        methods: Items::from_vec(vec![in alloc; method]?),
+    };
+    Ok(Schema {
+        structs: Items::from_vec(vec![in alloc; params]?),
+        interfaces: Items::from_vec(vec![in alloc; interface]?),
+    })
+}
+
+/// A script of one pipe and these lines.
+fn script(alloc: Global, lines: Vec<Line>) -> Result<Script, AllocError> {
+    let pipe = Pipe {
+        first: Text::from_str(alloc, "x")?,
+        second: Text::from_str(alloc, "y")?,
+        interface: 0,
+    };
+    Ok(Script {
+        pipes: Items::from_vec(vec![in alloc; pipe]?),
+        lines: Items::from_vec(lines),
+    })
+}
+
+/// A call of `Ping(7)` on the pipe.
+fn call(alloc: Global) -> Result<Line, AllocError> {
+    Ok(Line::Call(0, 0, Items::from_vec(vec![in alloc; 7]?)))
+}
+
+#[test]
+fn the_texts_of_small_scripts(rt: HostRuntime) -> Result<(), Fail> {
+    let alloc = rt.alloc();
+    let schema = ping(alloc)?;
+    let take = Line::Take(0, PipeEnd::Second);
+    let empty = Line::Take(0, PipeEnd::Second);
+    let rows = vec![in alloc;
+        (vec![in alloc; call(alloc)?, take]?, TAKEN),
+        (vec![in alloc; call(alloc)?]?, TAKEN),
+        (vec![in alloc; empty]?, EMPTY),
+    ]?;
+    for (k, (lines, wanted)) in rows.into_iter().enumerate() {
+        let events = events_of(alloc, &schema, &script(alloc, lines)?)?;
+        let text = output(alloc, &schema, events.as_slice())?;
+        assert_eq!(rt; text.as_str(), wanted, "script {k}");
+        assert!(rt; is_legal(alloc, &schema, 1, events.as_slice())?);
+    }
+    Ok(())
+}
