@@ -95,31 +95,37 @@ struct CallParts {
     value: Value,
 }
 
+/// The words of a line of five.
+#[derive(Clone, Copy)]
+struct FiveWords<'a> {
+    start: &'a [u8],
+    command: &'a [u8],
+    end: &'a [u8],
+    method: &'a [u8],
+    numbers: &'a [u8],
+}
+
 /// The call of these words.
 fn call_of(
     alloc: Global,
     schema: &Schema,
     pipes: &[Pipe],
-    start: &[u8],
-    command: &[u8],
-    end: &[u8],
-    method: &[u8],
-    numbers: &[u8],
+    words: &FiveWords,
 ) -> Result<Option<CallParts>, AllocError>
     requires { length pipes.now < 2 ^ 32 }
-    ensures { IfOk result (λ found. MatchOption found (NoCall schema.now pipes.now (start.now ∷ command.now ∷ end.now ∷ method.now ∷ numbers.now ∷ []))
-        (λ call. IsCallLine schema.now pipes.now (start.now ∷ command.now ∷ end.now ∷ method.now ∷ numbers.now ∷ []) call.pipe call.method call.value)) }
+    ensures { IfOk result (λ found. MatchOption found (NoCall schema.now pipes.now (words.now.start.now ∷ words.now.command.now ∷ words.now.end.now ∷ words.now.method.now ∷ words.now.numbers.now ∷ []))
+        (λ call. IsCallLine schema.now pipes.now (words.now.start.now ∷ words.now.command.now ∷ words.now.end.now ∷ words.now.method.now ∷ words.now.numbers.now ∷ []) call.pipe call.method call.value)) }
 {
-    if !is_command(start, command, b"call") {
+    if !is_command(words.start, words.command, b"call") {
         return Ok(None);
     }
-    let Some(name) = end_of_primary(end) else {
+    let Some(name) = end_of_primary(words.end) else {
         return Ok(None);
     };
-    let Some(value) = value(alloc, numbers)? else {
+    let Some(value) = value(alloc, words.numbers)? else {
         return Ok(None);
     };
-    let Some((pipe, ordinal)) = call_at(schema, pipes, name, method, value.len()) else {
+    let Some((pipe, ordinal)) = call_at(schema, pipes, name, words.method, value.len()) else {
         return Ok(None);
     };
     Ok(Some(CallParts {
@@ -145,7 +151,14 @@ fn read_line(
             None => Ok(None),
         },
         [start, command, end, method, numbers] => {
-            match call_of(alloc, schema, pipes, start, command, end, method, numbers)? {
+            let words = FiveWords {
+                start,
+                command,
+                end,
+                method,
+                numbers,
+            };
+            match call_of(alloc, schema, pipes, &words)? {
                 Some(call) => Ok(Some(Line::Call(call.pipe, call.method, call.value))),
                 None => Ok(None),
             }

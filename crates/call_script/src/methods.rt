@@ -51,23 +51,23 @@ fn ordinal_named(schema: &Schema, interface: u32, name: &[u8]) -> Option<u32>
     }
 }
 
-/// The name of the method of this ordinal, or nothing where there is none.
-fn name_of_ordinal(schema: &Schema, interface: u32, ordinal: u32) -> &[u8]
+/// A method's name within its interface, empty where there is none of this ordinal.
+pub(crate) fn name_of_method(schema: &Schema, interface: u32, ordinal: u32) -> &str
     ensures { result.now ≡ method_name schema.now interface ordinal }
 {
     match schema.method(interface, ordinal) {
-        Some(method) => method.name.as_str().as_bytes(),
-        None => b"",
+        Some(method) => method.name.as_str(),
+        None => "",
     }
 }
 
-/// The full name of an interface, or nothing where it isn't there.
-fn name_of_interface(schema: &Schema, interface: u32) -> &[u8]
+/// The full name of an interface, empty where there is none of this number.
+pub(crate) fn name_of_interface(schema: &Schema, interface: u32) -> &str
     ensures { result.now ≡ interface_name schema.now interface }
 {
     match schema.interfaces.as_slice().get(interface as usize) {
-        Some(row) => row.name.as_str().as_bytes(),
-        None => b"",
+        Some(row) => row.name.as_str(),
+        None => "",
     }
 }
 
@@ -76,7 +76,7 @@ fn method_named(schema: &Schema, interface: u32, word: &[u8]) -> Option<u32>
     ensures some { IfSome result (λ ordinal. NamesMethod schema.now interface word.now ordinal) }
     ensures none { IfNone result ((ordinal : ℕ) → NamesMethod schema.now interface word.now ordinal → ⊥) }
 {
-    let Some(dotted) = after(word, name_of_interface(schema, interface)) else {
+    let Some(dotted) = after(word, name_of_interface(schema, interface).as_bytes()) else {
         return None;
     };
     let Some(name) = after(dotted, b".") else {
@@ -85,7 +85,7 @@ fn method_named(schema: &Schema, interface: u32, word: &[u8]) -> Option<u32>
     let Some(ordinal) = ordinal_named(schema, interface, name) else {
         return None;
     };
-    if name_of_ordinal(schema, interface, ordinal) == name {
+    if name_of_method(schema, interface, ordinal).as_bytes() == name {
         Some(ordinal)
     } else {
         None

@@ -1,9 +1,9 @@
 //! How commands and replies stand in a line.
 
 ghost use Rattle.std.specs.Prelude.{◌≡◌};
-ghost use Rattle.call_script.specs.Spelling.{interface_name, method_name};
 ghost use Rattle.call_script.specs.Text.{side_text, message_text, why_text};
 
+use crate::methods::{name_of_interface, name_of_method};
 use crate::shown_lists::{ShownEnd, ShownEnds, ShownHex, ShownValue};
 use bind_model::{Asked, Side, Taken, Told, Why};
 use mj_schema::Schema;
@@ -43,26 +43,6 @@ fn why(why: Why) -> &'static str
     }
 }
 
-/// The full name of an interface, empty where the schema has none of that number.
-fn interface(schema: &Schema, number: u32) -> &str
-    ensures { result.now ≡ interface_name schema.now number }
-{
-    match schema.interfaces.as_slice().get(number as usize) {
-        Some(row) => row.name.as_str(),
-        None => "",
-    }
-}
-
-/// A method's name within its interface, empty where the schema has none of that ordinal.
-fn method(schema: &Schema, interface: u32, ordinal: u32) -> &str
-    ensures { result.now ≡ method_name schema.now interface ordinal }
-{
-    match schema.method(interface, ordinal) {
-        Some(row) => row.name.as_str(),
-        None => "",
-    }
-}
-
 /// A method, as `INTERFACE.METHOD`.
 #[derive(Clone, Copy)]
 struct ShownMethod<'a> {
@@ -81,17 +61,17 @@ impl fmt::Display for ShownMethod<'_> {
         write!(
             f,
             "{}.{}",
-            interface(self.schema, target.interface),
-            method(self.schema, target.interface, target.method)
+            name_of_interface(self.schema, target.interface),
+            name_of_method(self.schema, target.interface, target.method)
         )
     }
 }
 
 /// A command.
 #[derive(Clone, Copy)]
-pub struct ShownAsked<'a> {
-    pub schema: &'a Schema,
-    pub asked: &'a Asked,
+pub(crate) struct ShownAsked<'a> {
+    pub(crate) schema: &'a Schema,
+    pub(crate) asked: &'a Asked,
 }
 
 impl fmt::Display for ShownAsked<'_> {
@@ -109,7 +89,7 @@ impl fmt::Display for ShownAsked<'_> {
                 "bind {} {} {}",
                 ShownEnd(*x),
                 side(*s),
-                interface(schema, *number)
+                name_of_interface(schema, *number)
             ),
             Asked::Call(x, id, target, value) => write!(
                 f,
@@ -158,9 +138,9 @@ impl fmt::Display for ShownTaken<'_> {
 
 /// A reply.
 #[derive(Clone, Copy)]
-pub struct ShownTold<'a> {
-    pub schema: &'a Schema,
-    pub told: &'a Told,
+pub(crate) struct ShownTold<'a> {
+    pub(crate) schema: &'a Schema,
+    pub(crate) told: &'a Told,
 }
 
 impl fmt::Display for ShownTold<'_> {

@@ -8,7 +8,7 @@ use std::fmt;
 
 /// Bytes in lower-case hexadecimal, `-` where there is none.
 #[derive(Clone, Copy)]
-pub struct ShownHex<'a>(pub &'a [u8]);
+pub(crate) struct ShownHex<'a>(pub(crate) &'a [u8]);
 
 impl fmt::Display for ShownHex<'_> {
     ghost use Rattle.std.specs.Prelude.{Some};
@@ -57,7 +57,7 @@ fn digit(n: u8) -> char
 
 /// A value, as `(1,2)`.
 #[derive(Clone, Copy)]
-pub struct ShownValue<'a>(pub &'a [u32]);
+pub(crate) struct ShownValue<'a>(pub(crate) &'a [u32]);
 
 impl fmt::Display for ShownValue<'_> {
     ghost use Rattle.std.specs.Prelude.{Some};
@@ -93,7 +93,7 @@ impl fmt::Display for MoreNumbers<'_> {
 
 /// An end, as `e0.1`.
 #[derive(Clone, Copy)]
-pub struct ShownEnd(pub EndId);
+pub(crate) struct ShownEnd(pub(crate) EndId);
 
 impl fmt::Display for ShownEnd {
     ghost use Rattle.std.specs.Prelude.{Some};
@@ -108,7 +108,7 @@ impl fmt::Display for ShownEnd {
 
 /// Ends, as `[e0.0,e0.1]`.
 #[derive(Clone, Copy)]
-pub struct ShownEnds<'a>(pub &'a [EndId]);
+pub(crate) struct ShownEnds<'a>(pub(crate) &'a [EndId]);
 
 impl fmt::Display for ShownEnds<'_> {
     ghost use Rattle.std.specs.Prelude.{Some};

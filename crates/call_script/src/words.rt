@@ -46,20 +46,24 @@ fn are_name_bytes(bytes: &[u8]) -> bool
 pub(crate) fn distinct(names: &[&[u8]]) -> bool
     ensures { result ≡ are_distinct (map (λ name. name.now) names.now) }
 {
-    match names.split_first() {
-        None => true,
-        Some((first, rest)) => !has(rest, first) && distinct(rest),
+    for (number, name) in names.iter().enumerate() {
+        if has(&names[number + 1..], name) {
+            return false;
+        }
     }
+    true
 }
 
 /// Whether the name is one of the names.
 fn has(names: &[&[u8]], name: &[u8]) -> bool
     ensures { result ≡ list_any (bytes_eq name.now) (map (λ other. other.now) names.now) }
 {
-    match names.split_first() {
-        None => false,
-        Some((first, rest)) => name == *first || has(rest, name),
+    for other in names {
+        if name == *other {
+            return true;
+        }
     }
+    false
 }
 
 /// The number that the word spells in decimal, with no sign and no leading zero; none where it spells
