@@ -20,36 +20,13 @@ fn is_join(command: &[u8], from: &[u8], to: &[u8]) -> bool
     command == b"join".as_slice() && from == b"0".as_slice() && to == b"0".as_slice()
 }
 
-/// The names of a join of these words.
-fn joined_of<'a>(
-    command: &[u8],
-    from: &[u8],
-    to: &[u8],
-    first: &'a [u8],
-    second: &'a [u8],
-) -> Option<(&'a [u8], &'a [u8])>
-    ensures some { IfSome result (λ names. IsJoin (command.now ∷ from.now ∷ to.now ∷ first.now ∷ second.now ∷ []) names.0.now names.1.now) }
-    ensures none { IfNone result ((x y : List ℕ) → IsJoin (command.now ∷ from.now ∷ to.now ∷ first.now ∷ second.now ∷ []) x y → ⊥) }
-{
-    if is_join(command, from, to) {
-        Some((first, second))
-    } else {
-        None
-    }
-}
-
 /// The names of a join of sequence 0 with itself.
 fn joined<'a>(words: &[&'a [u8]]) -> Option<(&'a [u8], &'a [u8])>
     ensures some { IfSome result (λ names. IsJoin (map (λ word. word.now) words.now) names.0.now names.1.now) }
     ensures none { IfNone result ((x y : List ℕ) → IsJoin (map (λ word. word.now) words.now) x y → ⊥) }
 {
     match words {
-        [command, from, to, first, second] => {
-            match joined_of(command, from, to, first, second) {
-                Some(names) => Some(names),
-                None => None,
-            }
-        }
+        [command, from, to, first, second] if is_join(command, from, to) => Some((first, second)),
         _ => None,
     }
 }
@@ -67,33 +44,9 @@ fn bound<'a>(words: &[&'a [u8]], name: &[u8], side: &[u8]) -> Option<&'a [u8]>
     ensures none { IfNone result ((interface : List ℕ) → IsBind (map (λ word. word.now) words.now) name.now side.now interface → ⊥) }
 {
     match words {
-        [start, command, end, role, interface] => {
-            match bound_of(start, command, end, role, interface, name, side) {
-                Some(found) => Some(found),
-                None => None,
-            }
-        }
+        [start, command, end, role, interface] if is_bind(start, command, end, role, name, side) =>
+            { Some(interface) }
         _ => None,
-    }
-}
-
-/// The interface of a binding of these words.
-fn bound_of<'a>(
-    start: &[u8],
-    command: &[u8],
-    end: &[u8],
-    role: &[u8],
-    interface: &'a [u8],
-    name: &[u8],
-    side: &[u8],
-) -> Option<&'a [u8]>
-    ensures some { IfSome result (λ found. IsBind (start.now ∷ command.now ∷ end.now ∷ role.now ∷ interface.now ∷ []) name.now side.now found.now) }
-    ensures none { IfNone result ((found : List ℕ) → IsBind (start.now ∷ command.now ∷ end.now ∷ role.now ∷ interface.now ∷ []) name.now side.now found → ⊥) }
-{
-    if is_bind(start, command, end, role, name, side) {
-        Some(interface)
-    } else {
-        None
     }
 }
 
