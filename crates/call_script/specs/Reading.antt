@@ -47,10 +47,12 @@ pub record IsNamed (join one two : List (List ℕ)) (first second interface : Li
   pub remote : IsBind one first (codes "remote") interface
   pub receiver : IsBind two second (codes "receiver") interface
 
+-- the pipe that a join and two bindings are, or none where they are no pipe's
 abbrev pub SpellsPipe : Schema → List (List ℕ) → List (List (List ℕ)) → Option Pipe → Type 0
 SpellsPipe schema join binds (Some pipe) = IsPipe schema pipe × (join ≡ join_words pipe) × (binds ≡ bind_lines schema pipe)
 SpellsPipe schema join binds None = (pipe : Pipe) → IsPipe schema pipe → join ≡ join_words pipe → binds ≡ bind_lines schema pipe → ⊥
 
+-- the line of these words, or none where they are no line's
 abbrev pub SpellsLine : Schema → List Pipe → List (List ℕ) → Option Line → Type 0
 SpellsLine schema pipes words (Some line) = IsLine schema pipes line × (words ≡ line_words schema pipes line)
 SpellsLine schema pipes words None = (line : Line) → IsLine schema pipes line → words ≡ line_words schema pipes line → ⊥
@@ -66,6 +68,7 @@ pub record AreThePipes (schema : Schema) (joins after : List (List (List ℕ))) 
   pub are : ArePipes schema joins after pipes others
   pub only : (ps : List Pipe) (rest : List (List (List ℕ))) → ArePipes schema joins after ps rest → (ps ≡ pipes) × (rest ≡ others)
 
+-- the joins and what is behind them are those of no pipes
 abbrev pub NoPipes : Schema → List (List (List ℕ)) → List (List (List ℕ)) → Type 0
 NoPipes schema joins after = (pipes : List Pipe) (others : List (List (List ℕ))) → ArePipes schema joins after pipes others → ⊥
 
@@ -95,6 +98,7 @@ pub record IsCallLine (schema : Schema) (pipes : List Pipe) (spelled : List (Lis
   pub small : All (λ n. n < 2 ^ 32) value
   pub words : spelled ≡ codes "0:" ∷ codes "call" ∷ (name ++ codes "#0") ∷ word ∷ value_text value ∷ []
 
+-- the words are those of no call
 abbrev pub NoCall : Schema → List Pipe → List (List ℕ) → Type 0
 NoCall schema pipes words = (k ordinal : ℕ) (value : List ℕ) → IsCallLine schema pipes words k ordinal value → ⊥
 
@@ -103,6 +107,7 @@ pub record AreLines (schema : Schema) (pipes : List Pipe) (texts : List (List (L
   pub sound : AllByRecursion (IsLine schema pipes) lines
   pub spelled : texts ≡ map (line_words schema pipes) lines
 
+-- the texts are those of no lines
 abbrev pub NoLines : Schema → List Pipe → List (List (List ℕ)) → Type 0
 NoLines schema pipes texts = (lines : List Line) → AreLines schema pipes texts lines → ⊥
 
@@ -113,6 +118,7 @@ pub record IsSoundScript (schema : Schema) (script : Script) : Type 0 where
   pub distinct : are_distinct (flat_map names_of script.pipes) ≡ true
   pub lines : AllByRecursion (IsLine schema script.pipes) script.lines
 
+-- the script of these lines, or none where they are no script's
 abbrev pub SpellsScript : Schema → List (List (List ℕ)) → Option Script → Type 0
 SpellsScript schema texts (Some script) = IsSoundScript schema script × (texts ≡ script_lines schema script)
 SpellsScript schema texts None = (script : Script) → IsSoundScript schema script → texts ≡ script_lines schema script → ⊥

@@ -37,18 +37,20 @@ method_text schema interface ordinal = interface_name schema interface ++ (codes
 abbrev pub value_text : List ℕ → List ℕ
 value_text values = codes "(" ++ (joined_by 44 (map decimal values) ++ codes ")")
 
+-- the name of an end
 abbrev pub name_of : PipeEnd → Pipe → List ℕ
 name_of First pipe = pipe.first
 name_of Second pipe = pipe.second
 
--- the interface of the pipe of that number, and the name of one of its ends
+-- the interface of the pipe of that number
 abbrev pub interface_at : List Pipe → ℕ → ℕ
 interface_at pipes n = unwrap_or (option_map (λ (p : Pipe). p.interface) (slice_get pipes n)) 0
 
+-- the name of an end of the pipe of that number
 abbrev pub name_at : List Pipe → ℕ → PipeEnd → List ℕ
 name_at pipes n end = unwrap_or (option_map (name_of end) (slice_get pipes n)) []
 
--- the words of each line: `seqs 1`, the joins, the bindings of each pipe, and the lines of sequence 0
+-- the words of a join, of the two bindings of a pipe, and of a line of sequence 0
 abbrev pub join_words : Pipe → List (List ℕ)
 join_words pipe = codes "join" ∷ codes "0" ∷ codes "0" ∷ pipe.first ∷ pipe.second ∷ []
 
@@ -61,6 +63,7 @@ abbrev pub line_words : Schema → List Pipe → Line → List (List ℕ)
 line_words schema pipes (Call pipe method value) = codes "0:" ∷ codes "call" ∷ (name_at pipes pipe First ++ codes "#0") ∷ method_text schema (interface_at pipes pipe) method ∷ value_text value ∷ []
 line_words schema pipes (Take pipe end) = codes "0:" ∷ codes "take" ∷ name_at pipes pipe end ∷ []
 
+-- the words of each line: `seqs 1`, the joins, the bindings of each pipe, and the lines of sequence 0
 abbrev pub script_lines : Schema → Script → List (List (List ℕ))
 script_lines schema script = (codes "seqs" ∷ codes "1" ∷ []) ∷ (map join_words script.pipes ++ (flat_map (bind_lines schema) script.pipes ++ map (line_words schema script.pipes) script.lines))
 
@@ -68,13 +71,15 @@ script_lines schema script = (codes "seqs" ∷ codes "1" ∷ []) ∷ (map join_w
 abbrev pub lines_text : List (List (List ℕ)) → List ℕ
 lines_text lines = joined_by 10 (map (joined_by 32) lines)
 
--- a name: a small letter, then small letters, digits and _, 32 at most in all
+-- one of a to z
 abbrev pub is_small_letter : ℕ → Bool
 is_small_letter c = nat_le 97 c && nat_le c 122
 
+-- what stands in a name behind its first letter
 abbrev pub is_name_byte : ℕ → Bool
 is_name_byte c = is_small_letter c || ((nat_le 48 c && nat_le c 57) || (c == 95))
 
+-- a name: a small letter, then small letters, digits and _, 32 at most in all
 abbrev pub is_name : List ℕ → Bool
 is_name [] = false
 is_name (c ∷ cs) = is_small_letter c && (list_all is_name_byte cs && nat_le (length cs) 31)
@@ -88,6 +93,7 @@ abbrev pub are_distinct : List (List ℕ) → Bool
 are_distinct [] = true
 are_distinct (x ∷ xs) = not (list_any (bytes_eq x) xs) && are_distinct xs
 
+-- the names of a pipe's ends
 abbrev pub names_of : Pipe → List (List ℕ)
 names_of pipe = pipe.first ∷ pipe.second ∷ []
 

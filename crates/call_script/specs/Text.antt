@@ -35,14 +35,17 @@ end_text x = codes "e" ++ (decimal x.seq ++ (codes "." ++ decimal x.serial))
 abbrev pub ends_text : List EndId → List ℕ
 ends_text ends = codes "[" ++ (joined_by 44 (map end_text ends) ++ codes "]")
 
+-- the word for a side of a pipe
 abbrev pub side_text : Side → List ℕ
 side_text Remote = codes "remote"
 side_text Receiver = codes "receiver"
 
+-- the word for a kind of message
 abbrev pub message_text : MessageSide → List ℕ
 message_text Request = codes "request"
 message_text Response = codes "response"
 
+-- the word for the cause of a refusal
 abbrev pub why_text : Why → List ℕ
 why_text NoName = codes "no-name"
 why_text WrongSide = codes "wrong-side"
@@ -87,6 +90,7 @@ first_ends seq count = map (λ n. record { seq = seq; serial = n }) (range_with_
 abbrev pub left_ends : ℕ → List Event → List EndId
 left_ends seqs past = flat_map (λ seq. first_ends seq (serials past seq)) (range_with_len 0 seqs)
 
+-- the line of an end that is left
 abbrev pub left_line : EndId → List ℕ
 left_line x = codes "left " ++ (end_text x ++ 10 ∷ [])
 

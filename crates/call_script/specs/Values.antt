@@ -12,6 +12,7 @@ pub record AreNumbers (words : List (List ℕ)) (ns : List ℕ) : Type 0 where
   pub small : All (λ n. n < 2 ^ 32) ns
   pub spelled : words ≡ map decimal ns
 
+-- the words are the numbers of no list
 abbrev pub NoNumbers : List (List ℕ) → Type 0
 NoNumbers words = (ns : List ℕ) → AreNumbers words ns → ⊥
 
@@ -19,6 +20,7 @@ NoNumbers words = (ns : List ℕ) → AreNumbers words ns → ⊥
 abbrev pub IsInside : List ℕ → List ℕ → Type 0
 IsInside word text = word ≡ codes "(" ++ (text ++ codes ")")
 
+-- the word isn't in brackets
 abbrev pub NoBrackets : List ℕ → Type 0
 NoBrackets word = (text : List ℕ) → IsInside word text → ⊥
 

@@ -45,10 +45,7 @@ fn called<'a>(schema: &'a Schema, interface: u32, name: &[u8]) -> Option<&'a Met
 fn ordinal_named(schema: &Schema, interface: u32, name: &[u8]) -> Option<u32>
     ensures { result ≡ method_called schema.now interface name.now }
 {
-    match called(schema, interface, name) {
-        None => None,
-        Some(method) => Some(method.ordinal),
-    }
+    called(schema, interface, name).map(|method| method.ordinal)
 }
 
 /// A method's name within its interface, empty where there is none of this ordinal.
