@@ -1,2 +1,5 @@
-pub mod Lookups
+pub mod Sizes
+pub mod Versions
 pub mod Layout
+pub mod Proper
+pub mod Lookups
