@@ -3,6 +3,7 @@
 #![tactic(auto)]
 
 mod kind;
+pub mod laws;
 mod rows;
 mod schema;
 

@@ -1,0 +1,3 @@
+pub mod Apart
+pub mod OneLayout
+pub mod Uint32Layout
