@@ -1,0 +1,2 @@
+//! The version rows of structs.
+#![tactic(auto)]
