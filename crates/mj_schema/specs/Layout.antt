@@ -71,6 +71,13 @@ pub record IsLaidOut (row : StructRow) : Type 0 where
   pub packed : ArePacked [] (map kind_of row.fields) (map place_of row.fields)
   pub versions : row.versions ≡ version_rows row.fields
 
+-- declared fields at these places, from the ordinal k on
+abbrev pub field_rows : ℕ → List DraftField → List Place → List FieldRow
+field_rows k [] places = []
+field_rows k (field ∷ fields) [] = []
+field_rows k (field ∷ fields) (place ∷ places) =
+    record { name = field.name; ordinal = k; kind = field.kind; offset = place.offset; bit = place.bit; min_version = field.min_version } ∷ field_rows (k + 1) fields places
+
 -- the struct without places and rows
 abbrev pub draft_field : FieldRow → DraftField
 draft_field field = record { name = field.name; kind = field.kind; min_version = field.min_version }

@@ -1,14 +1,19 @@
 -- The version rows of a struct (struct_traits): for each version that occurs, and for 0, its number of fields and its bytes.
-use Rattle.std.specs.Prelude.{ℕ, ◌+◌, ◌/◌, ◌==◌, nat_le, max, List, [], ◌∷◌, length, map, if◌then◌else◌}
+use Rattle.std.specs.Prelude.{ℕ, ◌+◌, ◌/◌, ◌==◌, ◌&&◌, nat_le, nat_lt, Bool, true, false, max, List, [], ◌∷◌, length, map, if◌then◌else◌}
 use Rattle.std.specs.List.{filter}
 use Rattle.mj_base.specs.Bytes.{rounded8}
+use Rattle.mj_schema.specs.declared.kind.Kind.{Kind}
 use Rattle.mj_schema.specs.declared.rows.FieldRow.{FieldRow}
 use Rattle.mj_schema.specs.declared.rows.VersionRow.{VersionRow}
 use Rattle.mj_schema.specs.Sizes.{size_of}
 
+-- how many bytes a field takes a part of
+abbrev pub bytes_of : Kind → ℕ
+bytes_of kind = (size_of kind + 7) / 8
+
 -- the byte behind a field, counted from the end of the struct's header
 abbrev pub end_of : FieldRow → ℕ
-end_of field = field.offset + (size_of field.kind + 7) / 8
+end_of field = field.offset + bytes_of field.kind
 
 -- the greatest of the numbers, 0 where there are none
 abbrev pub greatest : List ℕ → ℕ
@@ -32,6 +37,16 @@ abbrev pub versions_behind : ℕ → List FieldRow → List ℕ
 versions_behind version [] = []
 versions_behind version (field ∷ fields) =
     if field.min_version == version then versions_behind version fields else (field.min_version ∷ versions_behind field.min_version fields)
+
+-- each number is greater than the one before it
+abbrev pub is_rising : ℕ → List ℕ → Bool
+is_rising n [] = true
+is_rising n (m ∷ ms) = nat_lt n m && is_rising m ms
+
+-- rows whose versions rise from 0
+abbrev pub is_table : List VersionRow → Bool
+is_table [] = false
+is_table (row ∷ rows) = (row.version == 0) && is_rising 0 (map (λ (next : VersionRow). next.version) rows)
 
 -- one row for each version that occurs, 0 always among them
 abbrev pub version_rows : List FieldRow → List VersionRow
