@@ -9,7 +9,7 @@ use Rattle.mj_schema.specs.declared.rows.DraftStruct.{DraftStruct}
 use Rattle.mj_schema.specs.declared.rows.FieldRow.{FieldRow}
 use Rattle.mj_schema.specs.declared.rows.Place.{Place}
 use Rattle.mj_schema.specs.declared.rows.StructRow.{StructRow}
-use Rattle.mj_schema.specs.Sizes.{size_of, alignment_of, is_uint32}
+use Rattle.mj_schema.specs.Sizes.{size_of, alignment_of, uint32, is_uint32}
 use Rattle.mj_schema.specs.Versions.{version_rows}
 
 -- the bits of a field that has its place
@@ -84,6 +84,10 @@ draft_field field = record { name = field.name; kind = field.kind; min_version =
 
 abbrev pub draft_of : StructRow → DraftStruct
 draft_of row = record { name = row.name; fields = map draft_field row.fields }
+
+-- a field of an unsigned integer of 32 bits, there from version 0 on
+abbrev pub uint32_field : List ℕ → DraftField
+uint32_field name = record { name = name; kind = uint32; min_version = 0 }
 
 -- the struct has the version 0 alone, and its fields are unsigned integers of 32 bits
 abbrev pub is_of_uint32 : StructRow → Bool

@@ -49,3 +49,6 @@ alignment_of (kinds.AssociatedReceiver interface nullable) = 32
 abbrev pub is_uint32 : Kind → Bool
 is_uint32 (kinds.Int Bits32 false) = true
 is_uint32 _ = false
+
+abbrev pub uint32 : Kind
+uint32 = kinds.Int Bits32 false

@@ -5,6 +5,7 @@ ghost use Rattle.mj_schema.specs.declared.kind.Kind.{Kind};
 ghost use Rattle.mj_schema.specs.declared.rows.Place.{Place};
 ghost use Rattle.mj_schema.specs.declared.rows.StructRow.{StructRow};
 ghost use Rattle.mj_schema.specs.Layout.{ArePacked, IsLaidOut, draft_of, is_of_uint32};
+ghost use Rattle.mj_schema.specs.Versions.{is_table};
 ghost use Rattle.mj_schema.specs.Uint32Rows.{IsOfFourBytesEach};
 
 /// Fields of some kinds have their places in one way.
@@ -20,4 +21,9 @@ pub fn one_layout()
 /// Where all fields are unsigned integers of 32 bits, each has four bytes behind those before it.
 pub fn four_bytes_each()
     ensures { (row : StructRow) → IsLaidOut row → IsTrue (is_of_uint32 row) → IsOfFourBytesEach row }
+{}
+
+/// The version rows of a struct begin with version 0, and their versions rise.
+pub fn rows_are_a_table()
+    ensures { (row : StructRow) → IsLaidOut row → IsTrue (is_table row.versions) }
 {}

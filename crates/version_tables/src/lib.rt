@@ -5,4 +5,4 @@ mod rows;
 mod structs;
 
 pub use rows::{row_for, table};
-pub use structs::lay_out;
+pub use structs::{lay_out, lay_out_uint32};
