@@ -1,0 +1,9 @@
+//! Places of a struct's fields.
+#![tactic(auto)]
+
+mod holes;
+mod packer;
+mod places;
+
+pub use mj_schema::Place;
+pub use places::{pack, pack_fields};

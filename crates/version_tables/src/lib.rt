@@ -1,0 +1,8 @@
+//! The version rows of structs, and structs with their layout.
+#![tactic(auto)]
+
+mod rows;
+mod structs;
+
+pub use rows::{row_for, table};
+pub use structs::{lay_out, lay_out_uint32};
