@@ -1,0 +1,10 @@
+//! The lexer of Mojom: the tokens of a file, or where and why it has none.
+#![tactic(auto)]
+
+mod comments;
+mod error;
+mod numbers;
+mod strings;
+mod words;
+
+pub use error::LexError;
