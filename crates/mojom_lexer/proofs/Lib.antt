@@ -1,3 +1,4 @@
 pub mod Runs
 pub mod Closes
 pub mod Values
+pub mod Numerals

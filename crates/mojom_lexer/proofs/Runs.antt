@@ -8,6 +8,10 @@ use Rattle.mojom_lexer.specs.Bytes.{is_letter, goes_on, is_run}
 use Rattle.mojom_lexer.specs.Words.{is_word}
 use Rattle.mojom_lexer.specs.Scans.{run_len}
 
+pub both : (a b : Bool) → a ≡ true → b ≡ true → (a && b) ≡ true
+both true b e h = h
+both false b e h = absurd (cc)
+
 pub left : (a b : Bool) → (a && b) ≡ true → a ≡ true
 left true b e = refl
 left false b e = absurd (cc)

@@ -28,7 +28,7 @@ digit_value c = if nat_le c 57 then c - 48 else (if nat_le c 70 then c - 55 else
 -- the value of digits in a base, behind digits of the value `high`
 abbrev pub value_from : ℕ → ℕ → List ℕ → ℕ
 value_from base high [] = high
-value_from base high (c ∷ cs) = value_from base (base * high + digit_value c) cs
+value_from base high (c ∷ cs) = value_from base (high * base + digit_value c) cs
 
 -- what a number is worth
 abbrev pub number_value : List ℕ → ℕ

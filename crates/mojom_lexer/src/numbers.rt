@@ -77,13 +77,12 @@ fn digit_value(digit: u8) -> u8
     }
 }
 
-#[tactic(auto, using(crate::proofs::Values::step_at, crate::proofs::Values::large_at, crate::proofs::Values::large_times, crate::proofs::Values::digit_at, crate::proofs::Values::end_at))]
 /// The value of the digits in the base; none exactly where it is 2 ^ 64 or more.
+#[tactic(auto, using(crate::proofs::Values::step_at, crate::proofs::Values::large_at, crate::proofs::Values::large_times, crate::proofs::Values::digit_at, crate::proofs::Values::end_at))]
 fn value_in(base: u8, digits: &[u8]) -> Option<u64>
     requires base { 0 < base }
     requires digits { list_all is_hex_digit digits.now ≡ true }
     ensures some { IfSome result (λ value. value ≡ value_from base 0 digits.now) }
-    ensures small { IfSome result (λ value. value < 2 ^ 64) }
     ensures none { IfNone result (2 ^ 64 ≤ value_from base 0 digits.now) }
 {
     let mut value: u64 = 0;
@@ -100,10 +99,10 @@ fn value_in(base: u8, digits: &[u8]) -> Option<u64>
 }
 
 /// The value of a number; none exactly where it is 2 ^ 64 or more.
+#[tactic(auto, using(crate::proofs::Numerals::number_front, crate::proofs::Numerals::hex_digits, crate::proofs::Numerals::decimal_digits))]
 pub fn number_value(number: &[u8]) -> Option<u64>
     requires { is_number number.now ≡ true }
     ensures some { IfSome result (λ value. value ≡ number_value number.now) }
-    ensures small { IfSome result (λ value. value < 2 ^ 64) }
     ensures none { IfNone result (2 ^ 64 ≤ number_value number.now) }
 {
     if begins_hexadecimal(number) {
