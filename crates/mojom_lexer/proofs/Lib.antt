@@ -2,3 +2,4 @@ pub mod Runs
 pub mod Closes
 pub mod Values
 pub mod Numerals
+pub mod Texts

@@ -3,6 +3,7 @@
 
 mod comments;
 mod error;
+mod lexer;
 mod numbers;
 mod strings;
 mod words;
