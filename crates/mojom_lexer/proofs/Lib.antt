@@ -3,3 +3,4 @@ pub mod Closes
 pub mod Values
 pub mod Numerals
 pub mod Texts
+pub mod FirstBytes
