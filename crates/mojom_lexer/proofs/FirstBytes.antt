@@ -155,3 +155,49 @@ longest_of k bs len e le h most = record {
 
 pub none_of : (k : Kind) (bs : List ℕ) → kind_at bs ≡ Some k → ((len : ℕ) → Is k (take len bs) → ⊥) → BeginsNone bs
 none_of k bs e none len piece = none len (only_kind piece.0 k bs len e piece.1)
+
+-- what the first byte passes, by the kind that begins there
+Tested : Bool → Bool → Bool → Bool → Bool → Bool → Kind → Type 0
+Tested b l d q s x Blank = b ≡ true
+Tested b l d q s x Comment = s ≡ true
+Tested b l d q s x Word = l ≡ true
+Tested b l d q s x Numeral = d ≡ true
+Tested b l d q s x Quoted = q ≡ true
+Tested b l d q s x Sign = x ≡ true
+
+tested : (b l d q s x : Bool) (k : Kind) → cond b (Some Blank) (cond l (Some Word) (cond d (Some Numeral) (cond q (Some Quoted) (cond s (Some Comment) (cond x (Some Sign) None))))) ≡ Some k → Tested b l d q s x k
+unfolding Tested
+tested true l d q s x k e = subst (λ (i : Kind). Tested true l d q s x i) (same_kind Blank k e) refl
+tested false true d q s x k e = subst (λ (i : Kind). Tested false true d q s x i) (same_kind Word k e) refl
+tested false false true q s x k e = subst (λ (i : Kind). Tested false false true q s x i) (same_kind Numeral k e) refl
+tested false false false true s x k e = subst (λ (i : Kind). Tested false false false true s x i) (same_kind Quoted k e) refl
+tested false false false false true x k e = subst (λ (i : Kind). Tested false false false false true x i) (same_kind Comment k e) refl
+tested false false false false false true k e = subst (λ (i : Kind). Tested false false false false false true i) (same_kind Sign k e) refl
+tested false false false false false false k e = absurd (cc)
+
+passes_for : (c : ℕ) (k : Kind) → kind_of c ≡ Some k → Tested (is_blank c) (is_letter c) (is_digit c) (c == 34) (c == 47) (is_some (single_symbol c)) k
+passes_for c k e = tested (is_blank c) (is_letter c) (is_digit c) (c == 34) (c == 47) (is_some (single_symbol c)) k e
+
+pub begins_blank : (c : ℕ) → kind_of c ≡ Some Blank → is_blank c ≡ true
+unfolding Tested
+begins_blank c e = passes_for c Blank e
+
+pub begins_word : (c : ℕ) → kind_of c ≡ Some Word → is_letter c ≡ true
+unfolding Tested
+begins_word c e = passes_for c Word e
+
+pub begins_numeral : (c : ℕ) → kind_of c ≡ Some Numeral → is_digit c ≡ true
+unfolding Tested
+begins_numeral c e = passes_for c Numeral e
+
+pub begins_quoted : (c : ℕ) → kind_of c ≡ Some Quoted → c ≡ 34
+unfolding Tested
+begins_quoted c e = eqb_same c 34 (passes_for c Quoted e)
+
+pub begins_comment : (c : ℕ) → kind_of c ≡ Some Comment → c ≡ 47
+unfolding Tested
+begins_comment c e = eqb_same c 47 (passes_for c Comment e)
+
+pub begins_sign : (c : ℕ) → kind_of c ≡ Some Sign → is_some (single_symbol c) ≡ true
+unfolding Tested
+begins_sign c e = passes_for c Sign e

@@ -4,3 +4,4 @@ pub mod Values
 pub mod Numerals
 pub mod Texts
 pub mod FirstBytes
+pub mod RunFronts

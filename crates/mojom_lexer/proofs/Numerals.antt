@@ -25,13 +25,16 @@ hex_front (c ∷ x ∷ d ∷ ds) e =
     let b : is_run is_hex_digit (d ∷ ds) ≡ true = right (c == 48 && (x == 120 || x == 88)) (is_run is_hex_digit (d ∷ ds)) e in
     both (c == 48 && (x == 120 || x == 88)) (is_hex_digit d && true) a (both (is_hex_digit d) true (left (is_hex_digit d) (list_all is_hex_digit ds) b) refl)
 
+-- behind a hexadecimal's 0 stands no digit
+pub prefix_x : (c x : ℕ) (cs : List ℕ) → is_hexadecimal (take 3 (c ∷ x ∷ cs)) ≡ true → is_digit x ≡ false
+prefix_x c x cs e = x_no_digit x (right (c == 48) (x == 120 || x == 88) (left (c == 48 && (x == 120 || x == 88)) (is_run is_hex_digit (take 1 cs)) e))
+
 -- where `0x` and a digit stand, the bytes are no decimal
 pub hex_no_decimal : (bs : List ℕ) → is_hexadecimal (take 3 bs) ≡ true → is_decimal bs ≡ false
 hex_no_decimal [] e = refl
 hex_no_decimal (c ∷ []) e = absurd (cc)
 hex_no_decimal (c ∷ x ∷ cs) e =
-    let a : (c == 48 && (x == 120 || x == 88)) ≡ true = left (c == 48 && (x == 120 || x == 88)) (is_run is_hex_digit (take 1 cs)) e in
-    let b : is_digit x ≡ false = x_no_digit x (right (c == 48) (x == 120 || x == 88) a) in
+    let b : is_digit x ≡ false = prefix_x c x cs e in
     rw b (falls (is_digit c))
   where
     falls : (v : Bool) → (v && false) ≡ false
