@@ -5,3 +5,6 @@ pub mod Numerals
 pub mod Texts
 pub mod FirstBytes
 pub mod RunFronts
+pub mod QuoteFronts
+pub mod CommentFronts
+pub mod SignFronts
