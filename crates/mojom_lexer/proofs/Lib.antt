@@ -8,3 +8,4 @@ pub mod RunFronts
 pub mod QuoteFronts
 pub mod CommentFronts
 pub mod SignFronts
+pub mod Standing

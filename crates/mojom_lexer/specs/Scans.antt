@@ -7,7 +7,7 @@ use Rattle.mojom_lexer.specs.Numbers.{is_hexadecimal}
 use Rattle.mojom_ast.specs.declared.token.Sort.{Sort}
 use Rattle.mojom_lexer.specs.declared.error.LexError.{LexError}
 use Rattle.mojom_lexer.specs.declared.error.LexError.TheVariants.{BadUtf8, BadChar, OpenComment, OpenString, LeadingZero, NumberTooLong, Memory}
-use Rattle.mojom_lexer.specs.declared.lexer.Piece.{Piece}
+use Rattle.mojom_lexer.specs.declared.pieces.Piece.{Piece}
 use Rattle.mojom_lexer.specs.Words.{single_symbol}
 use Rattle.mojom_lexer.specs.Strings.{Part, text_of}
 use Rattle.mojom_lexer.specs.Pieces.{Kind, IsLongest}
@@ -23,6 +23,11 @@ kind_of c = if is_blank c then Some Blank else (if is_letter c then Some Word el
 abbrev pub kind_at : List ℕ → Option Kind
 kind_at [] = None
 kind_at (c ∷ cs) = kind_of c
+
+-- a symbol begins at the front, or a byte that begins nothing
+abbrev pub BeginsSign : List ℕ → Type 0
+BeginsSign [] = ⊥
+BeginsSign (c ∷ cs) = kind_of c ≡ (if is_some (single_symbol c) then Some Sign else None)
 
 -- how many at the front pass
 abbrev pub run_len : (ℕ → Bool) → List ℕ → ℕ

@@ -3,8 +3,8 @@
 
 mod comments;
 mod error;
-mod lexer;
 mod numbers;
+mod pieces;
 mod strings;
 mod words;
 
