@@ -9,3 +9,4 @@ pub mod QuoteFronts
 pub mod CommentFronts
 pub mod SignFronts
 pub mod Standing
+pub mod Steps

@@ -24,7 +24,7 @@ use Rattle.mojom_lexer.proofs.CommentFronts.{line_longest, block_longest, block_
 use Rattle.mojom_lexer.proofs.SignFronts.{arrow_longest, symbol_longest, bad_char, bad_slash}
 
 -- `&bytes[n..]`
-rest_of : (n : ℕ) (bs : List ℕ) → take (length bs - n) (drop n bs) ≡ drop n bs
+pub rest_of : (n : ℕ) (bs : List ℕ) → take (length bs - n) (drop n bs) ≡ drop n bs
 rest_of n bs = take_all (length bs - n) (drop n bs) (omega (arith, length-drop n bs))
 
 pub blank_stands : (bs : List ℕ) (len : ℕ) → kind_at bs ≡ Some Blank → len ≡ run_len is_blank bs → Stands (record { sort = None; len = len }) bs

@@ -3,9 +3,11 @@
 
 mod comments;
 mod error;
+mod lexer;
 mod numbers;
 mod pieces;
 mod strings;
 mod words;
 
 pub use error::LexError;
+pub use lexer::{in_order, lex, one_reading};
