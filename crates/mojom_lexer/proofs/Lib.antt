@@ -10,3 +10,5 @@ pub mod CommentFronts
 pub mod SignFronts
 pub mod Standing
 pub mod Steps
+pub mod Meanings
+pub mod Laws
