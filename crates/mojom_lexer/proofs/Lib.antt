@@ -12,3 +12,4 @@ pub mod Standing
 pub mod Steps
 pub mod Meanings
 pub mod Laws
+pub mod Order
