@@ -8,7 +8,7 @@ use mj_base::Items;
 /// A file: its module statement where it has one, its imports, and its definitions in order.
 #[derive(Drop)]
 pub struct File {
-    pub module: Option<ModuleStatement>,
+    pub module_statement: Option<ModuleStatement>,
     pub imports: Items<Import>,
     pub definitions: Items<Definition>,
 }

@@ -1,0 +1,5 @@
+//! The parser of Mojom files.
+#![tactic(auto)]
+
+mod error;
+mod tokens;
