@@ -3,3 +3,5 @@
 
 mod error;
 mod tokens;
+mod types;
+mod values;

@@ -13,7 +13,7 @@ use mojom_ast::{Fault, Identifier, Keyword, Number, Sort, StringLiteral, Symbol,
 use std::alloc::{AllocError, Global};
 
 /// Whether the next token is of the class.
-fn is_next(tokens: &[Token], class: u8) -> bool
+pub fn is_next(tokens: &[Token], class: u8) -> bool
     ensures { result ≡ front_in (class ∷ []) tokens.now }
 {
     match tokens {
@@ -23,7 +23,7 @@ fn is_next(tokens: &[Token], class: u8) -> bool
 }
 
 /// The next token, which is of the class, and those after it.
-fn expect(tokens: &[Token], class: u8) -> Result<(&Token, &[Token]), Stop>
+pub fn expect(tokens: &[Token], class: u8) -> Result<(&Token, &[Token]), Stop>
     ensures { Gives (λ x. (x.0.now, x.1.now)) result ((tok (class ∷ [])).read tokens.now) }
 {
     match tokens {
@@ -138,6 +138,20 @@ pub fn number(tokens: &[Token]) -> Result<(Number, &[Token]), Stop>
             _ => Err(Stop::Fault(Fault::Unexpected(tokens.len()))),
         },
         [] => Err(Stop::Fault(Fault::Unexpected(0))),
+    }
+}
+
+/// Whether the next token is a number.
+#[tactic(auto, using(mojom_ast::proofs::Classes::identifier_no_number, mojom_ast::proofs::Classes::keyword_no_number, mojom_ast::proofs::Classes::symbol_no_number))]
+pub fn is_number(tokens: &[Token]) -> bool
+    ensures { result ≡ front_in (1 ∷ []) tokens.now }
+{
+    match tokens {
+        [token, ..] => match &token.sort {
+            Sort::Number(_) => true,
+            _ => false,
+        },
+        [] => false,
     }
 }
 
