@@ -38,8 +38,8 @@ use Rattle.mojom_ast.specs.declared.file.ModuleStatement.{ModuleStatement}
 use Rattle.mojom_ast.specs.declared.file.Import.{Import}
 use Rattle.mojom_ast.specs.Classes.{identifiers}
 use Rattle.mojom_ast.specs.TypeTrees.{BaseTree, Named, HandleOf, TypeTree}
-use Rattle.mojom_ast.specs.Lang.{Lang, tok, keyword, symbol, ◌▹◌, as_value, ◌or◌, maybe, many, list, deep, labelled}
-use Rattle.mojom_ast.specs.Trees.{identifier_of, number_of, string_of, make_name, make_true, make_false, make_number, make_plus, make_minus, make_attribute, inner, behind, make_array, make_map, make_pending, make_type, make_const, make_enumerator, make_enum, make_field, make_struct_member, make_struct, make_union_field, make_union, make_parameter, make_list, make_method, make_interface_member, make_interface, make_definition, make_module, make_import, make_file}
+use Rattle.mojom_ast.specs.Lang.{Lang, tok, keyword, symbol, ◌▹◌, as_value, ◌or◌, maybe, many, list, joined, deep, labelled}
+use Rattle.mojom_ast.specs.Trees.{identifier_of, number_of, string_of, make_name, make_true, make_false, make_number, make_plus, make_minus, make_attribute, inner, behind, make_array, make_map, make_pending, make_type, make_const, make_enumerator, make_enum, make_field, make_struct_member, make_struct, make_union_field, make_union, make_parameter, make_method, make_interface_member, make_interface, make_definition, make_module, make_import, make_file}
 
 -- Id
 unfoldable pub identifier : Lang Identifier
@@ -65,15 +65,17 @@ name = as_value make_name (identifier ▹ many dotted)
 unfoldable pub ordinal : Lang Number
 ordinal = as_value behind (symbol At ▹ number)
 
+-- true or false
+unfoldable pub boolean : Lang Value
+boolean = as_value make_true (keyword keywords.True) or as_value make_false (keyword keywords.False)
+
+-- (+ or -)? Number
+unfoldable pub signed : Lang Value
+signed = as_value make_number number or as_value make_plus (symbol Plus ▹ number) or as_value make_minus (symbol Minus ▹ number)
+
 -- Val: String, true, false, (+ or -)? Number, or Name
 unfoldable pub value : Lang Value
-value = as_value values.String string
-    or as_value make_true (keyword keywords.True)
-    or as_value make_false (keyword keywords.False)
-    or as_value make_number number
-    or as_value make_plus (symbol Plus ▹ number)
-    or as_value make_minus (symbol Minus ▹ number)
-    or as_value values.Name name
+value = as_value values.String string or boolean or signed or as_value values.Name name
 
 -- = Val
 unfoldable pub assigned : Lang Value
@@ -190,7 +192,7 @@ next_parameter n = as_value behind (symbol Comma ▹ parameter n)
 
 -- Params: ( list of Attrs? Type Id Ord? ) with no last comma
 unfoldable pub parameters : ℕ → Lang (List Parameter)
-parameters n = as_value (λ x. make_list x.1.0) (symbol OpenParen ▹ maybe (parameter n ▹ many (next_parameter n)) ▹ symbol CloseParen)
+parameters n = as_value (λ x. joined x.1.0) (symbol OpenParen ▹ maybe (parameter n ▹ many (next_parameter n)) ▹ symbol CloseParen)
 
 -- => Params
 unfoldable pub response : ℕ → Lang (List Parameter)
