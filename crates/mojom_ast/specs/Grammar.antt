@@ -140,7 +140,7 @@ base inside = array inside or map_of inside or handle or pending or as_value Nam
 abbrev pub type_starts : List ℕ
 type_starts = 12 ∷ 13 ∷ 14 ∷ 15 ∷ 16 ∷ 17 ∷ 18 ∷ identifiers
 
--- Type: Base ?? with at most this many types round one another
+-- Type: Base with or without ? behind it, and with at most this many types round one another
 unfoldable pub type_at : ℕ → Lang TypeTree
 type_at zero = deep type_starts
 type_at (suc n) = as_value make_type (base (labelled type_starts (type_at n)) ▹ maybe (symbol Question))
@@ -220,13 +220,21 @@ definition_item n = as_value items.Struct (struct_of n) or as_value items.Union 
 unfoldable pub definition : ℕ → Lang Definition
 definition n = as_value make_definition (attributes ▹ definition_item n)
 
+-- module Name ;
+unfoldable pub module_name : Lang Name
+module_name = as_value inner (keyword keywords.Module ▹ name ▹ symbol Semicolon)
+
 -- Attrs? module Name ;
 unfoldable pub module_of : Lang ModuleStatement
-module_of = as_value make_module (attributes ▹ keyword keywords.Module ▹ name ▹ symbol Semicolon)
+module_of = as_value make_module (attributes ▹ module_name)
+
+-- import String ;
+unfoldable pub import_path : Lang StringLiteral
+import_path = as_value inner (keyword keywords.Import ▹ string ▹ symbol Semicolon)
 
 -- Attrs? import String ;
 unfoldable pub import_of : Lang Import
-import_of = as_value make_import (attributes ▹ keyword keywords.Import ▹ string ▹ symbol Semicolon)
+import_of = as_value make_import (attributes ▹ import_path)
 
 -- File: (Attrs? module Name ;)? (Attrs? import String ;)* Def*
 unfoldable pub file : ℕ → Lang File

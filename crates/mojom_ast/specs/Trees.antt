@@ -143,11 +143,11 @@ make_definition x = record { attributes = x.0; item = x.1 }
 
 -- files
 
-abbrev pub make_module : List Attribute × (Token × (Name × Token)) → ModuleStatement
-make_module x = record { attributes = x.0; name = x.1.1.0 }
+abbrev pub make_module : List Attribute × Name → ModuleStatement
+make_module x = record { attributes = x.0; name = x.1 }
 
-abbrev pub make_import : List Attribute × (Token × (StringLiteral × Token)) → Import
-make_import x = record { attributes = x.0; path = x.1.1.0 }
+abbrev pub make_import : List Attribute × StringLiteral → Import
+make_import x = record { attributes = x.0; path = x.1 }
 
 abbrev pub make_file : Option ModuleStatement × (List Import × List Definition) → File
 make_file x = record { module_statement = x.0; imports = x.1.0; definitions = x.1.1 }
