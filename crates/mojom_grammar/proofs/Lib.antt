@@ -5,3 +5,4 @@ pub mod Lists
 pub mod Values
 pub mod Types
 pub mod Definitions
+pub mod Statements

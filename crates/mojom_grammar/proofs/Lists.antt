@@ -37,14 +37,14 @@ pub lacks_both : (a b : List ℕ) (c : ℕ) → has a c ≡ false → has b c �
 lacks_both [] b c e f = f
 lacks_both (x ∷ xs) b c e f = no_in_both (nat_eq c x) (has xs c) (has (xs ++ b) c) (λ h. lacks_both xs b c h f) e
 
-lacks_cond : (v : Bool) (a b : List ℕ) (c : ℕ) → has a c ≡ false → has b c ≡ false → has (cond v (a ++ b) a) c ≡ false
+pub lacks_cond : (v : Bool) (a b : List ℕ) (c : ℕ) → has a c ≡ false → has b c ≡ false → has (cond v (a ++ b) a) c ≡ false
 lacks_cond true a b c e f = lacks_both a b c e f
 lacks_cond false a b c e f = e
 
 pub finds_more : {A : Type 0} (b : ℕ) (D : Type 0) (more all : List ℕ) (one two : Lang A) → ((c : ℕ) → has all c ≡ false → has more c ≡ false) → Finds b D more one two → Finds b D all one two
 finds_more b D more all one two sub f m ask K free p u le fits h = f m ask K (λ x t ts k. sub (class t) (free x t ts k)) p u le fits h
 
-fits_map : {A B : Type 0} (g : A → B) (m : Mode) (u : List Token) (K : B → List Token → Type 0) → Fits m u K → Fits m u (λ x. K (g x))
+pub fits_map : {A B : Type 0} (g : A → B) (m : Mode) (u : List Token) (K : B → List Token → Type 0) → Fits m u K → Fits m u (λ x. K (g x))
 fits_map g Whole u K e = e
 fits_map g Begun u K e = tt
 fits_map g Deep u K e = λ x. e (g x)
@@ -175,7 +175,7 @@ good_value {D = D} {more = more} {one = one} {two = two} f g = record {
 shorter_told : {A : Type 0} (two : Lang A) (ts : List Token) (x : A) (rest : List Token) → Told two ts (Ok (x, rest)) → length rest ≤ length ts
 shorter_told two ts x rest t = omega (arith, ap length t.1, length-append t.0 rest)
 
-shorter : {A : Type 0} (two : Lang A) → Tells two → (ts : List Token) (x : A) (rest : List Token) → two.read ts ≡ Ok (x, rest) → length rest ≤ length ts
+pub shorter : {A : Type 0} (two : Lang A) → Tells two → (ts : List Token) (x : A) (rest : List Token) → two.read ts ≡ Ok (x, rest) → length rest ≤ length ts
 shorter two t ts x rest eq = shorter_told two ts x rest (subst (λ (r : Read _). Told two ts r) eq (t ts))
 
 pub good_seq : {A B : Type 0} {D : Type 0} {m1 m2 : List ℕ} {a1 a2 : Lang A} {c1 c2 : Lang B} → Good D m1 a1 a2 → Good D m2 c1 c2 → disjoint m1 c1.starts ≡ true → Good D (cond c1.null (m2 ++ m1) m2) (a1 ▹ c1) (a2 ▹ c2)
@@ -208,10 +208,10 @@ good_maybe {D = D} {more = more} {one = one} {two = two} g e = record {
   finds = λ b. finds_maybe b D more one two (g.finds b) g.opens g.tells e g.same;
 }
 
-opens_any : {A : Type 0} (some : ℕ → Lang A) → ((n : ℕ) → Opens (some n)) → ((n : ℕ) → (some n).starts ≡ (some 1).starts) → Opens (any some)
+pub opens_any : {A : Type 0} (some : ℕ → Lang A) → ((n : ℕ) → Opens (some n)) → ((n : ℕ) → (some n).starts ≡ (some 1).starts) → Opens (any some)
 opens_any some o same m K p h = elim (o h.0 m K p h.1) [ inl f ↦ inl (subst (λ (cs : List ℕ). Front m cs p) (same h.0) f) | inr k ↦ inr (refl, k.1) ]
 
-flip : {A : Type 0} {D : Type 0} {more : List ℕ} {one two : Lang A} → Good D more one two → one.null ≡ false → two.null ≡ false
+pub flip : {A : Type 0} {D : Type 0} {more : List ℕ} {one two : Lang A} → Good D more one two → one.null ≡ false → two.null ≡ false
 flip g e = sym g.null ∙ e
 
 opens_pair : {A : Type 0} (two : Lang A) → two.null ≡ false → Opens two → (n : ℕ) → Opens (times n two)
