@@ -6,3 +6,5 @@ pub mod Values
 pub mod Types
 pub mod Definitions
 pub mod Statements
+pub mod Plain
+pub mod Same
