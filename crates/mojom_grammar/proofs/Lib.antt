@@ -8,3 +8,5 @@ pub mod Definitions
 pub mod Statements
 pub mod Plain
 pub mod Same
+pub mod Shortens
+pub mod Fronts
