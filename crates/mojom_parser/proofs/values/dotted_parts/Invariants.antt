@@ -1,0 +1,8 @@
+use Rattle.std.proofs.Common.{◌≡◌, length, ◌-◌}
+use Rattle.mojom_ast.specs.Lang.{times, many}
+use Rattle.mojom_ast.specs.Grammar.{dotted}
+use Rattle.mojom_parser.specs.Reading.{with_front}
+use Rattle.mojom_parser.proofs.values.dotted_parts.Given as goal
+
+abbrev pub invariant-loop : goal.invariant-loop
+invariant-loop l = with_front l.parts.items ((times (length l.tokens - l.counter) dotted).read l.rest) ≡ with_front l.initial.parts.items ((many dotted).read l.tokens)

@@ -1,0 +1,251 @@
+//! Types.
+
+ghost use Rattle.std.specs.Prelude.{◌≡◌, Bool, is_some};
+ghost use Rattle.mojom_ast.specs.TypeTrees.{TypeTree, base_view, type_view};
+ghost use Rattle.mojom_ast.specs.Lang.{as_value, maybe, symbol, deep, front_in};
+ghost use Rattle.mojom_ast.specs.Grammar.{handle_sort, sort_given, handle, pending_sort, pending, count, array, map_of, base, type_starts, type_within};
+ghost use Rattle.mojom_ast.specs.declared.token.Symbol.TheVariants.{Question};
+ghost use Rattle.mojom_parser.specs.Reading.{Gives, Fails};
+
+use crate::error::Stop;
+use crate::tokens::{
+    expect, is_identifier, is_keyword, is_next, is_symbol, keyword, number, symbol,
+};
+use crate::values::name;
+use mojom_ast::{
+    BaseNode, Fault, HandleSort, Keyword, Number, PendingSort, Symbol, Token, Type, TypeNode,
+};
+use std::alloc::Global;
+
+/// The classes of the identifiers that are sorts of handles.
+const MESSAGE_PIPE: u8 = 36;
+const DATA_PIPE_CONSUMER: u8 = 37;
+const DATA_PIPE_PRODUCER: u8 = 38;
+const SHARED_BUFFER: u8 = 39;
+const PLATFORM: u8 = 40;
+
+/// How many types may stand round one another.
+pub const LEVELS: u32 = 32;
+
+/// `,` and a number, where they stand.
+#[tactic(auto, unfolding(mojom_ast::specs::Grammar::count))]
+fn count(tokens: &[Token]) -> Result<(Option<Number>, &[Token]), Stop>
+    ensures { Gives (λ x. (x.0, x.1.now)) result ((maybe count).read tokens.now) }
+{
+    if !is_symbol(tokens, Symbol::Comma) {
+        return Ok((None, tokens));
+    }
+    let (_, rest) = symbol(tokens, Symbol::Comma)?;
+    let (n, rest) = number(rest)?;
+    Ok((Some(n), rest))
+}
+
+/// Whether `?` stands next, and the tokens after it.
+fn question(tokens: &[Token]) -> Result<(bool, &[Token]), Stop>
+    ensures { Gives (λ x. (x.0, x.1.now)) result ((as_value is_some (maybe (symbol Question))).read tokens.now) }
+{
+    if !is_symbol(tokens, Symbol::Question) {
+        return Ok((false, tokens));
+    }
+    let (_, rest) = symbol(tokens, Symbol::Question)?;
+    Ok((true, rest))
+}
+
+#[cycle(kind)]
+#[tactic(auto, unfolding(mojom_ast::specs::Grammar::array))]
+fn array(alloc: Global, left: u32, tokens: &[Token]) -> Result<(BaseNode, &[Token]), Stop>
+    ensures { Gives (λ x. (base_view x.0, x.1.now)) result ((array (type_within left)).read tokens.now) }
+{
+    let (_, rest) = keyword(tokens, Keyword::Array)?;
+    let (_, rest) = symbol(rest, Symbol::Less)?;
+    let (of, rest) = node(alloc, left, rest)?;
+    let (count, rest) = count(rest)?;
+    let (_, rest) = symbol(rest, Symbol::Greater)?;
+    Ok((
+        BaseNode::Array {
+            of: Box::new(alloc, of)?,
+            count,
+        },
+        rest,
+    ))
+}
+
+#[cycle(kind)]
+#[tactic(auto, unfolding(mojom_ast::specs::Grammar::map_of))]
+fn map_of(alloc: Global, left: u32, tokens: &[Token]) -> Result<(BaseNode, &[Token]), Stop>
+    ensures { Gives (λ x. (base_view x.0, x.1.now)) result ((map_of (type_within left)).read tokens.now) }
+{
+    let (_, rest) = keyword(tokens, Keyword::Map)?;
+    let (_, rest) = symbol(rest, Symbol::Less)?;
+    let (key, rest) = node(alloc, left, rest)?;
+    let (_, rest) = symbol(rest, Symbol::Comma)?;
+    let (value, rest) = node(alloc, left, rest)?;
+    let (_, rest) = symbol(rest, Symbol::Greater)?;
+    Ok((
+        BaseNode::Map {
+            key: Box::new(alloc, key)?,
+            value: Box::new(alloc, value)?,
+        },
+        rest,
+    ))
+}
+
+/// The sort of a handle.
+#[tactic(auto, unfolding(mojom_ast::specs::Grammar::handle_sort))]
+fn handle_sort(tokens: &[Token]) -> Result<(HandleSort, &[Token]), Stop>
+    ensures { Gives (λ x. (x.0, x.1.now)) result (handle_sort.read tokens.now) }
+{
+    if is_next(tokens, MESSAGE_PIPE) {
+        let (_, rest) = expect(tokens, MESSAGE_PIPE)?;
+        return Ok((HandleSort::MessagePipe, rest));
+    }
+    if is_next(tokens, DATA_PIPE_CONSUMER) {
+        let (_, rest) = expect(tokens, DATA_PIPE_CONSUMER)?;
+        return Ok((HandleSort::DataPipeConsumer, rest));
+    }
+    if is_next(tokens, DATA_PIPE_PRODUCER) {
+        let (_, rest) = expect(tokens, DATA_PIPE_PRODUCER)?;
+        return Ok((HandleSort::DataPipeProducer, rest));
+    }
+    if is_next(tokens, SHARED_BUFFER) {
+        let (_, rest) = expect(tokens, SHARED_BUFFER)?;
+        return Ok((HandleSort::SharedBuffer, rest));
+    }
+    let (_, rest) = expect(tokens, PLATFORM)?;
+    Ok((HandleSort::Platform, rest))
+}
+
+/// A sort of handles between angle brackets, where it stands.
+#[tactic(auto, unfolding(mojom_ast::specs::Grammar::sort_given))]
+fn sort_given(tokens: &[Token]) -> Result<(Option<HandleSort>, &[Token]), Stop>
+    ensures { Gives (λ x. (x.0, x.1.now)) result ((maybe sort_given).read tokens.now) }
+{
+    if !is_symbol(tokens, Symbol::Less) {
+        return Ok((None, tokens));
+    }
+    let (_, rest) = symbol(tokens, Symbol::Less)?;
+    let (sort, rest) = handle_sort(rest)?;
+    let (_, rest) = symbol(rest, Symbol::Greater)?;
+    Ok((Some(sort), rest))
+}
+
+/// A handle.
+#[tactic(auto, unfolding(mojom_ast::specs::Grammar::handle))]
+fn handle(tokens: &[Token]) -> Result<(BaseNode, &[Token]), Stop>
+    ensures { Gives (λ x. (base_view x.0, x.1.now)) result (handle.read tokens.now) }
+{
+    let (_, rest) = keyword(tokens, Keyword::Handle)?;
+    let (sort, rest) = sort_given(rest)?;
+    Ok((BaseNode::Handle(sort), rest))
+}
+
+/// One of the four keywords for an end of an interface.
+#[tactic(auto, unfolding(mojom_ast::specs::Grammar::pending_sort))]
+fn pending_sort(tokens: &[Token]) -> Result<(PendingSort, &[Token]), Stop>
+    ensures { Gives (λ x. (x.0, x.1.now)) result (pending_sort.read tokens.now) }
+{
+    if is_keyword(tokens, Keyword::PendingRemote) {
+        let (_, rest) = keyword(tokens, Keyword::PendingRemote)?;
+        return Ok((PendingSort::Remote, rest));
+    }
+    if is_keyword(tokens, Keyword::PendingReceiver) {
+        let (_, rest) = keyword(tokens, Keyword::PendingReceiver)?;
+        return Ok((PendingSort::Receiver, rest));
+    }
+    if is_keyword(tokens, Keyword::PendingAssociatedRemote) {
+        let (_, rest) = keyword(tokens, Keyword::PendingAssociatedRemote)?;
+        return Ok((PendingSort::AssociatedRemote, rest));
+    }
+    let (_, rest) = keyword(tokens, Keyword::PendingAssociatedReceiver)?;
+    Ok((PendingSort::AssociatedReceiver, rest))
+}
+
+/// An end of an interface.
+#[tactic(auto, unfolding(mojom_ast::specs::Grammar::pending))]
+fn pending(alloc: Global, tokens: &[Token]) -> Result<(BaseNode, &[Token]), Stop>
+    ensures { Gives (λ x. (base_view x.0, x.1.now)) result (pending.read tokens.now) }
+{
+    let (sort, rest) = pending_sort(tokens)?;
+    let (_, rest) = symbol(rest, Symbol::Less)?;
+    let (interface, rest) = name(alloc, rest)?;
+    let (_, rest) = symbol(rest, Symbol::Greater)?;
+    Ok((BaseNode::Pending { sort, interface }, rest))
+}
+
+/// Whether the next token is one of the four keywords for an end of an interface.
+#[tactic(auto, unfolding(mojom_ast::specs::Grammar::pending, mojom_ast::specs::Grammar::pending_sort))]
+fn begins_pending(tokens: &[Token]) -> bool
+    ensures { result ≡ front_in pending.starts tokens.now }
+{
+    is_keyword(tokens, Keyword::PendingRemote)
+        || is_keyword(tokens, Keyword::PendingReceiver)
+        || is_keyword(tokens, Keyword::PendingAssociatedRemote)
+        || is_keyword(tokens, Keyword::PendingAssociatedReceiver)
+}
+
+#[cycle(kind)]
+#[tactic(auto, unfolding(mojom_ast::specs::Grammar::base, mojom_ast::specs::Grammar::array, mojom_ast::specs::Grammar::map_of, mojom_ast::specs::Grammar::handle))]
+fn base(alloc: Global, left: u32, tokens: &[Token]) -> Result<(BaseNode, &[Token]), Stop>
+    ensures { Gives (λ x. (base_view x.0, x.1.now)) result ((base (type_within left)).read tokens.now) }
+{
+    if is_keyword(tokens, Keyword::Array) {
+        return array(alloc, left, tokens);
+    }
+    if is_keyword(tokens, Keyword::Map) {
+        return map_of(alloc, left, tokens);
+    }
+    if is_keyword(tokens, Keyword::Handle) {
+        return handle(tokens);
+    }
+    if begins_pending(tokens) {
+        return pending(alloc, tokens);
+    }
+    let (name, rest) = name(alloc, tokens)?;
+    Ok((BaseNode::Name(name), rest))
+}
+
+/// A type that may hold so many levels of types, itself among them.
+#[cycle(kind)]
+#[tactic(auto, unfolding(mojom_ast::specs::Grammar::type_at))]
+fn node(alloc: Global, left: u32, tokens: &[Token]) -> Result<(TypeNode, &[Token]), Stop>
+    ensures { Gives (λ x. (type_view x.0, x.1.now)) result ((type_within left).read tokens.now) }
+{
+    if left == 0 {
+        return Err(too_deep(tokens));
+    }
+    let (base, rest) = base(alloc, left - 1, tokens)?;
+    let (nullable, rest) = question(rest)?;
+    Ok((TypeNode { base, nullable }, rest))
+}
+
+/// Whether the next token begins a type.
+pub fn begins_type(tokens: &[Token]) -> bool
+    ensures { result ≡ front_in type_starts tokens.now }
+{
+    is_keyword(tokens, Keyword::Array)
+        || is_keyword(tokens, Keyword::Map)
+        || is_keyword(tokens, Keyword::Handle)
+        || is_keyword(tokens, Keyword::PendingRemote)
+        || is_keyword(tokens, Keyword::PendingReceiver)
+        || is_keyword(tokens, Keyword::PendingAssociatedRemote)
+        || is_keyword(tokens, Keyword::PendingAssociatedReceiver)
+        || is_identifier(tokens)
+}
+
+fn too_deep(tokens: &[Token]) -> Stop
+    ensures { Fails result ((deep {A = TypeTree} type_starts).read tokens.now) }
+{
+    if begins_type(tokens) {
+        Stop::Fault(Fault::TooNested(tokens.len()))
+    } else {
+        Stop::Fault(Fault::Unexpected(tokens.len()))
+    }
+}
+
+/// A type, and the tokens after it.
+pub fn type_of(alloc: Global, tokens: &[Token]) -> Result<(Type, &[Token]), Stop>
+    ensures { Gives (λ x. (x.0, x.1.now)) result ((type_within LEVELS).read tokens.now) }
+{
+    let (node, rest) = node(alloc, LEVELS, tokens)?;
+    Ok((Type::new(node), rest))
+}
