@@ -1,6 +1,3 @@
-pub mod Tokens
-pub mod Form
 pub mod Sound
-pub mod Rows
-pub mod Compiled
-pub mod Reading
+pub mod Plain
+pub mod Causes

@@ -2,14 +2,11 @@
 //! compiled to their schemas.
 #![tactic(auto)]
 
-mod compiler;
 mod error;
-mod lexer;
-mod parser;
+mod plain;
 mod refusals;
-mod rows;
 mod tree;
-mod words;
 
-pub use compiler::{compile, one_schema};
-pub use error::CompileError;
+pub use error::{Cause, CompileError, FileRefusal};
+pub use plain::plain_file;
+pub use refusals::is_allowed_interface;

@@ -1,18 +1,28 @@
-//! What is refused in a file that was read: names that stand twice or that name a basic kind, and
-//! more methods or parameters than there may be.
+//! What is refused in an interface: names that stand twice or that name a basic kind, and more methods
+//! or parameters than there may be.
 
-ghost use Rattle.std.specs.Prelude.{◌≡◌, ◌↔◌, IsTrue, IfOk, map};
-ghost use Rattle.std.specs.List.{list_any, AllByRecursion, IsDistinct};
+ghost use Rattle.std.specs.Prelude.{◌≡◌, map};
+ghost use Rattle.std.specs.List.{list_any, list_all};
 ghost use Rattle.std.specs.Str.{bytes_eq};
-ghost use Rattle.mojom_compile.specs.Sound.{is_basic_kind, IsAllowedMethod, IsAllowedInterface, IsAllowed};
+ghost use Rattle.mojom_compile.specs.Sound.{is_basic_kind, are_distinct, is_allowed_method, is_allowed_interface, name_of};
 
-use crate::tree::{File, Interface, Method};
-use crate::words::is_among;
+use crate::tree::{Interface, Method};
 use mj_base::Text;
-use std::alloc::{AllocError, Global};
 
 /// The most methods of an interface, and the most parameters of a method.
 const MOST: usize = 4096;
+
+/// Whether the word is one of these.
+fn is_among(words: &[&str], word: &str) -> bool
+    ensures { result ≡ list_any (λ other. bytes_eq word.now other.now) words.now }
+{
+    for other in words {
+        if word == *other {
+            return true;
+        }
+    }
+    false
+}
 
 /// Whether the word is the name of a basic kind.
 fn is_basic_kind(word: &str) -> bool
@@ -39,41 +49,43 @@ fn has(names: &[Text], name: &str) -> bool
 
 /// Whether no two names are the same.
 fn are_distinct(names: &[Text]) -> bool
-    ensures { IsTrue result ↔ IsDistinct bytes_eq names.now }
+    ensures { result ≡ are_distinct names.now }
 {
-    for (at, name) in names.iter().enumerate() {
-        if has(&names[at + 1..], name.as_str()) {
+    for (number, name) in names.iter().enumerate() {
+        if has(&names[number + 1..], name.as_str()) {
             return false;
         }
     }
     true
 }
 
-/// The names of the methods.
-fn method_names(alloc: Global, methods: &[Method]) -> Result<Vec<Text>, AllocError>
-    ensures { IfOk result (λ found. found.items ≡ map (λ method. method.name) methods.now) }
+/// Whether one of the methods has this name.
+fn has_method(methods: &[Method], name: &str) -> bool
+    ensures { result ≡ list_any (bytes_eq name.now) (map name_of methods.now) }
 {
-    let mut found = Vec::new(alloc);
     for method in methods {
-        found.push(Text::from_str(alloc, method.name.as_str())?)?;
+        if name == method.name.as_str() {
+            return true;
+        }
     }
-    Ok(found)
+    false
 }
 
-/// The names of the interfaces.
-fn interface_names(alloc: Global, interfaces: &[Interface]) -> Result<Vec<Text>, AllocError>
-    ensures { IfOk result (λ found. found.items ≡ map (λ interface. interface.name) interfaces.now) }
+/// Whether no two methods have one name.
+fn methods_differ(methods: &[Method]) -> bool
+    ensures { result ≡ are_distinct (map name_of methods.now) }
 {
-    let mut found = Vec::new(alloc);
-    for interface in interfaces {
-        found.push(Text::from_str(alloc, interface.name.as_str())?)?;
+    for (number, method) in methods.iter().enumerate() {
+        if has_method(&methods[number + 1..], method.name.as_str()) {
+            return false;
+        }
     }
-    Ok(found)
+    true
 }
 
 /// Whether nothing in the method is refused.
 fn is_allowed_method(method: &Method) -> bool
-    ensures { IsTrue result ↔ IsAllowedMethod method.now }
+    ensures { result ≡ is_allowed_method method.now }
 {
     let names = method.parameters.as_slice();
     names.len() <= MOST && are_distinct(names)
@@ -81,7 +93,7 @@ fn is_allowed_method(method: &Method) -> bool
 
 /// Whether nothing in the methods is refused, each taken by itself.
 fn are_allowed_methods(methods: &[Method]) -> bool
-    ensures { IsTrue result ↔ AllByRecursion IsAllowedMethod methods.now }
+    ensures { result ≡ list_all is_allowed_method methods.now }
 {
     for method in methods {
         if !is_allowed_method(method) {
@@ -92,40 +104,12 @@ fn are_allowed_methods(methods: &[Method]) -> bool
 }
 
 /// Whether nothing in the interface is refused.
-fn is_allowed_interface(alloc: Global, interface: &Interface) -> Result<bool, AllocError>
-    ensures { IfOk result (λ allowed. IsTrue allowed ↔ IsAllowedInterface interface.now) }
+pub fn is_allowed_interface(interface: &Interface) -> bool
+    ensures { result ≡ is_allowed_interface interface.now }
 {
-    if is_basic_kind(interface.name.as_str()) {
-        return Ok(false);
-    }
     let methods = interface.methods.as_slice();
-    if methods.len() > MOST {
-        return Ok(false);
-    }
-    let names = method_names(alloc, methods)?;
-    Ok(are_distinct(names.as_slice()) && are_allowed_methods(methods))
-}
-
-/// Whether nothing in the interfaces is refused, each taken by itself.
-fn are_allowed_interfaces(alloc: Global, interfaces: &[Interface]) -> Result<bool, AllocError>
-    ensures { IfOk result (λ allowed. IsTrue allowed ↔ AllByRecursion IsAllowedInterface interfaces.now) }
-{
-    for interface in interfaces {
-        if !is_allowed_interface(alloc, interface)? {
-            return Ok(false);
-        }
-    }
-    Ok(true)
-}
-
-/// Whether nothing in the file is refused.
-pub fn is_allowed(alloc: Global, file: &File) -> Result<bool, AllocError>
-    ensures { IfOk result (λ allowed. IsTrue allowed ↔ IsAllowed file.now) }
-{
-    let interfaces = file.interfaces.as_slice();
-    let names = interface_names(alloc, interfaces)?;
-    if !are_distinct(names.as_slice()) {
-        return Ok(false);
-    }
-    are_allowed_interfaces(alloc, interfaces)
+    !is_basic_kind(interface.name.as_str())
+        && methods.len() <= MOST
+        && methods_differ(methods)
+        && are_allowed_methods(methods)
 }

@@ -1,7 +1,7 @@
-use Rattle.std.proofs.Common.{◌↔◌, drop}
-use Rattle.std.specs.List.{IsDistinct}
-use Rattle.std.specs.Str.{bytes_eq}
+use Rattle.std.proofs.Common.{◌≡◌, map, drop}
+use Rattle.mojom_compile.specs.Sound.{are_distinct}
 use Rattle.mojom_compile.proofs.refusals.are_distinct.Given as goal
 
-abbrev pub invariant-loop-at : goal.invariant-loop-at
-invariant-loop-at l = IsDistinct bytes_eq l.names ↔ IsDistinct bytes_eq (drop l.at l.names)
+-- those that were passed stand once
+abbrev pub invariant-loop-number : goal.invariant-loop-number
+invariant-loop-number l = are_distinct l.names ≡ are_distinct (drop l.number l.names)

@@ -1,7 +1,8 @@
-use Rattle.std.proofs.Common.{◌≡◌, false, take}
+use Rattle.std.proofs.Common.{◌≡◌, map, drop}
 use Rattle.std.specs.List.{list_any}
 use Rattle.std.specs.Str.{bytes_eq}
 use Rattle.mojom_compile.proofs.refusals.has.Given as goal
 
+-- those that were passed are others
 abbrev pub invariant-loop-other : goal.invariant-loop-other
-invariant-loop-other l = list_any (bytes_eq l.name) (take l.other-index l.names) ≡ false
+invariant-loop-other l = list_any (bytes_eq l.name) l.names ≡ list_any (bytes_eq l.name) (drop l.other-index l.names)
