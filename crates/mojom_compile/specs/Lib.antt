@@ -1,3 +1,5 @@
 pub mod Sound
 pub mod Plain
 pub mod Causes
+pub mod Few
+pub mod Rows

@@ -5,8 +5,10 @@
 mod error;
 mod plain;
 mod refusals;
+mod rows;
 mod tree;
 
 pub use error::{Cause, CompileError, FileRefusal};
 pub use plain::plain_file;
 pub use refusals::is_allowed_interface;
+pub use rows::schema;

@@ -1,0 +1,117 @@
+-- Which bytes have which tree and which schema, and which refusal.
+use Rattle.std.specs.Prelude.{ℕ, ◌≡◌, ◌+◌, ◌<◌, ◌⊎◌, List, length, take, Option, Some, None, slice_get, Result, Ok, Err}
+use Rattle.mj_schema.specs.declared.schema.Schema.{Schema}
+use Rattle.mojom_ast.specs.declared.token.Token.{Token}
+use Rattle.mojom_ast.specs.declared.file.File as trees
+use Rattle.mojom_ast.specs.Parsed.{Spells, EndsTooDeep}
+use Rattle.mojom_lexer.specs.declared.error.LexError.{LexError}
+use Rattle.mojom_lexer.specs.declared.error.LexError.TheVariants as lex
+use Rattle.mojom_lexer.specs.Lexed.{AreTokens, IsRefused}
+use Rattle.mojom_parser.specs.declared.error.ParseError.{ParseError}
+use Rattle.mojom_parser.specs.declared.error.ParseError.TheVariants as parse
+use Rattle.mojom_parser.specs.Parsed.{Blames}
+use Rattle.mojom_compile.specs.declared.tree.File.{File}
+use Rattle.mojom_compile.specs.declared.error.Cause.{Cause}
+use Rattle.mojom_compile.specs.declared.error.Cause.TheVariants as causes
+use Rattle.mojom_compile.specs.declared.error.FileRefusal.{FileRefusal}
+use Rattle.mojom_compile.specs.declared.error.CompileError.{CompileError}
+use Rattle.mojom_compile.specs.declared.error.CompileError.TheVariants.{Refused, Memory}
+use Rattle.mojom_compile.specs.Plain.{plain_file}
+use Rattle.mojom_compile.specs.Rows.{IsSchema}
+
+-- no type stands inside 32 others
+abbrev pub IsShallow : List Token → Type 0
+IsShallow tokens = (at : ℕ) → at < length tokens → EndsTooDeep (take (at + 1) tokens) → ⊥
+
+-- the bytes are tokens that spell the tree
+pub record IsParsed (bytes : List ℕ) (tree : trees.File) : Type 0 where
+  pub tokens : List Token
+  pub are : AreTokens bytes tokens
+  pub shallow : IsShallow tokens
+  pub spelled : Spells tree tokens
+
+-- the bytes spell a tree of today's form, and the schema is that file's
+pub record IsSchemaFor (bytes : List ℕ) (schema : Schema) (file : File) : Type 0 where
+  pub tree : trees.File
+  pub parsed : IsParsed bytes tree
+  pub plain : plain_file tree ≡ Ok file
+  pub tables : IsSchema file schema
+
+-- the bytes are a file of the form, and this is its schema
+abbrev pub IsSchemaOf : List ℕ → Schema → Type 0
+IsSchemaOf bytes schema = (file : File) × IsSchemaFor bytes schema file
+
+abbrev pub at_its_place : ℕ → (ℕ → Cause) → CompileError
+at_its_place at cause = Refused (record { at = at; cause = cause at })
+
+-- a lexical refusal stands at its place
+abbrev pub lexical : LexError → CompileError
+lexical (lex.BadUtf8 at) = at_its_place at causes.BadUtf8
+lexical (lex.BadChar at) = at_its_place at causes.BadChar
+lexical (lex.OpenComment at) = at_its_place at causes.OpenComment
+lexical (lex.OpenString at) = at_its_place at causes.OpenString
+lexical (lex.LeadingZero at) = at_its_place at causes.LeadingZero
+lexical (lex.NumberTooLong at) = at_its_place at causes.NumberTooLong
+lexical lex.Memory = Memory
+
+-- the place of a token, or the file's length behind the last
+abbrev pub place_of_token : List ℕ → List Token → ℕ → ℕ
+place_of_token bytes tokens number = elim (slice_get tokens number) [ Some token ↦ token.span.start | None ↦ length bytes ]
+
+-- a refusal by the grammar stands at its token
+abbrev pub grammatical : List ℕ → List Token → ParseError → CompileError
+grammatical bytes tokens (parse.Unexpected at) = Refused (record { at = place_of_token bytes tokens at; cause = causes.Unexpected at })
+grammatical bytes tokens (parse.TooNested at) = Refused (record { at = place_of_token bytes tokens at; cause = causes.TooNested at })
+grammatical bytes tokens parse.Memory = Memory
+
+-- the one place of what the grammar refuses: types that nest too deep come before all else
+abbrev pub IsFault : List Token → ParseError → Type 0
+IsFault tokens (parse.Unexpected at) = Blames (parse.Unexpected at) tokens × IsShallow tokens
+IsFault tokens (parse.TooNested at) = Blames (parse.TooNested at) tokens × ((other : ℕ) → other < length tokens → EndsTooDeep (take (other + 1) tokens) → other ≡ at)
+IsFault tokens parse.Memory = ⊥
+
+-- the bytes are no tokens
+pub record IsNoText (bytes : List ℕ) (refusal : FileRefusal) : Type 0 where
+  pub error : LexError
+  pub refused : IsRefused bytes error
+  pub named : lexical error ≡ Refused refusal
+
+-- the tokens are no file
+pub record IsNoFile (bytes : List ℕ) (refusal : FileRefusal) : Type 0 where
+  pub tokens : List Token
+  pub error : ParseError
+  pub are : AreTokens bytes tokens
+  pub fault : IsFault tokens error
+  pub named : grammatical bytes tokens error ≡ Refused refusal
+
+-- the bytes have no tree
+abbrev pub IsUnread : List ℕ → FileRefusal → Type 0
+IsUnread bytes refusal = IsNoText bytes refusal ⊎ IsNoFile bytes refusal
+
+-- the tree has something beyond today's form
+pub record IsBeyond (bytes : List ℕ) (refusal : FileRefusal) : Type 0 where
+  pub tree : trees.File
+  pub parsed : IsParsed bytes tree
+  pub beyond : plain_file tree ≡ Err refusal.at
+  pub cause : refusal.cause ≡ causes.Unsupported
+
+-- the bytes are refused
+abbrev pub IsRefusedFile : List ℕ → FileRefusal → Type 0
+IsRefusedFile bytes refusal = IsUnread bytes refusal ⊎ IsBeyond bytes refusal
+
+-- an error is this refusal, or want of memory
+abbrev pub IsFor : (FileRefusal → Type 0) → CompileError → Type 0
+IsFor Such (Refused refusal) = Such refusal
+IsFor Such Memory = Unit {0}
+
+-- bytes have one tree or one refusal, and never both
+pub record OneTree (bytes : List ℕ) : Type 0 where
+  pub one_tree : (tree other : trees.File) → IsParsed bytes tree → IsParsed bytes other → tree ≡ other
+  pub one_refusal : (refusal other : FileRefusal) → IsUnread bytes refusal → IsUnread bytes other → refusal ≡ other
+  pub never_both : (tree : trees.File) (refusal : FileRefusal) → IsParsed bytes tree → IsUnread bytes refusal → ⊥
+
+-- bytes have one schema or one refusal, and never both
+pub record OneSchema (bytes : List ℕ) : Type 0 where
+  pub one_schema : (schema other : Schema) → IsSchemaOf bytes schema → IsSchemaOf bytes other → schema ≡ other
+  pub one_refusal : (refusal other : FileRefusal) → IsRefusedFile bytes refusal → IsRefusedFile bytes other → refusal ≡ other
+  pub never_both : (schema : Schema) (refusal : FileRefusal) → IsSchemaOf bytes schema → IsRefusedFile bytes refusal → ⊥
