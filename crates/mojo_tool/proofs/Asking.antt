@@ -3,12 +3,15 @@ use Rattle.std.proofs.Common.{◌≡◌, ◌≤◌, ℕ, List, length, refl, sym
 use Rattle.std.specs.Prelude.{Option, Result, Ok, Err, IfOk, IfErr}
 use Rattle.mj_io.specs.Outside.{Named, FilesState, FilesGoOn}
 use Rattle.mj_schema.specs.declared.schema.Schema.{Schema}
-use Rattle.mojom_compile.specs.Compiled.{IsSchemaOf}
+use Rattle.mojom_ast.specs.declared.file.File.{File}
+use Rattle.mojom_compile.specs.declared.error.FileRefusal.{FileRefusal}
+use Rattle.mojom_compile.specs.Compiled.{IsParsed, IsSchemaOf, IsUnread, IsRefusedFile}
+use Rattle.mojom_print.specs.FileText.{file_text}
 use Rattle.call_script.specs.declared.script.Script.{Script}
 use Rattle.call_script.specs.Spelling.{IsScriptOf}
-use Rattle.mojo_tool.specs.Work.{Work, Missing, TooLong, Unreadable, Runs, RunWords, Fetching, Leads, Compiling, Reading, Scripting, Running, AskedFor}
-use Rattle.mojo_tool.specs.Answers.{ReadFailed, refused_work, IsTextOf, IsRightText}
-use Rattle.mojo_tool.specs.Stops.{Stops, HasBytes, IsLonger, IsLost, NotFetched, NoSchema, NoScript}
+use Rattle.mojo_tool.specs.Work.{Work, Missing, TooLong, Refuses, Unreadable, Runs, Prints, RunWords, Fetching, Leads, Compiling, Parsing, Reading, Scripting, Running, Printing, AskedFor}
+use Rattle.mojo_tool.specs.Answers.{ReadFailed, refused_work, IsTextOf, IsRunText, IsPrintText}
+use Rattle.mojo_tool.specs.Stops.{Stops, HasBytes, IsLonger, IsLost, NotFetched, NotCompiled, NoScript}
 use Rattle.mojo_tool.specs.declared.decide.Stop.{Stop}
 use Rattle.mojo_tool.specs.declared.decide.Stop.TheVariants.{Refused, ReadFault, NoMemory}
 
@@ -51,10 +54,18 @@ compiled_lost None name other bytes schema next before now is failed = tt
 compiled_lost (Some files) name other bytes schema next before now is (inl asked) = inl (inl (schema, is, asked))
 compiled_lost (Some files) name other bytes schema next before now is (inr rose) = inr rose
 
-unreadable : (told : Option (List Named)) (name bytes : List ℕ) (next : List Named → Schema → Work → Type 0) (work : Work) → ((schema : Schema) → IsSchemaOf bytes schema → ⊥) → work ≡ Unreadable name
+refused : (told : Option (List Named)) (name bytes : List ℕ) (next : List Named → Schema → Work → Type 0) (work : Work) (why : FileRefusal) → IsRefusedFile bytes why → work ≡ Refuses name why
     → AskedFor told (λ files w. Compiling name (next files) bytes w) work
-unreadable None name bytes next work none e = tt
-unreadable (Some files) name bytes next work none e = inr (none, e)
+refused None name bytes next work why is e = tt
+refused (Some files) name bytes next work why is e = inr (why, is, e)
+
+untreed : (told : Option (List Named)) (name bytes : List ℕ) (work : Work) (why : FileRefusal) → IsUnread bytes why → work ≡ Refuses name why → AskedFor told (λ files w. Parsing name bytes w) work
+untreed None name bytes work why is e = tt
+untreed (Some files) name bytes work why is e = inr (why, is, e)
+
+treed : (told : Option (List Named)) (name bytes : List ℕ) (tree : File) → IsParsed bytes tree → AskedFor told (λ files w. Parsing name bytes w) (Prints tree)
+treed None name bytes tree is = tt
+treed (Some files) name bytes tree is = inl (tree, is, refl)
 
 unread : (told : Option (List Named)) (name bytes : List ℕ) (schema : Schema) (work : Work) → ((script : Script) → IsScriptOf schema bytes script → ⊥) → work ≡ Unreadable name
     → AskedFor told (λ files w. Reading name schema bytes w) work
@@ -62,13 +73,30 @@ unread None name bytes schema work none e = tt
 unread (Some files) name bytes schema work none e = inr (none, e)
 
 -- a file without a schema
-pub no_schema : (before now : FilesState) (words : RunWords) (bytes : List ℕ) (stop : Stop) → HasBytes before.told words.file bytes → length bytes ≤ 1048576 → NoSchema bytes words.file stop
+pub no_schema : (before now : FilesState) (words : RunWords) (bytes : List ℕ) (stop : Stop) → HasBytes before.told words.file bytes → length bytes ≤ 1048576 → NotCompiled (IsRefusedFile bytes) words.file stop
     → Stops before now (λ files w. Running files words w) stop
 no_schema before now words bytes (Refused refusal) has short why =
     leads_on before.told words.file bytes (λ files. Compiling words.file (Scripting files words.script)) (refused_work refusal) has short
-    (unreadable before.told words.file bytes (λ files. Scripting files words.script) (refused_work refusal) why.0 why.1)
+    (refused before.told words.file bytes (λ files. Scripting files words.script) (refused_work refusal) why.0 why.1 why.2)
 no_schema before now words bytes (ReadFault other) has short why = absurd why
 no_schema before now words bytes NoMemory has short why = tt
+
+-- a file without a tree
+pub no_tree : (before now : FilesState) (name bytes : List ℕ) (stop : Stop) → HasBytes before.told name bytes → length bytes ≤ 1048576 → NotCompiled (IsUnread bytes) name stop
+    → Stops before now (λ files w. Printing files name w) stop
+no_tree before now name bytes (Refused refusal) has short why =
+    leads_on before.told name bytes (λ files. Parsing name) (refused_work refusal) has short (untreed before.told name bytes (refused_work refusal) why.0 why.1 why.2)
+no_tree before now name bytes (ReadFault other) has short why = absurd why
+no_tree before now name bytes NoMemory has short why = tt
+
+-- the text of a tree
+pub tree_text : (told : Option (List Named)) (name bytes text : List ℕ) (tree : File) → HasBytes told name bytes → length bytes ≤ 1048576 → IsParsed bytes tree → text ≡ file_text tree
+    → IsPrintText told (λ files w. Printing files name w) text
+tree_text told name bytes text tree has short is e = record {
+  tree = tree;
+  asked = leads_on told name bytes (λ files. Parsing name) (Prints tree) has short (treed told name bytes tree is);
+  text_of = e;
+}
 
 -- a file without a script
 pub no_script : (before now : FilesState) (name : List ℕ) (schema : Schema) (bytes : List ℕ) (stop : Stop) → HasBytes before.told name bytes → length bytes ≤ 1048576 → NoScript schema bytes name stop
@@ -102,7 +130,7 @@ later before mid now words bytes schema NoMemory on has short is stops = tt
 
 -- the text of a script is that of the words
 pub right_text : (before mid : FilesState) (words : RunWords) (bytes text : List ℕ) (schema : Schema) → FilesGoOn before mid → HasBytes before.told words.file bytes → length bytes ≤ 1048576 → IsSchemaOf bytes schema
-    → IsRightText mid.told (λ files w. Scripting files words.script schema w) text → IsRightText before.told (λ files w. Running files words w) text
+    → IsRunText mid.told (λ files w. Scripting files words.script schema w) text → IsRunText before.told (λ files w. Running files words w) text
 right_text before mid words bytes text schema on has short is right = record {
   schema = right.schema;
   script = right.script;
@@ -114,7 +142,7 @@ right_text before mid words bytes text schema on has short is right = record {
 
 -- the text of a run of the script
 pub script_text : (told : Option (List Named)) (name bytes text : List ℕ) (schema : Schema) (script : Script) → HasBytes told name bytes → length bytes ≤ 1048576 → IsScriptOf schema bytes script → IsTextOf schema script text
-    → IsRightText told (λ files w. Scripting files name schema w) text
+    → IsRunText told (λ files w. Scripting files name schema w) text
 script_text told name bytes text schema script has short is text_of = record {
   schema = schema;
   script = script;

@@ -1,5 +1,5 @@
 pub mod Asking
-pub mod OnlyRuns
+pub mod OnlyDoable
 pub mod Completes
 pub mod Reporting
 pub mod Narrows

@@ -5,10 +5,12 @@ use Rattle.mj_schema.specs.declared.schema.Schema.{Schema}
 use Rattle.bind_model.specs.declared.event.Event.{Event}
 use Rattle.bind_model.specs.Machine.{Legal}
 use Rattle.bind_model.specs.Laws.{InOrder, AsSaid, AreTight, AreGood, OnePlace}
+use Rattle.mojom_ast.specs.declared.file.File.{File}
+use Rattle.mojom_print.specs.FileText.{file_text}
 use Rattle.call_script.specs.declared.script.Script.{Script}
 use Rattle.call_script.specs.Text.{output}
 use Rattle.script_run.specs.OfScript.{OfScript}
-use Rattle.mojo_tool.specs.Work.{Work, Missing, TooLong, Unreadable, Runs, run_of, NamesFile, IsWork, AskedFor}
+use Rattle.mojo_tool.specs.Work.{Work, Missing, TooLong, Refuses, Unreadable, Runs, Prints, Command, Run, Print, command_of, NamesFile, IsWork, AskedFor}
 use Rattle.mojo_tool.specs.Lines.{refusal_text, error_line, read_text}
 use Rattle.mojo_tool.specs.declared.refusal.ToolRefusal.{ToolRefusal}
 use Rattle.mojo_tool.specs.declared.refusal.ToolRefusal.TheVariants as refusals
@@ -35,7 +37,7 @@ pub record Seen : Type 0 where
 
 -- what the words ask for, where these are the files
 abbrev pub asked_by : Seen → List Named → Work → Type 0
-asked_by s files work = IsWork (run_of s.words) files work
+asked_by s files work = IsWork (command_of s.words) files work
 
 -- what a history keeps, said of its events, the newest first
 pub record KeepsLaws (schema : Schema) (past : List Event) : Type 0 where
@@ -58,22 +60,36 @@ pub record IsTextOf (schema : Schema) (script : Script) (text : List ℕ) : Type
   pub laws : KeepsLaws schema (reverse history)
   pub whole : text ≡ output schema 1 history
 
--- the text is one that the words and the files ask for
-pub record IsRightText (told : Option (List Named)) (ask : List Named → Work → Type 0) (text : List ℕ) : Type 0 where
+-- the text is that of a run that is asked for
+pub record IsRunText (told : Option (List Named)) (ask : List Named → Work → Type 0) (text : List ℕ) : Type 0 where
   pub schema : Schema
   pub script : Script
   pub asked : AskedFor told ask (Runs schema script)
   pub text_of : IsTextOf schema script text
 
+-- the text is the canonical one of a tree that is asked for
+pub record IsPrintText (told : Option (List Named)) (ask : List Named → Work → Type 0) (text : List ℕ) : Type 0 where
+  pub tree : File
+  pub asked : AskedFor told ask (Prints tree)
+  pub text_of : text ≡ file_text tree
+
+-- the text is one that the words and the files ask for
+abbrev pub IsRightText : Option Command → Option (List Named) → (List Named → Work → Type 0) → List ℕ → Type 0
+IsRightText None told ask text = ⊥
+IsRightText (Some (Run words)) told ask text = IsRunText told ask text
+IsRightText (Some (Print file)) told ask text = IsPrintText told ask text
+
 -- the work that a refusal is the answer to
 abbrev pub refused_work : ToolRefusal → Work
 refused_work (refusals.Unsupported name) = Unreadable name.now
 refused_work (refusals.FileTooLong name) = TooLong name.now
+refused_work (refusals.Refused name refusal) = Refuses name.now refusal
 
 -- the file that it names
 abbrev pub refused_name : ToolRefusal → List ℕ
 refused_name (refusals.Unsupported name) = name.now
 refused_name (refusals.FileTooLong name) = name.now
+refused_name (refusals.Refused name refusal) = name.now
 
 -- the whole text was taken, or a front of it where a fault was counted
 abbrev pub WroteOrFailed : SinkState → SinkState → List ℕ → Type 0
@@ -88,12 +104,12 @@ ReadFailed (Some files) ask name before now = ask files (Missing name) ⊎ Rose 
 pub record IsDone (s : Seen) : Type 0 where
   pub text : List ℕ
   pub wrote : Wrote s.out_before s.out text
-  pub right : IsRightText s.files_before.told (asked_by s) text
+  pub right : IsRightText (command_of s.words) s.files_before.told (asked_by s) text
 
 -- the first refusal that the files give, of a file that the words name, with its line
 pub record IsRefused (s : Seen) : Type 0 where
   pub refusal : ToolRefusal
-  pub named : NamesFile (run_of s.words) (refused_name refusal)
+  pub named : NamesFile (command_of s.words) (refused_name refusal)
   pub quiet : s.out ≡ s.out_before
   pub asked : AskedFor s.files_before.told (asked_by s) (refused_work refusal)
   pub wrote : WroteOrFailed s.err_before s.err (error_line (refusal_text refusal))
@@ -101,12 +117,12 @@ pub record IsRefused (s : Seen) : Type 0 where
 -- the words are no command
 pub record IsWrongUse (s : Seen) : Type 0 where
   pub quiet : s.out ≡ s.out_before
-  pub wrong : run_of s.words ≡ None
+  pub wrong : command_of s.words ≡ None
 
 -- a file that the words name could not be fetched
 pub record IsReadFault (s : Seen) : Type 0 where
   pub name : List ℕ
-  pub named : NamesFile (run_of s.words) name
+  pub named : NamesFile (command_of s.words) name
   pub quiet : s.out ≡ s.out_before
   pub rose : Rose s.files_before.faults s.files.faults
   pub failed : ReadFailed s.files_before.told (asked_by s) name s.files_before.there s.files.there
@@ -117,7 +133,7 @@ pub record IsWriteFault (s : Seen) : Type 0 where
   pub text : List ℕ
   pub part : WroteSome s.out_before s.out text
   pub rose : Rose s.out_before.faults s.out.faults
-  pub right : IsRightText s.files_before.told (asked_by s) text
+  pub right : IsRightText (command_of s.words) s.files_before.told (asked_by s) text
 
 -- want of memory is the one free answer
 pub record IsNoMemory (s : Seen) : Type 0 where

@@ -1,12 +1,15 @@
 -- The lines on standard error.
-use Rattle.std.specs.Prelude.{ℕ, ◌++◌, List, [], ◌∷◌, codes}
+use Rattle.std.specs.Prelude.{ℕ, decimal, ◌++◌, List, [], ◌∷◌, codes}
+use Rattle.mojom_compile.specs.declared.error.FileRefusal.{FileRefusal}
+use Rattle.mojom_compile.specs.Causes.{cause_text}
 use Rattle.mojo_tool.specs.declared.refusal.ToolRefusal.{ToolRefusal}
-use Rattle.mojo_tool.specs.declared.refusal.ToolRefusal.TheVariants.{Unsupported, FileTooLong}
+use Rattle.mojo_tool.specs.declared.refusal.ToolRefusal.TheVariants.{Unsupported, FileTooLong, Refused}
 
--- a refusal of a file, by the file's name as it was given
+-- a refusal of a file, by the file's name as it was given, and for a Mojom file the byte place
 abbrev pub refusal_text : ToolRefusal → List ℕ
 refusal_text (Unsupported name) = codes "Unsupported " ++ name.now
 refusal_text (FileTooLong name) = codes "FileTooLong " ++ name.now
+refusal_text (Refused name refusal) = name.now ++ (codes ":" ++ (decimal refusal.at ++ (codes ": " ++ cause_text refusal.cause)))
 
 abbrev pub error_line : List ℕ → List ℕ
 error_line text = codes "error: " ++ (text ++ 10 ∷ [])

@@ -2,10 +2,10 @@
 use Rattle.std.specs.Prelude.{ℕ, ◌≡◌, ◌<◌, ◌⊎◌, List, length, Option, Some, None}
 use Rattle.mj_io.specs.Outside.{Named, find_file, FilesState, Rose}
 use Rattle.mj_schema.specs.declared.schema.Schema.{Schema}
-use Rattle.mojom_compile.specs.Compiled.{IsSchemaOf}
+use Rattle.mojom_compile.specs.declared.error.FileRefusal.{FileRefusal}
 use Rattle.call_script.specs.declared.script.Script.{Script}
 use Rattle.call_script.specs.Spelling.{IsScriptOf}
-use Rattle.mojo_tool.specs.Work.{Work, AskedFor, TooLong, Unreadable}
+use Rattle.mojo_tool.specs.Work.{Work, AskedFor, TooLong, Refuses, Unreadable}
 use Rattle.mojo_tool.specs.Answers.{ReadFailed, refused_work, refused_name}
 use Rattle.mojo_tool.specs.declared.decide.Stop.{Stop}
 use Rattle.mojo_tool.specs.declared.decide.Stop.TheVariants.{Refused, ReadFault, NoMemory}
@@ -41,11 +41,11 @@ Stops before now ask (Refused refusal) = AskedFor before.told ask (refused_work 
 Stops before now ask (ReadFault name) = FaultOfFiles before now ask name.now
 Stops before now ask NoMemory = Unit {0}
 
--- the bytes have no schema, or there was no memory to tell
-abbrev pub NoSchema : List ℕ → List ℕ → Stop → Type 0
-NoSchema bytes name (Refused refusal) = ((schema : Schema) → IsSchemaOf bytes schema → ⊥) × (refused_work refusal ≡ Unreadable name)
-NoSchema bytes name (ReadFault other) = ⊥
-NoSchema bytes name NoMemory = Unit {0}
+-- the bytes are refused so, or there was no memory to tell
+abbrev pub NotCompiled : (FileRefusal → Type 0) → List ℕ → Stop → Type 0
+NotCompiled Such name (Refused refusal) = (why : FileRefusal) × Such why × (refused_work refusal ≡ Refuses name why)
+NotCompiled Such name (ReadFault other) = ⊥
+NotCompiled Such name NoMemory = Unit {0}
 
 -- the bytes are no script of the schema, or there was no memory to tell
 abbrev pub NoScript : Schema → List ℕ → List ℕ → Stop → Type 0

@@ -3,7 +3,9 @@ use Rattle.std.specs.Prelude.{ℕ, ◌≡◌, ◌≤◌, ◌<◌, ◌&&◌, List
 use Rattle.std.specs.Str.{bytes_eq}
 use Rattle.mj_io.specs.Outside.{Named, find_file}
 use Rattle.mj_schema.specs.declared.schema.Schema.{Schema}
-use Rattle.mojom_compile.specs.Compiled.{IsSchemaOf}
+use Rattle.mojom_ast.specs.declared.file.File.{File}
+use Rattle.mojom_compile.specs.declared.error.FileRefusal.{FileRefusal}
+use Rattle.mojom_compile.specs.Compiled.{IsParsed, IsSchemaOf, IsUnread, IsRefusedFile}
 use Rattle.call_script.specs.declared.script.Script.{Script}
 use Rattle.call_script.specs.Spelling.{IsScriptOf}
 
@@ -12,15 +14,22 @@ pub record RunWords : Type 0 where
   pub script : List ℕ
   pub file : List ℕ
 
-abbrev pub run_of : List (List ℕ) → Option RunWords
-run_of (program ∷ command ∷ flag ∷ script ∷ file ∷ []) =
-    if bytes_eq command (codes "run") && bytes_eq flag (codes "--script") then Some (record { script = script; file = file }) else None
-run_of words = None
+-- what the words ask for: a run, or the text of a file, `print FILE`
+pub data Command : Type 0 where
+  Run : RunWords → Command
+  Print : (file : List ℕ) → Command
 
--- the words name this file, as the Mojom file or as the script
-abbrev pub NamesFile : Option RunWords → List ℕ → Type 0
+abbrev pub command_of : List (List ℕ) → Option Command
+command_of (program ∷ command ∷ flag ∷ script ∷ file ∷ []) =
+    if bytes_eq command (codes "run") && bytes_eq flag (codes "--script") then Some (Run (record { script = script; file = file })) else None
+command_of (program ∷ command ∷ file ∷ []) = if bytes_eq command (codes "print") then Some (Print file) else None
+command_of words = None
+
+-- the words name this file
+abbrev pub NamesFile : Option Command → List ℕ → Type 0
 NamesFile None name = ⊥
-NamesFile (Some words) name = (name ≡ words.file) ⊎ (name ≡ words.script)
+NamesFile (Some (Run words)) name = (name ≡ words.file) ⊎ (name ≡ words.script)
+NamesFile (Some (Print file)) name = name ≡ file
 
 -- what is asked for
 pub data Work : Type 0 where
@@ -30,8 +39,12 @@ pub data Work : Type 0 where
   Missing : (name : List ℕ) → Work
   -- a file to be fetched has more than 1,048,576 bytes
   TooLong : (name : List ℕ) → Work
-  -- a file isn't of the form that is read
+  -- a Mojom file is refused
+  Refuses : (name : List ℕ) → (refusal : FileRefusal) → Work
+  -- a script isn't of the form that is read
   Unreadable : (name : List ℕ) → Work
+  -- the text of this tree
+  Prints : (tree : File) → Work
   -- a run of this script
   Runs : (schema : Schema) → (script : Script) → Work
 
@@ -43,9 +56,13 @@ Leads name next (Some bytes) work = ((1048576 < length bytes) × (work ≡ TooLo
 abbrev pub Fetching : List Named → List ℕ → (List ℕ → Work → Type 0) → Work → Type 0
 Fetching files name next work = Leads name next (find_file files name) work
 
--- the bytes have a schema, which leads on, or none
+-- the bytes have a schema, which leads on, or are refused
 abbrev pub Compiling : List ℕ → (Schema → Work → Type 0) → List ℕ → Work → Type 0
-Compiling name next bytes work = ((schema : Schema) × IsSchemaOf bytes schema × next schema work) ⊎ (((schema : Schema) → IsSchemaOf bytes schema → ⊥) × (work ≡ Unreadable name))
+Compiling name next bytes work = ((schema : Schema) × IsSchemaOf bytes schema × next schema work) ⊎ ((refusal : FileRefusal) × IsRefusedFile bytes refusal × (work ≡ Refuses name refusal))
+
+-- the bytes have a tree, which is printed, or are refused
+abbrev pub Parsing : List ℕ → List ℕ → Work → Type 0
+Parsing name bytes work = ((tree : File) × IsParsed bytes tree × (work ≡ Prints tree)) ⊎ ((refusal : FileRefusal) × IsUnread bytes refusal × (work ≡ Refuses name refusal))
 
 -- the bytes are a script, which is run, or none
 abbrev pub Reading : List ℕ → Schema → List ℕ → Work → Type 0
@@ -58,9 +75,13 @@ Scripting files name schema work = Fetching files name (Reading name schema) wor
 abbrev pub Running : List Named → RunWords → Work → Type 0
 Running files words work = Fetching files words.file (Compiling words.file (Scripting files words.script)) work
 
-abbrev pub IsWork : Option RunWords → List Named → Work → Type 0
+abbrev pub Printing : List Named → List ℕ → Work → Type 0
+Printing files name work = Fetching files name (Parsing name) work
+
+abbrev pub IsWork : Option Command → List Named → Work → Type 0
 IsWork None files work = work ≡ WrongWords
-IsWork (Some words) files work = Running files words work
+IsWork (Some (Run words)) files work = Running files words work
+IsWork (Some (Print file)) files work = Printing files file work
 
 -- over files that tell what they hold, this is what is asked for
 abbrev pub AskedFor : Option (List Named) → (List Named → Work → Type 0) → Work → Type 0

@@ -4,19 +4,23 @@ ghost use Rattle.std.specs.Prelude.{◌≡◌, ◌≤◌, ℕ, List, length, Som
 ghost use Rattle.std.specs.Arc.{arc_value};
 ghost use Rattle.mj_io.specs.Outside.{FilesGoOn};
 ghost use Rattle.mj_schema.specs.declared.schema.Schema.{Schema};
-ghost use Rattle.mojom_compile.specs.Compiled.{IsSchemaOf};
+ghost use Rattle.mojom_compile.specs.Compiled.{IsParsed, IsSchemaOf, IsUnread, IsRefusedFile};
+ghost use Rattle.mojom_print.specs.FileText.{file_text};
 ghost use Rattle.call_script.specs.declared.script.Script.{Script};
 ghost use Rattle.call_script.specs.Spelling.{IsScript, IsScriptOf};
 ghost use Rattle.script_run.specs.Narrow.{IsNarrow};
-ghost use Rattle.mojo_tool.specs.Work.{NamesFile, Scripting, Running};
-ghost use Rattle.mojo_tool.specs.Answers.{IsTextOf, IsRightText};
-ghost use Rattle.mojo_tool.specs.Stops.{Stops, IsOf, HasBytes, NotFetched, NoSchema, NoScript};
+ghost use Rattle.mojo_tool.specs.Work.{NamesFile, IsWork, Run, Print, Scripting, Running, Printing};
+ghost use Rattle.mojo_tool.specs.Names.{asked_of};
+ghost use Rattle.mojo_tool.specs.Answers.{IsTextOf, IsRunText, IsPrintText, IsRightText};
+ghost use Rattle.mojo_tool.specs.Stops.{Stops, IsOf, HasBytes, NotFetched, NotCompiled, NoScript};
 
 use crate::refusal::ToolRefusal;
+use crate::words::Command;
 use call_script::{Script, ScriptError};
 use mj_base::Items;
 use mj_io::{Fetched, Files, FilesError};
 use mj_schema::Schema;
+use mojom_ast::File;
 use mojom_compile::CompileError;
 use std::alloc::Global;
 use std::sync::Arc;
@@ -53,15 +57,31 @@ fn fetch<'a, F: Files>(alloc: Global, files: &mut F, name: &'a str) -> Result<Ve
 /// The schema of the Mojom file of that name.
 #[tactic(auto, using(crate::proofs::Narrows::narrow_schema))]
 fn read_schema<'a>(alloc: Global, name: &'a str, bytes: &[u8]) -> Result<Schema, Stop<'a>>
-    requires { length bytes.now ≤ 1048576 }
     ensures schema { IfOk result (λ schema. IsSchemaOf bytes.now schema) }
     ensures narrow { IfOk result (λ schema. IsNarrow schema) }
-    ensures stop { IfErr result (λ stop. NoSchema bytes.now name.now stop) }
+    ensures stop { IfErr result (NotCompiled (IsRefusedFile bytes.now) name.now) }
     ensures named { IfErr result (IsOf (λ named. named ≡ name.now)) }
 {
     match mojom_compile::compile(alloc, bytes) {
         Ok(schema) => Ok(schema),
-        Err(CompileError::Unsupported) => Err(Stop::Refused(ToolRefusal::Unsupported(name))),
+        Err(CompileError::Refused(refusal)) => {
+            Err(Stop::Refused(ToolRefusal::Refused(name, refusal)))
+        }
+        Err(CompileError::Memory) => Err(Stop::NoMemory),
+    }
+}
+
+/// The tree of the Mojom file of that name.
+fn read_tree<'a>(alloc: Global, name: &'a str, bytes: &[u8]) -> Result<File, Stop<'a>>
+    ensures tree { IfOk result (λ tree. IsParsed bytes.now tree) }
+    ensures stop { IfErr result (NotCompiled (IsUnread bytes.now) name.now) }
+    ensures named { IfErr result (IsOf (λ named. named ≡ name.now)) }
+{
+    match mojom_compile::read(alloc, bytes) {
+        Ok(tree) => Ok(tree),
+        Err(CompileError::Refused(refusal)) => {
+            Err(Stop::Refused(ToolRefusal::Refused(name, refusal)))
+        }
         Err(CompileError::Memory) => Err(Stop::NoMemory),
     }
 }
@@ -116,7 +136,7 @@ fn decide_script<'a, F: Files>(
 ) -> Result<Items<u8>, Stop<'a>>
     requires { IsNarrow schema }
     ensures on { FilesGoOn (F.state files.old) (F.state files.new) }
-    ensures text { IfOk result (λ text. IsRightText (F.state files.old).told (λ files work. Scripting files name.now schema work) text) }
+    ensures text { IfOk result (λ text. IsRunText (F.state files.old).told (λ files work. Scripting files name.now schema work) text) }
     ensures stop { IfErr result (λ stop. Stops (F.state files.old) (F.state files.new) (λ files work. Scripting files name.now schema work) stop) }
     ensures named { IfErr result (IsOf (λ named. named ≡ name.now)) }
 {
@@ -129,17 +149,17 @@ fn decide_script<'a, F: Files>(
     }
 }
 
-/// The text that the names and the files ask for.
-pub fn decide<'a, F: Files>(
+/// The text of a run that the names and the files ask for.
+fn decide_run<'a, F: Files>(
     alloc: Global,
     script: &'a str,
     file: &'a str,
     files: &mut F,
 ) -> Result<Items<u8>, Stop<'a>>
     ensures on { FilesGoOn (F.state files.old) (F.state files.new) }
-    ensures text { IfOk result (λ text. IsRightText (F.state files.old).told (λ files work. Running files (record { script = script.now; file = file.now }) work) text) }
+    ensures text { IfOk result (λ text. IsRunText (F.state files.old).told (λ files work. Running files (record { script = script.now; file = file.now }) work) text) }
     ensures stop { IfErr result (λ stop. Stops (F.state files.old) (F.state files.new) (λ files work. Running files (record { script = script.now; file = file.now }) work) stop) }
-    ensures named { IfErr result (IsOf (NamesFile (Some (record { script = script.now; file = file.now })))) }
+    ensures named { IfErr result (IsOf (NamesFile (Some (Run (record { script = script.now; file = file.now }))))) }
 {
     match fetch(alloc, files, file) {
         Err(stop) => Err(stop),
@@ -147,5 +167,53 @@ pub fn decide<'a, F: Files>(
             Err(stop) => Err(stop),
             Ok(schema) => decide_script(alloc, script, schema, files),
         },
+    }
+}
+
+/// The canonical text of the tree.
+fn spell<'a>(alloc: Global, tree: &File) -> Result<Items<u8>, Stop<'a>>
+    ensures text { IfOk result (λ text. text ≡ file_text tree.now) }
+    ensures memory { IfErr result (λ stop. stop ≡ Stop.NoMemory) }
+{
+    match mojom_print::spell(alloc, tree) {
+        Ok(text) => Ok(Items::from_vec(text)),
+        Err(_) => Err(Stop::NoMemory),
+    }
+}
+
+/// The canonical text of the file of that name.
+fn decide_print<'a, F: Files>(
+    alloc: Global,
+    name: &'a str,
+    files: &mut F,
+) -> Result<Items<u8>, Stop<'a>>
+    ensures on { FilesGoOn (F.state files.old) (F.state files.new) }
+    ensures text { IfOk result (λ text. IsPrintText (F.state files.old).told (λ files work. Printing files name.now work) text) }
+    ensures stop { IfErr result (λ stop. Stops (F.state files.old) (F.state files.new) (λ files work. Printing files name.now work) stop) }
+    ensures named { IfErr result (IsOf (NamesFile (Some (Print name.now)))) }
+{
+    match fetch(alloc, files, name) {
+        Err(stop) => Err(stop),
+        Ok(bytes) => match read_tree(alloc, name, bytes.as_slice()) {
+            Err(stop) => Err(stop),
+            Ok(tree) => spell(alloc, &tree),
+        },
+    }
+}
+
+/// The text that the command and the files ask for.
+pub fn decide<'a, F: Files>(
+    alloc: Global,
+    command: Command<'a>,
+    files: &mut F,
+) -> Result<Items<u8>, Stop<'a>>
+    ensures on { FilesGoOn (F.state files.old) (F.state files.new) }
+    ensures text { IfOk result (λ text. IsRightText (Some (asked_of command.entry)) (F.state files.old).told (λ files work. IsWork (Some (asked_of command.entry)) files work) text) }
+    ensures stop { IfErr result (λ stop. Stops (F.state files.old) (F.state files.new) (λ files work. IsWork (Some (asked_of command.entry)) files work) stop) }
+    ensures named { IfErr result (IsOf (NamesFile (Some (asked_of command.entry)))) }
+{
+    match command {
+        Command::Run { script, file } => decide_run(alloc, script, file, files),
+        Command::Print { file } => decide_print(alloc, file, files),
     }
 }

@@ -1,14 +1,17 @@
 //! Why a file is refused.
 
+use mojom_compile::FileRefusal;
 use std::fmt;
 
 /// Why a file is refused, with its name as it was given.
 #[derive(Clone, Copy)]
 pub enum ToolRefusal<'a> {
-    /// The file isn't of the form that is read today.
+    /// The script isn't of the form that is read today.
     Unsupported(&'a str),
     /// The file has more than 1,048,576 bytes.
     FileTooLong(&'a str),
+    /// The Mojom file is refused at a place.
+    Refused(&'a str, FileRefusal),
 }
 
 impl fmt::Display for ToolRefusal<'_> {
@@ -21,6 +24,9 @@ impl fmt::Display for ToolRefusal<'_> {
         match self {
             ToolRefusal::Unsupported(name) => write!(f, "Unsupported {name}"),
             ToolRefusal::FileTooLong(name) => write!(f, "FileTooLong {name}"),
+            ToolRefusal::Refused(name, refusal) => {
+                write!(f, "{name}:{}: {}", refusal.at, refusal.cause)
+            }
         }
     }
 }

@@ -6,7 +6,7 @@ ghost use Rattle.mojo_tool.specs.Answers.{Answers, Seen, code_of, WroteOrFailed}
 ghost use Rattle.mojo_tool.specs.Complete.{IsComplete};
 ghost use Rattle.mojo_tool.specs.Reports.{Printed, Reported};
 ghost use Rattle.mojo_tool.specs.Lines.{refusal_text, error_line, read_text};
-ghost use Rattle.mojo_tool.specs.Work.{run_of};
+ghost use Rattle.mojo_tool.specs.Work.{command_of};
 ghost use Rattle.mojo_tool.specs.declared.status.Status.{Status};
 
 use crate::decide::{Stop, decide};
@@ -20,9 +20,11 @@ use std::thread::Threads;
 
 /// How the program is used.
 const USAGE: &str = "usage: mojo_tool run --script SCRIPT FILE
+       mojo_tool print FILE
 
-Reads the Mojom file FILE and the script of calls SCRIPT, runs the script, and prints the
-history of its calls to standard output.
+run reads the Mojom file FILE and the script of calls SCRIPT, runs the script, and prints the
+history of its calls to standard output. print prints the canonical text of the Mojom file
+FILE.
 
 Exit status: 0 all was done; 1 a file is refused; 2 the words are not these; 3 a file could
 not be read; 4 standard output failed; 5 want of memory.
@@ -92,7 +94,7 @@ fn alone<F: Files, O: Sink, E: Sink>(
     out: &mut O,
     err: &mut E,
 ) -> Status
-    ensures wrong_use { run_of (map string_bytes words.now) ≡ None → result ≡ Status.WrongUse }
+    ensures wrong_use { command_of (map string_bytes words.now) ≡ None → result ≡ Status.WrongUse }
     ensures answers { Answers (record {
       words = map string_bytes words.now;
       files_before = F.state files.old;
@@ -108,7 +110,7 @@ fn alone<F: Files, O: Sink, E: Sink>(
             complain(err, USAGE.as_bytes());
             Status::WrongUse
         }
-        Some(names) => match decide(alloc, names.script, names.file, files) {
+        Some(command) => match decide(alloc, command, files) {
             Ok(text) => print(out, text.as_slice()),
             Err(stop) => report(alloc, err, stop),
         },
@@ -128,7 +130,7 @@ pub fn mojo_alone<F: Files, O: Sink, E: Sink>(
     out: &mut O,
     err: &mut E,
 ) -> Option<u8>
-    ensures wrong_use { run_of (map string_bytes words.now) ≡ None → result ≡ Some 2 }
+    ensures wrong_use { command_of (map string_bytes words.now) ≡ None → result ≡ Some 2 }
     ensures answers { (status : Status) × (result ≡ Some (code_of status)) × Answers (record {
       words = map string_bytes words.now;
       files_before = F.state files.old;
@@ -155,7 +157,7 @@ pub fn mojo_main<R: Wait + Threads + Sync, F: Files, O: Sink, E: Sink, G: Gate +
     err: &mut E,
     _gate: &G,
 ) -> u8
-    ensures wrong_use { run_of (map string_bytes words.now) ≡ None → result ≡ 2 }
+    ensures wrong_use { command_of (map string_bytes words.now) ≡ None → result ≡ 2 }
     ensures answers { (status : Status) × (result ≡ code_of status) × Answers (record {
       words = map string_bytes words.now;
       files_before = F.state files.old;

@@ -1,12 +1,13 @@
 use Rattle.std.proofs.Common.{subst, List, ℕ}
-use Rattle.mojo_tool.specs.Stops.{NoSchema}
+use Rattle.mojo_tool.specs.Stops.{NotCompiled}
+use Rattle.mojom_compile.specs.Compiled.{IsRefusedFile}
 use Rattle.mojo_tool.proofs.Asking.{ok_goes, err_goes, no_schema, later, right_text}
-use Rattle.mojo_tool.proofs.decide.decide.Goals as goal
+use Rattle.mojo_tool.proofs.decide.decide_run.Goals as goal
 
 pub returns-in-Err-read_schema-clause-stop : goal.returns-in-Err-read_schema-clause-stop
 returns-in-Err-read_schema-clause-stop g c =
     no_schema _ _ (record { script = c.args.script.now; file = c.args.file.now }) c.in-Ok.bytes.items c.in-Err-read_schema.stop c.in-Ok.ensures.bytes c.in-Ok.ensures.short
-    (subst (λ (bytes : List ℕ). NoSchema bytes c.args.file.now c.in-Err-read_schema.stop) c.as_slice.ensures.value c.in-Err-read_schema.ensures.stop)
+    (subst (λ (bytes : List ℕ). NotCompiled (IsRefusedFile bytes) c.args.file.now c.in-Err-read_schema.stop) c.as_slice.ensures.value c.in-Err-read_schema.ensures.stop)
 
 pub returns-clause-text : goal.returns-clause-text
 returns-clause-text g c =
