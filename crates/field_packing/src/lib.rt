@@ -5,5 +5,8 @@ mod holes;
 mod packer;
 mod places;
 
+#[cfg(test)]
+mod tests;
+
 pub use mj_schema::Place;
 pub use places::{pack, pack_fields};

@@ -2,6 +2,11 @@
 //! the code that they are proved of. Tests compare it with worked examples and with the machine.
 #![tactic(auto)]
 
+pub mod layout;
+#[cfg(test)]
+mod layout_cases;
+#[cfg(test)]
+mod layout_tests;
 mod machine;
 #[cfg(test)]
 mod tests;
