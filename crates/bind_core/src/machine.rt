@@ -27,10 +27,14 @@ pub struct Core {
 }
 
 impl Model for Core {
+    ghost use Rattle.std.specs.Coded.{codes};
+    ghost use Rattle.mj_schema.specs.contracts.schema.Schema as schema;
     ghost use Rattle.bind_core.specs.Play.{Play};
     ghost use Rattle.bind_core.specs.Steps.{Holds, schema_of};
 
     ghost Value = { Play };
+
+    ghost coded = { Prim.hlevel (codes, schema.the_row.coded) };
 
     ghost view = { λ core. record { schema = schema_of core.state; seqs = core.state.seqs; events = core.state.history.events } };
 

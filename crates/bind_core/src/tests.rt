@@ -12,10 +12,11 @@ ghost use Rattle.bind_core.specs.Plain.{asked_of};
 use super::*;
 use bind_model::{Side, Taken, Why};
 use mj_base::{EndId, Items, SeqId, Text};
-use mj_schema::{FieldRow, InterfaceRow, Kind, MethodRow, Schema, StructRow, VersionRow};
+use mj_schema::{InterfaceRow, MethodRow, Schema};
 use std::alloc::{AllocError, Global};
 use std::sync::Arc;
 use std::test::Fail;
+use version_tables::lay_out_uint32;
 use wire_model::{MessageSide, Prepared, Target, prepare};
 
 const PING: Target = Target {
@@ -30,22 +31,11 @@ const ONLY: SeqId = SeqId(0);
 fn ping_schema(alloc: Global) -> Result<Schema, AllocError>
     ensures { IfOk result (λ schema. HasTarget schema PING) }
 {
-    let field = FieldRow {
-        name: Text::from_str(alloc, "n")?,
-        ordinal: 0,
-        kind: Kind::Uint32,
-        offset: 0,
-    };
-    let version = VersionRow {
-        version: 0,
-        fields: 1,
-        bytes: 16,
-    };
-    let params = StructRow {
-        name: Text::from_str(alloc, "t.P.Ping")?,
-        fields: Items::from_vec(vec![in alloc; field]?),
-        versions: Items::from_vec(vec![in alloc; version]?),
-    };
+    let params = lay_out_uint32(
+        alloc,
+        Text::from_str(alloc, "t.P.Ping")?,
+        &[Text::from_str(alloc, "n")?],
+    )?;
     let method = MethodRow {
         name: Text::from_str(alloc, "Ping")?,
         ordinal: 0,
@@ -57,6 +47,8 @@ fn ping_schema(alloc: Global) -> Result<Schema, AllocError>
     };
     Ok(Schema {
         structs: Items::from_vec(vec![in alloc; params]?),
+        unions: Items::new(alloc),
+        enums: Items::new(alloc),
         interfaces: Items::from_vec(vec![in alloc; interface]?),
     })
 }

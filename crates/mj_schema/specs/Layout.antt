@@ -1,26 +1,98 @@
--- The layout of structs (pack.h, struct_traits): a header of 8 bytes, num_bytes and version, and then the fields in ordinal order,
--- each at the least free place that is a multiple of its size. Fields of one size follow one another without a gap.
-use Rattle.std.specs.Prelude.{ℕ, ◌+◌, ◌*◌, ◌≡◌, List, [], ◌∷◌, length}
+-- The layout of structs (pack.py, struct_traits): behind a header of 8 bytes, num_bytes and version, the fields in ordinal order,
+-- each at the least place that those before it leave free. Places are counted in bits from the header's end.
+use Rattle.std.specs.Prelude.{ℕ, ◌+◌, ◌*◌, ◌%◌, ◌≡◌, ◌<◌, ◌≤◌, Bool, true, ◌||◌, ◌&&◌, ◌==◌, nat_le, IsTrue, List, [], ◌∷◌, length, map}
+use Rattle.std.specs.List.{list_all}
 use Rattle.mj_base.specs.Bytes.{rounded8}
-use Rattle.mj_schema.specs.declared.rows.Kind.{Kind}
-use Rattle.mj_schema.specs.declared.rows.Kind.TheVariants.{Uint32}
+use Rattle.mj_schema.specs.declared.kind.Kind.{Kind}
+use Rattle.mj_schema.specs.declared.rows.DraftField.{DraftField}
+use Rattle.mj_schema.specs.declared.rows.DraftStruct.{DraftStruct}
 use Rattle.mj_schema.specs.declared.rows.FieldRow.{FieldRow}
+use Rattle.mj_schema.specs.declared.rows.Place.{Place}
 use Rattle.mj_schema.specs.declared.rows.StructRow.{StructRow}
+use Rattle.mj_schema.specs.Sizes.{size_of, alignment_of, uint32, is_uint32}
+use Rattle.mj_schema.specs.Versions.{version_rows}
 
--- the size of a field in bytes
-abbrev pub size_of : Kind → ℕ
-size_of Uint32 = 4
+-- the bits of a field that has its place
+pub record Slot : Type 0 where
+  pub start : ℕ
+  pub size : ℕ
 
--- the bytes of a struct of n fields with its header, rounded up to 8
+-- the two have no bit in common
+abbrev pub is_apart : Slot → Slot → Bool
+is_apart one two = nat_le (one.start + one.size) two.start || nat_le (two.start + two.size) one.start
+
+-- no bit of the slot is taken
+abbrev pub is_free : List Slot → Slot → Bool
+is_free taken slot = list_all (is_apart slot) taken
+
+-- a place as a bit address
+abbrev pub address_of : Place → ℕ
+address_of place = 8 * place.offset + place.bit
+
+-- the bits of a field of this kind at a bit address
+abbrev pub slot_at : Kind → ℕ → Slot
+slot_at kind address = record { start = address; size = size_of kind }
+
+-- the least bit address that is a multiple of the kind's alignment and has its bits free
+pub record IsLeastPlace (taken : List Slot) (kind : Kind) (place : Place) : Type 0 where
+  pub bit : place.bit < 8
+  pub aligned : address_of place % alignment_of kind ≡ 0
+  pub free : IsTrue (is_free taken (slot_at kind (address_of place)))
+  pub least : (other : ℕ) → other % alignment_of kind ≡ 0 → IsTrue (is_free taken (slot_at kind other)) → address_of place ≤ other
+
+-- each field in order lies at its least place, where what stands before it is taken
+abbrev pub ArePacked : List Slot → List Kind → List Place → Type 0
+ArePacked taken [] [] = Unit {0}
+ArePacked taken [] (place ∷ places) = ⊥
+ArePacked taken (kind ∷ kinds) [] = ⊥
+ArePacked taken (kind ∷ kinds) (place ∷ places) = IsLeastPlace taken kind place × ArePacked (slot_at kind (address_of place) ∷ taken) kinds places
+
+abbrev pub kind_of : FieldRow → Kind
+kind_of field = field.kind
+
+abbrev pub place_of : FieldRow → Place
+place_of field = record { offset = field.offset; bit = field.bit }
+
+-- the ordinals are k, k + 1 and so on
+abbrev pub are_numbered : ℕ → List FieldRow → Bool
+are_numbered k [] = true
+are_numbered k (field ∷ fields) = (field.ordinal == k) && are_numbered (k + 1) fields
+
+-- versions that never fall, the first at least this one
+abbrev pub never_fall : ℕ → List ℕ → Bool
+never_fall version [] = true
+never_fall version (next ∷ versions) = nat_le version next && never_fall next versions
+
+-- a struct whose fields lie at their least places, with the row of each version
+pub record IsLaidOut (row : StructRow) : Type 0 where
+  pub few : length row.fields ≤ 4096
+  pub numbered : IsTrue (are_numbered 0 row.fields)
+  pub rising : IsTrue (never_fall 0 (map (λ (field : FieldRow). field.min_version) row.fields))
+  pub packed : ArePacked [] (map kind_of row.fields) (map place_of row.fields)
+  pub versions : row.versions ≡ version_rows row.fields
+
+-- declared fields at these places, from the ordinal k on
+abbrev pub field_rows : ℕ → List DraftField → List Place → List FieldRow
+field_rows k [] places = []
+field_rows k (field ∷ fields) [] = []
+field_rows k (field ∷ fields) (place ∷ places) =
+    record { name = field.name; ordinal = k; kind = field.kind; offset = place.offset; bit = place.bit; min_version = field.min_version } ∷ field_rows (k + 1) fields places
+
+-- the struct without places and rows
+abbrev pub draft_field : FieldRow → DraftField
+draft_field field = record { name = field.name; kind = field.kind; min_version = field.min_version }
+
+abbrev pub draft_of : StructRow → DraftStruct
+draft_of row = record { name = row.name; fields = map draft_field row.fields }
+
+-- a field of an unsigned integer of 32 bits, there from version 0 on
+abbrev pub uint32_field : List ℕ → DraftField
+uint32_field name = record { name = name; kind = uint32; min_version = 0 }
+
+-- the struct has the version 0 alone, and its fields are unsigned integers of 32 bits
+abbrev pub is_of_uint32 : StructRow → Bool
+is_of_uint32 row = list_all (λ (field : FieldRow). is_uint32 field.kind && (field.min_version == 0)) row.fields
+
+-- the bytes of a struct of n unsigned integers of 32 bits with its header
 abbrev pub struct_bytes : ℕ → ℕ
 struct_bytes n = rounded8 (8 + 4 * n)
-
--- the fields from ordinal k on, each with its ordinal and behind those before
-abbrev pub AreFieldsFrom : ℕ → List FieldRow → Type 0
-AreFieldsFrom k [] = Unit {0}
-AreFieldsFrom k (field ∷ fields) = (field.ordinal ≡ k) × (field.offset ≡ 4 * k) × AreFieldsFrom (k + 1) fields
-
--- a struct of one version, 0
-pub record IsLaidOut (row : StructRow) : Type 0 where
-  pub fields : AreFieldsFrom 0 row.fields
-  pub versions : row.versions ≡ record { version = 0; fields = length row.fields; bytes = struct_bytes (length row.fields) } ∷ []

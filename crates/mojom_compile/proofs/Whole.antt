@@ -1,14 +1,21 @@
 -- From the laws of reading to the schema of a file.
 use Rattle.std.proofs.Common.{◌≡◌, ℕ, suc, ◌+◌, ◌^◌, ◌≤◌, ◌<◌, List, [], ◌∷◌, ◌++◌, length, map, Some, true, refl, sym, ap, ◌∙◌, subst, arith, length-append}
-use Rattle.std.specs.Prelude.{codes, All}
-use Rattle.std.specs.List.{flat_map, AllByRecursion}
+use Rattle.std.specs.Prelude.{codes, IsTrue}
+use Rattle.std.specs.List.{flat_map, list_all, AllByRecursion}
 use Rattle.std.proofs.lemmas.List.{length-map}
-use Rattle.std.proofs.lemmas.List.Elements.{All-from_recursion}
+use Rattle.std.proofs.Props.{props}
+use Rattle.std.proofs.lemmas.Bool.{and_from}
+use Rattle.std.proofs.lemmas.List.Folds.{list_all-append}
 use Rattle.std.proofs.Math.Bridge.{le_prop}
 use Rattle.mj_schema.specs.declared.schema.Schema.{Schema}
 use Rattle.mj_schema.specs.declared.rows.StructRow.{StructRow}
 use Rattle.mj_schema.specs.declared.rows.InterfaceRow.{InterfaceRow}
-use Rattle.mj_schema.specs.Layout.{AreFieldsFrom, struct_bytes}
+use Rattle.mj_schema.specs.declared.rows.DraftStruct.{DraftStruct}
+use Rattle.mj_schema.specs.declared.rows.UnionRow.{UnionRow}
+use Rattle.mj_schema.specs.declared.rows.EnumRow.{EnumRow}
+use Rattle.mj_schema.specs.Layout.{IsLaidOut, draft_of, is_of_uint32}
+use Rattle.mj_schema.specs.Proper.{all_laid_out-prop}
+use Rattle.mj_schema.proofs.OneLayout.{one_layout}
 use Rattle.mojom_compile.specs.declared.error.CompileError.{CompileError}
 use Rattle.mojom_compile.specs.declared.error.CompileError.TheVariants.{Unsupported, Memory}
 use Rattle.mojom_compile.specs.declared.tree.Method.{Method}
@@ -17,8 +24,8 @@ use Rattle.mojom_compile.specs.declared.tree.File.{File}
 use Rattle.mojom_compile.specs.Tokens.{is_token, IsSpaced}
 use Rattle.mojom_compile.specs.Form.{name_tokens, method_tokens, interface_tokens, tokens_of}
 use Rattle.mojom_compile.specs.Sound.{IsNamed, IsAllowedMethod, IsAllowedInterface, IsAllowed}
-use Rattle.mojom_compile.specs.Rows.{dotted, within, fields_from, request_struct, structs_in, IsSchema}
-use Rattle.mojom_compile.specs.Compiled.{IsSchemaOf, OneSchema, IsLaidOutRow}
+use Rattle.mojom_compile.specs.Rows.{dotted, within, request_struct, structs_in, IsSchema}
+use Rattle.mojom_compile.specs.Compiled.{IsSchemaOf, OneSchema}
 use Rattle.mojom_compile.specs.Reading.{Fails, lexed, file_at, file_in}
 use Rattle.mojom_compile.proofs.Many.{bind_some, same_some}
 use Rattle.mojom_compile.proofs.Spaced.{lexed_tells, lexed_again}
@@ -88,44 +95,50 @@ few_structs bytes file h le = omega (arith, file_length bytes file h)
 pub few_interfaces : (bytes : List ℕ) (file : File) → file_in bytes ≡ Some file → length bytes ≤ 1048576 → length file.interfaces < 2 ^ 32
 few_interfaces bytes file h le = omega (arith, file_length bytes file h)
 
--- each struct is laid out
-fields_follow : (k : ℕ) (names : List (List ℕ)) → AreFieldsFrom k (fields_from k names)
-fields_follow k [] = tt
-fields_follow k (n ∷ ns) = (refl, refl, fields_follow (k + 1) ns)
-
-length-fields_from : (k : ℕ) (names : List (List ℕ)) → length (fields_from k names) ≡ length names
-length-fields_from k [] = refl
-length-fields_from k (n ∷ ns) = ap suc (length-fields_from (k + 1) ns)
-
-struct_laid_out : (outer : List ℕ) (m : Method) → IsAllowedMethod m → IsLaidOutRow (request_struct outer m)
-struct_laid_out outer m a = record {
-  laid_out = record { fields = fields_follow 0 m.parameters; versions = ap (λ n. record { version = 0; fields = n; bytes = struct_bytes n } ∷ []) (sym (length-fields_from 0 m.parameters)) };
-  few = omega (arith, length-fields_from 0 m.parameters, a.few);
-}
-
-structs_laid_out : (outer : List ℕ) (ms : List Method) (rest : List StructRow) → AllByRecursion IsAllowedMethod ms → AllByRecursion IsLaidOutRow rest → AllByRecursion IsLaidOutRow (map (request_struct outer) ms ++ rest)
-structs_laid_out outer [] rest h r = r
-structs_laid_out outer (m ∷ ms) rest h r = (struct_laid_out outer m h.0, structs_laid_out outer ms rest h.1 r)
-
-all_laid_out : (outer : List ℕ) (is : List Interface) → AllByRecursion IsAllowedInterface is → AllByRecursion IsLaidOutRow (flat_map (structs_in outer) is)
-all_laid_out outer [] h = tt
-all_laid_out outer (i ∷ is) h = structs_laid_out (within outer i.name) i.methods (flat_map (structs_in outer) is) h.0.methods (all_laid_out outer is h.1)
-
-pub laid_out : (file : File) (schema : Schema) → IsAllowed file → IsSchema file schema → All IsLaidOutRow schema.structs
-laid_out file schema a t = All-from_recursion IsLaidOutRow schema.structs (subst (λ rows. AllByRecursion IsLaidOutRow rows) (sym t.structs) (all_laid_out (dotted file.module_name) file.interfaces a.interfaces))
-
 -- bytes have one schema
-same_schema : (s t : Schema) → s.structs ≡ t.structs → s.interfaces ≡ t.interfaces → s ≡ t
-same_schema s t a b = same_rows s.structs t.structs s.interfaces t.interfaces a b s.few t.few
+same_proofs : (structs : List StructRow) (unions : List UnionRow) (enums : List EnumRow) (is : List InterfaceRow) (f g : length is < 2 ^ 32) (l m : AllByRecursion IsLaidOut structs) (u v : IsTrue (list_all is_of_uint32 structs)) → ◌≡◌ {A = Schema} (record { structs = structs; unions = unions; enums = enums; interfaces = is; few = f; laid_out = l; of_uint32 = u }) (record { structs = structs; unions = unions; enums = enums; interfaces = is; few = g; laid_out = m; of_uint32 = v })
+same_proofs structs unions enums is f g l m u v =
+    let prop : IsProp (IsTrue (list_all is_of_uint32 structs)) = hlevel props in
+    ap (λ (k : length is < 2 ^ 32). let s : Schema = record { structs = structs; unions = unions; enums = enums; interfaces = is; few = k; laid_out = l; of_uint32 = u } in s) (le_prop f g)
+    ∙ ap (λ (k : AllByRecursion IsLaidOut structs). let s : Schema = record { structs = structs; unions = unions; enums = enums; interfaces = is; few = g; laid_out = k; of_uint32 = u } in s) (all_laid_out-prop structs l m)
+    ∙ ap (λ (k : IsTrue (list_all is_of_uint32 structs)). let s : Schema = record { structs = structs; unions = unions; enums = enums; interfaces = is; few = g; laid_out = m; of_uint32 = k } in s) (prop u v)
+
+same_schema : (s t : Schema) → s.structs ≡ t.structs → s.unions ≡ t.unions → s.enums ≡ t.enums → s.interfaces ≡ t.interfaces → s ≡ t
+same_schema s t a b c d = same_rows s.structs t.structs s.unions t.unions s.enums t.enums s.interfaces t.interfaces a b c d s.few t.few s.laid_out t.laid_out s.of_uint32 t.of_uint32
   where
-    same_rows : (structs others : List StructRow) (is js : List InterfaceRow) → structs ≡ others → is ≡ js → (f : length is < 2 ^ 32) (g : length js < 2 ^ 32) → ◌≡◌ {A = Schema} (record { structs = structs; interfaces = is; few = f }) (record { structs = others; interfaces = js; few = g })
-    same_rows structs others is js a b f g =
-        subst (λ (rows : List StructRow). ◌≡◌ {A = Schema} (record { structs = structs; interfaces = is; few = f }) (record { structs = rows; interfaces = js; few = g })) a
-        (subst (λ (rows : List InterfaceRow). (h : length rows < 2 ^ 32) → ◌≡◌ {A = Schema} (record { structs = structs; interfaces = is; few = f }) (record { structs = structs; interfaces = rows; few = h })) b
-        (λ h. ap (λ (k : length is < 2 ^ 32). record { structs = structs; interfaces = is; few = k }) (le_prop f h)) g)
+    same_rows : (structs others : List StructRow) (us vs : List UnionRow) (es gs : List EnumRow) (is js : List InterfaceRow) → structs ≡ others → us ≡ vs → es ≡ gs → is ≡ js → (f : length is < 2 ^ 32) (g : length js < 2 ^ 32) (l : AllByRecursion IsLaidOut structs) (m : AllByRecursion IsLaidOut others) (u : IsTrue (list_all is_of_uint32 structs)) (v : IsTrue (list_all is_of_uint32 others)) → ◌≡◌ {A = Schema} (record { structs = structs; unions = us; enums = es; interfaces = is; few = f; laid_out = l; of_uint32 = u }) (record { structs = others; unions = vs; enums = gs; interfaces = js; few = g; laid_out = m; of_uint32 = v })
+    same_rows structs others us vs es gs is js a b c d f g l m u v =
+        subst (λ (rows : List UnionRow). ◌≡◌ {A = Schema} (record { structs = structs; unions = us; enums = es; interfaces = is; few = f; laid_out = l; of_uint32 = u }) (record { structs = others; unions = rows; enums = gs; interfaces = js; few = g; laid_out = m; of_uint32 = v })) b
+        (subst (λ (rows : List EnumRow). ◌≡◌ {A = Schema} (record { structs = structs; unions = us; enums = es; interfaces = is; few = f; laid_out = l; of_uint32 = u }) (record { structs = others; unions = us; enums = rows; interfaces = js; few = g; laid_out = m; of_uint32 = v })) c
+        (subst (λ (rows : List InterfaceRow). (h : length rows < 2 ^ 32) → ◌≡◌ {A = Schema} (record { structs = structs; unions = us; enums = es; interfaces = is; few = f; laid_out = l; of_uint32 = u }) (record { structs = others; unions = us; enums = es; interfaces = rows; few = h; laid_out = m; of_uint32 = v })) d
+        (subst (λ (rows : List StructRow). (n : AllByRecursion IsLaidOut rows) (w : IsTrue (list_all is_of_uint32 rows)) (h : length is < 2 ^ 32) → ◌≡◌ {A = Schema} (record { structs = structs; unions = us; enums = es; interfaces = is; few = f; laid_out = l; of_uint32 = u }) (record { structs = rows; unions = us; enums = es; interfaces = is; few = h; laid_out = n; of_uint32 = w })) a
+        (λ n w h. same_proofs structs us es is f h l n u w) m v) g))
+
+heads : (d e : DraftStruct) (ds es : List DraftStruct) → (d ∷ ds) ≡ (e ∷ es) → (d ≡ e) × (ds ≡ es)
+heads d e ds es h = (cc, cc)
+
+-- structs of the same names and kinds have one layout
+same_structs : (ss ts : List StructRow) → AllByRecursion IsLaidOut ss → AllByRecursion IsLaidOut ts → map draft_of ss ≡ map draft_of ts → ss ≡ ts
+same_structs [] [] l m e = refl
+same_structs [] (t ∷ ts) l m e = absurd cc
+same_structs (s ∷ ss) [] l m e = absurd cc
+same_structs (s ∷ ss) (t ∷ ts) l m e =
+    let parts = heads (draft_of s) (draft_of t) (map draft_of ss) (map draft_of ts) e in
+    let first : s ≡ t = one_layout s t l.0 m.0 parts.0 in
+    let rest : ss ≡ ts = same_structs ss ts l.1 m.1 parts.1 in
+    ap (λ (x : StructRow). x ∷ ss) first ∙ ap (λ (xs : List StructRow). t ∷ xs) rest
 
 pub one_schema : OneSchema
 one_schema bytes s t p q =
     let f : p.0 ≡ q.0 = same_some (sym (file_read bytes p.0 p.1.spelled p.1.named) ∙ file_read bytes q.0 q.1.spelled q.1.named) in
     let tables : IsSchema q.0 s = subst (λ (file : File). IsSchema file s) f p.1.tables in
-    same_schema s t (tables.structs ∙ sym q.1.tables.structs) (tables.interfaces ∙ sym q.1.tables.interfaces)
+    let structs = same_structs s.structs t.structs s.laid_out t.laid_out (tables.structs ∙ sym q.1.tables.structs) in
+    same_schema s t structs (tables.unions ∙ sym q.1.tables.unions) (tables.enums ∙ sym q.1.tables.enums) (tables.interfaces ∙ sym q.1.tables.interfaces)
+
+-- one struct more
+pub one_more_laid_out : (rows : List StructRow) (row : StructRow) → AllByRecursion IsLaidOut rows → IsLaidOut row → AllByRecursion IsLaidOut (rows ++ row ∷ [])
+one_more_laid_out [] row all is = (is, tt)
+one_more_laid_out (r ∷ rows) row all is = (all.0, one_more_laid_out rows row all.1 is)
+
+pub one_more_of_uint32 : (rows : List StructRow) (row : StructRow) → list_all is_of_uint32 rows ≡ true → is_of_uint32 row ≡ true → list_all is_of_uint32 (rows ++ row ∷ []) ≡ true
+one_more_of_uint32 rows row all is = list_all-append is_of_uint32 rows (row ∷ []) ∙ and_from _ _ all (and_from _ _ is refl)

@@ -1,8 +1,6 @@
 -- Which bytes have which schema.
-use Rattle.std.specs.Prelude.{ℕ, ◌≡◌, ◌≤◌, List, length}
+use Rattle.std.specs.Prelude.{ℕ, ◌≡◌, List}
 use Rattle.mj_schema.specs.declared.schema.Schema.{Schema}
-use Rattle.mj_schema.specs.declared.rows.StructRow.{StructRow}
-use Rattle.mj_schema.specs.Layout.{IsLaidOut}
 use Rattle.mojom_compile.specs.declared.tree.File.{File}
 use Rattle.mojom_compile.specs.Tokens.{IsSpaced}
 use Rattle.mojom_compile.specs.Form.{tokens_of}
@@ -23,8 +21,3 @@ IsSchemaOf bytes schema = (file : File) × IsSchemaFor bytes schema file
 -- no bytes have two schemas
 abbrev pub OneSchema : Type 0
 OneSchema = (bytes : List ℕ) (one two : Schema) → IsSchemaOf bytes one → IsSchemaOf bytes two → one ≡ two
-
--- a struct of a schema is laid out, and has at most 4,096 fields
-pub record IsLaidOutRow (row : StructRow) : Type 0 where
-  pub laid_out : IsLaidOut row
-  pub few : length row.fields ≤ 4096

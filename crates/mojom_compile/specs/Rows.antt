@@ -1,13 +1,11 @@
 -- The tables of a file.
-use Rattle.std.specs.Prelude.{ℕ, ◌+◌, ◌*◌, ◌≡◌, List, [], ◌∷◌, ◌++◌, codes, length, map}
+use Rattle.std.specs.Prelude.{ℕ, ◌+◌, ◌≡◌, List, [], ◌∷◌, ◌++◌, codes, length, map}
 use Rattle.std.specs.List.{flat_map, join_by}
-use Rattle.mj_schema.specs.declared.rows.Kind.TheVariants.{Uint32}
-use Rattle.mj_schema.specs.declared.rows.FieldRow.{FieldRow}
-use Rattle.mj_schema.specs.declared.rows.StructRow.{StructRow}
+use Rattle.mj_schema.specs.declared.rows.DraftStruct.{DraftStruct}
 use Rattle.mj_schema.specs.declared.rows.MethodRow.{MethodRow}
 use Rattle.mj_schema.specs.declared.rows.InterfaceRow.{InterfaceRow}
 use Rattle.mj_schema.specs.declared.schema.Schema.{Schema}
-use Rattle.mj_schema.specs.Layout.{struct_bytes}
+use Rattle.mj_schema.specs.Layout.{draft_of, uint32_field}
 use Rattle.mojom_compile.specs.declared.tree.Method.{Method}
 use Rattle.mojom_compile.specs.declared.tree.Interface.{Interface}
 use Rattle.mojom_compile.specs.declared.tree.File.{File}
@@ -20,21 +18,12 @@ dotted ids = join_by (λ id. id) (codes ".") ids
 abbrev pub within : List ℕ → List ℕ → List ℕ
 within outer inner = outer ++ (codes "." ++ inner)
 
--- parameters as fields, from the ordinal k on: in their order, four bytes each
-abbrev pub fields_from : ℕ → List (List ℕ) → List FieldRow
-fields_from k [] = []
-fields_from k (name ∷ names) = record { name = name; ordinal = k; kind = Uint32; offset = 4 * k } ∷ fields_from (k + 1) names
-
--- the struct of a method's parameters, `INTERFACE.METHOD.request`, which has the one version 0
-abbrev pub request_struct : List ℕ → Method → StructRow
-request_struct interface method = record {
-  name = within (within interface method.name) (codes "request");
-  fields = fields_from 0 method.parameters;
-  versions = record { version = 0; fields = length method.parameters; bytes = struct_bytes (length method.parameters) } ∷ [];
-}
+-- the struct of a method's parameters, `INTERFACE.METHOD.request`: its fields in their order
+abbrev pub request_struct : List ℕ → Method → DraftStruct
+request_struct interface method = record { name = within (within interface method.name) (codes "request"); fields = map uint32_field method.parameters }
 
 -- the structs of an interface, one for each method in order
-abbrev pub structs_in : List ℕ → Interface → List StructRow
+abbrev pub structs_in : List ℕ → Interface → List DraftStruct
 structs_in outer interface = map (request_struct (within outer interface.name)) interface.methods
 
 -- methods, the first with this ordinal and the struct of this number, and each next with the next of both
@@ -47,7 +36,9 @@ abbrev pub interfaces_from : List ℕ → ℕ → List Interface → List Interf
 interfaces_from outer before [] = []
 interfaces_from outer before (interface ∷ interfaces) = record { name = within outer interface.name; methods = methods_from 0 before interface.methods } ∷ interfaces_from outer (before + length interface.methods) interfaces
 
--- the schema of a file: the structs of its methods in the order of the file, and its interfaces
+-- the schema of a file: the structs of its methods in the order of the file, laid out as each schema has them, and its interfaces
 pub record IsSchema (file : File) (schema : Schema) : Type 0 where
-  pub structs : schema.structs ≡ flat_map (structs_in (dotted file.module_name)) file.interfaces
+  pub structs : map draft_of schema.structs ≡ flat_map (structs_in (dotted file.module_name)) file.interfaces
+  pub unions : schema.unions ≡ []
+  pub enums : schema.enums ≡ []
   pub interfaces : schema.interfaces ≡ interfaces_from (dotted file.module_name) 0 file.interfaces

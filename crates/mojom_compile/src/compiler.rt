@@ -1,9 +1,9 @@
 //! The schema of a file.
 
-ghost use Rattle.std.specs.Prelude.{◌≡◌, ◌≤◌, ℕ, length, All, IfOk, Err};
+ghost use Rattle.std.specs.Prelude.{◌≡◌, ◌≤◌, ℕ, length, IfOk, Err};
 ghost use Rattle.mj_schema.specs.declared.schema.Schema.{Schema};
 ghost use Rattle.mojom_compile.specs.Reading.{Gives, file_in};
-ghost use Rattle.mojom_compile.specs.Compiled.{IsSchemaOf, IsLaidOutRow, OneSchema};
+ghost use Rattle.mojom_compile.specs.Compiled.{IsSchemaOf, OneSchema};
 
 use crate::error::CompileError;
 use crate::lexer::tokens;
@@ -21,7 +21,6 @@ pub fn compile(alloc: Global, bytes: &[u8]) -> Result<Schema, CompileError>
     requires { length bytes.now ≤ 1048576 }
     ensures ok { IfOk result (λ schema. IsSchemaOf bytes.now schema) }
     ensures unsupported { result ≡ Err CompileError.Unsupported → (schema : Schema) → IsSchemaOf bytes.now schema → ⊥ }
-    ensures laid_out { IfOk result (λ schema. All IsLaidOutRow schema.structs) }
 {
     let file = read(alloc, bytes)?;
     if !is_allowed(alloc, &file)? {

@@ -1,14 +1,16 @@
 //! From the tree to the tables of the schema.
 
-ghost use Rattle.std.specs.Prelude.{◌≡◌, ◌≤◌, ◌<◌, ◌+◌, ◌^◌, ◌++◌, IfOk, OnOk, length, map};
-ghost use Rattle.std.specs.List.{AllByRecursion, flat_map};
+ghost use Rattle.std.specs.Prelude.{◌≡◌, ◌≤◌, ◌<◌, ◌+◌, ◌^◌, ◌++◌, IfOk, IsTrue, OnOk, length, map};
+ghost use Rattle.std.specs.List.{AllByRecursion, flat_map, list_all};
+ghost use Rattle.mj_schema.specs.Layout.{IsLaidOut, draft_of, is_of_uint32};
 ghost use Rattle.mojom_compile.specs.Sound.{IsAllowedMethod, IsAllowed};
-ghost use Rattle.mojom_compile.specs.Rows.{dotted, within, fields_from, request_struct, structs_in, methods_from, IsSchema};
+ghost use Rattle.mojom_compile.specs.Rows.{dotted, within, request_struct, structs_in, methods_from, IsSchema};
 
 use crate::tree::{File, Method};
-use mj_base::{Items, Text, round8};
-use mj_schema::{FieldRow, InterfaceRow, Kind, MethodRow, Schema, StructRow, VersionRow};
+use mj_base::{Items, Text};
+use mj_schema::{InterfaceRow, MethodRow, Schema, StructRow};
 use std::alloc::{AllocError, Global};
+use version_tables::lay_out_uint32;
 
 /// The full name of what stands in another thing.
 fn within(alloc: Global, outer: &str, inner: &str) -> Result<Text, AllocError>
@@ -34,46 +36,16 @@ fn dotted(alloc: Global, ids: &[Text]) -> Result<Text, AllocError>
     }
 }
 
-/// The parameters as fields.
-fn fields(alloc: Global, names: &[Text]) -> Result<Vec<FieldRow>, AllocError>
-    requires { length names.now ≤ 4096 }
-    ensures { IfOk result (λ fields. fields.items ≡ fields_from 0 names.now) }
-{
-    let mut fields = Vec::new(alloc);
-    for (at, name) in names.iter().enumerate() {
-        let ordinal = at as u32;
-        let name = Text::from_str(alloc, name.as_str())?;
-        fields.push(FieldRow {
-            name,
-            ordinal,
-            kind: Kind::Uint32,
-            offset: 4 * ordinal,
-        })?;
-    }
-    Ok(fields)
-}
-
 /// The struct of a method's parameters, in the interface of this full name.
 fn request_struct(alloc: Global, interface: &str, method: &Method) -> Result<StructRow, AllocError>
     requires { length method.now.parameters ≤ 4096 }
-    ensures { IfOk result (λ row. row ≡ request_struct interface.now method.now) }
+    ensures draft { IfOk result (λ row. draft_of row ≡ request_struct interface.now method.now) }
+    ensures laid_out { IfOk result IsLaidOut }
+    ensures of_uint32 { IfOk result (λ row. IsTrue (is_of_uint32 row)) }
 {
     let full = within(alloc, interface, method.name.as_str())?;
     let name = within(alloc, full.as_str(), "request")?;
-    let count = method.parameters.len();
-    let fields = Items::from_vec(fields(alloc, method.parameters.as_slice())?);
-    let mut versions = Vec::new(alloc);
-    versions.push(VersionRow {
-        version: 0,
-        fields: count as u32,
-        bytes: round8(8 + 4 * count as u64) as u32,
-    })?;
-    let versions = Items::from_vec(versions);
-    Ok(StructRow {
-        name,
-        fields,
-        versions,
-    })
+    lay_out_uint32(alloc, name, method.parameters.as_slice())
 }
 
 /// Adds the structs of an interface's methods, in order.
@@ -83,8 +55,13 @@ fn add_structs(
     interface: &str,
     methods: &[Method],
 ) -> Result<(), AllocError>
-    requires { AllByRecursion IsAllowedMethod methods.now }
-    ensures { OnOk result (structs.new.items ≡ structs.old.items ++ map (request_struct interface.now) methods.now) }
+    requires allowed { AllByRecursion IsAllowedMethod methods.now }
+    requires laid_out { AllByRecursion IsLaidOut structs.old.items }
+    requires of_uint32 { IsTrue (list_all is_of_uint32 structs.old.items) }
+    ensures drafts { OnOk result (map draft_of structs.new.items ≡ map draft_of structs.old.items ++ map (request_struct interface.now) methods.now) }
+    ensures count { OnOk result (length structs.new.items ≡ length structs.old.items + length methods.now) }
+    ensures laid_out { OnOk result (AllByRecursion IsLaidOut structs.new.items) }
+    ensures of_uint32 { OnOk result (IsTrue (list_all is_of_uint32 structs.new.items)) }
 {
     for method in methods {
         structs.push(request_struct(alloc, interface, method)?)?;
@@ -135,6 +112,8 @@ pub fn schema(alloc: Global, file: &File) -> Result<Schema, AllocError>
     }
     Ok(Schema {
         structs: Items::from_vec(structs),
+        unions: Items::new(alloc),
+        enums: Items::new(alloc),
         interfaces: Items::from_vec(interfaces),
     })
 }

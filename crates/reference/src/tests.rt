@@ -1,6 +1,6 @@
 //! A worked example, and a core whose history the definitions give.
 
-ghost use Rattle.std.specs.Prelude.{◌≡◌, ◌++◌, [], ◌∷◌, reverse, None, IfOk};
+ghost use Rattle.std.specs.Prelude.{◌≡◌, ◌≤◌, ◌++◌, [], ◌∷◌, length, reverse, None, IfOk, IsTrue};
 ghost use Rattle.mj_base.specs.declared.ids.EndId.{EndId};
 ghost use Rattle.bind_core.specs.Asks.{told_at};
 ghost use Rattle.bind_core.specs.Plain.{asked_of, told_of};
@@ -8,17 +8,19 @@ ghost use Rattle.bind_model.specs.Laws.{IsAllowed, SuitsPeer};
 ghost use Rattle.bind_model.specs.Machine.{binding, peer};
 ghost use Rattle.bind_model.specs.declared.event.Asked.{Asked};
 ghost use Rattle.bind_model.specs.declared.event.Told.{Told};
+ghost use Rattle.mj_schema.specs.Layout.{IsLaidOut, is_of_uint32};
 ghost use Rattle.wire_model.specs.Tight.{HasTarget};
 
 use super::*;
 use bind_core::{Command, Core, Handle, Reply};
 use bind_model::{Asked, Binding, Event, Side, Taken, Told, Why};
 use mj_base::{EndId, Items, SeqId, Text};
-use mj_schema::{FieldRow, InterfaceRow, Kind, MethodRow, Schema, StructRow, VersionRow};
+use mj_schema::{InterfaceRow, MethodRow, Schema, StructRow};
 use std::alloc::{AllocError, Global};
 use std::process::Abort;
 use std::sync::Arc;
 use std::test::Fail;
+use version_tables::lay_out_uint32;
 use wire_model::{MessageSide, Target, prepare};
 
 const ONLY: SeqId = SeqId(0);
@@ -54,27 +56,13 @@ fn end(serial: u32) -> EndId {
     EndId { seq: 0, serial }
 }
 
-fn field(alloc: Global, name: &str, ordinal: u32, offset: u32) -> Result<FieldRow, AllocError> {
-    Ok(FieldRow {
-        name: Text::from_str(alloc, name)?,
-        ordinal,
-        kind: Kind::Uint32,
-        offset,
-    })
-}
-
-/// A struct of one version, of 16 bytes.
-fn params(alloc: Global, name: &str, fields: Vec<FieldRow>) -> Result<StructRow, AllocError> {
-    let version = VersionRow {
-        version: 0,
-        fields: u32::try_from(fields.len()).unwrap_or(0),
-        bytes: 16,
-    };
-    Ok(StructRow {
-        name: Text::from_str(alloc, name)?,
-        fields: Items::from_vec(fields),
-        versions: Items::from_vec(vec![in alloc; version]?),
-    })
+/// A struct of these parameters.
+fn params(alloc: Global, name: &str, fields: &[Text]) -> Result<StructRow, AllocError>
+    requires { length fields.now ≤ 4096 }
+    ensures laid_out { IfOk result IsLaidOut }
+    ensures of_uint32 { IfOk result (λ row. IsTrue (is_of_uint32 row)) }
+{
+    lay_out_uint32(alloc, Text::from_str(alloc, name)?, fields)
 }
 
 fn method(alloc: Global, name: &str, number: u32) -> Result<MethodRow, AllocError>
@@ -91,10 +79,10 @@ fn method(alloc: Global, name: &str, number: u32) -> Result<MethodRow, AllocErro
 fn two_methods(alloc: Global) -> Result<Schema, AllocError>
     ensures { IfOk result (λ schema. HasTarget schema PING × HasTarget schema MOVE) }
 {
-    let one = vec![in alloc; field(alloc, "n", 0, 0)?]?;
-    let two = vec![in alloc; field(alloc, "x", 0, 0)?, field(alloc, "y", 1, 4)?]?;
-    let ping = params(alloc, "t.P.Ping", one)?;
-    let shift = params(alloc, "t.P.Move", two)?;
+    let one = [Text::from_str(alloc, "n")?];
+    let two = [Text::from_str(alloc, "x")?, Text::from_str(alloc, "y")?];
+    let ping = params(alloc, "t.P.Ping", &one)?;
+    let shift = params(alloc, "t.P.Move", &two)?;
     let methods = vec![in alloc; method(alloc, "Ping", 0)?, method(alloc, "Move", 1)?]?;
     let interface = InterfaceRow {
         name: Text::from_str(alloc, "t.P")?,
@@ -102,6 +90,8 @@ fn two_methods(alloc: Global) -> Result<Schema, AllocError>
     };
     Ok(Schema {
         structs: Items::from_vec(vec![in alloc; ping, shift]?),
+        unions: Items::new(alloc),
+        enums: Items::new(alloc),
         interfaces: Items::from_vec(vec![in alloc; interface]?),
     })
 }

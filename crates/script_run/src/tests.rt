@@ -8,31 +8,21 @@ use super::*;
 use bind_model::Told;
 use call_script::{Line, Pipe, Script};
 use mj_base::{Items, Text};
-use mj_schema::{FieldRow, InterfaceRow, Kind, MethodRow, Schema, StructRow, VersionRow};
+use mj_schema::{InterfaceRow, MethodRow, Schema};
 use std::alloc::{AllocError, Global};
 use std::sync::Arc;
 use std::test::Fail;
+use version_tables::lay_out_uint32;
 
 /// `module t; interface P { Ping(uint32 n); };`, and a script that calls `Ping(7)`.
 fn ping(alloc: Global) -> Result<(Schema, Script), AllocError>
     ensures { IfOk result (λ pair. IsScript pair.0 pair.1 × IsNarrow pair.0) }
 {
-    let field = FieldRow {
-        name: Text::from_str(alloc, "n")?,
-        ordinal: 0,
-        kind: Kind::Uint32,
-        offset: 0,
-    };
-    let version = VersionRow {
-        version: 0,
-        fields: 1,
-        bytes: 16,
-    };
-    let params = StructRow {
-        name: Text::from_str(alloc, "t.P.Ping")?,
-        fields: Items::from_vec(vec![in alloc; field]?),
-        versions: Items::from_vec(vec![in alloc; version]?),
-    };
+    let params = lay_out_uint32(
+        alloc,
+        Text::from_str(alloc, "t.P.Ping")?,
+        &[Text::from_str(alloc, "n")?],
+    )?;
     let method = MethodRow {
         name: Text::from_str(alloc, "Ping")?,
         ordinal: 0,
@@ -44,6 +34,8 @@ fn ping(alloc: Global) -> Result<(Schema, Script), AllocError>
     };
     let schema = Schema {
         structs: Items::from_vec(vec![in alloc; params]?),
+        unions: Items::new(alloc),
+        enums: Items::new(alloc),
         interfaces: Items::from_vec(vec![in alloc; interface]?),
     };
     let pipe = Pipe {

@@ -5,9 +5,10 @@ ghost use Rattle.wire_model.specs.Tight.{HasTarget};
 
 use super::*;
 use mj_base::{Items, Text};
-use mj_schema::{FieldRow, InterfaceRow, Kind, MethodRow, Schema, StructRow, VersionRow};
+use mj_schema::{InterfaceRow, MethodRow, Schema};
 use std::alloc::{AllocError, Global};
 use std::test::Fail;
+use version_tables::lay_out_uint32;
 
 const PING: Target = Target {
     interface: 0,
@@ -19,22 +20,11 @@ const PING: Target = Target {
 fn ping_schema(alloc: Global) -> Result<Schema, AllocError>
     ensures { IfOk result (λ schema. HasTarget schema PING) }
 {
-    let field = FieldRow {
-        name: Text::from_str(alloc, "n")?,
-        ordinal: 0,
-        kind: Kind::Uint32,
-        offset: 0,
-    };
-    let version = VersionRow {
-        version: 0,
-        fields: 1,
-        bytes: 16,
-    };
-    let params = StructRow {
-        name: Text::from_str(alloc, "t.P.Ping")?,
-        fields: Items::from_vec(vec![in alloc; field]?),
-        versions: Items::from_vec(vec![in alloc; version]?),
-    };
+    let params = lay_out_uint32(
+        alloc,
+        Text::from_str(alloc, "t.P.Ping")?,
+        &[Text::from_str(alloc, "n")?],
+    )?;
     let method = MethodRow {
         name: Text::from_str(alloc, "Ping")?,
         ordinal: 0,
@@ -46,6 +36,8 @@ fn ping_schema(alloc: Global) -> Result<Schema, AllocError>
     };
     Ok(Schema {
         structs: Items::from_vec(vec![in alloc; params]?),
+        unions: Items::new(alloc),
+        enums: Items::new(alloc),
         interfaces: Items::from_vec(vec![in alloc; interface]?),
     })
 }

@@ -1,7 +1,7 @@
 use Rattle.std.proofs.Common.{◌≡◌}
 use Rattle.std.proofs.lemmas.Result.{err_from_is_err_and}
 use Rattle.mojom_compile.specs.declared.error.CompileError.TheVariants.{Unsupported}
-use Rattle.mojom_compile.proofs.Whole.{compiled, unread, refused, laid_out}
+use Rattle.mojom_compile.proofs.Whole.{compiled, unread, refused}
 use Rattle.mojom_compile.proofs.compiler.compile.Goals as goal
 
 pub returns-in_err-file-clause-unsupported : goal.returns-in_err-file-clause-unsupported
@@ -15,6 +15,3 @@ returns-then-not-branch-clause-unsupported c same schema s = refused c.args.byte
 
 pub returns-clause-ok : goal.returns-clause-ok
 returns-clause-ok c = compiled c.args.bytes.now c.in_ok-file.file c.in_ok-schema.field-0 c.in_ok-file.ensures (c.in_ok-is_allowed.ensures.0 c.if-not-branch.false) c.in_ok-schema.ensures
-
-pub returns-clause-laid_out : goal.returns-clause-laid_out
-returns-clause-laid_out c = laid_out c.in_ok-file.file c.in_ok-schema.field-0 (c.in_ok-is_allowed.ensures.0 c.if-not-branch.false) c.in_ok-schema.ensures

@@ -1,6 +1,14 @@
-use Rattle.std.proofs.Common.{◌≡◌, take, map, ◌++◌}
+use Rattle.std.proofs.Common.{◌≡◌, ◌+◌, take, map, length, ◌++◌}
+use Rattle.std.specs.Prelude.{IsTrue}
+use Rattle.std.specs.List.{AllByRecursion, list_all}
+use Rattle.mj_schema.specs.Layout.{IsLaidOut, draft_of, is_of_uint32}
 use Rattle.mojom_compile.specs.Rows.{request_struct}
 use Rattle.mojom_compile.proofs.rows.add_structs.Given as goal
 
 abbrev pub invariant-loop-method : goal.invariant-loop-method
-invariant-loop-method l = l.structs.items ≡ l.initial.structs.items ++ map (request_struct l.interface) (take l.method-index l.methods)
+invariant-loop-method l = record {
+  drafts : map draft_of l.structs.items ≡ map draft_of l.initial.structs.items ++ map (request_struct l.interface) (take l.method-index l.methods);
+  count : length l.structs.items ≡ length l.initial.structs.items + l.method-index;
+  laid_out : AllByRecursion IsLaidOut l.structs.items;
+  of_uint32 : IsTrue (list_all is_of_uint32 l.structs.items);
+}

@@ -1,0 +1,29 @@
+//! What holds of the layout of all structs.
+
+ghost use Rattle.std.specs.Prelude.{◌≡◌, [], List, IsTrue};
+ghost use Rattle.mj_schema.specs.declared.kind.Kind.{Kind};
+ghost use Rattle.mj_schema.specs.declared.rows.Place.{Place};
+ghost use Rattle.mj_schema.specs.declared.rows.StructRow.{StructRow};
+ghost use Rattle.mj_schema.specs.Layout.{ArePacked, IsLaidOut, draft_of, is_of_uint32};
+ghost use Rattle.mj_schema.specs.Versions.{is_table};
+ghost use Rattle.mj_schema.specs.Uint32Rows.{IsOfFourBytesEach};
+
+/// Fields of some kinds have their places in one way.
+pub fn one_packing()
+    ensures { (kinds : List Kind) (one two : List Place) → ArePacked [] kinds one → ArePacked [] kinds two → one ≡ two }
+{}
+
+/// A struct is laid out in one way.
+pub fn one_layout()
+    ensures { (one two : StructRow) → IsLaidOut one → IsLaidOut two → draft_of one ≡ draft_of two → one ≡ two }
+{}
+
+/// Where all fields are unsigned integers of 32 bits, each has four bytes behind those before it.
+pub fn four_bytes_each()
+    ensures { (row : StructRow) → IsLaidOut row → IsTrue (is_of_uint32 row) → IsOfFourBytesEach row }
+{}
+
+/// The version rows of a struct begin with version 0, and their versions rise.
+pub fn rows_are_a_table()
+    ensures { (row : StructRow) → IsLaidOut row → IsTrue (is_table row.versions) }
+{}

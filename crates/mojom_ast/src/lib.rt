@@ -1,0 +1,6 @@
+//! The tokens of a Mojom file.
+#![tactic(auto)]
+
+mod token;
+
+pub use token::{Keyword, Sort, Symbol, Token};

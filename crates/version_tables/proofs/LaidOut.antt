@@ -1,0 +1,58 @@
+-- Declared fields at their places are laid out.
+use Rattle.std.proofs.Common.{◌≡◌, ℕ, suc, ◌+◌, ◌≤◌, true, List, [], ◌∷◌, length, refl, ap, arith}
+use Rattle.std.specs.Prelude.{map}
+use Rattle.std.proofs.lemmas.Bool.{and_from}
+use Rattle.std.proofs.lemmas.Bool.Decides.{Decides-eqb}
+use Rattle.mj_schema.specs.declared.kind.Kind.{Kind}
+use Rattle.mj_schema.specs.declared.rows.DraftField.{DraftField}
+use Rattle.mj_schema.specs.declared.rows.DraftStruct.{DraftStruct}
+use Rattle.mj_schema.specs.declared.rows.FieldRow.{FieldRow}
+use Rattle.mj_schema.specs.declared.rows.Place.{Place}
+use Rattle.mj_schema.specs.declared.rows.VersionRow.{VersionRow}
+use Rattle.mj_schema.specs.Layout.{Slot, slot_at, address_of, ArePacked, kind_of, place_of, are_numbered, never_fall, field_rows, draft_field, draft_of, IsLaidOut}
+use Rattle.mj_schema.specs.Versions.{version_rows}
+use Rattle.version_tables.proofs.Growing.{length-field_rows}
+
+pub packed_length : (taken : List Slot) (ks : List Kind) (ps : List Place) → ArePacked taken ks ps → length ps ≡ length ks
+packed_length taken [] [] h = refl
+packed_length taken [] (p ∷ ps) h = absurd h
+packed_length taken (k ∷ ks) [] h = absurd h
+packed_length taken (k ∷ ks) (p ∷ ps) h = ap suc (packed_length (slot_at k (address_of p) ∷ taken) ks ps h.1)
+
+numbered : (k : ℕ) (fs : List DraftField) (ps : List Place) → are_numbered k (field_rows k fs ps) ≡ true
+numbered k [] ps = refl
+numbered k (f ∷ fs) [] = refl
+numbered k (f ∷ fs) (p ∷ ps) = and_from _ _ ((Decides-eqb k k).1 refl) (numbered (k + 1) fs ps)
+
+-- what the rows keep
+record Kept (k : ℕ) (fs : List DraftField) (ps : List Place) : Type 0 where
+  kinds : map kind_of (field_rows k fs ps) ≡ map (λ (f : DraftField). f.kind) fs
+  places : map place_of (field_rows k fs ps) ≡ ps
+  versions : map (λ (f : FieldRow). f.min_version) (field_rows k fs ps) ≡ map (λ (f : DraftField). f.min_version) fs
+  drafts : map draft_field (field_rows k fs ps) ≡ fs
+
+kept : (k : ℕ) (fs : List DraftField) (ps : List Place) → length ps ≡ length fs → Kept k fs ps
+kept k [] [] same = record { kinds = refl; places = refl; versions = refl; drafts = refl }
+kept k [] (p ∷ ps) same = absurd (omega arith)
+kept k (f ∷ fs) [] same = absurd (omega arith)
+kept k (f ∷ fs) (p ∷ ps) same =
+    let rest = kept (k + 1) fs ps (omega arith) in
+    record {
+      kinds = ap (λ (ks : List Kind). f.kind ∷ ks) rest.kinds;
+      places = ap (λ (qs : List Place). p ∷ qs) rest.places;
+      versions = ap (λ (vs : List ℕ). f.min_version ∷ vs) rest.versions;
+      drafts = ap (λ (gs : List DraftField). f ∷ gs) rest.drafts;
+    }
+
+pub laid_out : (name : List ℕ) (fs : List DraftField) (ps : List Place) (rows : List FieldRow) (versions : List VersionRow) → length fs ≤ 4096 → never_fall 0 (map (λ (f : DraftField). f.min_version) fs) ≡ true → ArePacked [] (map (λ (f : DraftField). f.kind) fs) ps → length ps ≡ length fs → rows ≡ field_rows 0 fs ps → versions ≡ version_rows (field_rows 0 fs ps) → IsLaidOut (record { name = name; fields = rows; versions = versions }) × (draft_of (record { name = name; fields = rows; versions = versions }) ≡ record { name = name; fields = fs })
+laid_out name fs ps rows versions few rising packed same rows-is versions-is =
+    let k = kept 0 fs ps same in
+    let is : IsLaidOut (record { name = name; fields = field_rows 0 fs ps; versions = version_rows (field_rows 0 fs ps) }) = record {
+      few = omega (arith, length-field_rows 0 fs ps same);
+      numbered = numbered 0 fs ps;
+      rising = rw k.versions rising;
+      packed = rw (k.kinds, k.places) packed;
+      versions = refl;
+    } in
+    let same_draft : ◌≡◌ {A = DraftStruct} (record { name = name; fields = map draft_field (field_rows 0 fs ps) }) (record { name = name; fields = fs }) = ap (λ (gs : List DraftField). record { name = name; fields = gs }) k.drafts in
+    rw (rows-is, versions-is) (is, same_draft)

@@ -1,0 +1,88 @@
+//! Structs with their layout.
+
+ghost use Rattle.std.specs.Prelude.{◌≡◌, ◌≤◌, IfOk, IsTrue, length, map};
+ghost use Rattle.mj_schema.specs.declared.rows.DraftField.{DraftField};
+ghost use Rattle.mj_schema.specs.Layout.{IsLaidOut, draft_of, field_rows, is_of_uint32, never_fall, uint32_field};
+
+use crate::rows::table;
+use field_packing::pack_fields;
+use mj_base::{Items, Text};
+use mj_schema::{DraftField, DraftStruct, FieldRow, Kind, Place, StructRow};
+use std::alloc::{AllocError, Global};
+
+/// The struct with the places of its fields and its version rows. The versions of its fields never
+/// fall.
+pub fn lay_out(alloc: Global, draft: DraftStruct) -> Result<StructRow, AllocError>
+    requires few { length draft.fields ≤ 4096 }
+    requires rising { IsTrue (never_fall 0 (map (λ (field : DraftField). field.min_version) draft.fields)) }
+    ensures laid_out { IfOk result IsLaidOut }
+    ensures draft { IfOk result (λ row. draft_of row ≡ draft) }
+{
+    let DraftStruct { name, fields } = draft;
+    let places = pack_fields(alloc, fields.as_slice())?;
+    let versions = table(alloc, fields.as_slice(), &places)?;
+    let fields = place_fields(alloc, fields.into_vec(), &places)?;
+    Ok(StructRow {
+        name,
+        fields: Items::from_vec(fields),
+        versions: Items::from_vec(versions),
+    })
+}
+
+/// A struct of unsigned integers of 32 bits with these names, all there from version 0 on.
+pub fn lay_out_uint32(alloc: Global, name: Text, fields: &[Text]) -> Result<StructRow, AllocError>
+    requires { length fields.now ≤ 4096 }
+    ensures laid_out { IfOk result IsLaidOut }
+    ensures draft { IfOk result (λ row. draft_of row ≡ record { name = name; fields = map uint32_field fields.now }) }
+    ensures of_uint32 { IfOk result (λ row. IsTrue (is_of_uint32 row)) }
+    ensures count { IfOk result (λ row. length row.fields ≡ length fields.now) }
+{
+    let fields = uint32_fields(alloc, fields)?;
+    lay_out(
+        alloc,
+        DraftStruct {
+            name,
+            fields: Items::from_vec(fields),
+        },
+    )
+}
+
+/// The fields of these names.
+fn uint32_fields(alloc: Global, names: &[Text]) -> Result<Vec<DraftField>, AllocError>
+    ensures { IfOk result (λ fields. fields.items ≡ map uint32_field names.now) }
+{
+    let mut fields = Vec::new(alloc);
+    for name in names {
+        fields.push(DraftField {
+            name: Text::from_str(alloc, name.as_str())?,
+            kind: Kind::UINT32,
+            min_version: 0,
+        })?;
+    }
+    Ok(fields)
+}
+
+/// The fields at their places, with their ordinals.
+fn place_fields(
+    alloc: Global,
+    fields: Vec<DraftField>,
+    places: &[Place],
+) -> Result<Vec<FieldRow>, AllocError>
+    requires few { length fields.items ≤ 4096 }
+    requires places { length places.now ≡ length fields.items }
+    ensures { IfOk result (λ rows. rows.items ≡ field_rows 0 fields.items places.now) }
+{
+    let mut rows = Vec::new(alloc);
+    for (ordinal, field) in fields.into_iter().enumerate() {
+        let place = places[ordinal];
+        rows.push(FieldRow {
+            name: field.name,
+            ordinal: ordinal as u32,
+            kind: field.kind,
+            offset: place.offset,
+            bit: place.bit,
+            min_version: field.min_version,
+        })?;
+    }
+    Ok(rows)
+}
