@@ -1,5 +1,5 @@
 -- One more field in a packing.
-use Rattle.std.proofs.Common.{◌≡◌, ℕ, ◌+◌, ◌*◌, ◌<◌, ◌≤◌, List, [], ◌∷◌, ◌++◌, refl, arith, ap, sym, subst}
+use Rattle.std.proofs.Common.{◌≡◌, ℕ, ◌<◌, List, [], ◌∷◌, ◌++◌, refl, arith}
 use Rattle.std.proofs.lemmas.List.Elements.{All-nil, All-cons}
 use Rattle.mj_schema.specs.declared.kind.Kind.{Kind}
 use Rattle.mj_schema.specs.declared.rows.Place.{Place}
@@ -8,7 +8,7 @@ use Rattle.mj_schema.specs.Layout.{Slot, slot_at, address_of, IsLeastPlace, AreP
 use Rattle.field_packing.specs.declared.holes.Hole.{Hole}
 use Rattle.field_packing.specs.Holes.{AllBelow, place_at, rest_of, end_of}
 use Rattle.field_packing.specs.Tracks.{AreSorted, Tracks}
-use Rattle.field_packing.proofs.Cutting.{Placed, sorted_end, tracks_on}
+use Rattle.field_packing.proofs.Cutting.{sorted_end, tracks_on}
 
 -- what is taken after these fields
 abbrev pub taken_after : List Slot → List Kind → List Place → List Slot

@@ -1,6 +1,6 @@
 -- What it means that slots have no bit in common.
-use Rattle.std.proofs.Common.{◌≡◌, ℕ, ◌+◌, ◌≤◌, ◌⊎◌, inl, inr, true, List, [], ◌∷◌, refl}
-use Rattle.std.specs.Prelude.{nat_le, ◌||◌}
+use Rattle.std.proofs.Common.{◌≡◌, ◌+◌, ◌≤◌, ◌⊎◌, inl, inr, true, List, ◌∷◌, refl}
+use Rattle.std.specs.Prelude.{nat_le}
 use Rattle.std.proofs.lemmas.Bool.{or_cases, and_parts, and_from, leb-true, le-leb}
 use Rattle.std.proofs.Math.Bool.{or-true}
 use Rattle.mj_schema.specs.Layout.{Slot, is_apart, is_free}

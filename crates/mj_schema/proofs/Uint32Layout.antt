@@ -1,22 +1,20 @@
 -- Unsigned integers of 32 bits lie one behind the other.
-use Rattle.std.proofs.Common.{◌≡◌, ℕ, zero, suc, ◌+◌, ◌*◌, ◌/◌, ◌%◌, ◌<◌, ◌≤◌, ◌⊎◌, inl, inr, Bool, true, false, cond, List, [], ◌∷◌, length, refl, sym, ap, ◌∙◌, subst, arith}
+use Rattle.std.proofs.Common.{◌≡◌, ℕ, zero, suc, ◌+◌, ◌*◌, ◌/◌, ◌%◌, ◌≤◌, inl, inr, Bool, true, List, [], ◌∷◌, length, refl, ap, ◌∙◌, arith}
 use Rattle.std.specs.Prelude.{◌==◌, ◌&&◌, nat_le, max, map}
-use Rattle.std.specs.List.{list_all, filter}
-use Rattle.std.proofs.lemmas.Bool.{and_parts, cases_lt, le-leb}
+use Rattle.std.specs.List.{list_all}
+use Rattle.std.proofs.lemmas.Bool.{and_parts, le-leb}
 use Rattle.std.proofs.lemmas.Bool.Decides.{Decides-eqb}
-use Rattle.mj_base.specs.Bytes.{rounded8}
 use Rattle.mj_schema.specs.declared.kind.Kind.{Kind}
 use Rattle.mj_schema.specs.declared.kind.Kind.TheVariants as kinds
 use Rattle.mj_schema.specs.declared.kind.Width.TheVariants.{Bits8, Bits16, Bits32, Bits64}
 use Rattle.mj_schema.specs.declared.rows.FieldRow.{FieldRow}
 use Rattle.mj_schema.specs.declared.rows.Place.{Place}
 use Rattle.mj_schema.specs.declared.rows.StructRow.{StructRow}
-use Rattle.mj_schema.specs.declared.rows.VersionRow.{VersionRow}
 use Rattle.mj_schema.specs.Sizes.{size_of, alignment_of, is_uint32}
-use Rattle.mj_schema.specs.Layout.{Slot, slot_at, is_free, address_of, IsLeastPlace, ArePacked, kind_of, place_of, IsLaidOut, is_of_uint32, struct_bytes}
-use Rattle.mj_schema.specs.Versions.{end_of, greatest, fields_up_to, versions_behind, version_rows}
+use Rattle.mj_schema.specs.Layout.{Slot, is_free, address_of, IsLeastPlace, ArePacked, kind_of, place_of, IsLaidOut, is_of_uint32}
+use Rattle.mj_schema.specs.Versions.{end_of, greatest, fields_up_to, versions_behind}
 use Rattle.mj_schema.specs.Uint32Rows.{AreOneBehindAnother, IsOfFourBytesEach}
-use Rattle.mj_schema.proofs.Apart.{Apart, free_cons, cons_free}
+use Rattle.mj_schema.proofs.Apart.{free_cons, cons_free}
 
 uint32_room : (kind : Kind) → is_uint32 kind ≡ true → (size_of kind ≡ 32) × (alignment_of kind ≡ 32)
 uint32_room kinds.Bool e = absurd cc

@@ -3,9 +3,10 @@
 use super::*;
 use call_script::{Line, Pipe, PipeEnd, Script};
 use mj_base::{Items, Text};
-use mj_schema::{FieldRow, InterfaceRow, Kind, MethodRow, Schema, StructRow, VersionRow};
+use mj_schema::{InterfaceRow, MethodRow, Schema};
 use std::alloc::{AllocError, Global};
 use std::test::Fail;
+use version_tables::lay_out_uint32;
 
 /// A call of 7 and its take.
 const TAKEN: &str = "0 0 join 0 -> made [e0.0,e0.1]
@@ -30,22 +31,8 @@ done 4
 
 /// The schema of `module t; interface P { Ping(uint32 n); };`.
 fn ping(alloc: Global) -> Result<Schema, AllocError> {
-    let field = FieldRow {
-        name: Text::from_str(alloc, "n")?,
-        ordinal: 0,
-        kind: Kind::Uint32,
-        offset: 0,
-    };
-    let version = VersionRow {
-        version: 0,
-        fields: 1,
-        bytes: 16,
-    };
-    let params = StructRow {
-        name: Text::from_str(alloc, "t.P.Ping.request")?,
-        fields: Items::from_vec(vec![in alloc; field]?),
-        versions: Items::from_vec(vec![in alloc; version]?),
-    };
+    let names = [Text::from_str(alloc, "n")?];
+    let params = lay_out_uint32(alloc, Text::from_str(alloc, "t.P.Ping.request")?, &names)?;
     let method = MethodRow {
         name: Text::from_str(alloc, "Ping")?,
         ordinal: 0,
@@ -57,6 +44,8 @@ fn ping(alloc: Global) -> Result<Schema, AllocError> {
     };
     Ok(Schema {
         structs: Items::from_vec(vec![in alloc; params]?),
+        unions: Items::new(alloc),
+        enums: Items::new(alloc),
         interfaces: Items::from_vec(vec![in alloc; interface]?),
     })
 }

@@ -4,6 +4,11 @@
 
 #[cfg(test)]
 mod history_tests;
+pub mod layout;
+#[cfg(test)]
+mod layout_cases;
+#[cfg(test)]
+mod layout_tests;
 mod machine;
 mod script;
 #[cfg(test)]

@@ -1,5 +1,5 @@
 -- The row with the greatest version that is not above a version.
-use Rattle.std.proofs.Common.{◌≡◌, ℕ, suc, lit<, ◌<◌, ◌≤◌, Bool, true, false, cond, length, get_or, take, drop, ◌-◌, ap, ◌∙◌, List, [], ◌∷◌, refl, arith, inl, inr}
+use Rattle.std.proofs.Common.{◌≡◌, ℕ, suc, lit<, ◌<◌, ◌≤◌, Bool, true, false, cond, length, get_or, take, drop, ◌-◌, ap, ◌∙◌, List, [], ◌∷◌, refl, arith}
 use Rattle.std.specs.Prelude.{nat_lt, All, Contains, map, ◌==◌}
 use Rattle.std.proofs.lemmas.Bool.{and_parts, ltb-true, ltb-false}
 use Rattle.std.proofs.lemmas.Bool.Decides.{Decides-eqb}

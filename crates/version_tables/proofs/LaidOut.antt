@@ -1,6 +1,6 @@
 -- Declared fields at their places are laid out.
-use Rattle.std.proofs.Common.{◌≡◌, ℕ, suc, ◌+◌, ◌≤◌, Bool, true, List, [], ◌∷◌, length, refl, ap, arith}
-use Rattle.std.specs.Prelude.{◌==◌, map}
+use Rattle.std.proofs.Common.{◌≡◌, ℕ, suc, ◌+◌, ◌≤◌, true, List, [], ◌∷◌, length, refl, ap, arith}
+use Rattle.std.specs.Prelude.{map}
 use Rattle.std.proofs.lemmas.Bool.{and_from}
 use Rattle.std.proofs.lemmas.Bool.Decides.{Decides-eqb}
 use Rattle.mj_schema.specs.declared.kind.Kind.{Kind}
@@ -8,7 +8,6 @@ use Rattle.mj_schema.specs.declared.rows.DraftField.{DraftField}
 use Rattle.mj_schema.specs.declared.rows.DraftStruct.{DraftStruct}
 use Rattle.mj_schema.specs.declared.rows.FieldRow.{FieldRow}
 use Rattle.mj_schema.specs.declared.rows.Place.{Place}
-use Rattle.mj_schema.specs.declared.rows.StructRow.{StructRow}
 use Rattle.mj_schema.specs.declared.rows.VersionRow.{VersionRow}
 use Rattle.mj_schema.specs.Layout.{Slot, slot_at, address_of, ArePacked, kind_of, place_of, are_numbered, never_fall, field_rows, draft_field, draft_of, IsLaidOut}
 use Rattle.mj_schema.specs.Versions.{version_rows}

@@ -3,6 +3,8 @@
 
 mod rows;
 mod structs;
+#[cfg(test)]
+mod tests;
 
 pub use rows::{row_for, table};
 pub use structs::{lay_out, lay_out_uint32};

@@ -1,9 +1,8 @@
-use Rattle.std.proofs.Common.{◌≡◌, ◌+◌, ◌*◌, ◌^◌, ◌<◌, ◌∷◌, [], ◌++◌, List, take, get_or, ap, sym, ◌∙◌, arith}
+use Rattle.std.proofs.Common.{◌≡◌, ◌+◌, ◌^◌, ◌<◌, ◌∷◌, [], ◌++◌, take, ap, sym, ◌∙◌, arith}
 use Rattle.std.proofs.lemmas.List.{take_more}
 use Rattle.std.proofs.lemmas.List.Elements.{All-nil, All-cons, All-append}
 use Rattle.mj_schema.specs.declared.rows.Place.{Place}
-use Rattle.mj_schema.specs.Layout.{address_of}
-use Rattle.field_packing.proofs.Packed.{grown, nothing_taken, holes_below}
+use Rattle.field_packing.proofs.Packed.{grown, holes_below}
 use Rattle.field_packing.proofs.places.pack.Goals as goal
 
 pub place-requires-clause-holes : goal.place-requires-clause-holes

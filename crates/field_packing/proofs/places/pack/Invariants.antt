@@ -1,4 +1,4 @@
-use Rattle.std.proofs.Common.{◌*◌, ◌^◌, ◌<◌, ◌≤◌, map, take}
+use Rattle.std.proofs.Common.{◌*◌, ◌^◌, ◌<◌, ◌≤◌, take}
 use Rattle.std.specs.Prelude.{All}
 use Rattle.mj_schema.specs.declared.rows.Place.{Place}
 use Rattle.field_packing.proofs.Packed.{Grows}

@@ -1,4 +1,4 @@
-use Rattle.std.proofs.Common.{◌≡◌, ◌<◌, ◌+◌, ◌^◌, length, take, drop, map, true}
+use Rattle.std.proofs.Common.{◌≡◌, ◌<◌, ◌+◌, ◌^◌, take, drop, map, true}
 use Rattle.mj_schema.specs.declared.rows.DraftField.{DraftField}
 use Rattle.mj_schema.specs.Layout.{field_rows, never_fall}
 use Rattle.version_tables.proofs.Growing.{Grown}

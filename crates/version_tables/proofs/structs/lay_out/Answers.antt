@@ -1,4 +1,4 @@
-use Rattle.std.proofs.Common.{◌≡◌, length, map, sym, ap, ◌∙◌, arith, List, []}
+use Rattle.std.proofs.Common.{◌≡◌, length, map, sym, ap, ◌∙◌, List, []}
 use Rattle.std.proofs.lemmas.List.{length-map}
 use Rattle.mj_schema.specs.declared.kind.Kind.{Kind}
 use Rattle.mj_schema.specs.declared.rows.DraftField.{DraftField}

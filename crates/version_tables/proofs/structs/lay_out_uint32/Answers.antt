@@ -1,8 +1,5 @@
-use Rattle.std.proofs.Common.{◌≡◌, map, ap, ◌∙◌}
-use Rattle.mj_schema.specs.declared.rows.DraftField.{DraftField}
+use Rattle.std.proofs.Common.{ap, ◌∙◌}
 use Rattle.mj_schema.specs.declared.rows.DraftStruct.{DraftStruct}
-use Rattle.mj_schema.specs.declared.rows.StructRow.{StructRow}
-use Rattle.mj_schema.specs.Layout.{draft_of, is_of_uint32, never_fall, uint32_field}
 use Rattle.version_tables.proofs.Uint32Fields.{never_fall_zero, is_uint32_struct, if_ok}
 use Rattle.version_tables.proofs.structs.lay_out_uint32.Goals as goal
 

@@ -1,6 +1,5 @@
 use Rattle.std.proofs.Common.{◌≡◌, ◌+◌, ◌*◌, ◌/◌, ◌%◌, ◌<◌, ◌∙◌, arith}
 use Rattle.mj_schema.specs.Sizes.{size_of, alignment_of}
-use Rattle.field_packing.specs.Holes.{place_at, rest_of, end_of}
 use Rattle.field_packing.proofs.Cuts.{end_below}
 use Rattle.field_packing.proofs.Packed.{placed}
 use Rattle.field_packing.proofs.packer.Packer.place.Goals as goal

@@ -1,0 +1,44 @@
+//! Worked places: bytes and bits from the end of the struct's header.
+
+use super::*;
+use mj_base::Text;
+use mj_schema::{DraftField, Kind, Width};
+use std::test::Fail;
+
+fn integer(width: Width) -> Kind {
+    Kind::Int {
+        width,
+        signed: true,
+    }
+}
+
+#[test]
+fn bools_share_bytes_and_holes_are_filled(rt: HostRuntime) -> Result<(), Fail> {
+    let kinds = [
+        Kind::Bool,
+        integer(Width::Bits16),
+        Kind::Bool,
+        integer(Width::Bits8),
+        integer(Width::Bits64),
+        Kind::Bool,
+    ];
+    let places = pack(rt.alloc(), &kinds)?;
+    let wanted = [(0, 0), (2, 0), (0, 1), (1, 0), (8, 0), (0, 2)];
+    let wanted = wanted.map(|(offset, bit)| Place { offset, bit });
+    assert_eq!(rt; places.as_slice(), wanted.as_slice());
+    Ok(())
+}
+
+#[test]
+fn a_declared_bool_has_the_first_bit(rt: HostRuntime) -> Result<(), Fail> {
+    let alloc = rt.alloc();
+    let flag = DraftField {
+        name: Text::from_str(alloc, "flag")?,
+        kind: Kind::Bool,
+        min_version: 0,
+    };
+    let places = pack_fields(alloc, &[flag])?;
+    let wanted = [Place { offset: 0, bit: 0 }];
+    assert_eq!(rt; places.as_slice(), wanted.as_slice());
+    Ok(())
+}
