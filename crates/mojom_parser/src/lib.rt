@@ -4,6 +4,7 @@
 mod attributes;
 mod constants;
 mod error;
+mod file;
 mod interfaces;
 mod structs;
 mod tokens;
