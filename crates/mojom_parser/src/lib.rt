@@ -1,4 +1,4 @@
-//! The parser of Mojom files.
+//! The parser of Mojom files: from tokens to the tree that they spell.
 #![tactic(auto)]
 
 mod attributes;
@@ -6,7 +6,11 @@ mod constants;
 mod error;
 mod file;
 mod interfaces;
+mod parser;
 mod structs;
 mod tokens;
 mod types;
 mod values;
+
+pub use error::ParseError;
+pub use parser::parse;
