@@ -1,18 +1,17 @@
 -- A file has one list of tokens or one refusal, and its tokens stand in order.
-use Rattle.std.proofs.Common.{◌≡◌, ℕ, zero, suc, ◌+◌, ◌-◌, ◌≤◌, ◌<◌, List, [], ◌∷◌, ◌++◌, length, take, drop, get_or, Bool, true, false, cond, ◌⊎◌, inl, inr, refl, sym, ap, ◌∙◌, subst, arith, length-append}
+use Rattle.std.proofs.Common.{◌≡◌, ℕ, zero, suc, ◌+◌, ◌≤◌, ◌<◌, List, [], ◌∷◌, ◌++◌, length, take, drop, Bool, true, false, ◌⊎◌, inl, inr, refl, sym, ap, ◌∙◌, subst, arith}
 use Rattle.std.specs.Prelude.{IsUtf8, All, AllPairs}
 use Rattle.std.specs.Str.Lossy.{utf8_valid_len}
 use Rattle.std.proofs.Math.Seq.{drop-length}
-use Rattle.std.proofs.lemmas.List.{length-drop}
 use Rattle.mojom_ast.specs.declared.token.Sort.{Sort}
 use Rattle.mojom_ast.specs.declared.token.Token.{Token}
 use Rattle.mojom_lexer.specs.declared.error.LexError.{LexError}
 use Rattle.mojom_lexer.specs.declared.error.LexError.TheVariants.{BadUtf8, BadChar, OpenComment, OpenString, LeadingZero, NumberTooLong, Memory}
 use Rattle.mojom_lexer.specs.Pieces.{IsPiece, IsLongest}
-use Rattle.mojom_lexer.specs.Lexed.{IsPassedOver, Spells, Reaches, AreTokens, Refuses, StopsAt, IsRefused, OneReading, InOrder}
+use Rattle.mojom_lexer.specs.Lexed.{IsPassedOver, Spells, Reaches, AreTokens, Refuses, StopsAt, IsRefused, OneReading}
 use Rattle.mojom_lexer.specs.Lexed.Reaches.{starts, passes, takes}
 use Rattle.mojom_lexer.proofs.FirstBytes.{none_empty}
-use Rattle.mojom_lexer.proofs.Steps.{token_at, longest_some}
+use Rattle.mojom_lexer.proofs.Steps.{token_at}
 use Rattle.mojom_lexer.proofs.Total.{some_reading}
 use Rattle.mojom_lexer.proofs.Meanings.{one_sort, passed_no_token, one_length, one_why, GoesOn, goes_or_stops, none_at_end}
 

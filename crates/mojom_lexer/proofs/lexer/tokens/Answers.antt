@@ -1,6 +1,6 @@
 use Rattle.std.proofs.Common.{Vec, Global, arith, ap, ◌∙◌}
 use Rattle.mojom_ast.specs.declared.token.Token.{Token}
-use Rattle.mojom_lexer.proofs.Steps.{reaches_start, piece_some, piece_room, passes_on, takes_on}
+use Rattle.mojom_lexer.proofs.Steps.{reaches_start, piece_room, passes_on, takes_on}
 use Rattle.mojom_lexer.proofs.lexer.tokens.Goals as goal
 use Rattle.mojom_lexer.proofs.lexer.tokens.Goals.{in-Some+in_ok-push, in_default}
 
