@@ -1,0 +1,11 @@
+//! The canonical text of a Mojom file.
+#![tactic(auto)]
+
+mod attributes;
+mod definitions;
+mod file;
+mod interfaces;
+mod types;
+mod words;
+
+pub use file::spell;
