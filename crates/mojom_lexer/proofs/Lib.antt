@@ -1,0 +1,15 @@
+pub mod Runs
+pub mod Closes
+pub mod Values
+pub mod Numerals
+pub mod Texts
+pub mod FirstBytes
+pub mod RunFronts
+pub mod QuoteFronts
+pub mod CommentFronts
+pub mod SignFronts
+pub mod Standing
+pub mod Steps
+pub mod Meanings
+pub mod Laws
+pub mod Order

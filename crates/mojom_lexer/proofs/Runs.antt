@@ -1,0 +1,67 @@
+-- Bytes at the front that pass a test.
+use Rattle.std.proofs.Common.{◌≡◌, ℕ, zero, suc, ◌≤◌, ◌<◌, List, [], ◌∷◌, length, take, Bool, true, false, cond, ◌&&◌, ◌||◌, refl, arith, lit<}
+use Rattle.std.specs.List.{list_all}
+use Rattle.std.specs.Str.{IsAscii, IsUtf8}
+use Rattle.std.proofs.lemmas.Str.{IsUtf8-from_ascii}
+use Rattle.std.proofs.lemmas.Bool.Decides.{nat_tests}
+use Rattle.mojom_lexer.specs.Bytes.{is_letter, goes_on, is_run}
+use Rattle.mojom_lexer.specs.Words.{is_word}
+use Rattle.mojom_lexer.specs.Scans.{run_len}
+
+pub both : (a b : Bool) → a ≡ true → b ≡ true → (a && b) ≡ true
+both true b e h = h
+both false b e h = absurd (cc)
+
+pub left : (a b : Bool) → (a && b) ≡ true → a ≡ true
+left true b e = refl
+left false b e = absurd (cc)
+
+pub right : (a b : Bool) → (a && b) ≡ true → b ≡ true
+right true b e = e
+right false b e = absurd (cc)
+
+pub run_within : (p : ℕ → Bool) (bs : List ℕ) → run_len p bs ≤ length bs
+run_within p [] = omega arith
+run_within p (c ∷ cs) = step (p c) (run_len p cs) (run_within p cs)
+  where
+    step : (v : Bool) (n : ℕ) → n ≤ length cs → cond v (suc n) 0 ≤ suc (length cs)
+    step true n le = omega arith
+    step false n le = omega arith
+
+-- the run passes
+pub run_passes : (p : ℕ → Bool) (bs : List ℕ) → list_all p (take (run_len p bs) bs) ≡ true
+run_passes p [] = refl
+run_passes p (c ∷ cs) = step (p c) refl (run_passes p cs)
+  where
+    step : (v : Bool) → p c ≡ v → list_all p (take (run_len p cs) cs) ≡ true → list_all p (take (cond v (suc (run_len p cs)) 0) (c ∷ cs)) ≡ true
+    step true e h = rw e h
+    step false e h = refl
+
+-- and nothing longer does
+pub run_most : (p : ℕ → Bool) (bs : List ℕ) (k : ℕ) → k ≤ length bs → list_all p (take k bs) ≡ true → k ≤ run_len p bs
+run_most p bs zero le h = omega arith
+run_most p [] (suc k) le h = absurd (omega arith)
+run_most p (c ∷ cs) (suc k) le h =
+    let at : p c ≡ true = left (p c) (list_all p (take k cs)) h in
+    let more : k ≤ run_len p cs = run_most p cs k (omega arith) (right (p c) (list_all p (take k cs)) h) in
+    rw at (omega arith)
+
+goes_on_ascii : (c : ℕ) → goes_on c ≡ true → c < 128
+goes_on_ascii c e = grind (arith, nat_tests)
+
+letter_ascii : (c : ℕ) → is_letter c ≡ true → c < 128
+letter_ascii c e = grind (arith, nat_tests)
+
+all_ascii : (cs : List ℕ) → list_all goes_on cs ≡ true → IsAscii cs
+all_ascii [] e i = lit< tt
+all_ascii (c ∷ cs) e zero = goes_on_ascii c (left (goes_on c) (list_all goes_on cs) e)
+all_ascii (c ∷ cs) e (suc i) = all_ascii cs (right (goes_on c) (list_all goes_on cs) e) i
+
+word_ascii : (bs : List ℕ) → is_word bs ≡ true → IsAscii bs
+word_ascii [] e i = absurd (cc)
+word_ascii (c ∷ cs) e zero = letter_ascii c (left (is_letter c) (list_all goes_on cs) e)
+word_ascii (c ∷ cs) e (suc i) = all_ascii cs (right (is_letter c) (list_all goes_on cs) e) i
+
+-- a word is a text
+pub word_utf8 : (bs : List ℕ) → is_word bs ≡ true → IsUtf8 bs
+word_utf8 bs e = IsUtf8-from_ascii bs (word_ascii bs e)

@@ -1,0 +1,7 @@
+pub mod Bytes
+pub mod Words
+pub mod Numbers
+pub mod Strings
+pub mod Pieces
+pub mod Lexed
+pub mod Scans
