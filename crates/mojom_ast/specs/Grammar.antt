@@ -38,8 +38,8 @@ use Rattle.mojom_ast.specs.declared.file.ModuleStatement.{ModuleStatement}
 use Rattle.mojom_ast.specs.declared.file.Import.{Import}
 use Rattle.mojom_ast.specs.Classes.{identifiers}
 use Rattle.mojom_ast.specs.TypeTrees.{BaseTree, Named, HandleOf, TypeTree}
-use Rattle.mojom_ast.specs.Lang.{Lang, tok, keyword, symbol, ◌▹◌, as_value, ◌or◌, maybe, many, list, deep, labelled}
-use Rattle.mojom_ast.specs.Trees.{identifier_of, number_of, string_of, make_name, make_true, make_false, make_number, make_plus, make_minus, make_attribute, inner, behind, make_array, make_map, make_pending, make_type, make_const, make_enumerator, make_enum, make_field, make_struct_member, make_struct, make_union_field, make_union, make_parameter, make_list, make_method, make_interface_member, make_interface, make_definition, make_module, make_import, make_file}
+use Rattle.mojom_ast.specs.Lang.{Lang, tok, keyword, symbol, ◌▹◌, as_value, ◌or◌, maybe, many, list, joined, deep, labelled}
+use Rattle.mojom_ast.specs.Trees.{identifier_of, number_of, string_of, make_name, make_true, make_false, make_number, make_plus, make_minus, make_attribute, inner, behind, make_array, make_map, make_pending, make_type, make_const, make_enumerator, make_enum, make_field, make_struct_member, make_struct, make_union_field, make_union, make_parameter, make_method, make_interface_member, make_interface, make_definition, make_module, make_import, make_file}
 
 -- Id
 unfoldable pub identifier : Lang Identifier
@@ -65,15 +65,17 @@ name = as_value make_name (identifier ▹ many dotted)
 unfoldable pub ordinal : Lang Number
 ordinal = as_value behind (symbol At ▹ number)
 
+-- true or false
+unfoldable pub boolean : Lang Value
+boolean = as_value make_true (keyword keywords.True) or as_value make_false (keyword keywords.False)
+
+-- (+ or -)? Number
+unfoldable pub signed : Lang Value
+signed = as_value make_number number or as_value make_plus (symbol Plus ▹ number) or as_value make_minus (symbol Minus ▹ number)
+
 -- Val: String, true, false, (+ or -)? Number, or Name
 unfoldable pub value : Lang Value
-value = as_value values.String string
-    or as_value make_true (keyword keywords.True)
-    or as_value make_false (keyword keywords.False)
-    or as_value make_number number
-    or as_value make_plus (symbol Plus ▹ number)
-    or as_value make_minus (symbol Minus ▹ number)
-    or as_value values.Name name
+value = as_value values.String string or boolean or signed or as_value values.Name name
 
 -- = Val
 unfoldable pub assigned : Lang Value
@@ -138,7 +140,7 @@ base inside = array inside or map_of inside or handle or pending or as_value Nam
 abbrev pub type_starts : List ℕ
 type_starts = 12 ∷ 13 ∷ 14 ∷ 15 ∷ 16 ∷ 17 ∷ 18 ∷ identifiers
 
--- Type: Base ?? with at most this many types round one another
+-- Type: Base with or without ? behind it, and with at most this many types round one another
 unfoldable pub type_at : ℕ → Lang TypeTree
 type_at zero = deep type_starts
 type_at (suc n) = as_value make_type (base (labelled type_starts (type_at n)) ▹ maybe (symbol Question))
@@ -190,7 +192,7 @@ next_parameter n = as_value behind (symbol Comma ▹ parameter n)
 
 -- Params: ( list of Attrs? Type Id Ord? ) with no last comma
 unfoldable pub parameters : ℕ → Lang (List Parameter)
-parameters n = as_value (λ x. make_list x.1.0) (symbol OpenParen ▹ maybe (parameter n ▹ many (next_parameter n)) ▹ symbol CloseParen)
+parameters n = as_value (λ x. joined x.1.0) (symbol OpenParen ▹ maybe (parameter n ▹ many (next_parameter n)) ▹ symbol CloseParen)
 
 -- => Params
 unfoldable pub response : ℕ → Lang (List Parameter)
@@ -218,13 +220,21 @@ definition_item n = as_value items.Struct (struct_of n) or as_value items.Union 
 unfoldable pub definition : ℕ → Lang Definition
 definition n = as_value make_definition (attributes ▹ definition_item n)
 
+-- module Name ;
+unfoldable pub module_name : Lang Name
+module_name = as_value inner (keyword keywords.Module ▹ name ▹ symbol Semicolon)
+
 -- Attrs? module Name ;
 unfoldable pub module_of : Lang ModuleStatement
-module_of = as_value make_module (attributes ▹ keyword keywords.Module ▹ name ▹ symbol Semicolon)
+module_of = as_value make_module (attributes ▹ module_name)
+
+-- import String ;
+unfoldable pub import_path : Lang StringLiteral
+import_path = as_value inner (keyword keywords.Import ▹ string ▹ symbol Semicolon)
 
 -- Attrs? import String ;
 unfoldable pub import_of : Lang Import
-import_of = as_value make_import (attributes ▹ keyword keywords.Import ▹ string ▹ symbol Semicolon)
+import_of = as_value make_import (attributes ▹ import_path)
 
 -- File: (Attrs? module Name ;)? (Attrs? import String ;)* Def*
 unfoldable pub file : ℕ → Lang File

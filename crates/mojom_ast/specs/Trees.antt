@@ -1,5 +1,5 @@
 -- The tree that a rule makes of the values of its parts, which stand as pairs from left to right.
-use Rattle.std.specs.Prelude.{ℕ, Bool, true, false, Option, Some, None, is_some, List, [], ◌∷◌}
+use Rattle.std.specs.Prelude.{ℕ, Bool, true, false, Option, is_some, List, [], ◌∷◌}
 use Rattle.mojom_ast.specs.declared.token.Token.{Token}
 use Rattle.mojom_ast.specs.declared.token.Sort.{Sort}
 use Rattle.mojom_ast.specs.declared.token.Sort.TheVariants as sorts
@@ -129,11 +129,6 @@ make_union x = record { name = x.1.0; fields = x.1.1.1.0 }
 abbrev pub make_parameter : List Attribute × (TypeTree × (Identifier × Option Number)) → Parameter
 make_parameter x = record { attributes = x.0; kind = x.1.0; name = x.1.1.0; ordinal = x.1.1.1 }
 
--- one, and those after commas, or none at all
-abbrev pub make_list : {A : Type 0} → Option (A × List A) → List A
-make_list None = []
-make_list (Some x) = x.0 ∷ x.1
-
 abbrev pub make_method : Identifier × (Option Number × (List Parameter × (Option (List Parameter) × Token))) → Method
 make_method x = record { name = x.0; ordinal = x.1.0; request = x.1.1.0; response = x.1.1.1.0 }
 
@@ -148,11 +143,11 @@ make_definition x = record { attributes = x.0; item = x.1 }
 
 -- files
 
-abbrev pub make_module : List Attribute × (Token × (Name × Token)) → ModuleStatement
-make_module x = record { attributes = x.0; name = x.1.1.0 }
+abbrev pub make_module : List Attribute × Name → ModuleStatement
+make_module x = record { attributes = x.0; name = x.1 }
 
-abbrev pub make_import : List Attribute × (Token × (StringLiteral × Token)) → Import
-make_import x = record { attributes = x.0; path = x.1.1.0 }
+abbrev pub make_import : List Attribute × StringLiteral → Import
+make_import x = record { attributes = x.0; path = x.1 }
 
 abbrev pub make_file : Option ModuleStatement × (List Import × List Definition) → File
 make_file x = record { module_statement = x.0; imports = x.1.0; definitions = x.1.1 }

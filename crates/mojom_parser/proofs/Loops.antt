@@ -3,7 +3,7 @@ use Rattle.std.proofs.Common.{◌≡◌, ℕ, suc, ◌-◌, ◌+◌, ◌≤◌, 
 use Rattle.std.proofs.lemmas.List.{append-nil}
 use Rattle.mojom_ast.specs.declared.fault.Fault.{Fault}
 use Rattle.mojom_parser.specs.declared.error.Stop.{Stop}
-use Rattle.mojom_parser.specs.declared.error.Stop.TheVariants as stops
+use Rattle.mojom_parser.specs.declared.error.Stop.TheVariants as causes
 use Rattle.mojom_ast.specs.declared.token.Token.{Token}
 use Rattle.mojom_parser.specs.Reading.{Fails, with_front}
 use Rattle.mojom_ast.specs.Lang.{Lang, Read, ◌>>=◌, front_in, tok, tok_read, ◌▹◌, as_value, maybe, times, joined, commas, listed}
@@ -18,14 +18,18 @@ module _ {A : Type 0} (one : Lang A) (n1 : one.null ≡ false) (others : Lang (L
   collapse x (Ok y) = refl
   collapse x (Err f) = refl
 
-  pair_on : (ts : List Token) (x : A) (after : List Token) → front_in one.starts ts ≡ true → one.read ts ≡ Ok (x, after) → (as_value joined (maybe (one ▹ others))).read ts ≡ (others.read after >>= λ y. Ok (x ∷ y.0, y.1))
+  pub pair_on : (ts : List Token) (x : A) (after : List Token) → front_in one.starts ts ≡ true → one.read ts ≡ Ok (x, after) → (as_value joined (maybe (one ▹ others))).read ts ≡ (others.read after >>= λ y. Ok (x ∷ y.0, y.1))
   pair_on ts x after b h = rw (n1, b, h) (collapse x (others.read after))
 
-  pair_off : (ts : List Token) → front_in one.starts ts ≡ false → (as_value joined (maybe (one ▹ others))).read ts ≡ Ok ([], ts)
+  pub pair_off : (ts : List Token) → front_in one.starts ts ≡ false → (as_value joined (maybe (one ▹ others))).read ts ≡ Ok ([], ts)
   pair_off ts b = rw (n1, b) refl
 
-  pair_end : (ts : List Token) (f : Fault) → front_in one.starts ts ≡ true → one.read ts ≡ Err f → (as_value joined (maybe (one ▹ others))).read ts ≡ Err f
+  pub pair_end : (ts : List Token) (f : Fault) → front_in one.starts ts ≡ true → one.read ts ≡ Err f → (as_value joined (maybe (one ▹ others))).read ts ≡ Err f
   pair_end ts f b h = rw (n1, b, h) refl
+
+  pub pair_fails : (ts : List Token) (e : Stop) → front_in one.starts ts ≡ true → Fails e (one.read ts) → Fails e ((as_value joined (maybe (one ▹ others))).read ts)
+  pair_fails ts causes.Memory b h = tt
+  pair_fails ts (causes.Fault f) b h = pair_end ts f b h
 
 -- A loop over the lists of some family, at most so many items.
 module _ {A : Type 0} (some : ℕ → Lang (List A)) where
@@ -42,10 +46,10 @@ module _ {A : Type 0} (some : ℕ → Lang (List A)) where
       let last : with_front front ((some (count - i)).read ts) ≡ with_front front r = rw (k, step (count - (i + 1))) refl in
       sym so_far ∙ last
 
-  pub ends : (e : Stop) (front : List A) (count i : ℕ) (ts : List Token) (total : Read (List A)) → i < count → ((f : Fault) → e ≡ stops.Fault f → (n : ℕ) → (some (suc n)).read ts ≡ Err f)
+  pub ends : (e : Stop) (front : List A) (count i : ℕ) (ts : List Token) (total : Read (List A)) → i < count → ((f : Fault) → e ≡ causes.Fault f → (n : ℕ) → (some (suc n)).read ts ≡ Err f)
       → with_front front ((some (count - i)).read ts) ≡ total → Fails e total
-  ends stops.Memory front count i ts total lt step so_far = tt
-  ends (stops.Fault f) front count i ts total lt step so_far = finishes front count i ts total (Err f) lt (step f refl) so_far
+  ends causes.Memory front count i ts total lt step so_far = tt
+  ends (causes.Fault f) front count i ts total lt step so_far = finishes front count i ts total (Err f) lt (step f refl) so_far
 
   pub halts : (front : List A) (count i : ℕ) (ts : List Token) (total : Read (List A)) → i < count → ((n : ℕ) → (some (suc n)).read ts ≡ Ok ([], ts)) → with_front front ((some (count - i)).read ts) ≡ total → total ≡ Ok (front, ts)
   halts front count i ts total lt step so_far = finishes front count i ts total (Ok ([], ts)) lt step so_far ∙ ap (λ (xs : List A). Ok (xs, ts)) (append-nil front)
@@ -56,9 +60,9 @@ module _ {A : Type 0} (some : ℕ → Lang (List A)) where
       let last : with_front front ((some (count - i)).read ts) ≡ Ok (front, ts) = rw (k, none) (ap (λ (xs : List A). Ok (xs, ts)) (append-nil front)) in
       sym so_far ∙ last
 
-fault_of : {A : Type 0} (e : Stop) (f : Fault) (r : Read A) → e ≡ stops.Fault f → Fails e r → r ≡ Err f
-fault_of stops.Memory f r same h = absurd (cc)
-fault_of (stops.Fault g) f r same h = h ∙ (cc)
+pub fault_of : {A : Type 0} (e : Stop) (f : Fault) (r : Read A) → e ≡ causes.Fault f → Fails e r → r ≡ Err f
+fault_of causes.Memory f r same h = absurd (cc)
+fault_of (causes.Fault g) f r same h = h ∙ (cc)
 
 module _ {A : Type 0} (one : Lang A) (n1 : one.null ≡ false) where
   pub times_on : (ts : List Token) (x : A) (after : List Token) → front_in one.starts ts ≡ true → one.read ts ≡ Ok (x, after) → (n : ℕ) → (times (suc n) one).read ts ≡ ((times n one).read after >>= λ y. Ok (x ∷ y.0, y.1))
@@ -69,7 +73,7 @@ module _ {A : Type 0} (one : Lang A) (n1 : one.null ≡ false) where
   unfolding times
   times_off ts b n = pair_off one n1 (times n one) ts b
 
-  pub times_end : (ts : List Token) (e : Stop) → front_in one.starts ts ≡ true → Fails e (one.read ts) → (f : Fault) → e ≡ stops.Fault f → (n : ℕ) → (times (suc n) one).read ts ≡ Err f
+  pub times_end : (ts : List Token) (e : Stop) → front_in one.starts ts ≡ true → Fails e (one.read ts) → (f : Fault) → e ≡ causes.Fault f → (n : ℕ) → (times (suc n) one).read ts ≡ Err f
   unfolding times
   times_end ts e b h f same n = pair_end one n1 (times n one) ts f b (fault_of e f (one.read ts) same h)
 
@@ -108,7 +112,7 @@ module _ {A : Type 0} (one : Lang A) (n1 : one.null ≡ false) where
   unfolding commas
   commas_off ts b n = item_off one n1 (commas n one) ts b
 
-  pub commas_end : (ts : List Token) (e : Stop) → front_in one.starts ts ≡ true → Fails e (one.read ts) → (f : Fault) → e ≡ stops.Fault f → (n : ℕ) → (commas (suc n) one).read ts ≡ Err f
+  pub commas_end : (ts : List Token) (e : Stop) → front_in one.starts ts ≡ true → Fails e (one.read ts) → (f : Fault) → e ≡ causes.Fault f → (n : ℕ) → (commas (suc n) one).read ts ≡ Err f
   unfolding commas
   commas_end ts e b h f same n = item_end one n1 (commas n one) ts f b (fault_of e f (one.read ts) same h)
 

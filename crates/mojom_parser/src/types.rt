@@ -17,6 +17,13 @@ use mojom_ast::{
 };
 use std::alloc::Global;
 
+/// The classes of the identifiers that are sorts of handles.
+const MESSAGE_PIPE: u8 = 36;
+const DATA_PIPE_CONSUMER: u8 = 37;
+const DATA_PIPE_PRODUCER: u8 = 38;
+const SHARED_BUFFER: u8 = 39;
+const PLATFORM: u8 = 40;
+
 /// How many types may stand round one another.
 pub const LEVELS: u32 = 32;
 
@@ -88,23 +95,23 @@ fn map_of(alloc: Global, left: u32, tokens: &[Token]) -> Result<(BaseNode, &[Tok
 fn handle_sort(tokens: &[Token]) -> Result<(HandleSort, &[Token]), Stop>
     ensures { Gives (λ x. (x.0, x.1.now)) result (handle_sort.read tokens.now) }
 {
-    if is_next(tokens, 36) {
-        let (_, rest) = expect(tokens, 36)?;
+    if is_next(tokens, MESSAGE_PIPE) {
+        let (_, rest) = expect(tokens, MESSAGE_PIPE)?;
         return Ok((HandleSort::MessagePipe, rest));
     }
-    if is_next(tokens, 37) {
-        let (_, rest) = expect(tokens, 37)?;
+    if is_next(tokens, DATA_PIPE_CONSUMER) {
+        let (_, rest) = expect(tokens, DATA_PIPE_CONSUMER)?;
         return Ok((HandleSort::DataPipeConsumer, rest));
     }
-    if is_next(tokens, 38) {
-        let (_, rest) = expect(tokens, 38)?;
+    if is_next(tokens, DATA_PIPE_PRODUCER) {
+        let (_, rest) = expect(tokens, DATA_PIPE_PRODUCER)?;
         return Ok((HandleSort::DataPipeProducer, rest));
     }
-    if is_next(tokens, 39) {
-        let (_, rest) = expect(tokens, 39)?;
+    if is_next(tokens, SHARED_BUFFER) {
+        let (_, rest) = expect(tokens, SHARED_BUFFER)?;
         return Ok((HandleSort::SharedBuffer, rest));
     }
-    let (_, rest) = expect(tokens, 40)?;
+    let (_, rest) = expect(tokens, PLATFORM)?;
     Ok((HandleSort::Platform, rest))
 }
 

@@ -1,0 +1,12 @@
+pub mod Tells
+pub mod Opens
+pub mod Finds
+pub mod Lists
+pub mod Values
+pub mod Types
+pub mod Definitions
+pub mod Statements
+pub mod Plain
+pub mod Same
+pub mod Shortens
+pub mod Fronts

@@ -1,0 +1,211 @@
+//! Interfaces.
+
+ghost use Rattle.std.specs.Prelude.{◌≡◌};
+ghost use Rattle.mojom_ast.specs.Lang.{as_value, front_in, joined, many, maybe, ◌▹◌};
+ghost use Rattle.mojom_ast.specs.Grammar.{parameter, next_parameter, parameters, response, method, interface_item, interface_member, interface_of};
+ghost use Rattle.mojom_parser.specs.Reading.{Gives, with_front};
+
+use crate::attributes::attributes;
+use crate::constants::{const_of, enum_of};
+use crate::error::Stop;
+use crate::tokens::{identifier, is_identifier, is_keyword, is_symbol, keyword, symbol};
+use crate::types::{LEVELS, begins_type, type_of};
+use crate::values::ordinal;
+use mj_base::Items;
+use mojom_ast::{
+    Interface, InterfaceItem, InterfaceMember, Keyword, Method, Parameter, Symbol, Token,
+};
+use std::alloc::Global;
+
+#[tactic(auto, unfolding(mojom_ast::specs::Grammar::parameter))]
+fn parameter(alloc: Global, tokens: &[Token]) -> Result<(Parameter, &[Token]), Stop>
+    ensures { Gives (λ x. (x.0, x.1.now)) result ((parameter LEVELS).read tokens.now) }
+{
+    let (attributes, rest) = attributes(alloc, tokens)?;
+    let (kind, rest) = type_of(alloc, rest)?;
+    let (name, rest) = identifier(alloc, rest)?;
+    let (ordinal, rest) = ordinal(rest)?;
+    Ok((
+        Parameter {
+            attributes,
+            kind,
+            name,
+            ordinal,
+        },
+        rest,
+    ))
+}
+
+/// A comma and a parameter.
+#[tactic(auto, unfolding(mojom_ast::specs::Grammar::next_parameter))]
+fn next_parameter(alloc: Global, tokens: &[Token]) -> Result<(Parameter, &[Token]), Stop>
+    ensures { Gives (λ x. (x.0, x.1.now)) result ((next_parameter LEVELS).read tokens.now) }
+{
+    let (_, rest) = symbol(tokens, Symbol::Comma)?;
+    parameter(alloc, rest)
+}
+
+/// Parameters, each after a comma, behind those that there are.
+fn next_parameters(
+    alloc: Global,
+    parameters: Vec<Parameter>,
+    tokens: &[Token],
+) -> Result<(Vec<Parameter>, &[Token]), Stop>
+    ensures { Gives (λ x. (x.0.items, x.1.now)) result (with_front parameters.items ((many (next_parameter LEVELS)).read tokens.now)) }
+{
+    let mut parameters = parameters;
+    let mut rest = tokens;
+    for _ in 0..tokens.len() {
+        if !is_symbol(rest, Symbol::Comma) {
+            return Ok((parameters, rest));
+        }
+        let (parameter, after) = next_parameter(alloc, rest)?;
+        parameters.push(parameter)?;
+        rest = after;
+    }
+    Ok((parameters, rest))
+}
+
+/// Whether the next token begins a parameter.
+#[tactic(auto, unfolding(mojom_ast::specs::Grammar::parameter, mojom_ast::specs::Grammar::attributes, mojom_ast::specs::Grammar::bracketed))]
+fn begins_parameter(tokens: &[Token]) -> bool
+    ensures { result ≡ front_in (parameter LEVELS).starts tokens.now }
+{
+    is_symbol(tokens, Symbol::OpenBracket) || begins_type(tokens)
+}
+
+/// What stands between the parentheses of a parameter list.
+fn parameter_list(alloc: Global, tokens: &[Token]) -> Result<(Vec<Parameter>, &[Token]), Stop>
+    ensures { Gives (λ x. (x.0.items, x.1.now)) result ((as_value joined (maybe (parameter LEVELS ▹ many (next_parameter LEVELS)))).read tokens.now) }
+{
+    let mut parameters = Vec::new(alloc);
+    if !begins_parameter(tokens) {
+        return Ok((parameters, tokens));
+    }
+    let (first, rest) = parameter(alloc, tokens)?;
+    parameters.push(first)?;
+    next_parameters(alloc, parameters, rest)
+}
+
+/// A parameter list, with its parentheses.
+#[tactic(auto, unfolding(mojom_ast::specs::Grammar::parameters))]
+fn parameters(alloc: Global, tokens: &[Token]) -> Result<(Items<Parameter>, &[Token]), Stop>
+    ensures { Gives (λ x. (x.0, x.1.now)) result ((parameters LEVELS).read tokens.now) }
+{
+    let (_, rest) = symbol(tokens, Symbol::OpenParen)?;
+    let (parameters, rest) = parameter_list(alloc, rest)?;
+    let (_, rest) = symbol(rest, Symbol::CloseParen)?;
+    Ok((Items::from_vec(parameters), rest))
+}
+
+/// `=>` and a parameter list, where they stand.
+#[tactic(auto, unfolding(mojom_ast::specs::Grammar::response))]
+fn response(
+    alloc: Global,
+    tokens: &[Token],
+) -> Result<(Option<Items<Parameter>>, &[Token]), Stop>
+    ensures { Gives (λ x. (x.0, x.1.now)) result ((maybe (response LEVELS)).read tokens.now) }
+{
+    if !is_symbol(tokens, Symbol::Arrow) {
+        return Ok((None, tokens));
+    }
+    let (_, rest) = symbol(tokens, Symbol::Arrow)?;
+    let (parameters, rest) = parameters(alloc, rest)?;
+    Ok((Some(parameters), rest))
+}
+
+#[tactic(auto, unfolding(mojom_ast::specs::Grammar::method))]
+fn method(alloc: Global, tokens: &[Token]) -> Result<(Method, &[Token]), Stop>
+    ensures { Gives (λ x. (x.0, x.1.now)) result ((method LEVELS).read tokens.now) }
+{
+    let (name, rest) = identifier(alloc, tokens)?;
+    let (ordinal, rest) = ordinal(rest)?;
+    let (request, rest) = parameters(alloc, rest)?;
+    let (response, rest) = response(alloc, rest)?;
+    let (_, rest) = symbol(rest, Symbol::Semicolon)?;
+    Ok((
+        Method {
+            name,
+            ordinal,
+            request,
+            response,
+        },
+        rest,
+    ))
+}
+
+/// What stands in an interface behind its attributes.
+#[tactic(auto, unfolding(mojom_ast::specs::Grammar::interface_item, mojom_ast::specs::Grammar::const_of, mojom_ast::specs::Grammar::enum_of))]
+fn interface_item(alloc: Global, tokens: &[Token]) -> Result<(InterfaceItem, &[Token]), Stop>
+    ensures { Gives (λ x. (x.0, x.1.now)) result ((interface_item LEVELS).read tokens.now) }
+{
+    if is_keyword(tokens, Keyword::Const) {
+        let (item, rest) = const_of(alloc, tokens)?;
+        return Ok((InterfaceItem::Const(item), rest));
+    }
+    if is_keyword(tokens, Keyword::Enum) {
+        let (item, rest) = enum_of(alloc, tokens)?;
+        return Ok((InterfaceItem::Enum(item), rest));
+    }
+    let (item, rest) = method(alloc, tokens)?;
+    Ok((InterfaceItem::Method(item), rest))
+}
+
+#[tactic(auto, unfolding(mojom_ast::specs::Grammar::interface_member))]
+fn interface_member(alloc: Global, tokens: &[Token]) -> Result<(InterfaceMember, &[Token]), Stop>
+    ensures { Gives (λ x. (x.0, x.1.now)) result ((interface_member LEVELS).read tokens.now) }
+{
+    let (attributes, rest) = attributes(alloc, tokens)?;
+    let (item, rest) = interface_item(alloc, rest)?;
+    Ok((InterfaceMember { attributes, item }, rest))
+}
+
+/// Whether the next token begins what may stand in an interface.
+#[tactic(auto, unfolding(mojom_ast::specs::Grammar::interface_member, mojom_ast::specs::Grammar::attributes, mojom_ast::specs::Grammar::bracketed, mojom_ast::specs::Grammar::interface_item, mojom_ast::specs::Grammar::const_of, mojom_ast::specs::Grammar::enum_of, mojom_ast::specs::Grammar::method, mojom_ast::specs::Grammar::identifier))]
+fn begins_interface_member(tokens: &[Token]) -> bool
+    ensures { result ≡ front_in (interface_member LEVELS).starts tokens.now }
+{
+    is_symbol(tokens, Symbol::OpenBracket)
+        || is_keyword(tokens, Keyword::Const)
+        || is_keyword(tokens, Keyword::Enum)
+        || is_identifier(tokens)
+}
+
+fn interface_members(
+    alloc: Global,
+    tokens: &[Token],
+) -> Result<(Vec<InterfaceMember>, &[Token]), Stop>
+    ensures { Gives (λ x. (x.0.items, x.1.now)) result ((many (interface_member LEVELS)).read tokens.now) }
+{
+    let mut members = Vec::new(alloc);
+    let mut rest = tokens;
+    for _ in 0..tokens.len() {
+        if !begins_interface_member(rest) {
+            return Ok((members, rest));
+        }
+        let (member, after) = interface_member(alloc, rest)?;
+        members.push(member)?;
+        rest = after;
+    }
+    Ok((members, rest))
+}
+
+/// An interface.
+#[tactic(auto, unfolding(mojom_ast::specs::Grammar::interface_of))]
+pub fn interface_of(alloc: Global, tokens: &[Token]) -> Result<(Interface, &[Token]), Stop>
+    ensures { Gives (λ x. (x.0, x.1.now)) result ((interface_of LEVELS).read tokens.now) }
+{
+    let (_, rest) = keyword(tokens, Keyword::Interface)?;
+    let (name, rest) = identifier(alloc, rest)?;
+    let (_, rest) = symbol(rest, Symbol::OpenBrace)?;
+    let (members, rest) = interface_members(alloc, rest)?;
+    let (_, rest) = symbol(rest, Symbol::CloseBrace)?;
+    let (_, rest) = symbol(rest, Symbol::Semicolon)?;
+    Ok((
+        Interface {
+            name,
+            members: Items::from_vec(members),
+        },
+        rest,
+    ))
+}
