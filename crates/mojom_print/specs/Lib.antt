@@ -4,3 +4,4 @@ pub mod Types
 pub mod Definitions
 pub mod Interfaces
 pub mod FileText
+pub mod Unplaced

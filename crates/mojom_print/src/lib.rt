@@ -5,6 +5,7 @@ mod attributes;
 mod definitions;
 mod file;
 mod interfaces;
+pub mod laws;
 mod types;
 mod words;
 
