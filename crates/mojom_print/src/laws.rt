@@ -1,7 +1,7 @@
 //! What holds of each printed text.
 
 /// scratch
-#[tactic(auto, using(crate::proofs::TypeRules::prints_type, crate::proofs::ValueRules::prints_attributes))]
+#[tactic(auto, using(crate::proofs::Lexes::each))]
 pub fn scratch()
     ensures { Unit {0} }
 {}
