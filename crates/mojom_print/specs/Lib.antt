@@ -1,0 +1,7 @@
+pub mod Words
+pub mod Attributes
+pub mod Types
+pub mod Definitions
+pub mod Interfaces
+pub mod FileText
+pub mod Unplaced
