@@ -1,1 +1,3 @@
 pub mod Small
+pub mod Readings
+pub mod Whole

@@ -3,3 +3,4 @@ pub mod Plain
 pub mod Causes
 pub mod Few
 pub mod Rows
+pub mod Compiled
