@@ -76,7 +76,8 @@ module _ (bytes : List ℕ) where
   same_beyond r o a b =
       let tree : a.tree ≡ b.tree = trees.one_tree a.tree b.tree a.parsed b.parsed in
       let places : ◌≡◌ {A = Result File ℕ} (Err r.at) (Err o.at) = sym a.beyond ∙ (ap plain_file tree ∙ b.beyond) in
-      same_refusal r o cc (a.cause ∙ sym b.cause)
+      let at : r.at ≡ o.at = cc in
+      same_refusal r o at (a.cause ∙ sym b.cause)
 
   the_refusal : (r o : FileRefusal) → IsRefusedFile bytes r → IsRefusedFile bytes o → r ≡ o
   the_refusal r o (inl a) (inl b) = trees.one_refusal r o a b
