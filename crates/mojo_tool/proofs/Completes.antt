@@ -18,7 +18,6 @@ asked_of told files ask work t asked = subst (λ (o : Option (List Named)). Aske
 not_refused : (s : Seen) (can : CanBeDone s) (refusal : ToolRefusal) → AskedFor s.files_before.told (asked_by s) (refused_work refusal) → ⊥
 not_refused s can (refusals.Unsupported name) asked = can.readable name.now (asked_of s.files_before.told can.files (asked_by s) (Unreadable name.now) can.told asked)
 not_refused s can (refusals.FileTooLong name) asked = can.short name.now (asked_of s.files_before.told can.files (asked_by s) (TooLong name.now) can.told asked)
-
 not_refused s can (refusals.Refused name refusal) asked = can.compiled name.now refusal (asked_of s.files_before.told can.files (asked_by s) (Refuses name.now refusal) can.told asked)
 
 not_missing : (s : Seen) (can : CanBeDone s) (name : List ℕ) → ReadFailed s.files_before.told (asked_by s) name s.files_before.there s.files.there → ⊥
