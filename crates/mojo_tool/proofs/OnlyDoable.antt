@@ -4,7 +4,8 @@ use Rattle.std.specs.Prelude.{Option}
 use Rattle.mj_io.specs.Outside.{Named, find_file}
 use Rattle.mj_schema.specs.declared.schema.Schema.{Schema}
 use Rattle.call_script.specs.declared.script.Script.{Script}
-use Rattle.mojom_compile.proofs.Whole.{one_tree, one_schema}
+use Rattle.mojom_compile.proofs.Readings.{one_tree}
+use Rattle.mojom_compile.proofs.Whole.{one_schema}
 use Rattle.mojo_tool.specs.Complete.{IsDoable}
 use Rattle.mojo_tool.specs.Work.{Work, Missing, TooLong, Unreadable, Refuses, Command, Run, Print, Leads, Compiling, Parsing, Reading, Scripting, IsWork}
 
