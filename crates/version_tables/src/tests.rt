@@ -5,6 +5,25 @@ use mj_base::{Items, Text};
 use mj_schema::{DraftStruct, VersionRow};
 use std::test::Fail;
 
+/// The rows of versions 0, 2 and 5.
+const ROWS: [VersionRow; 3] = [
+    VersionRow {
+        version: 0,
+        fields: 1,
+        bytes: 16,
+    },
+    VersionRow {
+        version: 2,
+        fields: 2,
+        bytes: 16,
+    },
+    VersionRow {
+        version: 5,
+        fields: 3,
+        bytes: 24,
+    },
+];
+
 fn row(version: u32, fields: u32, bytes: u32) -> VersionRow {
     VersionRow {
         version,
@@ -36,8 +55,7 @@ fn two_numbers_fill_16_bytes(rt: HostRuntime) -> Result<(), Fail> {
 
 #[test]
 fn the_row_up_to_a_version(rt: HostRuntime) {
-    let rows = [row(0, 1, 16), row(2, 2, 16), row(5, 3, 24)];
-    assert_eq!(rt; row_for(&rows, 0), row(0, 1, 16));
-    assert_eq!(rt; row_for(&rows, 4), row(2, 2, 16));
-    assert_eq!(rt; row_for(&rows, 9), row(5, 3, 24));
+    assert_eq!(rt; row_for(&ROWS, 0), row(0, 1, 16));
+    assert_eq!(rt; row_for(&ROWS, 4), row(2, 2, 16));
+    assert_eq!(rt; row_for(&ROWS, 9), row(5, 3, 24));
 }
