@@ -62,9 +62,11 @@ HasLeadingZero bytes = (is_number bytes ≡ true) × (has_leading_zero bytes ≡
 abbrev pub IsTooLong : List ℕ → Type 0
 IsTooLong bytes = (is_number bytes ≡ true) × (has_leading_zero bytes ≡ false) × (2 ^ 64 ≤ number_value bytes)
 
+-- `/*` stands at the front
 abbrev pub begins_comment : List ℕ → Bool
 begins_comment bytes = starts_with nat_eq bytes (codes "/*")
 
+-- a quote stands at the front
 abbrev pub begins_string : List ℕ → Bool
 begins_string bytes = starts_with nat_eq bytes (codes "\"")
 

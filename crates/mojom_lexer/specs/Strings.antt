@@ -35,6 +35,7 @@ abbrev pub meaning : Part → Option ℕ
 meaning (Plain c) = Some c
 meaning (Escape c) = escaped c
 
+-- a part's byte, and then the text of the others; the first part that stands for nothing is at `at`, before theirs
 abbrev pub then_text : ℕ → Option ℕ → Result (List ℕ) ℕ → Result (List ℕ) ℕ
 then_text at None text = Err at
 then_text at (Some c) (Ok cs) = Ok (c ∷ cs)
