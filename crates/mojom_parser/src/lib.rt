@@ -14,3 +14,6 @@ mod values;
 
 pub use error::ParseError;
 pub use parser::parse;
+
+#[cfg(test)]
+mod tests;
