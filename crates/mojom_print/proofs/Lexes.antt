@@ -79,6 +79,10 @@ fresh {text = text} a = record { parts = λ h rest s. stops_none (text ++ rest);
 pub closed : {p q : ℕ → Bool} {text : List ℕ} {ss : List Sort} → Tells p none text ss → Tells p q text ss
 closed a = record { parts = λ h rest s. a.parts h rest (stops_none rest); told = λ h rest more s l. a.told h rest more (stops_none rest) l }
 
+-- before less
+pub before : {p q r : ℕ → Bool} {text : List ℕ} {ss : List Sort} → ((rest : List ℕ) → stops r rest ≡ true → stops q rest ≡ true) → Tells p q text ss → Tells p r text ss
+before less a = record { parts = λ h rest s. a.parts h rest (less rest s); told = λ h rest more s l. a.told h rest more (less rest s) l }
+
 -- nothing
 pub nothing : {q : ℕ → Bool} → Tells q q [] []
 nothing {q = q} = record { parts = λ h rest s. s; told = λ h rest more s l. l }

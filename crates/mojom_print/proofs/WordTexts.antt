@@ -41,7 +41,7 @@ pub word_tells : (c : ℕ) (cs : List ℕ) (s : Sort) → is_word (c ∷ cs) ≡
 word_tells c cs s w h = one goes_on c cs s h refl (λ rest e. word_longest c cs rest w e)
 
 -- an identifier
-of_identifier : (text bytes : List ℕ) → Spells (sorts.Identifier text) bytes → (is_word text ≡ true) × Spells (sorts.Identifier text) text
+pub of_identifier : (text bytes : List ℕ) → Spells (sorts.Identifier text) bytes → (is_word text ≡ true) × Spells (sorts.Identifier text) text
 of_identifier text bytes h =
     let e : bytes ≡ text = sym h.2 in
     (subst (λ (bs : List ℕ). is_word bs ≡ true) e h.0, (subst (λ (bs : List ℕ). is_word bs ≡ true) e h.0, subst (λ (bs : List ℕ). keyword_of bs ≡ None) e h.1, refl))
