@@ -4,7 +4,8 @@ use Rattle.std.specs.Prelude.{decimal, nat_lt, nat_le}
 use Rattle.std.specs.List.{list_all}
 use Rattle.std.proofs.Math.Seq.{take-append_seam}
 use Rattle.std.proofs.lemmas.Bool.Decides.{nat_tests}
-use Rattle.std.proofs.lemmas.Fmt.{decimal_by_steps, decimal_nonempty, decimal_digit, first_decimal}
+use Rattle.std.proofs.lemmas.Fmt.{decimal_by_steps, decimal_nonempty, decimal_digit, first_decimal, IsAscii-decimal}
+use Rattle.std.proofs.lemmas.Str.{IsUtf8-from_ascii}
 use Rattle.mojom_ast.specs.declared.token.Sort.{Sort}
 use Rattle.mojom_ast.specs.declared.token.Sort.TheVariants as sorts
 use Rattle.mojom_lexer.specs.Bytes.{is_letter, is_digit, is_hex_digit, goes_on, is_run}
@@ -176,10 +177,12 @@ pub number_tells : (n : ℕ) → Tells none goes_on (decimal n) (sorts.Number n 
 number_tells n = record {
   parts = λ h rest s. stops_none (decimal n ++ rest);
   told = λ h rest more s l. number_told n h.0.spelled.fits rest more s l;
+  utf8 = λ h. IsUtf8-from_ascii (decimal n) (IsAscii-decimal n h.0.spelled.fits);
 }
 
 pub number_value_tells : (n : ℕ) → Tells greater after_value (decimal n) (sorts.Number n ∷ [])
 number_value_tells n = record {
   parts = λ h rest s. digits_part (decimal n) rest (decimal_is n h.0.spelled.fits).digits (value_greater rest s);
   told = λ h rest more s l. number_told n h.0.spelled.fits rest more (value_on rest s) l;
+  utf8 = (number_tells n).utf8;
 }

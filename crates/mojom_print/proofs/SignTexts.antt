@@ -1,5 +1,6 @@
 -- Signs, and the blanks round them.
 use Rattle.std.proofs.Common.{◌≡◌, ℕ, zero, suc, List, [], ◌∷◌, ◌++◌, Bool, true, false, not, refl, codes}
+use Rattle.std.proofs.Common.{lit<}
 use Rattle.mojom_ast.specs.declared.token.Keyword as keyword
 use Rattle.mojom_ast.specs.declared.token.Keyword.TheVariants as keywords
 use Rattle.mojom_ast.specs.declared.token.Symbol.TheVariants.{Semicolon, Comma, Dot, OpenParen, CloseParen, OpenBracket, CloseBracket, OpenBrace, CloseBrace, Less, Greater, Equals, Arrow, Question, At, Minus}
@@ -14,59 +15,59 @@ use Rattle.mojom_print.proofs.Sorts.{key, sign}
 
 semicolon_sign : {p : ℕ → Bool} → not (p 59) ≡ true → Tells p none (59 ∷ []) (sign Semicolon)
 unfolding single_symbol
-semicolon_sign f = symbol_tells 59 Semicolon refl refl refl f
+semicolon_sign f = symbol_tells 59 Semicolon refl refl refl (lit< tt) f
 
 comma_sign : {p : ℕ → Bool} → not (p 44) ≡ true → Tells p none (44 ∷ []) (sign Comma)
 unfolding single_symbol
-comma_sign f = symbol_tells 44 Comma refl refl refl f
+comma_sign f = symbol_tells 44 Comma refl refl refl (lit< tt) f
 
 dot_sign : {p : ℕ → Bool} → not (p 46) ≡ true → Tells p none (46 ∷ []) (sign Dot)
 unfolding single_symbol
-dot_sign f = symbol_tells 46 Dot refl refl refl f
+dot_sign f = symbol_tells 46 Dot refl refl refl (lit< tt) f
 
 open_paren_sign : {p : ℕ → Bool} → not (p 40) ≡ true → Tells p none (40 ∷ []) (sign OpenParen)
 unfolding single_symbol
-open_paren_sign f = symbol_tells 40 OpenParen refl refl refl f
+open_paren_sign f = symbol_tells 40 OpenParen refl refl refl (lit< tt) f
 
 close_paren_sign : {p : ℕ → Bool} → not (p 41) ≡ true → Tells p none (41 ∷ []) (sign CloseParen)
 unfolding single_symbol
-close_paren_sign f = symbol_tells 41 CloseParen refl refl refl f
+close_paren_sign f = symbol_tells 41 CloseParen refl refl refl (lit< tt) f
 
 open_bracket_sign : {p : ℕ → Bool} → not (p 91) ≡ true → Tells p none (91 ∷ []) (sign OpenBracket)
 unfolding single_symbol
-open_bracket_sign f = symbol_tells 91 OpenBracket refl refl refl f
+open_bracket_sign f = symbol_tells 91 OpenBracket refl refl refl (lit< tt) f
 
 close_bracket_sign : {p : ℕ → Bool} → not (p 93) ≡ true → Tells p none (93 ∷ []) (sign CloseBracket)
 unfolding single_symbol
-close_bracket_sign f = symbol_tells 93 CloseBracket refl refl refl f
+close_bracket_sign f = symbol_tells 93 CloseBracket refl refl refl (lit< tt) f
 
 open_brace_sign : {p : ℕ → Bool} → not (p 123) ≡ true → Tells p none (123 ∷ []) (sign OpenBrace)
 unfolding single_symbol
-open_brace_sign f = symbol_tells 123 OpenBrace refl refl refl f
+open_brace_sign f = symbol_tells 123 OpenBrace refl refl refl (lit< tt) f
 
 close_brace_sign : {p : ℕ → Bool} → not (p 125) ≡ true → Tells p none (125 ∷ []) (sign CloseBrace)
 unfolding single_symbol
-close_brace_sign f = symbol_tells 125 CloseBrace refl refl refl f
+close_brace_sign f = symbol_tells 125 CloseBrace refl refl refl (lit< tt) f
 
 less_sign : {p : ℕ → Bool} → not (p 60) ≡ true → Tells p none (60 ∷ []) (sign Less)
 unfolding single_symbol
-less_sign f = symbol_tells 60 Less refl refl refl f
+less_sign f = symbol_tells 60 Less refl refl refl (lit< tt) f
 
 greater_sign : {p : ℕ → Bool} → not (p 62) ≡ true → Tells p none (62 ∷ []) (sign Greater)
 unfolding single_symbol
-greater_sign f = symbol_tells 62 Greater refl refl refl f
+greater_sign f = symbol_tells 62 Greater refl refl refl (lit< tt) f
 
 question_sign : {p : ℕ → Bool} → not (p 63) ≡ true → Tells p none (63 ∷ []) (sign Question)
 unfolding single_symbol
-question_sign f = symbol_tells 63 Question refl refl refl f
+question_sign f = symbol_tells 63 Question refl refl refl (lit< tt) f
 
 at_sign : {p : ℕ → Bool} → not (p 64) ≡ true → Tells p none (64 ∷ []) (sign At)
 unfolding single_symbol
-at_sign f = symbol_tells 64 At refl refl refl f
+at_sign f = symbol_tells 64 At refl refl refl (lit< tt) f
 
 minus_sign : {p : ℕ → Bool} → not (p 45) ≡ true → Tells p none (45 ∷ []) (sign Minus)
 unfolding single_symbol
-minus_sign f = symbol_tells 45 Minus refl refl refl f
+minus_sign f = symbol_tells 45 Minus refl refl refl (lit< tt) f
 
 -- these may stand behind a word and behind a value
 

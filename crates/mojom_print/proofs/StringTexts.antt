@@ -13,6 +13,7 @@ use Rattle.mojom_lexer.proofs.Runs.{both}
 use Rattle.mojom_lexer.proofs.FirstBytes.{eqb_same}
 use Rattle.mojom_lexer.proofs.QuoteFronts.{quote_again, quote_longest}
 use Rattle.mojom_print.specs.Words.{string_byte, string_text}
+use Rattle.mojom_print.proofs.Utf8Texts.{string_utf8}
 use Rattle.mojom_print.proofs.Lexes.{stops, Tells, none, one}
 
 part_by : (a b c d : Bool) → ℕ → Part
@@ -97,4 +98,4 @@ string_longest bytes rest =
 
 pub string_tells : {p : ℕ → Bool} (bytes : List ℕ) → not (p 34) ≡ true → Tells p none (string_text bytes) (sorts.String bytes ∷ [])
 unfolding string_text
-string_tells bytes f = one none 34 (flat_map string_byte bytes ++ 34 ∷ []) (sorts.String bytes) (parts_for bytes, string_is bytes, text_is 1 bytes) f (λ rest s. string_longest bytes rest)
+string_tells bytes f = one none 34 (flat_map string_byte bytes ++ 34 ∷ []) (sorts.String bytes) (parts_for bytes, string_is bytes, text_is 1 bytes) (λ g. string_utf8 bytes g.0.text) f (λ rest s. string_longest bytes rest)

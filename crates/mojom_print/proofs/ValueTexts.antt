@@ -54,12 +54,12 @@ name_part (x ∷ xs) h rest s = word_part x.text (flat_map (λ part. codes "." +
 
 name_value_tells : (name : Name) → Tells greater after_value (name_text name) (name_sorts name)
 unfolding name_text
-name_value_tells name = record { parts = name_part name.parts; told = λ h rest more s l. (name_tells name).told h rest more (value_on rest s) l }
+name_value_tells name = record { parts = name_part name.parts; told = λ h rest more s l. (name_tells name).told h rest more (value_on rest s) l; utf8 = (name_tells name).utf8 }
 
 -- values
 truth_tells : (b : Bool) → Tells greater after_value (truth_text b) (Rattle.mojom_print.proofs.Sorts.truth_sorts b)
-truth_tells true = record { parts = λ h rest s. refl; told = λ h rest more s l. true_word.told h rest more (value_on rest s) l }
-truth_tells false = record { parts = λ h rest s. refl; told = λ h rest more s l. false_word.told h rest more (value_on rest s) l }
+truth_tells true = record { parts = λ h rest s. refl; told = λ h rest more s l. true_word.told h rest more (value_on rest s) l; utf8 = true_word.utf8 }
+truth_tells false = record { parts = λ h rest s. refl; told = λ h rest more s l. false_word.told h rest more (value_on rest s) l; utf8 = false_word.utf8 }
 
 signed_tells : (negative : Bool) (magnitude : ℕ) → Tells greater after_value (sign_text negative ++ decimal magnitude) (Rattle.mojom_print.proofs.Sorts.sign_sorts negative ++ sorts.Number magnitude ∷ [])
 signed_tells true magnitude = minus refl then fresh (number_value_tells magnitude)
