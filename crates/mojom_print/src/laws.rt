@@ -1,7 +1,15 @@
-//! What holds of each printed text.
+//! What holds of every printed text. Each law is proved of all trees at once, so its function does
+//! nothing.
 
-/// scratch
-#[tactic(auto, using(crate::proofs::DefinitionTexts::file_tells, crate::proofs::Retold::has_tokens))]
-pub fn scratch()
-    ensures { Unit {0} }
+ghost use Rattle.std.specs.Prelude.{ℕ, List};
+ghost use Rattle.mojom_ast.specs.declared.token.Token.{Token};
+ghost use Rattle.mojom_ast.specs.declared.file.File.{File};
+ghost use Rattle.mojom_lexer.specs.Lexed.{AreTokens};
+ghost use Rattle.mojom_print.specs.Again.{SpellsWithin, SpelledAgain};
+
+/// The text of each tree that the tokens of a file spell has tokens, and they spell the tree again,
+/// but for the places that it keeps.
+#[tactic(auto, using(crate::proofs::Reprints::spelled_again))]
+pub fn spelled_again()
+    ensures { (bytes : List ℕ) (tokens : List Token) (tree : File) (n : ℕ) → AreTokens bytes tokens → SpellsWithin n tree tokens → SpelledAgain n tree }
 {}
