@@ -10,3 +10,5 @@ pub mod Plain
 pub mod Same
 pub mod Shortens
 pub mod Fronts
+pub mod Sinks
+pub mod Depths

@@ -49,6 +49,9 @@ definition_starts = 24 ∷ 5 ∷ 6 ∷ 7 ∷ 8 ∷ 9 ∷ []
 abbrev pub statement_starts : List ℕ
 statement_starts = 24 ∷ 5 ∷ 6 ∷ 7 ∷ 8 ∷ 9 ∷ 4 ∷ []
 
+abbrev pub file_starts : List ℕ
+file_starts = 24 ∷ 3 ∷ 5 ∷ 6 ∷ 7 ∷ 8 ∷ 9 ∷ 4 ∷ []
+
 -- the same, with what it begins with written out
 abbrev pub marked : Lang Statements → Lang Statements
 marked one = record { null = true; starts = statement_starts; followed = one.followed; read = one.read }

@@ -22,3 +22,7 @@ Gives view (Err e) read = Fails e read
 -- what was read before, and what is still read
 abbrev pub with_front : {A : Type 0} → List A → Read (List A) → Read (List A)
 with_front front read = read >>= λ x. Ok (front ++ x.0, x.1)
+
+-- the imports before, and the imports and definitions that are still read
+abbrev pub with_imports : {A B : Type 0} → List A → Read (List A × List B) → Read (List A × List B)
+with_imports front read = read >>= λ x. Ok ((front ++ x.0.0, x.0.1), x.1)

@@ -54,10 +54,7 @@ fn begins_enumerator(tokens: &[Token]) -> bool
 }
 
 /// Enumerators with commas between them, and maybe one after the last.
-fn enumerator_list(
-    alloc: Global,
-    tokens: &[Token],
-) -> Result<(Vec<Enumerator>, &[Token]), Stop>
+fn enumerator_list(alloc: Global, tokens: &[Token]) -> Result<(Vec<Enumerator>, &[Token]), Stop>
     ensures { Gives (λ x. (x.0.items, x.1.now)) result ((list enumerator).read tokens.now) }
 {
     let mut enumerators = Vec::new(alloc);

@@ -28,3 +28,13 @@ impl<T: Drop> From<AllocFailed<T>> for Stop {
         Stop::Memory
     }
 }
+
+/// Why tokens are no file. A place is the number of a token from 0, or how many tokens there are.
+#[derive(Clone, Copy, Debug, PartialEq, Eq)]
+pub enum ParseError {
+    /// No beginning of a file goes on with this token; at the end, the tokens are no file.
+    Unexpected(u64),
+    /// At this token begins a type that stands inside 32 others.
+    TooNested(u64),
+    Memory,
+}

@@ -100,10 +100,7 @@ fn parameters(alloc: Global, tokens: &[Token]) -> Result<(Items<Parameter>, &[To
 
 /// `=>` and a parameter list, where they stand.
 #[tactic(auto, unfolding(mojom_ast::specs::Grammar::response))]
-fn response(
-    alloc: Global,
-    tokens: &[Token],
-) -> Result<(Option<Items<Parameter>>, &[Token]), Stop>
+fn response(alloc: Global, tokens: &[Token]) -> Result<(Option<Items<Parameter>>, &[Token]), Stop>
     ensures { Gives (λ x. (x.0, x.1.now)) result ((maybe (response LEVELS)).read tokens.now) }
 {
     if !is_symbol(tokens, Symbol::Arrow) {

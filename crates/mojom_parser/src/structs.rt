@@ -74,10 +74,7 @@ fn begins_struct_member(tokens: &[Token]) -> bool
         || begins_type(tokens)
 }
 
-fn struct_members(
-    alloc: Global,
-    tokens: &[Token],
-) -> Result<(Vec<StructMember>, &[Token]), Stop>
+fn struct_members(alloc: Global, tokens: &[Token]) -> Result<(Vec<StructMember>, &[Token]), Stop>
     ensures { Gives (λ x. (x.0.items, x.1.now)) result ((many (struct_member LEVELS)).read tokens.now) }
 {
     let mut members = Vec::new(alloc);

@@ -171,10 +171,7 @@ pub fn is_string(tokens: &[Token]) -> bool
 
 /// A string, and the tokens after it.
 #[tactic(auto, unfolding(mojom_ast::specs::Grammar::string), using(mojom_ast::proofs::Classes::identifier_no_string, mojom_ast::proofs::Classes::keyword_no_string, mojom_ast::proofs::Classes::symbol_no_string))]
-pub fn string(
-    alloc: Global,
-    tokens: &[Token],
-) -> Result<(StringLiteral, &[Token]), Stop>
+pub fn string(alloc: Global, tokens: &[Token]) -> Result<(StringLiteral, &[Token]), Stop>
     ensures { Gives (λ x. (x.0, x.1.now)) result (string.read tokens.now) }
 {
     match tokens {

@@ -19,9 +19,13 @@ use std::alloc::Global;
 
 /// The classes of the identifiers that are sorts of handles.
 const MESSAGE_PIPE: u8 = 36;
+
 const DATA_PIPE_CONSUMER: u8 = 37;
+
 const DATA_PIPE_PRODUCER: u8 = 38;
+
 const SHARED_BUFFER: u8 = 39;
+
 const PLATFORM: u8 = 40;
 
 /// How many types may stand round one another.

@@ -6,7 +6,9 @@ ghost use Rattle.mojom_ast.specs.Grammar.{dotted, name, number, ordinal, boolean
 ghost use Rattle.mojom_parser.specs.Reading.{Gives, with_front};
 
 use crate::error::Stop;
-use crate::tokens::{identifier, is_keyword, is_number, is_string, is_symbol, keyword, number, string, symbol};
+use crate::tokens::{
+    identifier, is_keyword, is_number, is_string, is_symbol, keyword, number, string, symbol,
+};
 use mj_base::{Items, Span};
 use mojom_ast::{Identifier, Keyword, Name, Number, Symbol, Token, Value};
 use std::alloc::Global;

@@ -1,0 +1,55 @@
+-- What a list of tokens is answered.
+use Rattle.std.specs.Prelude.{◌≡◌, ℕ, ◌+◌, ◌-◌, ◌<◌, ◌≤◌, List, [], ◌∷◌, length, take, Result, Ok, Err}
+use Rattle.mojom_ast.specs.declared.fault.Fault.TheVariants.{Unexpected, TooNested}
+use Rattle.mojom_ast.specs.declared.token.Token.{Token}
+use Rattle.mojom_ast.specs.declared.file.File.{File}
+use Rattle.mojom_ast.specs.Lang.{Read}
+use Rattle.mojom_ast.specs.Parsed.{Spells, Begins, EndsTooDeep}
+use Rattle.mojom_parser.specs.declared.error.ParseError.{ParseError}
+use Rattle.mojom_parser.specs.declared.error.ParseError.TheVariants as errors
+
+-- A refusal has its cause. Unexpected: the first token with which no beginning goes on, or the end where nothing is
+-- spelled. TooNested: a beginning whose last token begins a type inside 32 others.
+abbrev pub Blames : ParseError → List Token → Type 0
+Blames errors.Memory ts = Unit {0}
+Blames (errors.Unexpected at) ts = (at ≤ length ts) × Begins (take at ts) × (at < length ts → Begins (take (at + 1) ts) → ⊥) × (at ≡ length ts → (tree : File) → Spells tree ts → ⊥)
+Blames (errors.TooNested at) ts = (at < length ts) × Begins (take (at + 1) ts) × EndsTooDeep (take (at + 1) ts)
+
+-- The answer to tokens that spell this tree: it, but for want of memory and for types that nest too deep.
+abbrev pub Answers : File → Result File ParseError → Type 0
+Answers tree (Ok f) = f ≡ tree
+Answers tree (Err errors.Memory) = Unit {0}
+Answers tree (Err (errors.Unexpected at)) = ⊥
+Answers tree (Err (errors.TooNested at)) = Unit {0}
+
+-- The answer where a type stands inside 32 others at this token.
+abbrev pub AnswersDeep : ℕ → Result File ParseError → Type 0
+AnswersDeep at (Ok f) = ⊥
+AnswersDeep at (Err errors.Memory) = Unit {0}
+AnswersDeep at (Err (errors.Unexpected n)) = ⊥
+AnswersDeep at (Err (errors.TooNested n)) = n ≡ at
+
+-- The answer where no beginning goes on at this token, or nothing is spelled and it is the end: types may nest too
+-- deep before it.
+abbrev pub AnswersAt : ℕ → Result File ParseError → Type 0
+AnswersAt at (Ok f) = ⊥
+AnswersAt at (Err errors.Memory) = Unit {0}
+AnswersAt at (Err (errors.Unexpected n)) = n ≡ at
+AnswersAt at (Err (errors.TooNested n)) = n < at
+
+-- What reading by the rule of a file says of so many tokens.
+abbrev pub verdict : ℕ → Read File → Result File ParseError
+verdict n (Ok x) = verdict_ok n x.0 x.1
+  where
+    verdict_ok : ℕ → File → List Token → Result File ParseError
+    verdict_ok m f [] = Ok f
+    verdict_ok m f (t ∷ ts) = Err (errors.Unexpected (m - length (t ∷ ts)))
+verdict n (Err (Unexpected left)) = Err (errors.Unexpected (n - left))
+verdict n (Err (TooNested left)) = Err (errors.TooNested (n - left))
+
+-- The answer is the verdict, unless memory ran out.
+abbrev pub Agrees : Result File ParseError → Result File ParseError → Type 0
+Agrees (Ok f) v = v ≡ Ok f
+Agrees (Err errors.Memory) v = Unit {0}
+Agrees (Err (errors.Unexpected at)) v = v ≡ Err (errors.Unexpected at)
+Agrees (Err (errors.TooNested at)) v = v ≡ Err (errors.TooNested at)

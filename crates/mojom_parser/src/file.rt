@@ -1,0 +1,298 @@
+//! Files.
+
+ghost use Rattle.std.specs.Prelude.{◌≡◌, ◌∷◌};
+ghost use Rattle.mojom_ast.specs.Trees.{make_definition};
+ghost use Rattle.mojom_ast.specs.Lang.{as_value, front_in, times, ◌▹◌};
+ghost use Rattle.mojom_ast.specs.Grammar.{definition_item, definition, module_name, import_path};
+ghost use Rattle.mojom_grammar.specs.Factored.{OtherLine, opened_by, definition_starts, statement_starts, file_starts, definition_line, import_line, module_line, statement, statements, factored};
+ghost use Rattle.mojom_parser.specs.Reading.{Gives, with_front, with_imports};
+
+use crate::attributes::attributes;
+use crate::constants::{const_of, enum_of};
+use crate::error::Stop;
+use crate::interfaces::interface_of;
+use crate::structs::{struct_of, union_of};
+use crate::tokens::{is_keyword, is_symbol, keyword, string, symbol};
+use crate::types::LEVELS;
+use crate::values::name;
+use mj_base::Items;
+use mojom_ast::{
+    Attribute, Definition, DefinitionItem, File, Import, Keyword, ModuleStatement, Name,
+    StringLiteral, Symbol, Token,
+};
+use std::alloc::Global;
+
+/// What a definition is, behind its attributes.
+#[tactic(auto, unfolding(mojom_ast::specs::Grammar::definition_item, mojom_ast::specs::Grammar::struct_of, mojom_ast::specs::Grammar::union_of, mojom_ast::specs::Grammar::enum_of, mojom_ast::specs::Grammar::interface_of))]
+fn definition_item(alloc: Global, tokens: &[Token]) -> Result<(DefinitionItem, &[Token]), Stop>
+    ensures { Gives (λ x. (x.0, x.1.now)) result ((definition_item LEVELS).read tokens.now) }
+{
+    if is_keyword(tokens, Keyword::Struct) {
+        let (item, rest) = struct_of(alloc, tokens)?;
+        return Ok((DefinitionItem::Struct(item), rest));
+    }
+    if is_keyword(tokens, Keyword::Union) {
+        let (item, rest) = union_of(alloc, tokens)?;
+        return Ok((DefinitionItem::Union(item), rest));
+    }
+    if is_keyword(tokens, Keyword::Enum) {
+        let (item, rest) = enum_of(alloc, tokens)?;
+        return Ok((DefinitionItem::Enum(item), rest));
+    }
+    if is_keyword(tokens, Keyword::Interface) {
+        let (item, rest) = interface_of(alloc, tokens)?;
+        return Ok((DefinitionItem::Interface(item), rest));
+    }
+    let (item, rest) = const_of(alloc, tokens)?;
+    Ok((DefinitionItem::Const(item), rest))
+}
+
+#[tactic(auto, unfolding(mojom_ast::specs::Grammar::definition))]
+fn definition(alloc: Global, tokens: &[Token]) -> Result<(Definition, &[Token]), Stop>
+    ensures { Gives (λ x. (x.0, x.1.now)) result ((definition LEVELS).read tokens.now) }
+{
+    let (attributes, rest) = attributes(alloc, tokens)?;
+    let (item, rest) = definition_item(alloc, rest)?;
+    Ok((Definition { attributes, item }, rest))
+}
+
+/// Whether the next token begins a definition behind its attributes.
+#[tactic(auto, unfolding(mojom_ast::specs::Grammar::definition_item, mojom_ast::specs::Grammar::struct_of, mojom_ast::specs::Grammar::union_of, mojom_ast::specs::Grammar::enum_of, mojom_ast::specs::Grammar::interface_of, mojom_ast::specs::Grammar::const_of))]
+fn begins_item(tokens: &[Token]) -> bool
+    ensures { result ≡ front_in (definition_item LEVELS).starts tokens.now }
+{
+    is_keyword(tokens, Keyword::Struct)
+        || is_keyword(tokens, Keyword::Union)
+        || is_keyword(tokens, Keyword::Enum)
+        || is_keyword(tokens, Keyword::Interface)
+        || is_keyword(tokens, Keyword::Const)
+}
+
+/// Whether the next token begins a definition, or its attributes.
+fn begins_definition(tokens: &[Token]) -> bool
+    ensures { result ≡ front_in definition_starts tokens.now }
+{
+    is_symbol(tokens, Symbol::OpenBracket)
+        || is_keyword(tokens, Keyword::Struct)
+        || is_keyword(tokens, Keyword::Union)
+        || is_keyword(tokens, Keyword::Enum)
+        || is_keyword(tokens, Keyword::Interface)
+        || is_keyword(tokens, Keyword::Const)
+}
+
+/// Whether the next token begins a definition or an import, or the attributes before one.
+fn begins_statement(tokens: &[Token]) -> bool
+    ensures { result ≡ front_in statement_starts tokens.now }
+{
+    is_symbol(tokens, Symbol::OpenBracket)
+        || is_keyword(tokens, Keyword::Struct)
+        || is_keyword(tokens, Keyword::Union)
+        || is_keyword(tokens, Keyword::Enum)
+        || is_keyword(tokens, Keyword::Interface)
+        || is_keyword(tokens, Keyword::Const)
+        || is_keyword(tokens, Keyword::Import)
+}
+
+/// At most `limit` definitions, behind those that there are.
+fn more_definitions(
+    alloc: Global,
+    limit: usize,
+    definitions: Vec<Definition>,
+    tokens: &[Token],
+) -> Result<(Vec<Definition>, &[Token]), Stop>
+    ensures { Gives (λ x. (x.0.items, x.1.now)) result (with_front definitions.items ((times limit (definition LEVELS)).read tokens.now)) }
+{
+    let mut definitions = definitions;
+    let mut rest = tokens;
+    for _ in 0..limit {
+        if !begins_definition(rest) {
+            return Ok((definitions, rest));
+        }
+        let (definition, after) = definition(alloc, rest)?;
+        definitions.push(definition)?;
+        rest = after;
+    }
+    Ok((definitions, rest))
+}
+
+/// The definition that has these attributes, and at most `limit` after it.
+fn definitions(
+    alloc: Global,
+    limit: usize,
+    attributes: Items<Attribute>,
+    tokens: &[Token],
+) -> Result<(Vec<Definition>, &[Token]), Stop>
+    ensures { Gives (λ x. (x.0.items, x.1.now)) result ((as_value (λ x. make_definition (attributes, x.0) ∷ x.1) (definition_item LEVELS ▹ times limit (definition LEVELS))).read tokens.now) }
+{
+    let (item, rest) = definition_item(alloc, tokens)?;
+    let mut definitions = Vec::new(alloc);
+    definitions.push(Definition { attributes, item })?;
+    more_definitions(alloc, limit, definitions, rest)
+}
+
+/// `import`, a path and `;`.
+#[tactic(auto, unfolding(mojom_ast::specs::Grammar::import_path))]
+fn import_path(alloc: Global, tokens: &[Token]) -> Result<(StringLiteral, &[Token]), Stop>
+    ensures { Gives (λ x. (x.0, x.1.now)) result (import_path.read tokens.now) }
+{
+    let (_, rest) = keyword(tokens, Keyword::Import)?;
+    let (path, rest) = string(alloc, rest)?;
+    let (_, rest) = symbol(rest, Symbol::Semicolon)?;
+    Ok((path, rest))
+}
+
+/// `module`, a name and `;`.
+#[tactic(auto, unfolding(mojom_ast::specs::Grammar::module_name))]
+fn module_name(alloc: Global, tokens: &[Token]) -> Result<(Name, &[Token]), Stop>
+    ensures { Gives (λ x. (x.0, x.1.now)) result (module_name.read tokens.now) }
+{
+    let (_, rest) = keyword(tokens, Keyword::Module)?;
+    let (name, rest) = name(alloc, rest)?;
+    let (_, rest) = symbol(rest, Symbol::Semicolon)?;
+    Ok((name, rest))
+}
+
+/// At most `limit` imports behind those that there are, and then at most `limit` + 1 definitions.
+fn statements(
+    alloc: Global,
+    limit: usize,
+    imports: Vec<Import>,
+    tokens: &[Token],
+) -> Result<(Vec<Import>, Vec<Definition>, &[Token]), Stop>
+    ensures { Gives (λ x. ((x.0.items, x.1.items), x.2.now)) result (with_imports imports.items ((statements limit limit LEVELS).read tokens.now)) }
+{
+    let mut imports = imports;
+    let mut rest = tokens;
+    for _ in 0..limit {
+        if !begins_statement(rest) {
+            return Ok((imports, Vec::new(alloc), rest));
+        }
+        let (attributes, after) = attributes(alloc, rest)?;
+        if begins_item(after) {
+            let (definitions, end) = definitions(alloc, limit, attributes, after)?;
+            return Ok((imports, definitions, end));
+        }
+        let (path, next) = import_path(alloc, after)?;
+        imports.push(Import { attributes, path })?;
+        rest = next;
+    }
+    Ok((imports, Vec::new(alloc), rest))
+}
+
+/// A file whose first attributes belong to its module statement.
+fn with_module(
+    alloc: Global,
+    limit: usize,
+    attributes: Items<Attribute>,
+    tokens: &[Token],
+) -> Result<(File, &[Token]), Stop>
+    ensures { Gives (λ x. (x.0, x.1.now)) result ((as_value (λ s. opened_by attributes s) (module_line (statements limit limit LEVELS))).read tokens.now) }
+{
+    let (name, rest) = module_name(alloc, tokens)?;
+    let (imports, definitions, rest) = statements(alloc, limit, Vec::new(alloc), rest)?;
+    Ok((
+        File {
+            module_statement: Some(ModuleStatement { attributes, name }),
+            imports: Items::from_vec(imports),
+            definitions: Items::from_vec(definitions),
+        },
+        rest,
+    ))
+}
+
+/// A file whose first attributes belong to a definition.
+fn only_definitions(
+    alloc: Global,
+    limit: usize,
+    attributes: Items<Attribute>,
+    tokens: &[Token],
+) -> Result<(File, &[Token]), Stop>
+    ensures { Gives (λ x. (x.0, x.1.now)) result ((as_value (λ s. opened_by attributes (OtherLine s)) (definition_line limit LEVELS)).read tokens.now) }
+{
+    let (definitions, rest) = definitions(alloc, limit, attributes, tokens)?;
+    Ok((
+        File {
+            module_statement: None,
+            imports: Items::new(alloc),
+            definitions: Items::from_vec(definitions),
+        },
+        rest,
+    ))
+}
+
+/// A file whose first attributes belong to an import.
+fn from_import(
+    alloc: Global,
+    limit: usize,
+    attributes: Items<Attribute>,
+    tokens: &[Token],
+) -> Result<(File, &[Token]), Stop>
+    ensures { Gives (λ x. (x.0, x.1.now)) result ((as_value (λ s. opened_by attributes (OtherLine s)) (import_line (statements limit limit LEVELS))).read tokens.now) }
+{
+    let (path, rest) = import_path(alloc, tokens)?;
+    let mut imports = Vec::new(alloc);
+    imports.push(Import { attributes, path })?;
+    let (imports, definitions, rest) = statements(alloc, limit, imports, rest)?;
+    Ok((
+        File {
+            module_statement: None,
+            imports: Items::from_vec(imports),
+            definitions: Items::from_vec(definitions),
+        },
+        rest,
+    ))
+}
+
+/// A file without a module statement, whose first attributes belong to its first import or
+/// definition.
+#[tactic(auto, unfolding(mojom_ast::specs::Grammar::definition_item, mojom_ast::specs::Grammar::struct_of, mojom_ast::specs::Grammar::union_of, mojom_ast::specs::Grammar::enum_of, mojom_ast::specs::Grammar::interface_of, mojom_ast::specs::Grammar::const_of))]
+fn without_module(
+    alloc: Global,
+    limit: usize,
+    attributes: Items<Attribute>,
+    tokens: &[Token],
+) -> Result<(File, &[Token]), Stop>
+    ensures { Gives (λ x. (x.0, x.1.now)) result ((as_value (λ s. opened_by attributes (OtherLine s)) (statement (statements limit limit LEVELS) limit LEVELS)).read tokens.now) }
+{
+    if begins_item(tokens) {
+        return only_definitions(alloc, limit, attributes, tokens);
+    }
+    from_import(alloc, limit, attributes, tokens)
+}
+
+/// Whether the next token begins a file that isn't empty.
+#[tactic(auto, unfolding(mojom_ast::specs::Grammar::attributes, mojom_ast::specs::Grammar::bracketed))]
+fn begins_file(tokens: &[Token]) -> bool
+    ensures { result ≡ front_in file_starts tokens.now }
+{
+    is_symbol(tokens, Symbol::OpenBracket)
+        || is_keyword(tokens, Keyword::Module)
+        || is_keyword(tokens, Keyword::Struct)
+        || is_keyword(tokens, Keyword::Union)
+        || is_keyword(tokens, Keyword::Enum)
+        || is_keyword(tokens, Keyword::Interface)
+        || is_keyword(tokens, Keyword::Const)
+        || is_keyword(tokens, Keyword::Import)
+}
+
+/// A file, and the tokens after it.
+#[tactic(auto, unfolding(mojom_grammar::specs::Factored::factored, mojom_grammar::specs::Factored::opening, mojom_ast::specs::Grammar::attributes, mojom_ast::specs::Grammar::bracketed, mojom_ast::specs::Grammar::module_name, mojom_ast::specs::Grammar::import_path, mojom_ast::specs::Grammar::definition_item, mojom_ast::specs::Grammar::struct_of, mojom_ast::specs::Grammar::union_of, mojom_ast::specs::Grammar::enum_of, mojom_ast::specs::Grammar::interface_of, mojom_ast::specs::Grammar::const_of))]
+pub fn file(alloc: Global, tokens: &[Token]) -> Result<(File, &[Token]), Stop>
+    ensures { Gives (λ x. (x.0, x.1.now)) result ((factored LEVELS).read tokens.now) }
+{
+    if !begins_file(tokens) {
+        return Ok((
+            File {
+                module_statement: None,
+                imports: Items::new(alloc),
+                definitions: Items::new(alloc),
+            },
+            tokens,
+        ));
+    }
+    let (attributes, rest) = attributes(alloc, tokens)?;
+    if is_keyword(rest, Keyword::Module) {
+        return with_module(alloc, tokens.len(), attributes, rest);
+    }
+    without_module(alloc, tokens.len(), attributes, rest)
+}
