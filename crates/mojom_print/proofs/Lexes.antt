@@ -1,6 +1,10 @@
 -- The tokens of bytes, piece by piece from the front; and of texts, whatever follows them.
 use Rattle.std.proofs.Common.{◌≡◌, ℕ, zero, suc, ◌+◌, ◌-◌, ◌≤◌, ◌<◌, List, [], ◌∷◌, ◌++◌, length, take, drop, Bool, true, false, not, ◌&&◌, Option, Some, None, refl, sym, ◌∙◌, ap, subst, append_assoc, length-append, arith}
-use Rattle.std.specs.Prelude.{map}
+use Rattle.std.specs.Prelude.{map, IsUtf8}
+use Rattle.std.specs.Str.{IsAscii}
+use Rattle.std.proofs.lemmas.Bool.Decides.{nat_tests}
+use Rattle.std.proofs.lemmas.Str.{IsUtf8-nil, IsUtf8-append, IsUtf8-from_ascii}
+use Rattle.std.proofs.Common.{lit<}
 use Rattle.std.specs.List.{list_all, flat_map}
 use Rattle.std.proofs.Math.Seq.{take-append_seam}
 use Rattle.std.proofs.lemmas.List.{append-nil}
@@ -37,6 +41,7 @@ pub data Lexes : List ℕ → List Sort → Type 0 where
 pub record Tells (p q : ℕ → Bool) (text : List ℕ) (sorts : List Sort) : Type 0 where
   pub parts : AllLexical sorts → (rest : List ℕ) → stops q rest ≡ true → stops p (text ++ rest) ≡ true
   pub told : AllLexical sorts → (rest : List ℕ) (more : List Sort) → stops q rest ≡ true → Lexes rest more → Lexes (text ++ rest) (sorts ++ more)
+  pub utf8 : AllLexical sorts → IsUtf8 text
 
 -- anything may follow
 abbrev pub none : ℕ → Bool
@@ -56,7 +61,7 @@ lexical_right (x ∷ xs) ys h = lexical_right xs ys h.1
 
 infixr 20 ◌then◌
 pub ◌then◌ : {p q r : ℕ → Bool} {xs ys : List ℕ} {ss ts : List Sort} → Tells p q xs ss → Tells q r ys ts → Tells p r (xs ++ ys) (ss ++ ts)
-◌then◌ {p = p} {q = q} {r = r} {xs = xs} {ys = ys} {ss = ss} {ts = ts} a b = record { parts = parts; told = told }
+◌then◌ {p = p} {q = q} {r = r} {xs = xs} {ys = ys} {ss = ss} {ts = ts} a b = record { parts = parts; told = told; utf8 = λ h. IsUtf8-append xs ys (a.utf8 (lexical_left ss ts h)) (b.utf8 (lexical_right ss ts h)) }
   where
     parts : AllLexical (ss ++ ts) → (rest : List ℕ) → stops r rest ≡ true → stops p ((xs ++ ys) ++ rest) ≡ true
     parts h rest s = subst (λ (bs : List ℕ). stops p bs ≡ true) (sym (append_assoc xs ys rest)) (a.parts (lexical_left ss ts h) (ys ++ rest) (b.parts (lexical_right ss ts h) rest s))
@@ -73,27 +78,39 @@ tells_sorts {p = p} {q = q} {text = text} ss ts e a = subst (λ (us : List Sort)
 
 -- behind what anything may follow
 pub fresh : {p q : ℕ → Bool} {text : List ℕ} {ss : List Sort} → Tells p q text ss → Tells none q text ss
-fresh {text = text} a = record { parts = λ h rest s. stops_none (text ++ rest); told = a.told }
+fresh {text = text} a = record { parts = λ h rest s. stops_none (text ++ rest); told = a.told; utf8 = a.utf8 }
 
 -- before anything
 pub closed : {p q : ℕ → Bool} {text : List ℕ} {ss : List Sort} → Tells p none text ss → Tells p q text ss
-closed a = record { parts = λ h rest s. a.parts h rest (stops_none rest); told = λ h rest more s l. a.told h rest more (stops_none rest) l }
+closed a = record { parts = λ h rest s. a.parts h rest (stops_none rest); told = λ h rest more s l. a.told h rest more (stops_none rest) l; utf8 = a.utf8 }
+
+-- before less
+pub before : {p q r : ℕ → Bool} {text : List ℕ} {ss : List Sort} → ((rest : List ℕ) → stops r rest ≡ true → stops q rest ≡ true) → Tells p q text ss → Tells p r text ss
+before less a = record { parts = λ h rest s. a.parts h rest (less rest s); told = λ h rest more s l. a.told h rest more (less rest s) l; utf8 = a.utf8 }
 
 -- nothing
 pub nothing : {q : ℕ → Bool} → Tells q q [] []
-nothing {q = q} = record { parts = λ h rest s. s; told = λ h rest more s l. l }
+nothing {q = q} = record { parts = λ h rest s. s; told = λ h rest more s l. l; utf8 = λ h. IsUtf8-nil }
 
 -- blanks
 blanks_lex : (bs rest : List ℕ) (more : List Sort) → list_all is_blank bs ≡ true → Lexes rest more → Lexes (bs ++ rest) more
 blanks_lex [] rest more h l = l
 blanks_lex (c ∷ cs) rest more h l = blank c (cs ++ rest) more (left (is_blank c) (list_all is_blank cs) h) (blanks_lex cs rest more (right (is_blank c) (list_all is_blank cs) h) l)
 
+blank_ascii : (c : ℕ) → is_blank c ≡ true → c < 128
+blank_ascii c e = grind (arith, nat_tests)
+
+blanks_ascii : (bs : List ℕ) → list_all is_blank bs ≡ true → IsAscii bs
+blanks_ascii [] e i = lit< tt
+blanks_ascii (c ∷ cs) e zero = blank_ascii c (left (is_blank c) (list_all is_blank cs) e)
+blanks_ascii (c ∷ cs) e (suc i) = blanks_ascii cs (right (is_blank c) (list_all is_blank cs) e) i
+
 pub blanks : {p : ℕ → Bool} (c : ℕ) (cs : List ℕ) → list_all is_blank (c ∷ cs) ≡ true → not (p c) ≡ true → Tells p none (c ∷ cs) []
-blanks c cs h f = record { parts = λ g rest s. f; told = λ g rest more s l. blanks_lex (c ∷ cs) rest more h l }
+blanks c cs h f = record { parts = λ g rest s. f; told = λ g rest more s l. blanks_lex (c ∷ cs) rest more h l; utf8 = λ g. IsUtf8-from_ascii (c ∷ cs) (blanks_ascii (c ∷ cs) h) }
 
 -- one token
-pub one : {p : ℕ → Bool} (q : ℕ → Bool) (c : ℕ) (cs : List ℕ) (s : Sort) → Spells s (c ∷ cs) → not (p c) ≡ true → ((rest : List ℕ) → stops q rest ≡ true → IsLongest ((c ∷ cs) ++ rest) (length (c ∷ cs))) → Tells p q (c ∷ cs) (s ∷ [])
-one q c cs s h f longest = record { parts = λ g rest e. f; told = λ g rest more e l. token (c ∷ cs) rest s more h (longest rest e) l }
+pub one : {p : ℕ → Bool} (q : ℕ → Bool) (c : ℕ) (cs : List ℕ) (s : Sort) → Spells s (c ∷ cs) → (AllLexical (s ∷ []) → IsUtf8 (c ∷ cs)) → not (p c) ≡ true → ((rest : List ℕ) → stops q rest ≡ true → IsLongest ((c ∷ cs) ++ rest) (length (c ∷ cs))) → Tells p q (c ∷ cs) (s ∷ [])
+one q c cs s h u f longest = record { parts = λ g rest e. f; told = λ g rest more e l. token (c ∷ cs) rest s more h (longest rest e) l; utf8 = u }
 
 -- lists of texts which anything may follow
 pub each : {A : Type 0} (text : A → List ℕ) (sorts : A → List Sort) → ((x : A) → Tells none none (text x) (sorts x)) → (xs : List A) → Tells none none (flat_map text xs) (flat_map sorts xs)

@@ -16,11 +16,19 @@ use Rattle.mojom_lexer.specs.Lexed.{Spells}
 use Rattle.mojom_print.proofs.Shows.{sort_of, token_off, both_off, Found, Shows, shows_tok, shows_sorts, shows_seq, shows_value, shows_left, shows_right, shows_some, shows_none, shows_no_times, shows_no_commas, shows_many, shows_list}
 use Rattle.mojom_print.proofs.FixedSorts.{keyword_sort, symbol_sort}
 
+-- what a string stands for is a text
+abbrev pub IsText : Sort → Type 0
+IsText (sorts.Identifier text) = Unit {0}
+IsText (sorts.Keyword k) = Unit {0}
+IsText (sorts.Number n) = Unit {0}
+IsText (sorts.String bytes) = IsUtf8 bytes
+IsText (sorts.Symbol s) = Unit {0}
+
 -- bytes are a token of the sort
 pub record Lexical (s : Sort) : Type 0 where
   pub bytes : List ℕ
   pub spelled : Spells s bytes
-  pub utf8 : IsUtf8 bytes
+  pub text : IsText s
 
 abbrev pub AllLexical : List Sort → Type 0
 AllLexical [] = Unit {0}

@@ -5,3 +5,4 @@ pub mod Definitions
 pub mod Interfaces
 pub mod FileText
 pub mod Unplaced
+pub mod Again

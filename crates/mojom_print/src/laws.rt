@@ -1,7 +1,24 @@
-//! What holds of each printed text.
+//! What holds of every printed text. Each law is proved of all trees at once, so its function does
+//! nothing.
 
-/// scratch
-#[tactic(auto, using(crate::proofs::Lexes::each))]
-pub fn scratch()
-    ensures { Unit {0} }
+ghost use Rattle.std.specs.Prelude.{◌≡◌, ℕ, List};
+ghost use Rattle.mojom_ast.specs.declared.token.Token.{Token};
+ghost use Rattle.mojom_ast.specs.declared.file.File.{File};
+ghost use Rattle.mojom_lexer.specs.Lexed.{AreTokens};
+ghost use Rattle.mojom_print.specs.FileText.{file_text};
+ghost use Rattle.mojom_print.specs.Unplaced.{unplaced};
+ghost use Rattle.mojom_print.specs.Again.{SpellsWithin, SpelledAgain};
+
+/// The text of each tree that the tokens of a file spell has tokens, and they spell the tree again,
+/// but for the places that it keeps.
+#[tactic(auto, using(crate::proofs::Reprints::spelled_again))]
+pub fn spelled_again()
+    ensures { (bytes : List ℕ) (tokens : List Token) (tree : File) (n : ℕ) → AreTokens bytes tokens → SpellsWithin n tree tokens → SpelledAgain n tree }
+{}
+
+/// Trees that differ in places alone have one text. So the tree that a printed text spells is printed
+/// as that very text.
+#[tactic(auto, using(crate::proofs::Placeless::same_text))]
+pub fn same_text()
+    ensures { (tree other : File) → unplaced other ≡ unplaced tree → file_text other ≡ file_text tree }
 {}
