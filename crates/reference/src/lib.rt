@@ -5,10 +5,6 @@
 #[cfg(test)]
 mod history_tests;
 pub mod layout;
-#[cfg(test)]
-mod layout_cases;
-#[cfg(test)]
-mod layout_tests;
 mod machine;
 mod script;
 #[cfg(test)]

@@ -1,15 +1,13 @@
-//! How long the packing of 256, 1,024 and 4,096 fields of mixed kinds takes. `tools/time_packing`
-//! builds and runs it.
-#![tactic(auto)]
+//! How long the packing of a struct's fields takes.
 
 ghost use Rattle.std.specs.Prelude.{◌≡◌, ◌≤◌, IfOk, length};
 
-use anyhow::Result;
 use field_packing::pack;
 use mj_schema::{HandleSort, Kind, Width};
 use std::alloc::{AllocError, Global};
-use std::rt::Clock;
-use std::time::Instant;
+use std::io;
+use std::io::Print;
+use std::time::CpuClock;
 
 /// How often each list is packed.
 const ROUNDS: u32 = 1000;
@@ -24,12 +22,11 @@ fn integer(width: Width) -> Kind {
 /// The kinds in turn: small fields between large ones, so that holes are left and filled.
 fn kind(place: usize) -> Kind {
     let nullable = false;
-    let interface = 0;
     match place % 12 {
         0 | 3 | 7 => Kind::Bool,
         1 | 10 => integer(Width::Bits8),
         2 => Kind::Remote {
-            interface,
+            interface: 0,
             nullable,
         },
         4 => integer(Width::Bits64),
@@ -57,22 +54,23 @@ fn kinds(alloc: Global, count: usize) -> Result<Vec<Kind>, AllocError>
     Ok(kinds)
 }
 
-/// Nanoseconds of one packing of so many fields.
-fn time(rt: &impl Clock, alloc: Global, count: usize) -> Result<u128>
+/// Prints the nanoseconds of one packing of so many fields.
+fn time<R: Print + AllocGlobal + CpuClock>(rt: &R, count: usize) -> io::Result<()>
     requires { count ≤ 4096 }
 {
-    let kinds = kinds(alloc, count)?;
-    let start = Instant::now(rt)?;
+    let kinds = kinds(rt.alloc(), count)?;
+    let start = rt.thread_cpu_time()?;
     for _ in 0..ROUNDS {
-        let _places = pack(alloc, &kinds)?;
+        let _places = pack(rt.alloc(), &kinds)?;
     }
-    Ok(start.elapsed(rt)?.as_nanos() / u128::from(ROUNDS))
+    let end = rt.thread_cpu_time()?;
+    let nanoseconds = end.saturating_sub(start).as_nanos() / u128::from(ROUNDS);
+    println!(rt; "{count} fields: {nanoseconds} ns")
 }
 
-fn main(rt: HostRuntime) -> Result<()> {
-    for count in [256, 1024, 4096] {
-        let nanoseconds = time(&rt, rt.alloc(), count)?;
-        println!(rt; "{count} fields: {nanoseconds} ns")?;
-    }
-    Ok(())
+/// Times the packing of 256, 1,024 and 4,096 fields of mixed kinds.
+pub fn time_all<R: Print + AllocGlobal + CpuClock>(rt: &R) -> io::Result<()> {
+    time(rt, 256)?;
+    time(rt, 1024)?;
+    time(rt, 4096)
 }

@@ -1,5 +1,5 @@
 use Rattle.std.proofs.Common.{◌≡◌, length}
-use Rattle.packing_time.proofs.kinds.Given as goal
+use Rattle.benchmarks.proofs.packing.kinds.Given as goal
 
 abbrev pub invariant-loop-place : goal.invariant-loop-place
 invariant-loop-place l = length l.kinds.items ≡ l.place

@@ -1,0 +1,26 @@
+//! Times the packing of structs and the reading and printing of files, in processor time.
+#![tactic(auto)]
+
+mod packing;
+mod reading;
+
+use std::env::Env;
+use std::io::Print;
+use std::time::CpuClock;
+use std::{env, io};
+
+/// Times what the first word asks for.
+fn run<R: Print + Env + AllocGlobal + CpuClock>(rt: &R) -> io::Result<()> {
+    for what in env::args(rt)?.skip(1) {
+        match what.as_str() {
+            "packing" => return packing::time_all(rt),
+            "reading" => return reading::time_all(rt),
+            _ => {}
+        }
+    }
+    println!(rt; "usage: benchmarks packing | reading")
+}
+
+fn main(rt: HostRuntime) -> io::Result<()> {
+    run(&rt)
+}
