@@ -1,12 +1,12 @@
 -- Comments at the front.
-use Rattle.std.proofs.Common.{◌≡◌, ℕ, zero, suc, ◌+◌, ◌-◌, ◌≤◌, ◌<◌, List, [], ◌∷◌, ◌++◌, length, take, drop, Bool, true, false, cond, not, ◌==◌, ◌&&◌, ◌||◌, ◌⊎◌, inl, inr, Option, Some, None, nat_eq, codes, refl, sym, ap, ◌∙◌, subst, arith, append_assoc, length-append}
+use Rattle.std.proofs.Common.{◌≡◌, ℕ, zero, suc, ◌+◌, ◌≤◌, List, [], ◌∷◌, ◌++◌, length, take, drop, Bool, true, false, cond, ◌==◌, ◌&&◌, ◌||◌, inl, inr, Some, None, nat_eq, codes, refl, sym, ap, ◌∙◌, subst, arith, append_assoc, length-append}
 use Rattle.std.specs.List.{list_all, starts_with}
 use Rattle.std.specs.Option.{option_map}
 use Rattle.std.proofs.lemmas.List.{take-append-drop, length-take-le}
 use Rattle.std.proofs.lemmas.Bool.Decides.{nat_tests}
-use Rattle.mojom_lexer.specs.Pieces.{Kind, Is, IsLongest, BeginsNone, is_line_comment, has_close, stays_on_line, IsBlockCommentOf}
+use Rattle.mojom_lexer.specs.Pieces.{Is, IsLongest, BeginsNone, is_line_comment, has_close, stays_on_line, IsBlockCommentOf}
 use Rattle.mojom_lexer.specs.Pieces.Kind.{Comment}
-use Rattle.mojom_lexer.specs.Scans.{kind_of, kind_at, run_len, before_close}
+use Rattle.mojom_lexer.specs.Scans.{kind_at, run_len, before_close}
 use Rattle.mojom_lexer.proofs.Runs.{left, right, both, run_within, run_passes, run_most}
 use Rattle.mojom_lexer.proofs.FirstBytes.{longest_of, none_of, begins_comment}
 use Rattle.mojom_lexer.proofs.Closes.{behind_first}

@@ -1,17 +1,16 @@
 -- The first byte tells the kind of a piece.
-use Rattle.std.proofs.Common.{◌≡◌, ℕ, zero, suc, ◌+◌, ◌-◌, ◌≤◌, ◌<◌, List, [], ◌∷◌, ◌++◌, length, take, drop, get_or, Bool, true, false, cond, ◌==◌, ◌&&◌, ◌||◌, ◌⊎◌, inl, inr, Option, Some, None, refl, sym, ap, ◌∙◌, subst, arith}
-use Rattle.std.specs.Prelude.{is_some, nat_eq}
-use Rattle.std.specs.List.{list_all, flat_map}
+use Rattle.std.proofs.Common.{◌≡◌, ℕ, zero, suc, ◌≤◌, List, [], ◌∷◌, length, take, Bool, true, false, cond, ◌==◌, ◌&&◌, ◌||◌, inl, inr, Option, Some, None, refl, sym, ap, ◌∙◌, subst, arith}
+use Rattle.std.specs.Prelude.{is_some}
+use Rattle.std.specs.List.{list_all}
 use Rattle.std.proofs.lemmas.Bool.Decides.{nat_tests}
 use Rattle.mojom_ast.specs.declared.token.Symbol.{Symbol}
 use Rattle.mojom_lexer.specs.Bytes.{is_blank, is_digit, is_letter, is_hex_digit, goes_on, is_run}
-use Rattle.mojom_lexer.specs.Words.{is_word, single_symbol, symbol_of, symbol_in, symbols}
+use Rattle.mojom_lexer.specs.Words.{single_symbol, symbol_of, symbol_in, symbols}
 use Rattle.mojom_lexer.specs.Numbers.{is_decimal, is_hexadecimal, is_number}
-use Rattle.mojom_lexer.specs.Strings.{Part, spelled, quoted, IsStringOf}
-use Rattle.mojom_lexer.specs.Pieces.{Kind, Is, IsPiece, IsLongest, BeginsNone, is_line_comment, stays_on_line, IsBlockCommentOf}
+use Rattle.mojom_lexer.specs.Pieces.{Kind, Is, IsLongest, BeginsNone, is_line_comment, stays_on_line}
 use Rattle.mojom_lexer.specs.Pieces.Kind.{Blank, Comment, Word, Numeral, Quoted, Sign}
 use Rattle.mojom_lexer.specs.Scans.{kind_of, kind_at}
-use Rattle.mojom_lexer.proofs.Runs.{left, right, both}
+use Rattle.mojom_lexer.proofs.Runs.{left, right}
 
 abbrev pub first_of : List ℕ → ℕ
 first_of [] = 0

@@ -1,18 +1,18 @@
 -- A file has one list of tokens or one refusal, and its tokens stand in order.
-use Rattle.std.proofs.Common.{◌≡◌, ℕ, zero, suc, ◌+◌, ◌-◌, ◌≤◌, ◌<◌, List, [], ◌∷◌, ◌++◌, length, take, drop, get_or, Bool, true, false, cond, ◌⊎◌, inl, inr, refl, sym, ap, ◌∙◌, subst, arith, length-append}
+use Rattle.std.proofs.Common.{◌≡◌, ℕ, zero, suc, ◌+◌, ◌≤◌, ◌<◌, List, [], ◌∷◌, ◌++◌, length, take, drop, Bool, true, false, ◌⊎◌, inl, inr, refl, sym, ap, ◌∙◌, subst, arith}
 use Rattle.std.specs.Prelude.{IsUtf8, All, AllPairs}
 use Rattle.std.specs.Str.Lossy.{utf8_valid_len}
 use Rattle.std.proofs.Math.Seq.{drop-length}
-use Rattle.std.proofs.lemmas.List.{length-drop}
 use Rattle.mojom_ast.specs.declared.token.Sort.{Sort}
 use Rattle.mojom_ast.specs.declared.token.Token.{Token}
 use Rattle.mojom_lexer.specs.declared.error.LexError.{LexError}
 use Rattle.mojom_lexer.specs.declared.error.LexError.TheVariants.{BadUtf8, BadChar, OpenComment, OpenString, LeadingZero, NumberTooLong, Memory}
 use Rattle.mojom_lexer.specs.Pieces.{IsPiece, IsLongest}
-use Rattle.mojom_lexer.specs.Lexed.{IsPassedOver, Spells, Reaches, AreTokens, Refuses, StopsAt, IsRefused, OneReading, InOrder}
+use Rattle.mojom_lexer.specs.Lexed.{IsPassedOver, Spells, Reaches, AreTokens, Refuses, StopsAt, IsRefused, OneReading}
 use Rattle.mojom_lexer.specs.Lexed.Reaches.{starts, passes, takes}
 use Rattle.mojom_lexer.proofs.FirstBytes.{none_empty}
-use Rattle.mojom_lexer.proofs.Steps.{token_at, longest_some}
+use Rattle.mojom_lexer.proofs.Steps.{token_at}
+use Rattle.mojom_lexer.proofs.Total.{some_reading}
 use Rattle.mojom_lexer.proofs.Meanings.{one_sort, passed_no_token, one_length, one_why, GoesOn, goes_or_stops, none_at_end}
 
 -- the tokens after a piece: none more, or one more
@@ -174,4 +174,4 @@ never_both bs us e h k = step (split bs e k)
     step (inr x) = let a = counted bs (length bs) us h.reaches in let b = counted bs x.at x.tokens x.reaches in tokens_or_stop bs a.0 b.0 x.at us x.tokens e a.1 b.1 x.refuses
 
 pub one_reading : (bs : List ℕ) → OneReading bs
-one_reading bs = record { one_list = one_list bs; one_refusal = one_refusal bs; never_both = never_both bs }
+one_reading bs = record { some = some_reading bs; one_list = one_list bs; one_refusal = one_refusal bs; never_both = never_both bs }

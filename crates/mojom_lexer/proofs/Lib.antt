@@ -13,3 +13,4 @@ pub mod Steps
 pub mod Meanings
 pub mod Laws
 pub mod Order
+pub mod Total

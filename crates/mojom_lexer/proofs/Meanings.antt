@@ -1,5 +1,5 @@
 -- A piece has one meaning, or one refusal.
-use Rattle.std.proofs.Common.{◌≡◌, ℕ, zero, suc, ◌+◌, ◌-◌, ◌^◌, ◌≤◌, ◌<◌, List, [], ◌∷◌, ◌++◌, length, take, drop, Bool, true, false, cond, not, ◌==◌, ◌&&◌, ◌||◌, ◌⊎◌, inl, inr, Option, Some, None, Result, Ok, Err, nat_eq, refl, sym, ap, ◌∙◌, subst, arith, length-append}
+use Rattle.std.proofs.Common.{◌≡◌, ℕ, zero, suc, ◌+◌, ◌-◌, ◌<◌, List, [], ◌∷◌, ◌++◌, length, take, Bool, true, false, cond, not, ◌==◌, ◌&&◌, ◌||◌, ◌⊎◌, inl, inr, Option, Some, None, Result, Ok, Err, nat_eq, refl, sym, ap, ◌∙◌, subst, arith, length-append}
 use Rattle.std.specs.Prelude.{is_some}
 use Rattle.std.specs.List.{list_all, flat_map}
 use Rattle.std.proofs.Math.Seq.{take-append_seam}
@@ -9,14 +9,13 @@ use Rattle.mojom_ast.specs.declared.token.Sort.{Sort}
 use Rattle.mojom_ast.specs.declared.token.Sort.TheVariants.{Identifier, Keyword, Number, String, Symbol}
 use Rattle.mojom_lexer.specs.declared.error.LexError.{LexError}
 use Rattle.mojom_lexer.specs.declared.error.LexError.TheVariants.{BadUtf8, BadChar, OpenComment, OpenString, LeadingZero, NumberTooLong, Memory}
-use Rattle.mojom_lexer.specs.Words.{is_word, keyword_of, symbol_of}
-use Rattle.mojom_lexer.specs.Numbers.{is_number, has_leading_zero, number_value}
-use Rattle.mojom_lexer.specs.Strings.{Part, spelled, is_part, quoted, IsStringOf, text_of}
+use Rattle.mojom_lexer.specs.Numbers.{is_number, has_leading_zero}
+use Rattle.mojom_lexer.specs.Strings.{Part, spelled, is_part, IsStringOf, text_of}
 use Rattle.mojom_lexer.specs.Strings.Part.{Plain, Escape}
 use Rattle.mojom_lexer.specs.Pieces.{Kind, Is, IsPiece, IsLongest, BeginsNone}
 use Rattle.mojom_lexer.specs.Pieces.Kind.{Blank, Comment, Word, Numeral, Quoted, Sign}
-use Rattle.mojom_lexer.specs.Lexed.{IsPassedOver, IsNumber, Spells, HasFront, HasBadEscape, HasLeadingZero, IsTooLong, IsBadChar, Refuses, begins_comment, begins_string}
-use Rattle.mojom_lexer.specs.Scans.{kind_of, parts_of}
+use Rattle.mojom_lexer.specs.Lexed.{IsPassedOver, Spells, HasBadEscape, HasLeadingZero, IsTooLong, Refuses, begins_comment, begins_string}
+use Rattle.mojom_lexer.specs.Scans.{parts_of}
 use Rattle.mojom_lexer.proofs.Runs.{left, right}
 use Rattle.mojom_lexer.proofs.Closes.{behind_first}
 use Rattle.mojom_lexer.proofs.FirstBytes.{first_tells, none_empty, same_kind}

@@ -1,14 +1,12 @@
 -- The tokens of a file stand in order within it.
-use Rattle.std.proofs.Common.{◌≡◌, ℕ, zero, suc, ◌+◌, ◌-◌, ◌≤◌, ◌<◌, List, [], ◌∷◌, ◌++◌, length, drop, get_or, Bool, true, false, ◌⊎◌, inl, inr, refl, sym, ap, ◌∙◌, subst, arith, length-append}
+use Rattle.std.proofs.Common.{◌≡◌, ℕ, ◌+◌, ◌≤◌, ◌<◌, List, [], ◌∷◌, ◌++◌, length, drop, get_or, Bool, true, false, ◌⊎◌, inl, inr, refl, sym, ap, ◌∙◌, subst, arith, length-append}
 use Rattle.std.specs.Prelude.{All, AllPairs, nat_lt}
 use Rattle.std.proofs.lemmas.Bool.Decides.{nat_tests}
 use Rattle.std.proofs.Math.ListN.{get_or-append}
 use Rattle.std.proofs.Math.Seq.{get_or-append_seam}
-use Rattle.std.proofs.lemmas.List.{length-drop}
 use Rattle.mojom_ast.specs.declared.token.Token.{Token}
 use Rattle.mojom_lexer.specs.Lexed.{Reaches, AreTokens, InOrder}
 use Rattle.mojom_lexer.specs.Lexed.Reaches.{starts, passes, takes}
-use Rattle.mojom_lexer.specs.Pieces.{IsLongest}
 use Rattle.mojom_lexer.proofs.Steps.{token_at, longest_some}
 
 abbrev end_of : Token → ℕ

@@ -1,13 +1,13 @@
 -- Strings at the front: where the closing quote is, and the parts before it.
-use Rattle.std.proofs.Common.{◌≡◌, ℕ, zero, suc, ◌+◌, ◌-◌, ◌≤◌, ◌<◌, List, [], ◌∷◌, ◌++◌, length, take, drop, Bool, true, false, cond, not, ◌==◌, ◌&&◌, ◌||◌, Option, Some, None, Result, refl, sym, ap, ◌∙◌, subst, arith, append_assoc, length-append}
+use Rattle.std.proofs.Common.{◌≡◌, ℕ, suc, ◌+◌, ◌≤◌, List, [], ◌∷◌, ◌++◌, length, take, drop, Bool, true, false, cond, not, ◌==◌, ◌&&◌, ◌||◌, Option, Some, None, refl, sym, ap, ◌∙◌, subst, arith, append_assoc, length-append}
 use Rattle.std.specs.List.{list_all, flat_map}
 use Rattle.std.specs.Option.{option_map}
 use Rattle.std.proofs.lemmas.List.{take-append-drop, length-take-le}
 use Rattle.mojom_lexer.specs.Strings.{Part, spelled, is_part, quoted, IsStringOf}
 use Rattle.mojom_lexer.specs.Strings.Part.{Plain, Escape}
-use Rattle.mojom_lexer.specs.Pieces.{Kind, Is, IsLongest, BeginsNone}
+use Rattle.mojom_lexer.specs.Pieces.{Is, IsLongest, BeginsNone}
 use Rattle.mojom_lexer.specs.Pieces.Kind.{Quoted}
-use Rattle.mojom_lexer.specs.Scans.{kind_of, kind_at, before_quote, parts_of}
+use Rattle.mojom_lexer.specs.Scans.{kind_at, before_quote, parts_of}
 use Rattle.mojom_lexer.proofs.Runs.{left, right, both}
 use Rattle.mojom_lexer.proofs.FirstBytes.{longest_of, none_of, begins_quoted, eqb_same}
 use Rattle.mojom_lexer.proofs.Closes.{behind_first}

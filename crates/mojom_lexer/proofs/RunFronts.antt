@@ -1,12 +1,12 @@
 -- Blank space, words and numbers at the front, the longest.
-use Rattle.std.proofs.Common.{◌≡◌, ℕ, zero, suc, ◌+◌, ◌-◌, ◌≤◌, ◌<◌, List, [], ◌∷◌, ◌++◌, length, take, drop, get_or, Bool, true, false, cond, ◌==◌, ◌&&◌, ◌||◌, ◌⊎◌, inl, inr, Option, Some, None, refl, sym, ap, ◌∙◌, subst, arith}
+use Rattle.std.proofs.Common.{◌≡◌, ℕ, zero, suc, ◌+◌, ◌≤◌, List, [], ◌∷◌, length, take, drop, Bool, true, false, ◌==◌, ◌&&◌, ◌||◌, Some, refl, sym, subst, arith}
 use Rattle.std.specs.List.{list_all}
 use Rattle.mojom_lexer.specs.Bytes.{is_blank, is_digit, is_letter, is_hex_digit, goes_on, is_run}
 use Rattle.mojom_lexer.specs.Words.{is_word}
 use Rattle.mojom_lexer.specs.Numbers.{is_decimal, is_hexadecimal, is_number}
-use Rattle.mojom_lexer.specs.Pieces.{Kind, Is, IsLongest}
+use Rattle.mojom_lexer.specs.Pieces.{Is, IsLongest}
 use Rattle.mojom_lexer.specs.Pieces.Kind.{Blank, Word, Numeral}
-use Rattle.mojom_lexer.specs.Scans.{kind_of, kind_at, run_len, number_len}
+use Rattle.mojom_lexer.specs.Scans.{kind_at, run_len, number_len}
 use Rattle.mojom_lexer.proofs.Runs.{left, right, both, run_within, run_passes, run_most}
 use Rattle.mojom_lexer.proofs.Numerals.{hex_front, prefix_x}
 use Rattle.mojom_lexer.proofs.FirstBytes.{longest_of, begins_blank, begins_word, begins_numeral}

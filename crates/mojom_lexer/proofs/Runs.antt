@@ -1,10 +1,10 @@
 -- Bytes at the front that pass a test.
-use Rattle.std.proofs.Common.{◌≡◌, ℕ, zero, suc, ◌≤◌, ◌<◌, List, [], ◌∷◌, length, take, Bool, true, false, cond, ◌&&◌, ◌||◌, refl, arith, lit<}
+use Rattle.std.proofs.Common.{◌≡◌, ℕ, zero, suc, ◌≤◌, ◌<◌, List, [], ◌∷◌, length, take, Bool, true, false, cond, ◌&&◌, refl, arith, lit<}
 use Rattle.std.specs.List.{list_all}
 use Rattle.std.specs.Str.{IsAscii, IsUtf8}
 use Rattle.std.proofs.lemmas.Str.{IsUtf8-from_ascii}
 use Rattle.std.proofs.lemmas.Bool.Decides.{nat_tests}
-use Rattle.mojom_lexer.specs.Bytes.{is_letter, goes_on, is_run}
+use Rattle.mojom_lexer.specs.Bytes.{is_letter, goes_on}
 use Rattle.mojom_lexer.specs.Words.{is_word}
 use Rattle.mojom_lexer.specs.Scans.{run_len}
 

@@ -1,17 +1,17 @@
 -- Symbols at the front, and bytes that begin nothing.
-use Rattle.std.proofs.Common.{◌≡◌, ℕ, zero, suc, ◌+◌, ◌-◌, ◌≤◌, ◌<◌, List, [], ◌∷◌, ◌++◌, length, take, drop, Bool, true, false, cond, not, ◌==◌, ◌&&◌, ◌||◌, Option, Some, None, nat_eq, codes, refl, sym, ap, ◌∙◌, subst, arith}
+use Rattle.std.proofs.Common.{◌≡◌, ℕ, zero, suc, ◌≤◌, List, [], ◌∷◌, length, take, Bool, true, false, cond, ◌==◌, ◌&&◌, Option, Some, None, nat_eq, codes, refl, sym, ap, ◌∙◌, subst, arith}
 use Rattle.std.specs.Prelude.{is_some}
 use Rattle.std.specs.List.{starts_with}
 use Rattle.std.proofs.lemmas.Bool.Decides.{nat_tests}
 use Rattle.mojom_ast.specs.declared.token.Symbol.{Symbol}
 use Rattle.mojom_ast.specs.declared.token.Symbol.TheVariants.{Arrow}
 use Rattle.mojom_lexer.specs.Words.{single_symbol, symbol_of}
-use Rattle.mojom_lexer.specs.Pieces.{Kind, Is, IsLongest, BeginsNone}
+use Rattle.mojom_lexer.specs.Pieces.{Kind, IsLongest, BeginsNone}
 use Rattle.mojom_lexer.specs.Pieces.Kind.{Comment, Quoted, Sign}
 use Rattle.mojom_lexer.specs.Lexed.{IsBadChar, begins_comment, begins_string}
 use Rattle.mojom_lexer.specs.Scans.{kind_of, kind_at}
 use Rattle.mojom_lexer.proofs.Runs.{left, right, both}
-use Rattle.mojom_lexer.proofs.FirstBytes.{longest_of, none_of, none_kind, begins_sign}
+use Rattle.mojom_lexer.proofs.FirstBytes.{longest_of, none_kind}
 use Rattle.mojom_lexer.proofs.CommentFronts.{same_as, slash_none}
 
 -- symbols have one byte or two

@@ -1,27 +1,26 @@
 -- What the reader found stands at the front.
-use Rattle.std.proofs.Common.{◌≡◌, ℕ, zero, suc, ◌+◌, ◌-◌, ◌^◌, ◌≤◌, ◌<◌, List, [], ◌∷◌, ◌++◌, length, take, drop, get_or, Bool, true, false, cond, ◌⊎◌, inl, inr, Option, Some, None, Result, Ok, Err, nat_eq, codes, refl, sym, ap, ◌∙◌, subst, arith}
+use Rattle.std.proofs.Common.{◌≡◌, ℕ, ◌+◌, ◌-◌, ◌^◌, ◌≤◌, ◌<◌, List, [], ◌∷◌, length, take, drop, get_or, true, false, cond, inl, inr, Option, Some, None, Ok, nat_eq, codes, refl, sym, ap, ◌∙◌, subst, arith}
 use Rattle.std.specs.Prelude.{is_some}
 use Rattle.std.specs.List.{starts_with}
 use Rattle.std.proofs.lemmas.List.{take_all, length-drop, length-take-le}
 use Rattle.mojom_ast.specs.declared.token.Sort.{Sort}
-use Rattle.mojom_ast.specs.declared.token.Sort.TheVariants.{Identifier, Keyword, Number, String, Symbol}
+use Rattle.mojom_ast.specs.declared.token.Sort.TheVariants.{Number, String, Symbol}
 use Rattle.mojom_ast.specs.declared.token.Symbol.TheVariants.{Arrow}
-use Rattle.mojom_lexer.specs.declared.pieces.Piece.{Piece}
 use Rattle.mojom_lexer.specs.declared.error.LexError.{LexError}
 use Rattle.mojom_lexer.specs.declared.error.LexError.TheVariants.{BadUtf8, BadChar, OpenComment, OpenString, LeadingZero, NumberTooLong, Memory}
 use Rattle.mojom_lexer.specs.Bytes.{is_blank, goes_on}
-use Rattle.mojom_lexer.specs.Words.{is_word, single_symbol, symbol_of}
+use Rattle.mojom_lexer.specs.Words.{is_word, single_symbol}
 use Rattle.mojom_lexer.specs.Numbers.{is_number, has_leading_zero, number_value}
 use Rattle.mojom_lexer.specs.Strings.{IsStringOf, text_of}
 use Rattle.mojom_lexer.specs.Pieces.{Kind, Is, IsLongest, BeginsNone, stays_on_line}
 use Rattle.mojom_lexer.specs.Pieces.Kind.{Blank, Comment, Word, Numeral, Quoted, Sign}
-use Rattle.mojom_lexer.specs.Lexed.{IsPassedOver, Spells, IsNumber, HasFront, HasBadEscape, HasLeadingZero, IsTooLong, IsBadChar, Refuses, begins_comment, begins_string}
+use Rattle.mojom_lexer.specs.Lexed.{Spells, HasFront, HasLeadingZero, IsTooLong, IsBadChar, Refuses, begins_comment, begins_string}
 use Rattle.mojom_lexer.specs.Scans.{kind_of, kind_at, BeginsSign, run_len, number_len, before_close, before_quote, parts_of, IsBadEscape, Stands}
 use Rattle.mojom_lexer.proofs.Runs.{run_within}
 use Rattle.mojom_lexer.proofs.RunFronts.{blank_longest, word_longest, number_longest}
 use Rattle.mojom_lexer.proofs.QuoteFronts.{quote_longest, quote_none}
-use Rattle.mojom_lexer.proofs.CommentFronts.{line_longest, block_longest, block_none, close_tells}
-use Rattle.mojom_lexer.proofs.SignFronts.{arrow_longest, symbol_longest, bad_char, bad_slash}
+use Rattle.mojom_lexer.proofs.CommentFronts.{line_longest, block_longest, block_none}
+use Rattle.mojom_lexer.proofs.SignFronts.{arrow_longest, symbol_longest, bad_char}
 
 -- `&bytes[n..]`
 pub rest_of : (n : ℕ) (bs : List ℕ) → take (length bs - n) (drop n bs) ≡ drop n bs

@@ -1,11 +1,11 @@
 -- One piece after another.
-use Rattle.std.proofs.Common.{◌≡◌, ℕ, zero, suc, ◌+◌, ◌-◌, ◌≤◌, ◌<◌, List, [], ◌∷◌, ◌++◌, length, take, drop, Option, Some, None, refl, sym, ap, ◌∙◌, subst, arith}
+use Rattle.std.proofs.Common.{◌≡◌, ℕ, zero, suc, ◌+◌, ◌-◌, ◌≤◌, ◌<◌, List, [], ◌∷◌, ◌++◌, length, take, drop, Option, Some, None, sym, subst, arith}
 use Rattle.std.proofs.lemmas.List.{length-drop}
 use Rattle.mojom_ast.specs.declared.token.Sort.{Sort}
 use Rattle.mojom_ast.specs.declared.token.Token.{Token}
 use Rattle.mojom_lexer.specs.declared.pieces.Piece.{Piece}
 use Rattle.mojom_lexer.specs.Pieces.{IsPiece, IsLongest}
-use Rattle.mojom_lexer.specs.Lexed.{IsPassedOver, Spells, Reaches}
+use Rattle.mojom_lexer.specs.Lexed.{Reaches}
 use Rattle.mojom_lexer.specs.Lexed.Reaches.{starts, passes, takes}
 use Rattle.mojom_lexer.specs.Scans.{Means, Stands}
 use Rattle.mojom_lexer.proofs.FirstBytes.{none_empty}

@@ -1,5 +1,5 @@
 -- Bytes and what they may be in a file.
-use Rattle.std.specs.Prelude.{ℕ, ◌==◌, ◌&&◌, ◌||◌, nat_le, Bool, true, false, List, [], ◌∷◌}
+use Rattle.std.specs.Prelude.{ℕ, ◌==◌, ◌&&◌, ◌||◌, nat_le, Bool, false, List, [], ◌∷◌}
 use Rattle.std.specs.List.{list_all}
 
 -- blank space: a space, a tab, CR and LF

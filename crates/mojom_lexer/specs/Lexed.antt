@@ -1,5 +1,5 @@
 -- The tokens of a file, or the refusal of it.
-use Rattle.std.specs.Prelude.{ℕ, ◌≡◌, ◌<◌, ◌≤◌, ◌+◌, ◌^◌, ◌⊎◌, Bool, true, false, List, [], ◌∷◌, ◌++◌, length, take, drop, codes, Option, Some, None, Result, Ok, Err, IsUtf8, nat_eq, All, AllPairs}
+use Rattle.std.specs.Prelude.{ℕ, ◌≡◌, ◌<◌, ◌≤◌, ◌+◌, ◌^◌, ◌⊎◌, Bool, true, false, List, [], ◌∷◌, ◌++◌, length, take, drop, codes, Some, None, Ok, Err, IsUtf8, nat_eq, All, AllPairs}
 use Rattle.std.specs.List.{starts_with}
 use Rattle.std.specs.Str.Lossy.{utf8_valid_len}
 use Rattle.mojom_ast.specs.declared.token.Sort.{Sort}
@@ -62,9 +62,11 @@ HasLeadingZero bytes = (is_number bytes ≡ true) × (has_leading_zero bytes ≡
 abbrev pub IsTooLong : List ℕ → Type 0
 IsTooLong bytes = (is_number bytes ≡ true) × (has_leading_zero bytes ≡ false) × (2 ^ 64 ≤ number_value bytes)
 
+-- `/*` stands at the front
 abbrev pub begins_comment : List ℕ → Bool
 begins_comment bytes = starts_with nat_eq bytes (codes "/*")
 
+-- a quote stands at the front
 abbrev pub begins_string : List ℕ → Bool
 begins_string bytes = starts_with nat_eq bytes (codes "\"")
 
@@ -98,8 +100,9 @@ abbrev pub IsRefused : List ℕ → LexError → Type 0
 IsRefused bytes (BadUtf8 place) = ¬ IsUtf8 bytes × (place ≡ utf8_valid_len bytes)
 IsRefused bytes error = StopsAt bytes error
 
--- bytes have one list of tokens or one refusal, and never both
+-- bytes have just one list of tokens or just one refusal, and never both
 pub record OneReading (bytes : List ℕ) : Type 0 where
+  pub some : ((tokens : List Token) × AreTokens bytes tokens) ⊎ ((error : LexError) × IsRefused bytes error)
   pub one_list : (tokens others : List Token) → AreTokens bytes tokens → AreTokens bytes others → tokens ≡ others
   pub one_refusal : (error other : LexError) → IsRefused bytes error → IsRefused bytes other → error ≡ other
   pub never_both : (tokens : List Token) (error : LexError) → AreTokens bytes tokens → IsRefused bytes error → ⊥

@@ -1,5 +1,5 @@
 -- Numbers and their values.
-use Rattle.std.specs.Prelude.{ℕ, ◌+◌, ◌-◌, ◌*◌, ◌==◌, ◌&&◌, ◌||◌, nat_le, if◌then◌else◌, Bool, true, false, List, [], ◌∷◌, drop}
+use Rattle.std.specs.Prelude.{ℕ, ◌+◌, ◌-◌, ◌*◌, ◌==◌, ◌&&◌, ◌||◌, nat_le, if◌then◌else◌, Bool, false, List, [], ◌∷◌, drop}
 use Rattle.mojom_lexer.specs.Bytes.{is_digit, is_hex_digit, is_run}
 
 -- digits
@@ -12,6 +12,7 @@ is_hexadecimal [] = false
 is_hexadecimal (c ∷ []) = false
 is_hexadecimal (c ∷ x ∷ cs) = c == 48 && (x == 120 || x == 88) && is_run is_hex_digit cs
 
+-- a number, of either form
 abbrev pub is_number : List ℕ → Bool
 is_number bytes = is_decimal bytes || is_hexadecimal bytes
 

@@ -26,7 +26,7 @@ pub record IsBlockCommentOf (inside bytes : List ℕ) : Type 0 where
   pub is_spelled : bytes ≡ 47 ∷ 42 ∷ (inside ++ 42 ∷ 47 ∷ [])
   pub is_next : has_close (inside ++ 42 ∷ []) ≡ false
 
--- what stands at a place of a file
+-- what stands at a place of a file: blank space, a comment, a word, a number, a string or a symbol
 pub data Kind : Type 0 where
   Blank : Kind
   Comment : Kind

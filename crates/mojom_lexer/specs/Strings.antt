@@ -1,5 +1,5 @@
 -- Strings: how they are spelled, and what they stand for.
-use Rattle.std.specs.Prelude.{ℕ, ◌≡◌, ◌+◌, ◌==◌, ◌||◌, not, if◌then◌else◌, Bool, true, false, List, [], ◌∷◌, ◌++◌, length, Option, Some, None, Result, Ok, Err}
+use Rattle.std.specs.Prelude.{ℕ, ◌≡◌, ◌+◌, ◌==◌, ◌||◌, not, if◌then◌else◌, Bool, true, List, [], ◌∷◌, ◌++◌, length, Option, Some, None, Result, Ok, Err}
 use Rattle.std.specs.List.{list_all, flat_map}
 
 -- a part of a string: a byte that stands for itself, or a backslash and a byte
@@ -35,6 +35,7 @@ abbrev pub meaning : Part → Option ℕ
 meaning (Plain c) = Some c
 meaning (Escape c) = escaped c
 
+-- a part's byte, and then the text of the others; the first part that stands for nothing is at `at`, before theirs
 abbrev pub then_text : ℕ → Option ℕ → Result (List ℕ) ℕ → Result (List ℕ) ℕ
 then_text at None text = Err at
 then_text at (Some c) (Ok cs) = Ok (c ∷ cs)

@@ -46,7 +46,8 @@ fn tokens(alloc: Global, bytes: &[u8]) -> Result<Vec<Token>, LexError>
     Ok(tokens)
 }
 
-/// A file has one list of tokens or one refusal, and never both: this is a law and does nothing.
+/// A file has just one list of tokens or just one refusal, and never both: this is a law and does
+/// nothing.
 pub fn one_reading()
     ensures { (bytes : List ℕ) → OneReading bytes }
 {}

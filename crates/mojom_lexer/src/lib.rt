@@ -11,3 +11,6 @@ mod words;
 
 pub use error::LexError;
 pub use lexer::{in_order, lex, one_reading};
+
+#[cfg(test)]
+mod tests;

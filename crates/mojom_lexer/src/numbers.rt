@@ -43,7 +43,10 @@ fn hex_digits_len(bytes: &[u8]) -> usize
 fn begins_hexadecimal(bytes: &[u8]) -> bool
     ensures { result ≡ is_hexadecimal (take 3 bytes.now) }
 {
-    bytes.len() >= 3 && bytes[0] == b'0' && (bytes[1] == b'x' || bytes[1] == b'X') && is_hex_digit(bytes[2])
+    bytes.len() >= 3
+        && bytes[0] == b'0'
+        && (bytes[1] == b'x' || bytes[1] == b'X')
+        && is_hex_digit(bytes[2])
 }
 
 /// How long the number at the front is.

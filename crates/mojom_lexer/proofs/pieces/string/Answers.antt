@@ -1,4 +1,4 @@
-use Rattle.std.proofs.Common.{refl, sym, ◌∙◌, arith}
+use Rattle.std.proofs.Common.{refl}
 use Rattle.std.proofs.lemmas.Result.{err_from_is_err_and}
 use Rattle.mojom_lexer.proofs.Standing.{open_string, string_stands, bad_escape}
 use Rattle.mojom_lexer.proofs.pieces.string.Goals as goal
