@@ -1,5 +1,5 @@
 -- The tree that a rule makes of the values of its parts, which stand as pairs from left to right.
-use Rattle.std.specs.Prelude.{ℕ, Bool, true, false, Option, is_some, List, [], ◌∷◌}
+use Rattle.std.specs.Prelude.{ℕ, true, false, Option, is_some, List, [], ◌∷◌}
 use Rattle.mojom_ast.specs.declared.token.Token.{Token}
 use Rattle.mojom_ast.specs.declared.token.Sort.{Sort}
 use Rattle.mojom_ast.specs.declared.token.Sort.TheVariants as sorts

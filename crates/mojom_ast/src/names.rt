@@ -33,7 +33,14 @@ pub struct Name {
 #[derive(Drop)]
 pub enum Value {
     String(StringLiteral),
-    Bool { value: bool, span: Span },
-    Number { negative: bool, magnitude: u64, span: Span },
+    Bool {
+        value: bool,
+        span: Span,
+    },
+    Number {
+        negative: bool,
+        magnitude: u64,
+        span: Span,
+    },
     Name(Name),
 }

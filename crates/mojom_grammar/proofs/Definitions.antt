@@ -1,11 +1,11 @@
 -- The laws of definitions, put together as the rules are. The rule that spells has j levels of types, the one that reads k.
-use Rattle.std.proofs.Common.{◌≡◌, ℕ, List, [], ◌∷◌, refl}
+use Rattle.std.proofs.Common.{◌≡◌, ℕ, [], ◌∷◌, refl}
 use Rattle.mojom_ast.specs.declared.definitions.DefinitionItem.TheVariants as items
 use Rattle.mojom_ast.specs.declared.definitions.StructItem.TheVariants as struct_items
 use Rattle.mojom_ast.specs.declared.definitions.InterfaceItem.TheVariants as interface_items
 use Rattle.mojom_ast.specs.Trees.{inner, behind, make_const, make_enumerator, make_enum, make_field, make_struct_member, make_struct, make_union_field, make_union, make_parameter, make_method, make_interface_member, make_interface, make_definition}
 use Rattle.mojom_ast.specs.Lang.{times, commas, joined}
-use Rattle.mojom_ast.specs.Grammar.{identifier, number, string, dotted, name, ordinal, boolean, signed, value, assigned, attribute, bracketed, attributes, const_of, enumerator, enum_of, field, struct_item, struct_member, struct_of, union_field, union_of, parameter, next_parameter, parameters, response, method, interface_item, interface_member, interface_of, definition_item, definition, module_name, import_path}
+use Rattle.mojom_ast.specs.Grammar.{identifier, number, string, name, ordinal, boolean, signed, value, assigned, bracketed, attributes, const_of, enumerator, enum_of, field, struct_item, struct_member, struct_of, union_field, union_of, parameter, next_parameter, parameters, response, method, interface_item, interface_member, interface_of, definition_item, definition, module_name, import_path}
 use Rattle.mojom_grammar.proofs.Lists.{Good, good_tok, good_value, good_seq, good_or, good_maybe, good_many, good_list}
 use Rattle.mojom_grammar.proofs.Values.{good_identifier, good_string, good_name, good_ordinal, good_given, good_assigned, good_attributes}
 use Rattle.mojom_grammar.proofs.Types.{good_type}

@@ -1,5 +1,5 @@
 -- A front of a file's beginning is a beginning: rule by rule.
-use Rattle.std.proofs.Common.{ℕ, zero, suc, List, [], ◌∷◌}
+use Rattle.std.proofs.Common.{ℕ, zero, suc, [], ◌∷◌}
 use Rattle.std.specs.Prelude.{unwrap_or}
 use Rattle.mojom_ast.specs.declared.names.Value.TheVariants as values
 use Rattle.mojom_ast.specs.declared.types.HandleSort.TheVariants.{MessagePipe, DataPipeConsumer, DataPipeProducer, SharedBuffer, Platform}

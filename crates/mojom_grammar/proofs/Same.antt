@@ -1,18 +1,13 @@
 -- The rule of a file and the factored one are one.
-use Rattle.std.proofs.Common.{◌≡◌, ℕ, zero, suc, List, [], ◌∷◌, Some, None, ◌⊎◌, inl, inr}
+use Rattle.std.proofs.Common.{ℕ, zero, suc, List, [], ◌∷◌, Some, None, ◌⊎◌, inl, inr}
 use Rattle.mojom_ast.specs.declared.token.Token.{Token}
-use Rattle.mojom_ast.specs.declared.names.Name.{Name}
-use Rattle.mojom_ast.specs.declared.names.StringLiteral.{StringLiteral}
-use Rattle.mojom_ast.specs.declared.attributes.Attribute.{Attribute}
-use Rattle.mojom_ast.specs.declared.definitions.Definition.{Definition}
 use Rattle.mojom_ast.specs.declared.file.File.{File}
-use Rattle.mojom_ast.specs.declared.file.Import.{Import}
 use Rattle.mojom_ast.specs.declared.file.ModuleStatement.{ModuleStatement}
-use Rattle.mojom_ast.specs.Trees.{make_definition, make_module, make_import, make_file}
-use Rattle.mojom_ast.specs.Lang.{Lang, Mode, ◌▹◌, times, many}
-use Rattle.mojom_ast.specs.Grammar.{attributes, definition_item, definition, module_name, module_of, import_path, import_of, file}
-use Rattle.mojom_grammar.specs.Factored.{Statements, ModuleLine, OtherLine, opened_by, attributed, definition_line, import_line, module_line, statement, statements, opening, factored}
-use Rattle.mojom_grammar.proofs.Plain.{Plain, plain_attributes, plain_module_name, plain_module, plain_import_path, plain_import, plain_times, decide}
+use Rattle.mojom_ast.specs.Trees.{make_module, make_import, make_file}
+use Rattle.mojom_ast.specs.Lang.{Mode, times, many}
+use Rattle.mojom_ast.specs.Grammar.{definition, module_name, module_of, import_path, import_of, file}
+use Rattle.mojom_grammar.specs.Factored.{Statements, OtherLine, opened_by, attributed, definition_line, import_line, module_line, statement, statements, opening, factored}
+use Rattle.mojom_grammar.proofs.Plain.{plain_attributes, plain_module_name, plain_module, plain_import_path, plain_import, plain_times, decide}
 
 module _ (k : ℕ) (m : Mode) where
   -- imports and then definitions, as the grammar has them
@@ -26,8 +21,8 @@ module _ (k : ℕ) (m : Mode) where
   lines_of (suc n) l K ts (inl h) = elim (decide plain_attributes m (λ a. (definition_line l k).followed m (λ s. K (attributed a s))) (λ a. (import_line (statements n l k)).followed m (λ s. K (attributed a s))) ts h) [
     | inl d ↦ inr (inl d)
     | inr i ↦ inl (plain_attributes.weaken m (λ a. import_path.followed m (λ p. (statements n l k).followed m (λ r. K (make_import (a, p) ∷ r.0, r.1)))) (λ a. import_path.followed m (λ p. Lines n (suc l) (λ r. K (make_import (a, p) ∷ r.0, r.1))))
-      (λ a q x. plain_import_path.weaken m (λ p. (statements n l k).followed m (λ r. K (make_import (a, p) ∷ r.0, r.1))) (λ p. Lines n (suc l) (λ r. K (make_import (a, p) ∷ r.0, r.1)))
-      (λ p z y. lines_of n l (λ r. K (make_import (a, p) ∷ r.0, r.1)) z y) q x) ts i)
+        (λ a q x. plain_import_path.weaken m (λ p. (statements n l k).followed m (λ r. K (make_import (a, p) ∷ r.0, r.1))) (λ p. Lines n (suc l) (λ r. K (make_import (a, p) ∷ r.0, r.1)))
+        (λ p z y. lines_of n l (λ r. K (make_import (a, p) ∷ r.0, r.1)) z y) q x) ts i)
   ]
 
   -- only definitions
@@ -91,7 +86,7 @@ module _ (k : ℕ) (m : Mode) where
   opening_of n l K ts (inr h) = inr (all_lines zero l (Without K) ts h)
   opening_of n l K ts (inl h) = elim (decide plain_attributes m (λ a. (module_line (statements n l k)).followed m (λ s. K (opened_by a s))) (λ a. (statement (statements n l k) l k).followed m (λ s. K (opened_by a (OtherLine s)))) ts h) [
     | inl x ↦ inl (plain_attributes.weaken m (λ a. module_name.followed m (λ x. (statements n l k).followed m (After K (make_module (a, x))))) (λ a. module_name.followed m (λ x. AllLines (After K (make_module (a, x)))))
-      (λ a q y. plain_module_name.weaken m (λ x. (statements n l k).followed m (After K (make_module (a, x)))) (λ x. AllLines (After K (make_module (a, x)))) (λ x r z. all_lines n l (After K (make_module (a, x))) r z) q y) ts x)
+        (λ a q y. plain_module_name.weaken m (λ x. (statements n l k).followed m (After K (make_module (a, x)))) (λ x. AllLines (After K (make_module (a, x)))) (λ x r z. all_lines n l (After K (make_module (a, x))) r z) q y) ts x)
     | inr s ↦ inr (all_lines (suc n) l (Without K) ts (inl s))
   ]
 

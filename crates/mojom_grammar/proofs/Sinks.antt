@@ -1,5 +1,5 @@
 -- What ends with a type too deep is a beginning with one more level of types.
-use Rattle.std.proofs.Common.{◌≡◌, ℕ, zero, suc, List, [], ◌∷◌, Option, Some, None, inl, inr}
+use Rattle.std.proofs.Common.{ℕ, zero, suc, List, [], ◌∷◌, Some, None, inl, inr}
 use Rattle.mojom_ast.specs.declared.token.Token.{Token}
 use Rattle.mojom_ast.specs.Lang.{Lang, Begun, Deep, tok, ◌▹◌, as_value, ◌or◌, maybe, times, commas, joined, listed, many, list}
 

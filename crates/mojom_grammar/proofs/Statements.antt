@@ -1,13 +1,12 @@
 -- The laws of the factored rule of a file.
 use Rattle.std.proofs.Common.{◌≡◌, Ok, ℕ, zero, suc, ◌-◌, ◌≤◌, ◌<◌, List, [], ◌∷◌, ◌++◌, length, true, false, Some, cond, inl, inr, refl, subst, arith, length-append}
 use Rattle.mojom_ast.specs.declared.token.Token.{Token}
-use Rattle.mojom_ast.specs.Classes.{class}
-use Rattle.mojom_ast.specs.Lang.{Lang, Mode, has, ◌▹◌, as_value, maybe, maybe_read, times, any}
+use Rattle.mojom_ast.specs.Lang.{Lang, has, ◌▹◌, as_value, maybe, maybe_read, times, any}
 use Rattle.mojom_ast.specs.Grammar.{attributes, bracketed, definition_item, definition, struct_of, union_of, enum_of, interface_of, const_of, module_name, import_path}
 use Rattle.mojom_grammar.specs.Factored.{Statements, DefinitionLine, ImportLine, ModuleLine, OtherLine, definition_line, import_line, module_line, first_statement, gathered, opened, definition_starts, statement_starts, marked, statement, statements, opening, factored}
 use Rattle.mojom_grammar.proofs.Tells.{Tells, tells_value, tells_seq, tells_or, tells_maybe, tells_times, tells_any}
 use Rattle.mojom_grammar.proofs.Opens.{Front, Opens, opens_value, opens_seq, opens_or, opens_maybe}
-use Rattle.mojom_grammar.proofs.Finds.{Fits, Finds, cut, cut_of, value_outcome, finds_value, finds_seq, finds_or, skipped, finds_maybe, lacks_left}
+use Rattle.mojom_grammar.proofs.Finds.{Finds, cut, cut_of, value_outcome, finds_value, finds_seq, finds_or, skipped, finds_maybe, lacks_left}
 use Rattle.mojom_grammar.proofs.Lists.{Good, takes, shorter, lacks_both, lacks_cond, finds_more, fits_map, opens_all, finds_times, opens_any}
 use Rattle.mojom_grammar.proofs.Values.{good_attributes}
 use Rattle.mojom_grammar.proofs.Definitions.{good_definition_item, good_definition, good_module_name, good_import_path}

@@ -1,13 +1,13 @@
 -- The laws of types, put together as the rules are.
-use Rattle.std.proofs.Common.{◌≡◌, ℕ, zero, suc, List, [], ◌∷◌, ◌++◌, length, Err, true, false, inl, inr, refl, subst, arith}
+use Rattle.std.proofs.Common.{◌≡◌, ℕ, zero, suc, List, [], ◌∷◌, ◌++◌, length, Err, false, inl, inr, refl, subst, arith}
 use Rattle.mojom_ast.specs.declared.fault.Fault.TheVariants.{Unexpected, TooNested}
 use Rattle.mojom_ast.specs.declared.types.HandleSort.TheVariants.{MessagePipe, DataPipeConsumer, DataPipeProducer, SharedBuffer, Platform}
 use Rattle.mojom_ast.specs.declared.types.PendingSort.TheVariants.{Remote, Receiver, AssociatedRemote, AssociatedReceiver}
-use Rattle.mojom_ast.specs.Classes.{class, identifiers}
+use Rattle.mojom_ast.specs.Classes.{class}
 use Rattle.mojom_ast.specs.TypeTrees.{TypeTree, Named, HandleOf}
 use Rattle.mojom_ast.specs.Trees.{inner, behind, make_array, make_map, make_pending, make_type}
-use Rattle.mojom_ast.specs.Lang.{Lang, Whole, Begun, Deep, has, deep, labelled, times}
-use Rattle.mojom_ast.specs.Grammar.{identifier, number, dotted, name, handle_sort, sort_given, handle, pending_sort, pending, count, array, map_of, base, type_starts, type_at, type_within}
+use Rattle.mojom_ast.specs.Lang.{Lang, Whole, Begun, Deep, has, deep, labelled}
+use Rattle.mojom_ast.specs.Grammar.{identifier, number, name, handle_sort, sort_given, handle, pending_sort, pending, count, array, map_of, base, type_starts, type_at, type_within}
 use Rattle.mojom_grammar.proofs.Tells.{Tells, tells_deep}
 use Rattle.mojom_grammar.proofs.Opens.{Front, Opens, opens_deep}
 use Rattle.mojom_grammar.proofs.Finds.{Passes, Finds, cut, cut_of, front_has, pick_true}
@@ -146,4 +146,3 @@ good_type_at (suc j) (suc k) = good_asked (λ (e : suc j ≡ suc k). omega arith
 
 pub good_type : (j k : ℕ) → Good (j ≡ k) type_more (type_within j) (type_within k)
 good_type j k = good_labelled type_starts (good_type_at j k) (type_at_starts j) (type_at_starts k) (type_at_null j) (type_at_null k)
-

@@ -1,5 +1,5 @@
 -- The laws of names, values and attributes, put together as the rules are.
-use Rattle.std.proofs.Common.{◌≡◌, List, [], ◌∷◌, refl}
+use Rattle.std.proofs.Common.{[], ◌∷◌, refl}
 use Rattle.std.specs.Prelude.{unwrap_or}
 use Rattle.mojom_ast.specs.declared.names.Value.TheVariants as values
 use Rattle.mojom_ast.specs.Classes.{identifiers}

@@ -6,7 +6,6 @@ use Rattle.mojom_ast.specs.declared.fault.Fault.TheVariants.{Unexpected, TooNest
 use Rattle.mojom_ast.specs.declared.file.File.{File}
 use Rattle.mojom_ast.specs.declared.token.Token.{Token}
 use Rattle.mojom_ast.specs.Lang.{Begun, Deep, Whole, Read}
-use Rattle.mojom_ast.specs.Grammar.{file}
 use Rattle.mojom_ast.specs.Parsed.{Spells, Begins, EndsTooDeep}
 use Rattle.mojom_grammar.specs.Factored.{factored}
 use Rattle.mojom_grammar.proofs.Finds.{Passes}

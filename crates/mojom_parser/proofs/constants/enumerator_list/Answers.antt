@@ -1,7 +1,6 @@
-use Rattle.std.proofs.Common.{◌≡◌, ◌++◌, ◌∷◌, [], List, length, false, refl, sym, ◌∙◌}
+use Rattle.std.proofs.Common.{◌≡◌, List, length, false, refl, sym, ◌∙◌}
 use Rattle.std.proofs.lemmas.Result.{err_from_is_err_and}
 use Rattle.mojom_ast.specs.declared.token.Token.{Token}
-use Rattle.mojom_ast.specs.Classes.{identifiers}
 use Rattle.mojom_ast.specs.Lang.{commas, list, front_in}
 use Rattle.mojom_ast.specs.Grammar.{enumerator, attributes, bracketed, identifier}
 use Rattle.mojom_parser.proofs.Loops.{goes_on, ends, halts, finishes, is_done, commas_on, commas_last, commas_off, commas_end, commas_none}

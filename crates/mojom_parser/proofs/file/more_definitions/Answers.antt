@@ -1,7 +1,6 @@
-use Rattle.std.proofs.Common.{◌≡◌, ◌++◌, ◌∷◌, [], List, length, false, refl, sym, ◌∙◌}
+use Rattle.std.proofs.Common.{◌≡◌, List, false, refl, sym, ◌∙◌}
 use Rattle.std.proofs.lemmas.Result.{err_from_is_err_and}
 use Rattle.mojom_ast.specs.declared.token.Token.{Token}
-use Rattle.mojom_ast.specs.Classes.{identifiers}
 use Rattle.mojom_ast.specs.Lang.{times, front_in}
 use Rattle.mojom_ast.specs.Grammar.{definition, attributes, bracketed, definition_item, struct_of, union_of, enum_of, interface_of, const_of}
 use Rattle.mojom_grammar.specs.Factored.{definition_starts}

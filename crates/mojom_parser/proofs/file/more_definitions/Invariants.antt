@@ -1,7 +1,6 @@
-use Rattle.std.proofs.Common.{◌≡◌, length, ◌-◌}
+use Rattle.std.proofs.Common.{◌≡◌, ◌-◌}
 use Rattle.mojom_ast.specs.Lang.{times}
 use Rattle.mojom_ast.specs.Grammar.{definition}
-use Rattle.mojom_grammar.specs.Factored.{definition_starts}
 use Rattle.mojom_parser.specs.Reading.{with_front}
 use Rattle.mojom_parser.proofs.file.more_definitions.Given as goal
 

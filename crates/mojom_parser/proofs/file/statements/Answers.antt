@@ -1,4 +1,4 @@
-use Rattle.std.proofs.Common.{◌≡◌, List, [], Ok, sym, ap, ◌∙◌}
+use Rattle.std.proofs.Common.{List, [], Ok, sym, ap, ◌∙◌}
 use Rattle.std.proofs.lemmas.Result.{err_from_is_err_and}
 use Rattle.mojom_ast.specs.declared.definitions.Definition.{Definition}
 use Rattle.mojom_ast.specs.Trees.{make_import}

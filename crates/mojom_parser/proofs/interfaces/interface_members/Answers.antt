@@ -1,10 +1,7 @@
-use Rattle.std.proofs.Common.{◌≡◌, ◌++◌, ◌∷◌, [], List, length, false, refl, sym, ◌∙◌}
+use Rattle.std.proofs.Common.{◌≡◌, length, false, refl, sym, ◌∙◌}
 use Rattle.std.proofs.lemmas.Result.{err_from_is_err_and}
-use Rattle.mojom_ast.specs.declared.token.Token.{Token}
-use Rattle.mojom_ast.specs.Classes.{identifiers}
-use Rattle.mojom_ast.specs.Lang.{times, many, front_in}
+use Rattle.mojom_ast.specs.Lang.{times, many}
 use Rattle.mojom_ast.specs.Grammar.{interface_member, interface_member, attributes, bracketed, interface_item, const_of, enum_of, method, identifier}
-use Rattle.mojom_parser.specs.Reading.{with_front}
 use Rattle.mojom_parser.proofs.Loops.{goes_on, ends, halts, is_done, times_on, times_off, times_end, times_none}
 use Rattle.mojom_parser.proofs.interfaces.interface_members.Goals as goal
 

@@ -1,7 +1,6 @@
-use Rattle.std.proofs.Common.{◌≡◌, ◌++◌, ◌∷◌, [], List, length, false, refl, sym, ◌∙◌}
+use Rattle.std.proofs.Common.{◌≡◌, ◌∷◌, [], List, length, false, refl, sym, ◌∙◌}
 use Rattle.std.proofs.lemmas.Result.{err_from_is_err_and}
 use Rattle.mojom_ast.specs.declared.token.Token.{Token}
-use Rattle.mojom_ast.specs.Classes.{identifiers}
 use Rattle.mojom_ast.specs.Lang.{times, many, front_in}
 use Rattle.mojom_ast.specs.Grammar.{dotted, dotted}
 use Rattle.mojom_parser.specs.Reading.{with_front}
