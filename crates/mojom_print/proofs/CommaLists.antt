@@ -1,14 +1,13 @@
 -- Lists with commas: a last comma is as none, and one behind each item is as one between them.
-use Rattle.std.proofs.Common.{◌≡◌, ℕ, zero, suc, List, [], ◌∷◌, ◌++◌, Option, Some, None, inl, inr, ◌⊎◌, refl, sym, ◌∙◌, ap, subst, append_assoc}
+use Rattle.std.proofs.Common.{◌≡◌, ℕ, zero, suc, List, [], ◌∷◌, ◌++◌, Option, Some, None, inl, inr, refl, sym, subst, append_assoc}
 use Rattle.std.specs.Prelude.{map}
 use Rattle.std.specs.Option.{option_map}
 use Rattle.std.specs.List.{flat_map}
-use Rattle.std.proofs.lemmas.List.{append-nil}
 use Rattle.mojom_ast.specs.declared.token.Symbol.TheVariants.{Comma}
 use Rattle.mojom_ast.specs.declared.token.Sort.{Sort}
 use Rattle.mojom_ast.specs.declared.token.Sort.TheVariants as sorts
 use Rattle.mojom_ast.specs.declared.token.Token.{Token}
-use Rattle.mojom_ast.specs.Lang.{Lang, Whole, symbol, ◌▹◌, as_value, maybe, commas, list, listed, after_comma}
+use Rattle.mojom_ast.specs.Lang.{Lang, Whole, symbol, ◌▹◌, maybe, commas, list, listed, after_comma}
 use Rattle.mojom_print.specs.Unplaced.{nowhere}
 use Rattle.mojom_print.proofs.Shows.{sort_of, token_off, both_off, Shows, shows_tok, shows_sorts, shows_seq, shows_value, shows_some, shows_none, shows_no_commas, shows_list}
 use Rattle.mojom_print.proofs.Prints.{AllLexical, lexical_both, Printed, Prints, prints_symbol}

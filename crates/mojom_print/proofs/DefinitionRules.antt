@@ -1,8 +1,7 @@
 -- Definitions and files show what spells them again.
-use Rattle.std.proofs.Common.{◌≡◌, ℕ, zero, suc, List, [], ◌∷◌, ◌++◌, Option, Some, None, refl, sym, ◌∙◌, ap, subst}
+use Rattle.std.proofs.Common.{◌≡◌, ℕ, List, ◌++◌, Option, Some, None, refl, ap}
 use Rattle.std.specs.Prelude.{map}
 use Rattle.std.specs.Option.{option_map}
-use Rattle.std.specs.List.{flat_map}
 use Rattle.mojom_ast.specs.declared.token.Keyword.TheVariants as keywords
 use Rattle.mojom_ast.specs.declared.token.Symbol.TheVariants.{Semicolon, OpenParen, CloseParen, OpenBrace, CloseBrace, Comma, Equals, Arrow}
 use Rattle.mojom_ast.specs.declared.definitions.DefinitionItem.TheVariants as items
@@ -13,7 +12,7 @@ use Rattle.mojom_ast.specs.Lang.{joined}
 use Rattle.mojom_ast.specs.Trees.{inner, behind, make_const, make_enumerator, make_enum, make_field, make_struct_member, make_struct, make_union_field, make_union, make_parameter, make_method, make_interface_member, make_interface, make_definition, make_module, make_import, make_file}
 use Rattle.mojom_ast.specs.Grammar.{const_of, enumerator, enum_of, field, struct_item, struct_member, struct_of, union_field, union_of, parameter, next_parameter, parameters, response, method, interface_item, interface_member, interface_of, definition_item, definition, module_name, module_of, import_path, import_of, file}
 use Rattle.mojom_print.specs.Unplaced.{const_unplaced, enumerator_unplaced, enum_unplaced, field_unplaced, struct_item_unplaced, struct_member_unplaced, struct_unplaced, union_field_unplaced, union_unplaced, parameter_unplaced, method_unplaced, interface_item_unplaced, interface_member_unplaced, interface_unplaced, definition_item_unplaced, definition_unplaced, name_unplaced, string_unplaced, module_unplaced, import_unplaced, unplaced}
-use Rattle.mojom_print.proofs.Shows.{token_off, both_off}
+use Rattle.mojom_print.proofs.Shows.{both_off}
 use Rattle.mojom_print.proofs.Prints.{AllLexical, Prints, prints_keyword, prints_symbol, ◌then◌, prints_value, ◌or_else◌, option_sorts, prints_maybe, prints_many}
 use Rattle.mojom_print.proofs.CommaLists.{comma, between, led, prints_comma_ended}
 use Rattle.mojom_print.proofs.Sorts.{key, sign, name_sorts, string_sorts, const_sorts, enumerator_sorts, enum_sorts, field_sorts, struct_item_sorts, struct_member_sorts, struct_sorts, union_field_sorts, union_sorts, parameter_sorts, parameters_sorts, response_sorts, method_sorts, interface_item_sorts, interface_member_sorts, interface_sorts, definition_item_sorts, definition_sorts, module_sorts, import_sorts, file_sorts}

@@ -1,7 +1,7 @@
 -- The texts of definitions and files are the tokens that they show.
-use Rattle.std.proofs.Common.{◌≡◌, ℕ, ◌+◌, List, [], ◌∷◌, ◌++◌, Option, Some, None, refl, sym, append_assoc, codes}
+use Rattle.std.proofs.Common.{ℕ, ◌+◌, List, [], ◌∷◌, ◌++◌, Option, Some, None, refl, sym, append_assoc, codes}
 use Rattle.mojom_ast.specs.declared.token.Sort.TheVariants as sorts
-use Rattle.mojom_ast.specs.declared.token.Symbol.TheVariants.{Comma, Semicolon, CloseBrace}
+use Rattle.mojom_ast.specs.declared.token.Symbol.TheVariants.{Comma}
 use Rattle.mojom_ast.specs.declared.definitions.Definition.{Definition}
 use Rattle.mojom_ast.specs.declared.definitions.DefinitionItem.{DefinitionItem}
 use Rattle.mojom_ast.specs.declared.definitions.DefinitionItem.TheVariants as items
@@ -35,7 +35,7 @@ use Rattle.mojom_print.proofs.Lexes.{Tells, none, ◌then◌, tells_sorts, fresh
 use Rattle.mojom_print.proofs.WordTexts.{identifier_tells}
 use Rattle.mojom_print.proofs.StringTexts.{string_tells}
 use Rattle.mojom_print.proofs.SignTexts.{end_line, comma_line, comma_blank, open_paren, close_paren, open_block, close_block, equals_blanks, arrow_blanks, const_blank, enum_blank, struct_blank, union_blank, interface_blank, module_blank, import_blank, indent_tells}
-use Rattle.mojom_print.proofs.Sorts.{const_sorts, enumerator_sorts, enum_sorts, field_sorts, struct_item_sorts, struct_member_sorts, struct_sorts, union_field_sorts, union_sorts, parameter_sorts, parameters_sorts, response_sorts, method_sorts, interface_item_sorts, interface_member_sorts, interface_sorts, definition_item_sorts, definition_sorts, module_sorts, import_sorts, file_sorts, attributes_sorts, assigned_sorts, ordinal_sorts, identifier_sorts, sign, value_sorts}
+use Rattle.mojom_print.proofs.Sorts.{const_sorts, enumerator_sorts, enum_sorts, field_sorts, struct_item_sorts, struct_member_sorts, struct_sorts, union_field_sorts, union_sorts, parameter_sorts, parameters_sorts, response_sorts, method_sorts, interface_item_sorts, interface_member_sorts, interface_sorts, definition_item_sorts, definition_sorts, module_sorts, import_sorts, file_sorts, attributes_sorts, assigned_sorts, identifier_sorts}
 use Rattle.mojom_print.proofs.ValueTexts.{name_tells, value_tells, ordinal_tells, assigned_tells, attribute_line_tells, attributes_before_tells, declared_then}
 
 const_tells : (depth : ℕ) (c : Const) → Tells none none (const_text depth c) (const_sorts c)

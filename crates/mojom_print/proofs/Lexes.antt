@@ -1,15 +1,13 @@
 -- The tokens of bytes, piece by piece from the front; and of texts, whatever follows them.
-use Rattle.std.proofs.Common.{◌≡◌, ℕ, zero, suc, ◌+◌, ◌-◌, ◌≤◌, ◌<◌, List, [], ◌∷◌, ◌++◌, length, take, drop, Bool, true, false, not, ◌&&◌, Option, Some, None, refl, sym, ◌∙◌, ap, subst, append_assoc, length-append, arith}
-use Rattle.std.specs.Prelude.{map, IsUtf8}
+use Rattle.std.proofs.Common.{◌≡◌, ℕ, zero, suc, ◌≤◌, ◌<◌, List, [], ◌∷◌, ◌++◌, length, take, Bool, true, false, not, refl, sym, subst, append_assoc, arith}
+use Rattle.std.specs.Prelude.{IsUtf8}
 use Rattle.std.specs.Str.{IsAscii}
 use Rattle.std.proofs.lemmas.Bool.Decides.{nat_tests}
 use Rattle.std.proofs.lemmas.Str.{IsUtf8-nil, IsUtf8-append, IsUtf8-from_ascii}
 use Rattle.std.proofs.Common.{lit<}
 use Rattle.std.specs.List.{list_all, flat_map}
-use Rattle.std.proofs.Math.Seq.{take-append_seam}
-use Rattle.std.proofs.lemmas.List.{append-nil}
 use Rattle.mojom_ast.specs.declared.token.Sort.{Sort}
-use Rattle.mojom_lexer.specs.Bytes.{is_blank, goes_on}
+use Rattle.mojom_lexer.specs.Bytes.{is_blank}
 use Rattle.mojom_lexer.specs.Pieces.{IsLongest}
 use Rattle.mojom_lexer.specs.Lexed.{Spells}
 use Rattle.mojom_lexer.proofs.Runs.{left, right}

@@ -1,5 +1,5 @@
 -- The decimal text of a number is its token.
-use Rattle.std.proofs.Common.{◌≡◌, ℕ, zero, suc, ◌+◌, ◌-◌, ◌*◌, ◌/◌, ◌%◌, ◌^◌, ◌≤◌, ◌<◌, List, [], ◌∷◌, ◌++◌, length, take, drop, get_or, Bool, true, false, not, cond, ◌==◌, ◌&&◌, ◌||◌, nat_eq, refl, sym, ◌∙◌, ap, subst, arith}
+use Rattle.std.proofs.Common.{◌≡◌, ℕ, zero, suc, ◌+◌, ◌*◌, ◌/◌, ◌%◌, ◌^◌, ◌≤◌, ◌<◌, List, [], ◌∷◌, ◌++◌, length, take, get_or, Bool, true, false, not, ◌==◌, ◌&&◌, ◌||◌, nat_eq, refl, sym, ◌∙◌, ap, subst, arith}
 use Rattle.std.specs.Prelude.{decimal, nat_lt, nat_le}
 use Rattle.std.specs.List.{list_all}
 use Rattle.std.proofs.Math.Seq.{take-append_seam}
@@ -8,15 +8,14 @@ use Rattle.std.proofs.lemmas.Fmt.{decimal_by_steps, decimal_nonempty, decimal_di
 use Rattle.std.proofs.lemmas.Str.{IsUtf8-from_ascii}
 use Rattle.mojom_ast.specs.declared.token.Sort.{Sort}
 use Rattle.mojom_ast.specs.declared.token.Sort.TheVariants as sorts
-use Rattle.mojom_lexer.specs.Bytes.{is_letter, is_digit, is_hex_digit, goes_on, is_run}
-use Rattle.mojom_lexer.specs.Numbers.{is_decimal, is_hexadecimal, is_number, has_leading_zero, digit_value, value_from, number_value}
-use Rattle.mojom_lexer.specs.Pieces.{Kind, Is, IsLongest}
+use Rattle.mojom_lexer.specs.Bytes.{is_digit, is_hex_digit, goes_on, is_run}
+use Rattle.mojom_lexer.specs.Numbers.{is_decimal, is_hexadecimal, is_number, has_leading_zero, digit_value, value_from}
+use Rattle.mojom_lexer.specs.Pieces.{IsLongest}
 use Rattle.mojom_lexer.specs.Pieces.Kind.{Numeral}
-use Rattle.mojom_lexer.specs.Lexed.{Spells, IsNumber}
+use Rattle.mojom_lexer.specs.Lexed.{IsNumber}
 use Rattle.mojom_lexer.proofs.Runs.{left, right, both}
 use Rattle.mojom_lexer.proofs.FirstBytes.{first_tells, longest_of}
 use Rattle.mojom_lexer.proofs.RunFronts.{run_each}
-use Rattle.mojom_print.proofs.Prints.{AllLexical, Lexical}
 use Rattle.mojom_print.proofs.Lexes.{stops, run_stops, Lexes, token, Tells, none, stops_none}
 use Rattle.mojom_print.proofs.WordTexts.{whole_front, greater}
 

@@ -1,9 +1,8 @@
 -- A text says nothing of places.
-use Rattle.std.proofs.Common.{◌≡◌, ℕ, ◌+◌, List, [], ◌∷◌, ◌++◌, Bool, Option, Some, None, refl, sym, ◌∙◌, ap, codes}
+use Rattle.std.proofs.Common.{◌≡◌, ℕ, ◌+◌, List, [], ◌∷◌, ◌++◌, Option, Some, None, refl, sym, ◌∙◌, ap, codes}
 use Rattle.std.specs.Prelude.{map}
 use Rattle.std.specs.List.{flat_map}
 use Rattle.std.specs.Option.{option_map}
-use Rattle.mojom_ast.specs.declared.names.Identifier.{Identifier}
 use Rattle.mojom_ast.specs.declared.names.Number.{Number}
 use Rattle.mojom_ast.specs.declared.names.Name.{Name}
 use Rattle.mojom_ast.specs.declared.names.Value.{Value}
@@ -32,9 +31,9 @@ use Rattle.mojom_ast.specs.declared.file.File.{File}
 use Rattle.mojom_ast.specs.declared.file.ModuleStatement.{ModuleStatement}
 use Rattle.mojom_ast.specs.declared.file.Import.{Import}
 use Rattle.mojom_ast.specs.TypeTrees.{BaseTree, TypeTree, Named, ArrayOf, MapOf, HandleOf, PendingOf}
-use Rattle.mojom_print.specs.Words.{parted_by, name_text, value_text, ordinal_text, assigned_text, string_text, indent}
+use Rattle.mojom_print.specs.Words.{parted_by, name_text, value_text, ordinal_text, assigned_text, indent}
 use Rattle.mojom_print.specs.Attributes.{given_text, attribute_text, bracketed_text, attribute_line, attributes_before}
-use Rattle.mojom_print.specs.Types.{nullable_text, count_text, base_text, type_text, declared_text}
+use Rattle.mojom_print.specs.Types.{count_text, base_text, type_text}
 use Rattle.mojom_print.specs.Definitions.{const_text, enumerator_text, enum_text, field_text, struct_item_text, struct_member_text, struct_text, union_field_text, union_text}
 use Rattle.mojom_print.specs.Interfaces.{parameter_text, parameters_text, response_text, method_text, interface_item_text, interface_member_text, interface_text}
 use Rattle.mojom_print.specs.FileText.{module_text, import_text, definition_item_text, definition_text, file_text}
@@ -95,9 +94,6 @@ base_same (ArrayOf of n c) = let a = base_same of in let b = count_same c in cc
 base_same (MapOf k n v m) = let a = base_same k in let b = base_same v in cc
 base_same (HandleOf sort) = refl
 base_same (PendingOf sort name) = let a = name_same name in cc
-
-declared_same : (x : TypeTree) (name : List ℕ) → type_text (type_unplaced x) ++ name ≡ type_text x ++ name
-declared_same x name = let a = base_same x.base in cc
 
 const_same : (depth : ℕ) (x : Const) → const_text depth (const_unplaced x) ≡ const_text depth x
 unfolding const_text

@@ -1,19 +1,17 @@
 -- What a rule spells is spelled again by the sorts that its value shows.
-use Rattle.std.proofs.Common.{◌≡◌, ℕ, zero, suc, ◌+◌, List, [], ◌∷◌, ◌++◌, Option, Some, None, Bool, true, false, inl, inr, ◌⊎◌, refl, sym, ◌∙◌, ap, subst, append_assoc}
+use Rattle.std.proofs.Common.{◌≡◌, ℕ, zero, suc, List, [], ◌∷◌, ◌++◌, Option, Some, None, true, inl, inr, refl, ap, subst}
 use Rattle.std.specs.Prelude.{map, IsUtf8}
 use Rattle.std.specs.Option.{option_map}
 use Rattle.std.specs.List.{flat_map}
-use Rattle.std.proofs.lemmas.List.{append-nil}
 use Rattle.mojom_ast.specs.declared.token.Keyword.{Keyword}
 use Rattle.mojom_ast.specs.declared.token.Symbol.{Symbol}
-use Rattle.mojom_ast.specs.declared.token.Symbol.TheVariants.{Comma}
 use Rattle.mojom_ast.specs.declared.token.Sort.{Sort}
 use Rattle.mojom_ast.specs.declared.token.Sort.TheVariants as sorts
 use Rattle.mojom_ast.specs.declared.token.Token.{Token}
-use Rattle.mojom_ast.specs.Classes.{class, class_of, keyword_class, symbol_class}
-use Rattle.mojom_ast.specs.Lang.{Lang, Mode, Whole, has, tok, keyword, symbol, ◌▹◌, as_value, ◌or◌, maybe, times, commas, many, list, joined, listed, after_comma, labelled}
+use Rattle.mojom_ast.specs.Classes.{class, keyword_class, symbol_class}
+use Rattle.mojom_ast.specs.Lang.{Lang, Whole, has, tok, keyword, symbol, ◌▹◌, as_value, ◌or◌, maybe, times, many, joined}
 use Rattle.mojom_lexer.specs.Lexed.{Spells}
-use Rattle.mojom_print.proofs.Shows.{sort_of, token_off, both_off, Found, Shows, shows_tok, shows_sorts, shows_seq, shows_value, shows_left, shows_right, shows_some, shows_none, shows_no_times, shows_no_commas, shows_many, shows_list}
+use Rattle.mojom_print.proofs.Shows.{sort_of, token_off, both_off, Shows, shows_tok, shows_sorts, shows_seq, shows_value, shows_left, shows_right, shows_some, shows_none, shows_no_times, shows_many}
 use Rattle.mojom_print.proofs.FixedSorts.{keyword_sort, symbol_sort}
 
 -- what a string stands for is a text

@@ -1,5 +1,5 @@
 -- The text of a tree that a file's tokens spell is spelled again.
-use Rattle.std.proofs.Common.{◌≡◌, ℕ, List, [], ◌∷◌, ◌++◌, refl, sym, ◌∙◌, ap, subst}
+use Rattle.std.proofs.Common.{◌≡◌, ℕ, List, [], ◌∷◌, ◌++◌, refl, sym, ◌∙◌, subst}
 use Rattle.std.specs.Prelude.{map}
 use Rattle.std.proofs.lemmas.List.{append-nil}
 use Rattle.mojom_ast.specs.declared.token.Sort.{Sort}
@@ -12,10 +12,10 @@ use Rattle.mojom_print.specs.FileText.{file_text}
 use Rattle.mojom_print.specs.Unplaced.{unplaced}
 use Rattle.mojom_print.specs.Again.{SpellsWithin, SpelledAgain}
 use Rattle.mojom_print.proofs.Shows.{sort_of, Found, Shows}
-use Rattle.mojom_print.proofs.Prints.{AllLexical, Printed, Prints}
+use Rattle.mojom_print.proofs.Prints.{AllLexical, Printed}
 use Rattle.mojom_print.proofs.Sorts.{file_sorts}
 use Rattle.mojom_print.proofs.DefinitionRules.{prints_file}
-use Rattle.mojom_print.proofs.Lexes.{Lexes, ends, Tells}
+use Rattle.mojom_print.proofs.Lexes.{Lexes, ends}
 use Rattle.mojom_print.proofs.DefinitionTexts.{file_tells}
 use Rattle.mojom_print.proofs.Retold.{comma_lexical, tokens_lexical, HasTokens, has_tokens}
 

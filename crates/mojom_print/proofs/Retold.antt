@@ -1,27 +1,25 @@
 -- From the tokens of a file to their sorts, and from texts and sorts to tokens.
-use Rattle.std.proofs.Common.{◌≡◌, ℕ, zero, suc, ◌+◌, ◌-◌, ◌≤◌, ◌<◌, List, [], ◌∷◌, ◌++◌, length, take, drop, Bool, true, false, not, Option, Some, None, inl, inr, refl, sym, ◌∙◌, ap, subst, append_assoc, length-append, arith}
+use Rattle.std.proofs.Common.{◌≡◌, ℕ, ◌+◌, List, [], ◌∷◌, ◌++◌, length, take, drop, Bool, true, false, not, inl, refl, sym, ◌∙◌, ap, subst, append_assoc, length-append, arith}
 use Rattle.std.specs.Prelude.{map, is_some, IsUtf8}
 use Rattle.std.specs.List.{list_all, flat_map}
-use Rattle.std.proofs.Math.Seq.{take-append_seam, drop-append_seam, drop-length}
-use Rattle.std.proofs.lemmas.List.{append-nil, take-append-drop, map-append, drop-drop, length-drop}
+use Rattle.std.proofs.Math.Seq.{take-append_seam, drop-append_seam}
+use Rattle.std.proofs.lemmas.List.{append-nil, take-append-drop, map-append, drop-drop}
 use Rattle.mojom_ast.specs.declared.token.Sort.{Sort}
 use Rattle.mojom_ast.specs.declared.token.Sort.TheVariants as sorts
 use Rattle.mojom_ast.specs.declared.token.Token.{Token}
-use Rattle.mojom_ast.specs.declared.token.Symbol.TheVariants.{Comma}
 use Rattle.mojom_lexer.specs.Bytes.{is_blank, is_run}
 use Rattle.mojom_lexer.specs.Words.{single_symbol}
-use Rattle.mojom_lexer.specs.Strings.{Part, spelled, quoted, IsStringOf}
+use Rattle.mojom_lexer.specs.Strings.{Part, spelled, quoted}
 use Rattle.mojom_lexer.specs.Pieces.{Kind, Is, IsLongest}
 use Rattle.mojom_lexer.specs.Pieces.Kind.{Blank, Word, Numeral, Quoted, Sign}
-use Rattle.mojom_lexer.specs.Lexed.{IsPassedOver, Spells, Reaches, AreTokens}
+use Rattle.mojom_lexer.specs.Lexed.{Spells, Reaches, AreTokens}
 use Rattle.mojom_lexer.specs.Lexed.Reaches.{starts, passes, takes}
 use Rattle.mojom_lexer.proofs.Runs.{left, right, both}
 use Rattle.mojom_lexer.proofs.FirstBytes.{same_kind, first_tells, longest_of, none_empty}
 use Rattle.mojom_lexer.proofs.RunFronts.{run_each}
-use Rattle.mojom_lexer.proofs.Meanings.{passed_no_token}
 use Rattle.mojom_lexer.proofs.Steps.{token_at}
 use Rattle.mojom_print.proofs.Shows.{sort_of}
-use Rattle.mojom_print.proofs.Prints.{IsText, Lexical, AllLexical, lexical_both}
+use Rattle.mojom_print.proofs.Prints.{IsText, AllLexical, lexical_both}
 use Rattle.mojom_print.proofs.CommaLists.{comma}
 use Rattle.mojom_print.proofs.Lexes.{stops, run_stops, Lexes, ends, blank, token}
 use Rattle.mojom_print.proofs.WordTexts.{whole_front}

@@ -1,13 +1,11 @@
 -- Which sorts of tokens spell a value of a rule, wherever the tokens stand.
-use Rattle.std.proofs.Common.{◌≡◌, ℕ, zero, suc, ◌+◌, List, [], ◌∷◌, ◌++◌, Option, Some, None, Bool, true, false, inl, inr, ◌⊎◌, refl, sym, ◌∙◌, ap, subst, append_assoc}
+use Rattle.std.proofs.Common.{◌≡◌, ℕ, zero, suc, List, [], ◌∷◌, ◌++◌, Some, None, true, inl, inr, refl, sym, ◌∙◌, ap, subst, append_assoc}
 use Rattle.std.specs.Prelude.{map}
 use Rattle.std.specs.Option.{option_map}
-use Rattle.std.specs.List.{flat_map}
-use Rattle.std.proofs.lemmas.List.{append-nil}
 use Rattle.mojom_ast.specs.declared.token.Sort.{Sort}
 use Rattle.mojom_ast.specs.declared.token.Token.{Token}
 use Rattle.mojom_ast.specs.Classes.{class, class_of}
-use Rattle.mojom_ast.specs.Lang.{Lang, Mode, Whole, has, tok, ◌▹◌, as_value, ◌or◌, maybe, times, commas, many, list}
+use Rattle.mojom_ast.specs.Lang.{Lang, Mode, has, tok, ◌▹◌, as_value, ◌or◌, maybe, times, commas, many, list}
 use Rattle.mojom_print.specs.Unplaced.{nowhere}
 
 abbrev pub sort_of : Token → Sort

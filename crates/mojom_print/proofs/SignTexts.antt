@@ -1,16 +1,14 @@
 -- Signs, and the blanks round them.
-use Rattle.std.proofs.Common.{◌≡◌, ℕ, zero, suc, List, [], ◌∷◌, ◌++◌, Bool, true, false, not, refl, codes}
+use Rattle.std.proofs.Common.{◌≡◌, ℕ, zero, suc, [], ◌∷◌, ◌++◌, Bool, true, not, refl, codes}
 use Rattle.std.proofs.Common.{lit<}
-use Rattle.mojom_ast.specs.declared.token.Keyword as keyword
 use Rattle.mojom_ast.specs.declared.token.Keyword.TheVariants as keywords
 use Rattle.mojom_ast.specs.declared.token.Symbol.TheVariants.{Semicolon, Comma, Dot, OpenParen, CloseParen, OpenBracket, CloseBracket, OpenBrace, CloseBrace, Less, Greater, Equals, Arrow, Question, At, Minus}
 use Rattle.mojom_ast.specs.declared.token.Sort.TheVariants as sorts
 use Rattle.mojom_lexer.specs.Bytes.{goes_on}
 use Rattle.mojom_lexer.specs.Words.{keyword_of, single_symbol}
 use Rattle.mojom_print.specs.Words.{indent}
-use Rattle.mojom_print.proofs.Lexes.{Tells, none, ◌then◌, fresh, closed, nothing, blanks}
+use Rattle.mojom_print.proofs.Lexes.{Tells, none, ◌then◌, nothing, blanks}
 use Rattle.mojom_print.proofs.WordTexts.{word_tells, symbol_tells, equals_tells, arrow_tells, greater}
-use Rattle.mojom_print.proofs.NumberTexts.{after_value}
 use Rattle.mojom_print.proofs.Sorts.{key, sign}
 
 semicolon_sign : {p : ℕ → Bool} → not (p 59) ≡ true → Tells p none (59 ∷ []) (sign Semicolon)

@@ -1,5 +1,5 @@
 -- The sorts of the tokens that a tree shows.
-use Rattle.std.specs.Prelude.{ℕ, Bool, true, false, Option, Some, None, List, [], ◌∷◌, ◌++◌, codes}
+use Rattle.std.specs.Prelude.{Bool, true, false, List, [], ◌∷◌, ◌++◌}
 use Rattle.std.specs.List.{flat_map}
 use Rattle.mojom_ast.specs.declared.token.Sort.{Sort}
 use Rattle.mojom_ast.specs.declared.token.Sort.TheVariants as sorts
@@ -42,7 +42,7 @@ use Rattle.mojom_ast.specs.declared.file.Import.{Import}
 use Rattle.mojom_ast.specs.TypeTrees.{BaseTree, Named, ArrayOf, MapOf, HandleOf, PendingOf, TypeTree}
 use Rattle.mojom_print.specs.Types.{handle_sort_text}
 use Rattle.mojom_print.proofs.Prints.{option_sorts}
-use Rattle.mojom_print.proofs.CommaLists.{between, led, ended}
+use Rattle.mojom_print.proofs.CommaLists.{between, ended}
 
 abbrev pub key : keyword.Keyword → List Sort
 key k = sorts.Keyword k ∷ []

@@ -1,20 +1,18 @@
 -- The text of a string is its token.
-use Rattle.std.proofs.Common.{◌≡◌, ℕ, zero, suc, ◌+◌, ◌≤◌, ◌<◌, List, [], ◌∷◌, ◌++◌, length, take, drop, Bool, true, false, not, cond, ◌==◌, ◌&&◌, ◌||◌, Option, Some, None, Result, Ok, Err, refl, sym, ◌∙◌, ap, subst, append_assoc, length-append, arith, codes}
+use Rattle.std.proofs.Common.{◌≡◌, ℕ, suc, ◌+◌, List, [], ◌∷◌, ◌++◌, length, Bool, true, false, not, cond, ◌==◌, Option, Some, Result, Ok, refl, sym, ◌∙◌, ap, subst, append_assoc, length-append, arith}
 use Rattle.std.specs.Prelude.{map}
 use Rattle.std.specs.List.{list_all, flat_map}
-use Rattle.mojom_ast.specs.declared.token.Sort.{Sort}
 use Rattle.mojom_ast.specs.declared.token.Sort.TheVariants as sorts
-use Rattle.mojom_lexer.specs.Strings.{Part, spelled, is_part, quoted, IsStringOf, meaning, then_text, text_of}
+use Rattle.mojom_lexer.specs.Strings.{Part, spelled, is_part, IsStringOf, meaning, then_text, text_of}
 use Rattle.mojom_lexer.specs.Strings.Part.{Plain, Escape}
 use Rattle.mojom_lexer.specs.Pieces.{IsLongest}
-use Rattle.mojom_lexer.specs.Lexed.{Spells}
 use Rattle.mojom_lexer.specs.Scans.{before_quote}
 use Rattle.mojom_lexer.proofs.Runs.{both}
 use Rattle.mojom_lexer.proofs.FirstBytes.{eqb_same}
 use Rattle.mojom_lexer.proofs.QuoteFronts.{quote_again, quote_longest}
 use Rattle.mojom_print.specs.Words.{string_byte, string_text}
 use Rattle.mojom_print.proofs.Utf8Texts.{string_utf8}
-use Rattle.mojom_print.proofs.Lexes.{stops, Tells, none, one}
+use Rattle.mojom_print.proofs.Lexes.{Tells, none, one}
 
 part_by : (a b c d : Bool) → ℕ → Part
 part_by true b c d x = Escape 34

@@ -1,5 +1,5 @@
 -- Types show what spells them again.
-use Rattle.std.proofs.Common.{◌≡◌, ℕ, zero, suc, List, [], ◌∷◌, ◌++◌, Option, Some, None, Bool, true, false, refl, sym, ◌∙◌, ap, subst, codes}
+use Rattle.std.proofs.Common.{◌≡◌, ℕ, zero, suc, List, [], ◌∷◌, ◌++◌, Option, Some, None, refl, ap}
 use Rattle.std.specs.Prelude.{map, is_some}
 use Rattle.std.specs.Option.{option_map}
 use Rattle.mojom_ast.specs.declared.token.Keyword.TheVariants as keywords
@@ -9,19 +9,17 @@ use Rattle.mojom_ast.specs.declared.token.Sort.TheVariants as sorts
 use Rattle.mojom_ast.specs.declared.token.Token.{Token}
 use Rattle.mojom_ast.specs.declared.types.HandleSort.{HandleSort}
 use Rattle.mojom_ast.specs.declared.types.HandleSort.TheVariants.{MessagePipe, DataPipeConsumer, DataPipeProducer, SharedBuffer, Platform}
-use Rattle.mojom_ast.specs.declared.types.PendingSort.{PendingSort}
 use Rattle.mojom_ast.specs.declared.types.PendingSort.TheVariants.{Remote, Receiver, AssociatedRemote, AssociatedReceiver}
 use Rattle.mojom_ast.specs.TypeTrees.{BaseTree, Named, HandleOf, TypeTree}
-use Rattle.mojom_ast.specs.Classes.{class_of}
-use Rattle.mojom_ast.specs.Lang.{Lang, Whole, has, tok, labelled, deep}
+use Rattle.mojom_ast.specs.Lang.{Lang, Whole, tok, labelled, deep}
 use Rattle.mojom_ast.specs.Trees.{inner, behind, make_array, make_map, make_pending, make_type}
 use Rattle.mojom_ast.specs.Grammar.{handle_sort, sort_given, handle, pending_sort, pending, count, array, map_of, base, type_starts, type_at, type_within}
 use Rattle.mojom_print.specs.Types.{handle_sort_text}
-use Rattle.mojom_print.specs.Unplaced.{number_unplaced, name_unplaced, base_unplaced, type_unplaced}
-use Rattle.mojom_print.proofs.Shows.{sort_of, token_off, both_off, Found, Shows}
+use Rattle.mojom_print.specs.Unplaced.{number_unplaced, base_unplaced, type_unplaced}
+use Rattle.mojom_print.proofs.Shows.{sort_of, token_off, both_off, Found}
 use Rattle.mojom_print.proofs.FixedSorts.{sort_at, fixed_sort, message_pipe, data_pipe_consumer, data_pipe_producer, shared_buffer, platform}
 use Rattle.mojom_print.proofs.Prints.{AllLexical, Printed, Prints, prints_tok, prints_keyword, prints_symbol, ◌then◌, prints_value, ◌or_else◌, option_sorts, prints_maybe}
-use Rattle.mojom_print.proofs.Sorts.{key, sign, handle_sort_sorts, sort_given_sorts, pending_sort_sorts, count_sorts, nullable_sorts, base_sorts, type_sorts}
+use Rattle.mojom_print.proofs.Sorts.{sign, handle_sort_sorts, sort_given_sorts, pending_sort_sorts, count_sorts, nullable_sorts, base_sorts, type_sorts}
 use Rattle.mojom_print.proofs.ValueRules.{prints_number, prints_name}
 
 prints_word : (c : ℕ) (x : HandleSort) → sort_at c ≡ Some (sorts.Identifier (handle_sort_text x)) → Prints (tok (c ∷ [])) token_off (λ t. handle_sort_sorts x)

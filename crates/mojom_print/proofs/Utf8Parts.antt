@@ -1,17 +1,17 @@
 -- What a string of a file stands for is UTF-8.
-use Rattle.std.proofs.Common.{◌≡◌, ℕ, zero, suc, ◌+◌, ◌-◌, ◌≤◌, ◌<◌, List, [], ◌∷◌, ◌++◌, length, take, drop, get_or, Bool, true, false, not, cond, ◌==◌, ◌&&◌, Option, Some, None, Result, Ok, Err, refl, sym, ◌∙◌, ap, subst, append_assoc, arith, lit<}
-use Rattle.std.specs.Prelude.{IsUtf8, nat_le, nat_lt}
+use Rattle.std.proofs.Common.{◌≡◌, ℕ, zero, suc, ◌+◌, ◌≤◌, ◌<◌, List, [], ◌∷◌, ◌++◌, length, get_or, Bool, true, false, cond, ◌==◌, Option, Some, None, Result, Ok, Err, refl, sym, ◌∙◌, ap, subst, arith}
+use Rattle.std.specs.Prelude.{IsUtf8, nat_lt}
 use Rattle.std.specs.List.{list_all, flat_map}
-use Rattle.std.proofs.Math.Seq.{take-append_seam, drop-append_seam, drop-append-add, get_or-append_seam}
+use Rattle.std.proofs.Math.Seq.{take-append_seam, drop-append-add, get_or-append_seam}
 use Rattle.std.proofs.lemmas.Bool.Decides.{nat_tests}
-use Rattle.std.proofs.lemmas.List.{length-append, take-append-drop}
+use Rattle.std.proofs.lemmas.List.{length-append}
 use Rattle.std.proofs.lemmas.Str.{IsUtf8-nil, IsUtf8-append, IsUtf8-from_ascii, IsUtf8-take, IsUtf8-drop, IsCharBoundary-before_ascii, IsCharBoundary-after_ascii, encode_ascii}
 use lib.Utf8.{scalar, scalars, encode, encodes}
-use Rattle.mojom_lexer.specs.Strings.{Part, spelled, escaped, meaning, then_text, text_of}
+use Rattle.mojom_lexer.specs.Strings.{Part, spelled, escaped, then_text, text_of}
 use Rattle.mojom_lexer.specs.Strings.Part.{Plain, Escape}
 use Rattle.mojom_lexer.proofs.Runs.{left, right}
 use Rattle.mojom_lexer.proofs.FirstBytes.{eqb_same}
-use Rattle.mojom_print.proofs.Utf8Texts.{high, HighBytes, encode_high, high_bytes, one_char, one_ascii}
+use Rattle.mojom_print.proofs.Utf8Texts.{high, encode_high, high_bytes, one_char, one_ascii}
 
 -- a part was read
 record PartRead (m : Option ℕ) (rest : Result (List ℕ) ℕ) (text : List ℕ) : Type 0 where

@@ -1,18 +1,14 @@
 -- A text with its escapes, and an escaped text without them, are UTF-8 where the other is.
-use Rattle.std.proofs.Common.{◌≡◌, ℕ, zero, suc, ◌+◌, ◌/◌, ◌%◌, ◌≤◌, ◌<◌, List, [], ◌∷◌, ◌++◌, length, take, drop, get_or, Bool, true, false, not, cond, ◌==◌, ◌&&◌, Option, Some, None, Result, Ok, Err, refl, sym, ◌∙◌, ap, subst, append_assoc, arith, lit<}
+use Rattle.std.proofs.Common.{◌≡◌, ℕ, zero, suc, ◌+◌, ◌/◌, ◌%◌, ◌≤◌, ◌<◌, List, [], ◌∷◌, ◌++◌, Bool, true, false, cond, ◌==◌, ◌&&◌, refl, sym, ◌∙◌, ap, subst, arith, lit<}
 use Rattle.std.specs.Prelude.{IsUtf8, nat_le, nat_lt}
 use Rattle.std.specs.Str.{IsAscii}
 use Rattle.std.specs.List.{list_all, flat_map}
-use Rattle.std.proofs.Math.Seq.{take-append_seam}
 use Rattle.std.proofs.lemmas.Bool.Decides.{nat_tests}
 use Rattle.std.proofs.lemmas.List.{append-nil}
 use Rattle.std.proofs.lemmas.Grind.{flat_map-append}
 use Rattle.std.proofs.lemmas.Str.{IsUtf8-nil, IsUtf8-append, IsUtf8-from_ascii, encode_ascii}
 use lib.Utf8.{scalar, scalars, encode, encodes}
-use Rattle.mojom_lexer.specs.Strings.{Part, spelled, escaped, meaning, then_text, text_of}
-use Rattle.mojom_lexer.specs.Strings.Part.{Plain, Escape}
 use Rattle.mojom_lexer.proofs.Runs.{left, right, both}
-use Rattle.mojom_lexer.proofs.FirstBytes.{eqb_same}
 use Rattle.mojom_print.specs.Words.{string_byte}
 
 -- beyond ASCII

@@ -1,33 +1,25 @@
 -- Names, values, attributes and types show what spells them again.
-use Rattle.std.proofs.Common.{◌≡◌, ℕ, zero, suc, List, [], ◌∷◌, ◌++◌, Option, Some, None, Bool, true, false, refl, sym, ◌∙◌, ap, subst, inl, inr, ◌⊎◌, codes}
-use Rattle.std.specs.Prelude.{map, unwrap_or, IsUtf8, is_some}
+use Rattle.std.proofs.Common.{◌≡◌, List, [], ◌∷◌, Option, Some, None, refl, ap, inl, inr}
+use Rattle.std.specs.Prelude.{map, unwrap_or}
 use Rattle.std.specs.Option.{option_map}
-use Rattle.std.specs.List.{flat_map}
 use Rattle.mojom_ast.specs.declared.token.Keyword.TheVariants as keywords
-use Rattle.mojom_ast.specs.declared.token.Symbol.TheVariants.{Semicolon, Dot, OpenBracket, CloseBracket, Comma, Less, Greater, Equals, Question, At, Plus, Minus}
+use Rattle.mojom_ast.specs.declared.token.Symbol.TheVariants.{Dot, OpenBracket, CloseBracket, Equals, At, Plus, Minus}
 use Rattle.mojom_ast.specs.declared.token.Sort.{Sort}
 use Rattle.mojom_ast.specs.declared.token.Sort.TheVariants as sorts
 use Rattle.mojom_ast.specs.declared.token.Token.{Token}
-use Rattle.mojom_ast.specs.declared.names.Number.{Number}
 use Rattle.mojom_ast.specs.declared.names.Value.{Value}
 use Rattle.mojom_ast.specs.declared.names.Value.TheVariants as values
-use Rattle.mojom_ast.specs.declared.names.Name.{Name}
 use Rattle.mojom_ast.specs.declared.attributes.Attribute.{Attribute}
-use Rattle.mojom_ast.specs.declared.types.HandleSort.{HandleSort}
-use Rattle.mojom_ast.specs.declared.types.HandleSort.TheVariants.{MessagePipe, DataPipeConsumer, DataPipeProducer, SharedBuffer, Platform}
-use Rattle.mojom_ast.specs.declared.types.PendingSort.{PendingSort}
-use Rattle.mojom_ast.specs.declared.types.PendingSort.TheVariants.{Remote, Receiver, AssociatedRemote, AssociatedReceiver}
 use Rattle.mojom_ast.specs.Classes.{identifiers}
-use Rattle.mojom_ast.specs.TypeTrees.{BaseTree, Named, HandleOf, TypeTree}
-use Rattle.mojom_ast.specs.Lang.{Lang, Whole, tok, symbol, as_value, ◌▹◌, ◌or◌, labelled, deep}
-use Rattle.mojom_ast.specs.Trees.{text_in, number_in, bytes_in, identifier_of, number_of, string_of, make_name, make_true, make_false, make_number, make_plus, make_minus, make_attribute, inner, behind, make_array, make_map, make_pending, make_type}
-use Rattle.mojom_ast.specs.Grammar.{identifier, number, string, dotted, name, ordinal, boolean, signed, value, assigned, attribute, bracketed, attributes, handle_sort, sort_given, handle, pending_sort, pending, count, array, map_of, base, type_starts, type_at, type_within}
-use Rattle.mojom_print.specs.Unplaced.{identifier_unplaced, number_unplaced, string_unplaced, name_unplaced, value_unplaced, attribute_unplaced, base_unplaced, type_unplaced}
-use Rattle.mojom_print.proofs.Shows.{sort_of, token_off, both_off, Found, Shows, shows_value, shows_left, shows_right, shows_some, shows_none, shows_same}
-use Rattle.mojom_print.proofs.FixedSorts.{sort_at, fixed_sort, identifier_sort, number_sort, string_sort}
-use Rattle.mojom_print.proofs.Prints.{AllLexical, Printed, Prints, prints_tok, prints_keyword, prints_symbol, ◌then◌, prints_value, ◌or_else◌, option_sorts, prints_maybe, prints_many}
-use Rattle.mojom_print.proofs.CommaLists.{between, prints_comma_between}
-use Rattle.mojom_print.proofs.Sorts.{key, sign, identifier_sorts, number_sorts, string_sorts, dotted_sorts, name_sorts, ordinal_sorts, value_sorts, assigned_sorts, attribute_sorts, bracketed_sorts, attributes_sorts, handle_sort_sorts, sort_given_sorts, pending_sort_sorts, count_sorts, nullable_sorts, base_sorts, type_sorts}
+use Rattle.mojom_ast.specs.Lang.{Whole, symbol, as_value, ◌▹◌, ◌or◌}
+use Rattle.mojom_ast.specs.Trees.{text_in, number_in, bytes_in, identifier_of, number_of, string_of, make_name, make_true, make_false, make_number, make_plus, make_minus, make_attribute, inner, behind}
+use Rattle.mojom_ast.specs.Grammar.{identifier, number, string, dotted, name, ordinal, boolean, signed, value, assigned, attribute, bracketed, attributes}
+use Rattle.mojom_print.specs.Unplaced.{identifier_unplaced, number_unplaced, string_unplaced, name_unplaced, value_unplaced, attribute_unplaced}
+use Rattle.mojom_print.proofs.Shows.{sort_of, token_off, Shows, shows_value, shows_left, shows_right, shows_some, shows_none, shows_same}
+use Rattle.mojom_print.proofs.FixedSorts.{identifier_sort, number_sort, string_sort}
+use Rattle.mojom_print.proofs.Prints.{AllLexical, Printed, Prints, prints_tok, prints_keyword, prints_symbol, ◌then◌, prints_value, ◌or_else◌, prints_maybe, prints_many}
+use Rattle.mojom_print.proofs.CommaLists.{prints_comma_between}
+use Rattle.mojom_print.proofs.Sorts.{sign, identifier_sorts, number_sorts, string_sorts, dotted_sorts, name_sorts, ordinal_sorts, value_sorts, assigned_sorts, attribute_sorts, bracketed_sorts, attributes_sorts}
 
 pub prints_identifier : Prints identifier identifier_unplaced identifier_sorts
 unfolding identifier

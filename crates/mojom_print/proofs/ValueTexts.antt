@@ -1,13 +1,12 @@
 -- The texts of names, values, attributes and types are the tokens that they show.
-use Rattle.std.proofs.Common.{◌≡◌, ℕ, List, [], ◌∷◌, ◌++◌, Bool, true, false, not, Option, Some, None, nat_eq, refl, sym, ◌∙◌, ap, subst, append_assoc, arith, codes}
+use Rattle.std.proofs.Common.{◌≡◌, ℕ, List, [], ◌∷◌, ◌++◌, Bool, true, false, Option, Some, None, nat_eq, refl, append_assoc, arith, codes}
 use Rattle.std.specs.Prelude.{decimal}
 use Rattle.std.specs.List.{list_all, flat_map}
 use Rattle.std.proofs.lemmas.List.{append-nil}
 use Rattle.std.proofs.lemmas.Bool.Decides.{nat_tests}
 use Rattle.mojom_ast.specs.declared.token.Sort.{Sort}
 use Rattle.mojom_ast.specs.declared.token.Sort.TheVariants as sorts
-use Rattle.mojom_ast.specs.declared.token.Symbol.TheVariants.{Comma, Dot, Less}
-use Rattle.mojom_ast.specs.declared.token.Keyword.TheVariants as keywords
+use Rattle.mojom_ast.specs.declared.token.Symbol.TheVariants.{Comma, Dot}
 use Rattle.mojom_ast.specs.declared.names.Identifier.{Identifier}
 use Rattle.mojom_ast.specs.declared.names.Number.{Number}
 use Rattle.mojom_ast.specs.declared.names.Name.{Name}
@@ -21,15 +20,15 @@ use Rattle.mojom_ast.specs.TypeTrees.{BaseTree, TypeTree, Named, ArrayOf, MapOf,
 use Rattle.mojom_lexer.specs.Bytes.{is_letter, goes_on}
 use Rattle.mojom_lexer.specs.Words.{is_word}
 use Rattle.mojom_lexer.proofs.Runs.{left}
-use Rattle.mojom_print.specs.Words.{parted_by, name_text, sign_text, truth_text, value_text, ordinal_text, assigned_text, indent}
+use Rattle.mojom_print.specs.Words.{parted_by, name_text, sign_text, truth_text, value_text, ordinal_text, assigned_text}
 use Rattle.mojom_print.specs.Attributes.{given_text, attribute_text, bracketed_text, attribute_line, attributes_before}
-use Rattle.mojom_print.specs.Types.{nullable_text, count_text, handle_sort_text, sort_given_text, pending_sort_text, base_text, type_text, declared_text}
-use Rattle.mojom_print.proofs.Prints.{AllLexical, Lexical, option_sorts}
-use Rattle.mojom_print.proofs.Lexes.{stops, Lexes, Tells, none, stops_none, ◌then◌, tells_sorts, fresh, closed, before, nothing, with_marks}
+use Rattle.mojom_print.specs.Types.{nullable_text, count_text, handle_sort_text, sort_given_text, pending_sort_text, base_text, declared_text}
+use Rattle.mojom_print.proofs.Prints.{AllLexical, option_sorts}
+use Rattle.mojom_print.proofs.Lexes.{stops, Tells, none, ◌then◌, tells_sorts, fresh, closed, before, nothing, with_marks}
 use Rattle.mojom_print.proofs.WordTexts.{of_identifier, identifier_tells, greater}
 use Rattle.mojom_print.proofs.NumberTexts.{after_value, value_on, value_greater, number_tells, number_value_tells}
 use Rattle.mojom_print.proofs.StringTexts.{string_tells}
-use Rattle.mojom_print.proofs.SignTexts.{end_line, comma_line, comma_blank, dot, at, minus, question, less, more, open_bracket, close_bracket, one_blank, line_end, equals_blanks, equals, true_word, false_word, remote_word, receiver_word, associated_remote_word, associated_receiver_word, handle_word, array_less, map_less, indent_tells}
+use Rattle.mojom_print.proofs.SignTexts.{comma_blank, dot, at, minus, question, less, more, open_bracket, close_bracket, one_blank, line_end, equals_blanks, equals, true_word, false_word, remote_word, receiver_word, associated_remote_word, associated_receiver_word, handle_word, array_less, map_less, indent_tells}
 use Rattle.mojom_print.proofs.Sorts.{key, sign, identifier_sorts, parts_sorts, name_sorts, ordinal_sorts, value_sorts, assigned_sorts, attribute_sorts, bracketed_sorts, attributes_sorts, handle_sort_sorts, sort_given_sorts, pending_sort_sorts, count_sorts, nullable_sorts, base_sorts, type_sorts}
 
 -- names

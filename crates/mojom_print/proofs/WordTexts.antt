@@ -1,25 +1,23 @@
 -- The texts of words and symbols are these tokens.
-use Rattle.std.proofs.Common.{◌≡◌, ℕ, zero, suc, ◌+◌, ◌≤◌, ◌<◌, List, [], ◌∷◌, ◌++◌, length, take, drop, Bool, true, false, not, cond, ◌==◌, ◌&&◌, ◌||◌, Option, Some, None, refl, sym, ◌∙◌, ap, subst, length-append, arith, codes, nat_eq}
-use Rattle.std.specs.Prelude.{is_some, IsUtf8}
+use Rattle.std.proofs.Common.{◌≡◌, ℕ, zero, suc, ◌≤◌, ◌<◌, List, [], ◌∷◌, ◌++◌, length, take, Bool, true, false, not, ◌&&◌, Some, None, refl, sym, subst, length-append, arith, codes, nat_eq}
+use Rattle.std.specs.Prelude.{IsUtf8}
 use Rattle.std.specs.Str.{IsAscii}
 use Rattle.std.proofs.Common.{lit<}
 use Rattle.std.proofs.lemmas.Str.{IsUtf8-append, IsUtf8-from_ascii}
 use Rattle.std.specs.List.{list_all, starts_with}
 use Rattle.std.proofs.Math.Seq.{take-append_seam}
-use Rattle.mojom_ast.specs.declared.token.Keyword as keyword
 use Rattle.mojom_ast.specs.declared.token.Symbol as symbol
 use Rattle.mojom_ast.specs.declared.token.Sort.{Sort}
 use Rattle.mojom_ast.specs.declared.token.Sort.TheVariants as sorts
-use Rattle.mojom_lexer.specs.Bytes.{is_blank, is_letter, is_digit, goes_on}
-use Rattle.mojom_lexer.specs.Words.{is_word, keyword_of, symbol_of, single_symbol}
-use Rattle.mojom_lexer.specs.Pieces.{Kind, Is, IsLongest}
+use Rattle.mojom_lexer.specs.Bytes.{is_letter, goes_on}
+use Rattle.mojom_lexer.specs.Words.{is_word, keyword_of, single_symbol}
+use Rattle.mojom_lexer.specs.Pieces.{IsLongest}
 use Rattle.mojom_lexer.specs.Pieces.Kind.{Word, Sign}
 use Rattle.mojom_lexer.specs.Lexed.{Spells}
 use Rattle.mojom_lexer.specs.Scans.{kind_of}
 use Rattle.mojom_lexer.proofs.Runs.{left, right, both, word_utf8}
 use Rattle.mojom_lexer.proofs.FirstBytes.{first_tells, longest_of}
 use Rattle.mojom_lexer.proofs.SignFronts.{symbol_longest, arrow_longest}
-use Rattle.mojom_print.proofs.Prints.{AllLexical, Lexical}
 use Rattle.mojom_print.proofs.Lexes.{stops, run_stops, Lexes, Tells, none, stops_none, one}
 
 -- a front as long as itself

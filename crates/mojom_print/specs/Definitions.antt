@@ -1,5 +1,5 @@
 -- The lines of constants, enums, structs and unions, at a depth of definitions around.
-use Rattle.std.specs.Prelude.{ℕ, List, [], ◌+◌, ◌++◌, codes, decimal, Option, Some, None}
+use Rattle.std.specs.Prelude.{ℕ, List, ◌+◌, ◌++◌, codes}
 use Rattle.std.specs.List.{flat_map}
 use Rattle.mojom_ast.specs.declared.definitions.Const.{Const}
 use Rattle.mojom_ast.specs.declared.definitions.Enum.{Enum}

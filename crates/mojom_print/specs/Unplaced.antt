@@ -1,5 +1,5 @@
 -- A tree without the places that it keeps: two trees that are one so differ in places alone.
-use Rattle.std.specs.Prelude.{Bool, Option, List, map}
+use Rattle.std.specs.Prelude.{map}
 use Rattle.std.specs.Option.{option_map}
 use Rattle.mj_base.specs.declared.ids.Span.{Span}
 use Rattle.mojom_ast.specs.declared.names.Identifier.{Identifier}

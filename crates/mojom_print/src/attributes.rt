@@ -61,10 +61,7 @@ pub fn push_attribute_line(
 }
 
 /// Writes attributes before a parameter, and then a blank.
-pub fn push_attributes_before(
-    out: &mut Vec<u8>,
-    attributes: &[Attribute],
-) -> Result<(), AllocError>
+pub fn push_attributes_before(out: &mut Vec<u8>, attributes: &[Attribute]) -> Result<(), AllocError>
     ensures { OnOk result (out.new.items ≡ out.old.items ++ attributes_before attributes.now) }
 {
     if attributes.is_empty() {

@@ -48,10 +48,7 @@ fn push_parameters(out: &mut Vec<u8>, parameters: &[Parameter]) -> Result<(), Al
 }
 
 /// Writes the parameters of a response, where there is one.
-fn push_response(
-    out: &mut Vec<u8>,
-    response: &Option<Items<Parameter>>,
-) -> Result<(), AllocError>
+fn push_response(out: &mut Vec<u8>, response: &Option<Items<Parameter>>) -> Result<(), AllocError>
     ensures { OnOk result (out.new.items ≡ out.old.items ++ response_text response.now) }
 {
     if let Some(parameters) = response {

@@ -10,14 +10,14 @@ ghost use Rattle.mojom_print.specs.Unplaced.{unplaced};
 ghost use Rattle.mojom_print.specs.Again.{SpellsWithin, SpelledAgain};
 
 /// The text of each tree that the tokens of a file spell has tokens, and they spell the tree again,
-/// but for the places that it keeps.
+/// but for the places that it keeps; its types nest no deeper.
 #[tactic(auto, using(crate::proofs::Reprints::spelled_again))]
 pub fn spelled_again()
     ensures { (bytes : List ℕ) (tokens : List Token) (tree : File) (n : ℕ) → AreTokens bytes tokens → SpellsWithin n tree tokens → SpelledAgain n tree }
 {}
 
-/// Trees that differ in places alone have one text. So the tree that a printed text spells is printed
-/// as that very text.
+/// Trees that differ in places alone have one text: what a printed text spells again is printed as
+/// that very text.
 #[tactic(auto, using(crate::proofs::Placeless::same_text))]
 pub fn same_text()
     ensures { (tree other : File) → unplaced other ≡ unplaced tree → file_text other ≡ file_text tree }

@@ -10,3 +10,6 @@ mod types;
 mod words;
 
 pub use file::spell;
+
+#[cfg(test)]
+mod tests;

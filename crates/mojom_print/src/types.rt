@@ -16,11 +16,7 @@ fn push_type(out: &mut Vec<u8>, kind: &Type) -> Result<(), AllocError>
 }
 
 /// Writes a type and a name.
-pub fn push_declared(
-    out: &mut Vec<u8>,
-    kind: &Type,
-    name: &Identifier,
-) -> Result<(), AllocError>
+pub fn push_declared(out: &mut Vec<u8>, kind: &Type, name: &Identifier) -> Result<(), AllocError>
     ensures { OnOk result (out.new.items ≡ out.old.items ++ declared_text kind.now name.now) }
 {
     push_type(out, kind)?;

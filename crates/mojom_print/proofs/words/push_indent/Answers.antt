@@ -1,6 +1,6 @@
-use Rattle.std.proofs.Common.{◌∙◌, ap, append_assoc, sym, List, ℕ, ◌++◌, rules}
+use Rattle.std.proofs.Common.{append_assoc}
 use Rattle.std.specs.Prelude.{codes}
-use Rattle.mojom_print.proofs.Runs.{indent_more}
+use Rattle.mojom_print.proofs.Indents.{indent_more}
 use Rattle.mojom_print.specs.Words.{indent}
 use Rattle.mojom_print.proofs.words.push_indent.Goals as goal
 
