@@ -1,3 +1,4 @@
+pub mod Asks
 pub mod Tells
 pub mod Opens
 pub mod Finds
@@ -12,3 +13,6 @@ pub mod Shortens
 pub mod Fronts
 pub mod Sinks
 pub mod Depths
+pub mod Lifts
+pub mod Raised
+pub mod Unique

@@ -2,7 +2,8 @@
 use Rattle.std.proofs.Common.{◌≡◌, ℕ, zero, suc, ◌-◌, ◌≤◌, ◌<◌, List, [], ◌∷◌, ◌++◌, length, Ok, Bool, true, false, nat_eq, cond, inl, inr, refl, sym, ap, ◌∙◌, subst, arith, length-append}
 use Rattle.mojom_ast.specs.declared.token.Token.{Token}
 use Rattle.mojom_ast.specs.Classes.{class}
-use Rattle.mojom_ast.specs.Lang.{Lang, Mode, Whole, Begun, Deep, Read, has, tok, ◌▹◌, as_value, ◌or◌, maybe, maybe_read, times, commas, joined, listed, any, many, list}
+use Rattle.mojom_ast.specs.Lang.{Lang, Whole, Read, has, tok, ◌▹◌, as_value, ◌or◌, maybe, maybe_read, times, commas, joined, listed, any, many, list}
+use Rattle.mojom_grammar.proofs.Asks.{Ask, Spelled, Sure, Beginning, TooDeep, mode_of}
 use Rattle.mojom_grammar.proofs.Tells.{Told, Tells, tells_tok, tells_value, tells_seq, tells_or, tells_maybe, tells_times, tells_commas, tells_any}
 use Rattle.mojom_grammar.proofs.Opens.{Front, Opens, opens_tok, opens_value, opens_seq, opens_or, opens_maybe, opens_times, opens_commas}
 use Rattle.mojom_grammar.proofs.Finds.{Fits, Asked, Finds, disjoint, lacks_left, lacks_right, cut, cut_of, value_outcome, finds_tok, finds_value, finds_seq, finds_or, skipped, finds_maybe}
@@ -44,10 +45,11 @@ lacks_cond false a b c e f = e
 pub finds_more : {A : Type 0} (b : ℕ) (D : Type 0) (more all : List ℕ) (one two : Lang A) → ((c : ℕ) → has all c ≡ false → has more c ≡ false) → Finds b D more one two → Finds b D all one two
 finds_more b D more all one two sub f m ask K free p u le fits h = f m ask K (λ x t ts k. sub (class t) (free x t ts k)) p u le fits h
 
-pub fits_map : {A B : Type 0} (g : A → B) (m : Mode) (u : List Token) (K : B → List Token → Type 0) → Fits m u K → Fits m u (λ x. K (g x))
-fits_map g Whole u K e = e
-fits_map g Begun u K e = tt
-fits_map g Deep u K e = λ x. e (g x)
+pub fits_map : {A B : Type 0} (g : A → B) (m : Ask) (u : List Token) (K : B → List Token → Type 0) → Fits m u K → Fits m u (λ x. K (g x))
+fits_map g Spelled u K e = e
+fits_map g Sure u K e = e
+fits_map g Beginning u K e = tt
+fits_map g TooDeep u K e = λ x. e (g x)
 
 pub times_null : {A : Type 0} (n : ℕ) (one : Lang A) → (times n one).null ≡ true
 unfolding times
@@ -69,11 +71,6 @@ unfolding commas
 commas_starts zero one e = refl
 commas_starts (suc n) one e = not_null one.null one.starts (20 ∷ []) e
 
-none_left : {A : Type 0} (b : ℕ) (m : Mode) (K : List A → List Token → Type 0) (bound : b ≤ 0) (p u : List Token) → length (p ++ u) ≤ b → (p ≡ []) × (u ≡ [])
-none_left b m K bound [] [] le = (refl, refl)
-none_left b m K bound [] (t ∷ ts) le = absurd (omega (arith, length-append {A = Token}))
-none_left b m K bound (t ∷ ts) u le = absurd (omega (arith, length-append {A = Token}))
-
 module _ {A : Type 0} (D : Type 0) (more : List ℕ) (one two : Lang A) (g : Good D more one two) (n1 : one.null ≡ false) (n2 : two.null ≡ false) where
   pub opens_all : (n : ℕ) → Opens (times n one)
   opens_all n m K p h = elim (opens_times n one n1 g.opens m K p h) [
@@ -93,7 +90,7 @@ module _ {A : Type 0} (D : Type 0) (more : List ℕ) (one two : Lang A) (g : Goo
   finds_times apt zero (suc k) b bk m ask K free p u le fits h =
       value_outcome m K u joined (maybe_read (two ▹ times k two) (p ++ u)) (skipped m (λ o. K (joined o)) (two ▹ times k two) (tells_pair k)
       (λ o t ts r. subst (λ (cs : List ℕ). has cs (class t) ≡ false) (sym (not_null two.null two.starts (times k two).starts n2)) (lacks_left two.starts more (class t) (free (joined o) t ts r))) p u (fits_map joined m u K fits) h)
-  finds_times apt (suc n) zero b bk m ask K free [] u le fits (inl h) = cut m K (times zero two) (tells_times zero two g.tells) u (cut_of one g.opens n1 m (λ x. (times n one).followed m (λ xs. K (x ∷ xs))) h)
+  finds_times apt (suc n) zero b bk m ask K free [] u le fits (inl h) = cut m K (times zero two) (tells_times zero two g.tells) u (cut_of one g.opens n1 (mode_of m) (λ x. (times n one).followed (mode_of m) (λ xs. K (x ∷ xs))) h)
   finds_times apt (suc n) zero b bk m ask K free [] u le fits (inr h) = inl ([], [], h, refl)
   finds_times apt (suc n) zero b bk m ask K free (t ∷ ts) u le fits h = absurd (omega (arith, length-append ts u))
   finds_times apt (suc n) (suc k) b bk m ask K free p u le fits h =
@@ -131,7 +128,7 @@ module _ {A : Type 0} (D : Type 0) (more : List ℕ) (one two : Lang A) (g : Goo
   finds_commas apt zero (suc k) b bk m ask K free p u le fits h =
       value_outcome m K u listed (maybe_read (two ▹ maybe (tok (20 ∷ []) ▹ commas k two)) (p ++ u)) (skipped m (λ o. K (listed o)) (two ▹ maybe (tok (20 ∷ []) ▹ commas k two)) (tells_item k)
       (λ o t ts r. subst (λ (cs : List ℕ). has cs (class t) ≡ false) (sym (not_null two.null two.starts (20 ∷ []) n2)) (lacks_left two.starts (20 ∷ more) (class t) (free (listed o) t ts r))) p u (fits_map listed m u K fits) h)
-  finds_commas apt (suc n) zero b bk m ask K free [] u le fits (inl h) = cut m K (commas zero two) (tells_commas zero two g.tells) u (cut_of one g.opens n1 m _ h)
+  finds_commas apt (suc n) zero b bk m ask K free [] u le fits (inl h) = cut m K (commas zero two) (tells_commas zero two g.tells) u (cut_of one g.opens n1 (mode_of m) _ h)
   finds_commas apt (suc n) zero b bk m ask K free [] u le fits (inr h) = inl ([], [], h, refl)
   finds_commas apt (suc n) zero b bk m ask K free (t ∷ ts) u le fits h = absurd (omega (arith, length-append ts u))
   finds_commas apt (suc n) (suc k) b bk m ask K free p u le fits h =
@@ -246,10 +243,11 @@ good_list {D = D} {more = more} {one = one} {two = two} g e apt = record {
   finds = λ b m ask K free p u le fits h. finds_commas D more one two g e (flip g e) apt h.0 (length (p ++ u)) (length (p ++ u)) (omega arith) m ask K free p u (omega arith) fits h.1;
 }
 
-asked_less : (D D' : Type 0) → (D' → D) → (m : Mode) → Asked D' m → Asked D m
-asked_less D D' f Whole a = tt
-asked_less D D' f Begun a = tt
-asked_less D D' f Deep a = f a
+asked_less : (D D' : Type 0) → (D' → D) → (m : Ask) → Asked D' m → Asked D m
+asked_less D D' f Spelled a = tt
+asked_less D D' f Sure a = f a
+asked_less D D' f Beginning a = tt
+asked_less D D' f TooDeep a = f a
 
 pub good_asked : {A : Type 0} {D D' : Type 0} {more : List ℕ} {one two : Lang A} → (D' → D) → Good D more one two → Good D' more one two
 good_asked {D = D} {D' = D'} f g = record { same = g.same; null = g.null; opens = g.opens; opens_two = g.opens_two; tells = g.tells; finds = λ b m ask. g.finds b m (asked_less D D' f m ask) }

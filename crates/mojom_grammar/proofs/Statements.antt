@@ -4,6 +4,7 @@ use Rattle.mojom_ast.specs.declared.token.Token.{Token}
 use Rattle.mojom_ast.specs.Lang.{Lang, has, ◌▹◌, as_value, maybe, maybe_read, times, any}
 use Rattle.mojom_ast.specs.Grammar.{attributes, bracketed, definition_item, definition, struct_of, union_of, enum_of, interface_of, const_of, module_name, import_path}
 use Rattle.mojom_grammar.specs.Factored.{Statements, DefinitionLine, ImportLine, ModuleLine, OtherLine, definition_line, import_line, module_line, first_statement, gathered, opened, definition_starts, statement_starts, marked, statement, statements, opening, factored}
+use Rattle.mojom_grammar.proofs.Asks.{mode_of}
 use Rattle.mojom_grammar.proofs.Tells.{Tells, tells_value, tells_seq, tells_or, tells_maybe, tells_times, tells_any}
 use Rattle.mojom_grammar.proofs.Opens.{Front, Opens, opens_value, opens_seq, opens_or, opens_maybe}
 use Rattle.mojom_grammar.proofs.Finds.{Finds, cut, cut_of, value_outcome, finds_value, finds_seq, finds_or, skipped, finds_maybe, lacks_left}
@@ -108,7 +109,7 @@ module _ (j k : ℕ) where
   finds_statements zero (suc n') l l' b bn bl m ask K free p u le fits h =
       value_outcome m K u gathered (maybe_read (attributes ▹ statement (statements n' l' k) l' k) (p ++ u)) (skipped m (λ o. K (gathered o)) (attributes ▹ statement (statements n' l' k) l' k) (tells_attributed n' l')
       (λ o t ts r. free (gathered o) t ts r) p u (fits_map gathered m u K fits) h)
-  finds_statements (suc n) zero l l' b bn bl m ask K free [] u le fits (inl h) = cut m K (statements zero l' k) (tells_statements k zero l') u (cut_of (attributes ▹ statement (statements n l j) l j) (opens_attributed n l) refl m (λ x. K (gathered (Some x))) h)
+  finds_statements (suc n) zero l l' b bn bl m ask K free [] u le fits (inl h) = cut m K (statements zero l' k) (tells_statements k zero l') u (cut_of (attributes ▹ statement (statements n l j) l j) (opens_attributed n l) refl (mode_of m) (λ x. K (gathered (Some x))) h)
   finds_statements (suc n) zero l l' b bn bl m ask K free [] u le fits (inr h) = inl (([], []), [], h, refl)
   finds_statements (suc n) zero l l' b bn bl m ask K free (t ∷ ts) u le fits h = absurd (omega (arith, length-append ts u))
   finds_statements (suc n) (suc n') l l' b bn bl m ask K free p u le fits h =

@@ -6,8 +6,9 @@ use Rattle.mojom_ast.specs.declared.types.PendingSort.TheVariants.{Remote, Recei
 use Rattle.mojom_ast.specs.Classes.{class}
 use Rattle.mojom_ast.specs.TypeTrees.{TypeTree, Named, HandleOf}
 use Rattle.mojom_ast.specs.Trees.{inner, behind, make_array, make_map, make_pending, make_type}
-use Rattle.mojom_ast.specs.Lang.{Lang, Whole, Begun, Deep, has, deep, labelled}
+use Rattle.mojom_ast.specs.Lang.{Lang, has, deep, labelled}
 use Rattle.mojom_ast.specs.Grammar.{identifier, number, name, handle_sort, sort_given, handle, pending_sort, pending, count, array, map_of, base, type_starts, type_at, type_within}
+use Rattle.mojom_grammar.proofs.Asks.{Spelled, Sure, Beginning, TooDeep, mode_of}
 use Rattle.mojom_grammar.proofs.Tells.{Tells, tells_deep}
 use Rattle.mojom_grammar.proofs.Opens.{Front, Opens, opens_deep}
 use Rattle.mojom_grammar.proofs.Finds.{Passes, Finds, cut, cut_of, front_has, pick_true}
@@ -26,21 +27,24 @@ good_labelled {one = one} {two = two} cs g s1 s2 n1 n2 = record {
 
 finds_deep : (A : Type 0) (cs : List ℕ) (b : ℕ) (D : Type 0) (more : List ℕ) → Finds {A = A} b D more (deep cs) (deep cs)
 finds_deep A cs b D more m ask K free [] u le fits h = cut m K (deep cs) (tells_deep A cs) u h
-finds_deep A cs b D more Whole ask K free (t ∷ ts) u le fits h = absurd h.1
-finds_deep A cs b D more Begun ask K free (t ∷ ts) u le fits h = absurd h.1
-finds_deep A cs b D more Deep ask K free (t ∷ ts) u le fits h = inr (pick_true (Passes {A = A} Deep u) (has cs (class t)) (Err (TooNested (length (t ∷ ts ++ u)))) (Err (Unexpected (length (t ∷ ts ++ u)))) h.0 (rw h.2 refl))
+finds_deep A cs b D more Spelled ask K free (t ∷ ts) u le fits h = absurd h.1
+finds_deep A cs b D more Sure ask K free (t ∷ ts) u le fits h = absurd h.1
+finds_deep A cs b D more Beginning ask K free (t ∷ ts) u le fits h = absurd h.1
+finds_deep A cs b D more TooDeep ask K free (t ∷ ts) u le fits h = inr (pick_true (Passes {A = A} TooDeep u) (has cs (class t)) (Err (TooNested (length (t ∷ ts ++ u)))) (Err (Unexpected (length (t ∷ ts ++ u)))) h.0 (rw h.2 refl))
 
 finds_from_deep : {A : Type 0} (cs : List ℕ) (b : ℕ) (D : Type 0) (more : List ℕ) (two : Lang A) → Tells two → (D → ⊥) → Finds b D more (deep cs) two
 finds_from_deep cs b D more two t never m ask K free [] u le fits h = cut m K two t u h
-finds_from_deep cs b D more two t never Whole ask K free (s ∷ ss) u le fits h = absurd h.1
-finds_from_deep cs b D more two t never Begun ask K free (s ∷ ss) u le fits h = absurd h.1
-finds_from_deep cs b D more two t never Deep ask K free (s ∷ ss) u le fits h = absurd (never ask)
+finds_from_deep cs b D more two t never Spelled ask K free (s ∷ ss) u le fits h = absurd h.1
+finds_from_deep cs b D more two t never Sure ask K free (s ∷ ss) u le fits h = absurd h.1
+finds_from_deep cs b D more two t never Beginning ask K free (s ∷ ss) u le fits h = absurd h.1
+finds_from_deep cs b D more two t never TooDeep ask K free (s ∷ ss) u le fits h = absurd (never ask)
 
 finds_to_deep : {A : Type 0} (cs : List ℕ) (b : ℕ) (D : Type 0) (more : List ℕ) (one : Lang A) → Opens one → one.null ≡ false → one.starts ≡ cs → (D → ⊥) → Finds b D more one (deep cs)
-finds_to_deep {A} cs b D more one o e same never m ask K free [] u le fits h = cut m K (deep cs) (tells_deep A cs) u (cut_of one o e m K h)
-finds_to_deep {A} cs b D more one o e same never Whole ask K free (t ∷ ts) u le fits h = inr (pick_true (Passes {A = A} Whole u) (has cs (class t)) (Err (TooNested (length (t ∷ ts ++ u)))) (Err (Unexpected (length (t ∷ ts ++ u)))) (front_has one (deep cs) o e same Whole K t ts h) tt)
-finds_to_deep {A} cs b D more one o e same never Begun ask K free (t ∷ ts) u le fits h = inr (pick_true (Passes {A = A} Begun u) (has cs (class t)) (Err (TooNested (length (t ∷ ts ++ u)))) (Err (Unexpected (length (t ∷ ts ++ u)))) (front_has one (deep cs) o e same Begun K t ts h) tt)
-finds_to_deep cs b D more one o e same never Deep ask K free (t ∷ ts) u le fits h = absurd (never ask)
+finds_to_deep {A} cs b D more one o e same never m ask K free [] u le fits h = cut m K (deep cs) (tells_deep A cs) u (cut_of one o e (mode_of m) K h)
+finds_to_deep {A} cs b D more one o e same never Spelled ask K free (t ∷ ts) u le fits h = inr (pick_true (Passes {A = A} Spelled u) (has cs (class t)) (Err (TooNested (length (t ∷ ts ++ u)))) (Err (Unexpected (length (t ∷ ts ++ u)))) (front_has one (deep cs) o e same (mode_of Spelled) K t ts h) tt)
+finds_to_deep cs b D more one o e same never Sure ask K free (t ∷ ts) u le fits h = absurd (never ask)
+finds_to_deep {A} cs b D more one o e same never Beginning ask K free (t ∷ ts) u le fits h = inr (pick_true (Passes {A = A} Beginning u) (has cs (class t)) (Err (TooNested (length (t ∷ ts ++ u)))) (Err (Unexpected (length (t ∷ ts ++ u)))) (front_has one (deep cs) o e same (mode_of Beginning) K t ts h) tt)
+finds_to_deep cs b D more one o e same never TooDeep ask K free (t ∷ ts) u le fits h = absurd (never ask)
 
 module _ (D : Type 0) where
   good_handle_sort : Good D [] handle_sort handle_sort

@@ -5,9 +5,10 @@ use Rattle.std.proofs.Math.Seq.{take-append_seam, take-append-add}
 use Rattle.mojom_ast.specs.declared.fault.Fault.TheVariants.{Unexpected, TooNested}
 use Rattle.mojom_ast.specs.declared.file.File.{File}
 use Rattle.mojom_ast.specs.declared.token.Token.{Token}
-use Rattle.mojom_ast.specs.Lang.{Begun, Deep, Whole, Read}
+use Rattle.mojom_ast.specs.Lang.{Begun, Deep, Read}
 use Rattle.mojom_ast.specs.Parsed.{Spells, Begins, EndsTooDeep}
 use Rattle.mojom_grammar.specs.Factored.{factored}
+use Rattle.mojom_grammar.proofs.Asks.{Spelled, Beginning, TooDeep}
 use Rattle.mojom_grammar.proofs.Finds.{Passes}
 use Rattle.mojom_grammar.proofs.Fronts.{short_file}
 use Rattle.mojom_grammar.proofs.Depths.{sink_file}
@@ -56,10 +57,10 @@ regrouped : (ts f : List Token) (t : Token) (us : List Token) → ts ≡ f ++ (t
 regrouped ts f t us e = e ∙ sym (append_assoc f (t ∷ []) us)
 
 -- reading stopped with so many tokens left, and one more is no beginning
-stuck : (ts f : List Token) (t : Token) (us : List Token) (r : Read File) → ts ≡ f ++ (t ∷ us) → (factored 32).read ts ≡ r → (((x : File) × (r ≡ Ok (x, us))) ⊎ Passes Begun us r → ⊥) → Begins (f ++ (t ∷ [])) → ⊥
+stuck : (ts f : List Token) (t : Token) (us : List Token) (r : Read File) → ts ≡ f ++ (t ∷ us) → (factored 32).read ts ≡ r → (((x : File) × (r ≡ Ok (x, us))) ⊎ Passes Beginning us r → ⊥) → Begins (f ++ (t ∷ [])) → ⊥
 stuck ts f t us r e h wrong b =
     let same : (factored 32).read ((f ++ (t ∷ [])) ++ us) ≡ r = ap (factored 32).read (sym (regrouped ts f t us e)) ∙ h in
-    wrong (subst (λ (x : Read File). ((y : File) × (x ≡ Ok (y, us))) ⊎ Passes Begun us x) same (begun (f ++ (t ∷ [])) us b))
+    wrong (subst (λ (x : Read File). ((y : File) × (x ≡ Ok (y, us))) ⊎ Passes Beginning us x) same (begun (f ++ (t ∷ [])) us b))
 
 pub blames_left : (ts : List Token) (l : ℕ) → (factored 32).read ts ≡ Err (Unexpected l) → Blames (errors.Unexpected (length ts - l)) ts
 blames_left ts l e =
@@ -67,7 +68,7 @@ blames_left ts l e =
     blame ts t.0 t.1 (length ts - l) t.2 (omega (arith, ap length t.2, length-append t.0 t.1, t.3)) (32, from_factored 32 Begun (λ f rest. rest ≡ []) t.0 (t.4 (λ f rest. rest ≡ [])))
     (λ k us same. stuck ts t.0 k us (Err (Unexpected l)) (t.2 ∙ ap (λ (v : List Token). t.0 ++ v) same) e
     (λ w. elim w [ inl o ↦ absurd (cc) | inr le ↦ absurd (omega (arith, t.3, ap length same, le)) ]))
-    (λ same tree s. elim (whole ts tree s) [ inl o ↦ absurd (cc) | inr p ↦ absurd (subst (λ (x : Read File). Passes Whole [] x) e p) ])
+    (λ same tree s. elim (whole ts tree s) [ inl o ↦ absurd (cc) | inr p ↦ absurd (subst (λ (x : Read File). Passes Spelled [] x) e p) ])
 
 rest_of : Read File → List Token
 rest_of (Ok x) = x.1
@@ -123,7 +124,7 @@ is_blamed ts (errors.Unexpected n) g = blames_at ts ((factored 32).read ts) (err
 is_blamed ts (errors.TooNested n) g = blames_at ts ((factored 32).read ts) (errors.TooNested n) refl g
 
 -- what is spelled is answered
-answers_deep : (ts : List Token) (tree : File) (r : Read File) (a : Result File ParseError) → Passes Whole [] r → Agrees a (verdict (length ts) r) → Answers tree a
+answers_deep : (ts : List Token) (tree : File) (r : Read File) (a : Result File ParseError) → Passes Spelled [] r → Agrees a (verdict (length ts) r) → Answers tree a
 answers_deep ts tree (Ok x) a p g = absurd p
 answers_deep ts tree (Err (Unexpected l)) a p g = absurd p
 answers_deep ts tree (Err (TooNested l)) (Ok f) p g = absurd (cc)
@@ -143,7 +144,7 @@ is_answered ts tree a s g = elim (whole ts tree s) [
   | inr p ↦ answers_deep ts tree ((factored 32).read ts) a p g
 ]
 
-deep_at : (ts : List Token) (at : ℕ) (u : List Token) (r : Read File) (a : Result File ParseError) → length ts ≡ at + 1 + length u → Passes Deep u r → Agrees a (verdict (length ts) r) → AnswersDeep at a
+deep_at : (ts : List Token) (at : ℕ) (u : List Token) (r : Read File) (a : Result File ParseError) → length ts ≡ at + 1 + length u → Passes TooDeep u r → Agrees a (verdict (length ts) r) → AnswersDeep at a
 deep_at ts at u (Ok x) a n p g = absurd p
 deep_at ts at u (Err (Unexpected l)) a n p g = absurd p
 deep_at ts at u (Err (TooNested l)) (Ok f) n p g = absurd (cc)
@@ -154,7 +155,7 @@ deep_at ts at u (Err (TooNested l)) (Err (errors.TooNested k)) n p g = let same 
 pub is_too_deep : (ts : List Token) (at : ℕ) (a : Result File ParseError) → at < length ts → EndsTooDeep (take (at + 1) ts) → Agrees a (verdict (length ts) ((factored 32).read ts)) → AnswersDeep at a
 is_too_deep ts at a lt d g =
     let parts : take (at + 1) ts ++ drop (at + 1) ts ≡ ts = take-append-drop (at + 1) ts in
-    let p : Passes Deep (drop (at + 1) ts) ((factored 32).read ts) = subst (λ (l : List Token). Passes Deep (drop (at + 1) ts) ((factored 32).read l)) parts (too_deep (take (at + 1) ts) (drop (at + 1) ts) d) in
+    let p : Passes TooDeep (drop (at + 1) ts) ((factored 32).read ts) = subst (λ (l : List Token). Passes TooDeep (drop (at + 1) ts) ((factored 32).read l)) parts (too_deep (take (at + 1) ts) (drop (at + 1) ts) d) in
     deep_at ts at (drop (at + 1) ts) ((factored 32).read ts) a (omega (arith, length-drop (at + 1) ts)) p g
 
 front_nil : (q r : List Token) → q ++ r ≡ [] → q ≡ []

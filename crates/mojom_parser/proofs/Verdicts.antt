@@ -7,6 +7,7 @@ use Rattle.mojom_ast.specs.Lang.{Whole, Begun, Deep, Read}
 use Rattle.mojom_ast.specs.Grammar.{file}
 use Rattle.mojom_ast.specs.Parsed.{Spells, Begins, EndsTooDeep}
 use Rattle.mojom_grammar.specs.Factored.{factored}
+use Rattle.mojom_grammar.proofs.Asks.{Spelled, Beginning, TooDeep}
 use Rattle.mojom_grammar.proofs.Tells.{Told}
 use Rattle.mojom_grammar.proofs.Finds.{Passes, Outcome}
 use Rattle.mojom_grammar.proofs.Statements.{good_factored}
@@ -21,25 +22,25 @@ found ts f e =
     let h : (file 32).followed Whole (λ g rest. (rest ≡ []) × (g ≡ f)) (t.0 ++ []) = from_factored 32 Whole (λ g rest. (rest ≡ []) × (g ≡ f)) (t.0 ++ []) (t.2 Whole (λ g rest. (rest ≡ []) × (g ≡ f)) [] (refl, refl)) in
     (32, subst (λ (l : List Token). (file 32).followed Whole (λ g rest. (rest ≡ []) × (g ≡ f)) l) (sym t.1) h)
 
-pub whole : (ts : List Token) (tree : File) → Spells tree ts → ((factored 32).read ts ≡ Ok (tree, [])) ⊎ Passes Whole [] ((factored 32).read ts)
+pub whole : (ts : List Token) (tree : File) → Spells tree ts → ((factored 32).read ts ≡ Ok (tree, [])) ⊎ Passes Spelled [] ((factored 32).read ts)
 whole ts tree s =
-    let o : Outcome Whole (λ g rest. (rest ≡ []) × (g ≡ tree)) [] ((factored 32).read (ts ++ [])) = (good_factored s.0 32).finds (length (ts ++ [])) Whole tt (λ g rest. (rest ≡ []) × (g ≡ tree)) (λ x t us k. absurd (cc)) ts [] (omega arith) refl (to_factored s.0 Whole (λ g rest. (rest ≡ []) × (g ≡ tree)) ts s.1) in
+    let o : Outcome Spelled (λ g rest. (rest ≡ []) × (g ≡ tree)) [] ((factored 32).read (ts ++ [])) = (good_factored s.0 32).finds (length (ts ++ [])) Spelled tt (λ g rest. (rest ≡ []) × (g ≡ tree)) (λ x t us k. absurd (cc)) ts [] (omega arith) refl (to_factored s.0 Whole (λ g rest. (rest ≡ []) × (g ≡ tree)) ts s.1) in
     let same : ts ++ [] ≡ ts = append-nil ts in
-    elim (subst (λ (l : List Token). Outcome Whole (λ g rest. (rest ≡ []) × (g ≡ tree)) [] ((factored 32).read l)) same o) [
+    elim (subst (λ (l : List Token). Outcome Spelled (λ g rest. (rest ≡ []) × (g ≡ tree)) [] ((factored 32).read l)) same o) [
       | inl r ↦ inl (r.3 ∙ ap (λ (q : List Token). Ok (r.0, q ++ [])) r.2.0 ∙ ap (λ (f : File). Ok (f, [])) r.2.1)
       | inr p ↦ inr p
     ]
 
-pub begun : (p u : List Token) → Begins p → ((x : File) × ((factored 32).read (p ++ u) ≡ Ok (x, u))) ⊎ Passes Begun u ((factored 32).read (p ++ u))
+pub begun : (p u : List Token) → Begins p → ((x : File) × ((factored 32).read (p ++ u) ≡ Ok (x, u))) ⊎ Passes Beginning u ((factored 32).read (p ++ u))
 begun p u b =
-    elim ((good_factored b.0 32).finds (length (p ++ u)) Begun tt (λ g rest. rest ≡ []) (λ x t us k. absurd (cc)) p u (omega arith) tt (to_factored b.0 Begun (λ g rest. rest ≡ []) p b.1)) [
+    elim ((good_factored b.0 32).finds (length (p ++ u)) Beginning tt (λ g rest. rest ≡ []) (λ x t us k. absurd (cc)) p u (omega arith) tt (to_factored b.0 Begun (λ g rest. rest ≡ []) p b.1)) [
       | inl r ↦ inl (r.0, r.3 ∙ ap (λ (q : List Token). Ok (r.0, q ++ u)) r.2)
       | inr s ↦ inr s
     ]
 
-pub too_deep : (p u : List Token) → EndsTooDeep p → Passes Deep u ((factored 32).read (p ++ u))
+pub too_deep : (p u : List Token) → EndsTooDeep p → Passes TooDeep u ((factored 32).read (p ++ u))
 too_deep p u d =
-    elim ((good_factored 32 32).finds (length (p ++ u)) Deep refl (λ g rest. ⊥) (λ x t us k. absurd k) p u (omega arith) (λ x k. k) (to_factored 32 Deep (λ g rest. ⊥) p d)) [
+    elim ((good_factored 32 32).finds (length (p ++ u)) TooDeep refl (λ g rest. ⊥) (λ x t us k. absurd k) p u (omega arith) (λ x k. k) (to_factored 32 Deep (λ g rest. ⊥) p d)) [
       | inl r ↦ absurd r.2
       | inr s ↦ s
     ]
