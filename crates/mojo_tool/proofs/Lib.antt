@@ -4,3 +4,4 @@ pub mod Completes
 pub mod Reporting
 pub mod Narrows
 pub mod Laws
+pub mod Reprinted

@@ -1,9 +1,8 @@
 -- Where a run or the text of a tree is asked for, nothing else is.
-use Rattle.std.proofs.Common.{◌≡◌, ◌≤◌, ◌<◌, ℕ, List, length, Some, None, refl, sym, subst, inl, inr, arith}
+use Rattle.std.proofs.Common.{◌≡◌, ℕ, List, Some, None, sym, subst, inl, inr, arith}
 use Rattle.std.specs.Prelude.{Option}
 use Rattle.mj_io.specs.Outside.{Named, find_file}
 use Rattle.mj_schema.specs.declared.schema.Schema.{Schema}
-use Rattle.call_script.specs.declared.script.Script.{Script}
 use Rattle.mojom_compile.proofs.Readings.{one_tree}
 use Rattle.mojom_compile.proofs.Whole.{one_schema}
 use Rattle.mojo_tool.specs.Complete.{IsDoable}

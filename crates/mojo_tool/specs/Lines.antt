@@ -1,6 +1,5 @@
 -- The lines on standard error.
 use Rattle.std.specs.Prelude.{ℕ, decimal, ◌++◌, List, [], ◌∷◌, codes}
-use Rattle.mojom_compile.specs.declared.error.FileRefusal.{FileRefusal}
 use Rattle.mojom_compile.specs.Causes.{cause_text}
 use Rattle.mojo_tool.specs.declared.refusal.ToolRefusal.{ToolRefusal}
 use Rattle.mojo_tool.specs.declared.refusal.ToolRefusal.TheVariants.{Unsupported, FileTooLong, Refused}

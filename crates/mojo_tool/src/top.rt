@@ -1,7 +1,10 @@
 //! The top call.
 
-ghost use Rattle.std.specs.Prelude.{◌≡◌, map, string_bytes, Some, None, IfOk};
+ghost use Rattle.std.specs.Prelude.{◌≡◌, ℕ, List, map, string_bytes, Some, None, IfOk};
 ghost use Rattle.mj_io.specs.Outside.{SinkState};
+ghost use Rattle.mojom_ast.specs.declared.file.File.{File};
+ghost use Rattle.mojom_compile.specs.Compiled.{IsParsed};
+ghost use Rattle.mojom_print.specs.FileText.{file_text};
 ghost use Rattle.mojo_tool.specs.Answers.{Answers, Seen, code_of, WroteOrFailed};
 ghost use Rattle.mojo_tool.specs.Complete.{IsComplete};
 ghost use Rattle.mojo_tool.specs.Reports.{Printed, Reported};
@@ -179,4 +182,10 @@ pub fn mojo_main<R: Wait + Threads + Sync, F: Files, O: Sink, E: Sink, G: Gate +
 /// is asked for, and nothing failed, the status is 0, or 5 for want of memory.
 pub fn complete()
     ensures { (s : Seen) (status : Status) → Answers s status → IsComplete s status }
+{}
+
+/// A law of printed texts: where a printed text has a tree, that tree's text is the same text, so that
+/// a print of a print changes nothing.
+pub fn prints_again()
+    ensures { (bytes : List ℕ) (tree other : File) → IsParsed bytes tree → IsParsed (file_text tree) other → file_text other ≡ file_text tree }
 {}

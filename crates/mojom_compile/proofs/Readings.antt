@@ -1,5 +1,5 @@
 -- One reading of a file: its tree, or its refusal.
-use Rattle.std.proofs.Common.{◌≡◌, ℕ, ◌+◌, ◌<◌, ◌≤◌, List, [], ◌∷◌, length, take, refl, sym, ◌∙◌, ap, subst, arith, inl, inr}
+use Rattle.std.proofs.Common.{◌≡◌, ℕ, ◌+◌, ◌<◌, List, [], ◌∷◌, length, take, refl, sym, ◌∙◌, ap, subst, inl, inr}
 use Rattle.std.specs.Prelude.{Result, Ok, Err, ◌⊎◌}
 use Rattle.std.proofs.Math.Nat.{eq-or-lt_of_le}
 use Rattle.std.proofs.Math.Seq.{take-length}
@@ -9,17 +9,15 @@ use Rattle.mojom_ast.specs.declared.fault.Fault.TheVariants.{Unexpected, TooNest
 use Rattle.mojom_ast.specs.Lang.{Read}
 use Rattle.mojom_ast.specs.Parsed.{Spells, Begins, EndsTooDeep}
 use Rattle.mojom_grammar.specs.Factored.{factored}
-use Rattle.mojom_lexer.specs.declared.error.LexError.{LexError}
-use Rattle.mojom_lexer.specs.declared.error.LexError.TheVariants as lex
-use Rattle.mojom_lexer.specs.Lexed.{AreTokens, IsRefused, OneReading}
+use Rattle.mojom_lexer.specs.Lexed.{AreTokens, OneReading}
 use Rattle.mojom_lexer.proofs.Laws.{one_reading}
 use Rattle.mojom_parser.specs.declared.error.ParseError.{ParseError}
 use Rattle.mojom_parser.specs.declared.error.ParseError.TheVariants as parse
 use Rattle.mojom_parser.specs.Parsed.{verdict, Agrees, Answers, AnswersAt, AnswersDeep, Blames}
-use Rattle.mojom_parser.proofs.Places.{is_spelled, is_blamed, is_answered, is_exact, is_end, is_too_deep}
+use Rattle.mojom_parser.proofs.Places.{is_blamed, is_answered, is_exact, is_end, is_too_deep}
 use Rattle.mojom_compile.specs.declared.error.FileRefusal.{FileRefusal}
 use Rattle.mojom_compile.specs.declared.error.CompileError.{CompileError}
-use Rattle.mojom_compile.specs.declared.error.CompileError.TheVariants.{Refused, Memory}
+use Rattle.mojom_compile.specs.declared.error.CompileError.TheVariants.{Refused}
 use Rattle.mojom_compile.specs.Compiled.{IsShallow, IsParsed, IsFault, lexical, grammatical, IsNoText, IsNoFile, IsUnread, IsFor, OneTree}
 
 -- what reading by the grammar says of the tokens

@@ -1,5 +1,5 @@
 -- What is read of a file is few enough for its rows.
-use Rattle.std.proofs.Common.{◌≡◌, ℕ, List, [], ◌∷◌, ◌++◌, length, map, Some, None, Bool, true, false, ◌&&◌, refl, sym, subst, arith}
+use Rattle.std.proofs.Common.{◌≡◌, ℕ, List, [], ◌∷◌, ◌++◌, length, map, Some, None, Bool, true, false, ◌&&◌, refl, subst, arith}
 use Rattle.std.specs.Prelude.{Option, Result, Ok, Err, nat_le, not, if◌then◌else◌, option_and_then}
 use Rattle.std.specs.List.{list_all, list_any, AllByRecursion}
 use Rattle.std.specs.Str.{bytes_eq}

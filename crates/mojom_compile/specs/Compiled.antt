@@ -1,5 +1,5 @@
 -- Which bytes have which tree and which schema, and which refusal.
-use Rattle.std.specs.Prelude.{ℕ, ◌≡◌, ◌+◌, ◌<◌, ◌⊎◌, List, length, take, Option, Some, None, slice_get, Result, Ok, Err}
+use Rattle.std.specs.Prelude.{ℕ, ◌≡◌, ◌+◌, ◌<◌, ◌⊎◌, List, length, take, Some, None, slice_get, Ok, Err}
 use Rattle.mj_schema.specs.declared.schema.Schema.{Schema}
 use Rattle.mojom_ast.specs.declared.token.Token.{Token}
 use Rattle.mojom_ast.specs.declared.file.File as trees

@@ -1,7 +1,7 @@
 -- The form of the files that are compiled today: a module statement and interfaces, whose methods have no response, ordinal or
 -- attribute and whose parameters are of `uint32`. Each word gives what a part of the tree says in this form, or none where the
 -- part has anything beyond it.
-use Rattle.std.specs.Prelude.{ℕ, ◌≡◌, ◌==◌, length, Bool, true, false, not, ◌&&◌, if◌then◌else◌, List, [], ◌∷◌, ◌++◌, codes, map, Option, Some, None, is_none, Result, Ok, Err, option_and_then}
+use Rattle.std.specs.Prelude.{ℕ, ◌≡◌, ◌==◌, length, Bool, false, not, ◌&&◌, if◌then◌else◌, List, [], ◌∷◌, ◌++◌, codes, map, Option, Some, None, is_none, Result, Ok, Err, option_and_then}
 use Rattle.std.specs.Option.{option_map}
 use Rattle.std.specs.List.{list_any}
 use Rattle.std.specs.Str.{bytes_eq}

@@ -1,4 +1,4 @@
-use Rattle.std.proofs.Common.{◌≡◌, map, drop}
+use Rattle.std.proofs.Common.{◌≡◌, drop}
 use Rattle.std.specs.List.{list_all}
 use Rattle.mojom_compile.specs.Sound.{is_allowed_method}
 use Rattle.mojom_compile.proofs.refusals.are_allowed_methods.Given as goal

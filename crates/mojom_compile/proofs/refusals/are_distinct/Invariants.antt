@@ -1,4 +1,4 @@
-use Rattle.std.proofs.Common.{◌≡◌, map, drop}
+use Rattle.std.proofs.Common.{◌≡◌, drop}
 use Rattle.mojom_compile.specs.Sound.{are_distinct}
 use Rattle.mojom_compile.proofs.refusals.are_distinct.Given as goal
 
