@@ -1,6 +1,7 @@
 -- What the rows say of a call is what the events say.
 use Rattle.std.proofs.Common.{◌≡◌, ℕ, Bool, true, false, List, refl}
 use Rattle.std.specs.Prelude.{Option, Some, None, Result, Ok, Err, if◌then◌else◌, not, ◌==◌, nat_le, length}
+use Rattle.mj_base.specs.declared.limits.TheConstants.{MAX_UNREAD_MESSAGES}
 use Rattle.mj_base.specs.declared.ids.EndId.{EndId}
 use Rattle.wire_model.specs.declared.target.Target.{Target}
 use Rattle.wire_model.specs.Tight.{message_bytes}
@@ -50,8 +51,8 @@ module _ (past : List Event) (so : Sound past) (x : EndId) (id : ℕ) (target : 
   bound None known = (refl, tt)
   bound (Some b) known =
       rw (row_at-made past (peer past x) (so.pairs.peer_made x known)) (
-        tests (id == 0) (is_receiver b.side) (asks_of b.interface target) (nat_le 4096 (length (unread past (peer past x)))) (message_bytes 0 target.method value) (peer past x),
-        leads (id == 0) (is_receiver b.side) (asks_of b.interface target) (nat_le 4096 (length (unread past (peer past x)))) (peer past x),
+        tests (id == 0) (is_receiver b.side) (asks_of b.interface target) (nat_le MAX_UNREAD_MESSAGES (length (unread past (peer past x)))) (message_bytes 0 target.method value) (peer past x),
+        leads (id == 0) (is_receiver b.side) (asks_of b.interface target) (nat_le MAX_UNREAD_MESSAGES (length (unread past (peer past x)))) (peer past x),
       )
 
   way_is : (told_by_way (message_bytes 0 target.method value) (way (rows_of past) x id target) ≡ called past x id target value (binding past x)) × LeadsTo (peer past x) (way (rows_of past) x id target)

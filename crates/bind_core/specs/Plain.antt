@@ -1,5 +1,6 @@
 -- The plain forms of commands and replies: ends in place of their handles.
 use Rattle.std.specs.Prelude.{ℕ, ◌≡◌, ◌<◌, ◌≤◌}
+use Rattle.mj_base.specs.declared.limits.TheConstants.{MAX_EVENTS}
 use Rattle.bind_model.specs.declared.event.Asked.{Asked}
 use Rattle.bind_model.specs.declared.event.Asked.TheVariants as asks
 use Rattle.bind_model.specs.declared.event.Told.{Told}
@@ -38,5 +39,5 @@ command_of (Spent command) = command
 
 -- it is spent exactly where there are 16,777,216 events
 abbrev pub IsSpentAt : ℕ → Refused → Type 0
-IsSpentAt events (Memory command) = events < 16777216
-IsSpentAt events (Spent command) = 16777216 ≤ events
+IsSpentAt events (Memory command) = events < MAX_EVENTS
+IsSpentAt events (Spent command) = MAX_EVENTS ≤ events

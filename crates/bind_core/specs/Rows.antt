@@ -2,6 +2,7 @@
 use Rattle.std.specs.Prelude.{ℕ, Bool, true, false, ◌==◌, ◌&&◌, ◌++◌, not, nat_le, nat_lt, is_some, List, [], ◌∷◌, length, drop, map, filter, if◌then◌else◌, Option, Some, None, Result, Ok, Err, option_and_then}
 use Rattle.std.specs.Option.{option_map}
 use Rattle.std.specs.List.{count_by}
+use Rattle.mj_base.specs.declared.limits.TheConstants.{MAX_UNREAD_MESSAGES}
 use Rattle.mj_base.specs.declared.ids.EndId.{EndId}
 use Rattle.mj_base.specs.declared.ids.SeqId.{SeqId}
 use Rattle.mj_schema.specs.declared.schema.Schema.{Schema}
@@ -71,7 +72,7 @@ without_front row = record row { mail = drop 1 row.mail }
 -- the end that a message goes to, unless its row is full
 abbrev pub room_at : EndId → Option Row → Result EndId Why
 room_at y None = Err NoName
-room_at y (Some row) = if nat_le 4096 (length row.mail) then Err Full else Ok y
+room_at y (Some row) = if nat_le MAX_UNREAD_MESSAGES (length row.mail) then Err Full else Ok y
 
 -- the end y that a call at its peer goes to, by the peer's binding: each refusal in its turn
 abbrev pub way_bound : List Row → ℕ → Target → EndId → Option Binding → Result EndId Why

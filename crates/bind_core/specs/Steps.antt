@@ -1,6 +1,7 @@
 -- What the state is of the history, and what a step does to both.
 use Rattle.std.specs.Prelude.{◌≡◌, ◌<◌, ◌≤◌, ◌++◌, List, [], ◌∷◌, length, reverse}
 use Rattle.std.specs.Arc.{arc_value}
+use Rattle.mj_base.specs.declared.limits.TheConstants.{MAX_EVENTS}
 use Rattle.mj_base.specs.declared.ids.SeqId.{SeqId}
 use Rattle.mj_schema.specs.declared.schema.Schema.{Schema}
 use Rattle.bind_model.specs.declared.event.Event.{Event}
@@ -27,7 +28,7 @@ pub record Holds (s : State) : Type 0 where
   pub legal : legal (schema_of s) s.seqs (past_of s)
   pub allowed : AllAllowed (schema_of s) (past_of s)
   pub rows : s.rows ≡ rows_of (past_of s)
-  pub few : length s.history.events ≤ 16777216
+  pub few : length s.history.events ≤ MAX_EVENTS
 
 -- what the command asks is allowed by the events so far
 abbrev pub MayAsk : State → Command → Type 0
@@ -38,7 +39,7 @@ pub record CanDo (s : State) (command : Command) : Type 0 where
   pub holds : Holds s
   pub allowed : MayAsk s command
   pub room : 0 < s.history.room
-  pub few : length s.history.events < 16777216
+  pub few : length s.history.events < MAX_EVENTS
 
 -- the reply that the history gives
 abbrev pub told_in : State → SeqId → Command → Told
@@ -52,7 +53,7 @@ pub record Done (old new : State) (seq : SeqId) (command : Command) (reply : Rep
   pub events : new.history.events ≡ old.history.events ++ record { seq = seq; asked = asked_of command; told = told_in old seq command } ∷ []
   pub told : told_of reply ≡ told_in old seq command
   pub back : HandsBack command reply
-  pub few : length old.history.events < 16777216
+  pub few : length old.history.events < MAX_EVENTS
 
 -- no event, and the command comes back
 pub record Undone (old new : State) (command : Command) (refused : Refused) : Type 0 where

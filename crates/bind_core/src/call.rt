@@ -8,6 +8,7 @@ ghost use Rattle.bind_core.specs.Rows.{way, room_at, row_at};
 ghost use Rattle.bind_core.specs.Calls.{AreOf};
 ghost use Rattle.bind_core.specs.Steps.{CanDo, Done, Undone};
 
+use mj_base::limits::MAX_UNREAD_MESSAGES;
 use crate::commands::{Command, Refused, Reply};
 use crate::state::{State, refuse};
 use crate::table::Table;
@@ -15,9 +16,6 @@ use bind_model::{Asked, Event, Message, Side, Told, Why};
 use mj_base::{EndId, Items, SeqId};
 use std::alloc::{AllocError, Global};
 use wire_model::{Head, MessageSide, Prepared, Target, seal};
-
-/// An end has at most so many unread messages.
-const MAIL_LIMIT: usize = 4096;
 
 /// Sends a prepared request to the other end of a bound one.
 pub fn call(
@@ -90,7 +88,7 @@ fn room_in(table: &Table, end: EndId) -> Result<EndId, Why>
 {
     match table.look(end) {
         None => Err(Why::NoName),
-        Some(row) if row.mail.len() >= MAIL_LIMIT => Err(Why::Full),
+        Some(row) if row.mail.len() >= MAX_UNREAD_MESSAGES => Err(Why::Full),
         Some(_) => Ok(end),
     }
 }

@@ -8,6 +8,7 @@ ghost use Rattle.bind_model.specs.Ready.{ready};
 ghost use Rattle.bind_core.specs.Plain.{asked_of, told_of, HandsBack, command_of, IsSpentAt};
 ghost use Rattle.bind_core.specs.Asks.{told_at};
 
+use mj_base::limits::MAX_EVENTS;
 use crate::commands::{Command, Refused, Reply};
 use crate::handle::{Ended, Handles};
 use crate::state;
@@ -71,7 +72,7 @@ impl Core {
         ensures back { IfOk result (λ reply. HandsBack command reply) }
         ensures refused { IfErr result (λ refused. (command_of refused ≡ command) × (self.new ≡ self.old)) }
         // It is spent exactly where 16,777,216 events stand.
-        ensures room { OnOk result (length self.old.events < 16777216) }
+        ensures room { OnOk result (length self.old.events < MAX_EVENTS) }
         ensures spent { IfErr result (λ refused. IsSpentAt (length self.old.events) refused) }
     {
         state::step(&mut self.state, alloc, seq, command)

@@ -5,6 +5,7 @@ ghost use Rattle.bind_model.specs.declared.event.Told.{Told};
 ghost use Rattle.bind_core.specs.Plain.{asked_of};
 ghost use Rattle.bind_core.specs.Steps.{Holds, CanDo, Done, Undone, told_in, MayAsk};
 
+use mj_base::limits::MAX_EVENTS;
 use crate::commands::{Command, Refused, Reply};
 use crate::handle::Handle;
 use crate::table::Table;
@@ -14,9 +15,6 @@ use mj_base::SeqId;
 use mj_schema::Schema;
 use std::alloc::Global;
 use std::sync::Arc;
-
-/// A history has at most so many events.
-pub const LIMIT: usize = 16_777_216;
 
 /// The schema, how many sequences there are, all events, a row for each end, and the handles of
 /// bound ends.
@@ -40,7 +38,7 @@ pub fn step(
     ensures done { IfOk result (λ reply. Done state.old state.new seq command reply) }
     ensures undone { IfErr result (λ refused. Undone state.old state.new command refused) }
 {
-    if state.history.len() >= LIMIT {
+    if state.history.len() >= MAX_EVENTS {
         return Err(Refused::Spent(command));
     }
     if state.history.reserve().is_err() {

@@ -16,7 +16,7 @@ use mj_schema::{InterfaceRow, MethodRow, Schema};
 use std::alloc::{AllocError, Global};
 use std::sync::Arc;
 use std::test::Fail;
-use version_tables::lay_out_uint32;
+use version_tables::lay_out_narrow;
 use wire_model::{MessageSide, Prepared, Target, prepare};
 
 const PING: Target = Target {
@@ -31,7 +31,7 @@ const ONLY: SeqId = SeqId(0);
 fn ping_schema(alloc: Global) -> Result<Schema, AllocError>
     ensures { IfOk result (λ schema. HasTarget schema PING) }
 {
-    let params = lay_out_uint32(
+    let params = lay_out_narrow(
         alloc,
         Text::from_str(alloc, "t.P.Ping")?,
         &[Text::from_str(alloc, "n")?],

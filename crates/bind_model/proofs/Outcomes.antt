@@ -2,6 +2,7 @@
 use Rattle.std.proofs.Common.{◌≡◌, ℕ, Bool, true, false, List, [], ◌∷◌, length, refl}
 use Rattle.std.specs.Prelude.{◌+◌, Option, Some, None, if◌then◌else◌, not, ◌&&◌, ◌==◌, nat_lt, nat_le}
 use Rattle.std.proofs.lemmas.Bool.{eqb-true}
+use Rattle.mj_base.specs.declared.limits.TheConstants.{MAX_UNREAD_MESSAGES}
 use Rattle.mj_base.specs.declared.ids.EndId.{EndId}
 use Rattle.mj_base.specs.declared.ids.SeqId.{SeqId}
 use Rattle.mj_schema.specs.declared.schema.Schema.{Schema}
@@ -27,7 +28,7 @@ pub record CanSend (past : List Event) (x : EndId) (target : Target) : Type 0 wh
   pub remote : is_receiver to.side ≡ false
   pub interface : target.interface ≡ to.interface
   pub request : is_request target.side ≡ true
-  pub room : nat_le 4096 (length (unread past (peer past x))) ≡ false
+  pub room : nat_le MAX_UNREAD_MESSAGES (length (unread past (peer past x))) ≡ false
 
 -- a bound end with an unread message, and what that stands for
 pub record Front (schema : Schema) (past : List Event) (x : EndId) (given : Option Taken) : Type 0 where
@@ -77,7 +78,7 @@ module _ (schema : Schema) (seqs : ℕ) (past : List Event) (seq : SeqId) where
   of_take x told (Some b) e h = of_unread x b told (unread past x) e refl h
 
   of_tests : (x : EndId) (id : ℕ) (target : Target) (value : List ℕ) (told : Told) (b : Binding) → binding past x ≡ Some b → (first receiver same request full : Bool)
-      → (id == 0) ≡ first → is_receiver b.side ≡ receiver → (target.interface == b.interface) ≡ same → is_request target.side ≡ request → nat_le 4096 (length (unread past (peer past x))) ≡ full
+      → (id == 0) ≡ first → is_receiver b.side ≡ receiver → (target.interface == b.interface) ≡ same → is_request target.side ≡ request → nat_le MAX_UNREAD_MESSAGES (length (unread past (peer past x))) ≡ full
       → told ≡ (if not first then No NoName else (if receiver then No WrongSide else (if not (same && request) then No WrongMethod else (if full then No Full else Sent 0 (message_bytes 0 target.method value)))))
       → Outcome schema seqs past seq (Call x id target value) told
   of_tests x id target value told b e false receiver same request full a1 a2 a3 a4 a5 h = rw h refuses
@@ -91,7 +92,7 @@ module _ (schema : Schema) (seqs : ℕ) (past : List Event) (seq : SeqId) where
   of_call : (x : EndId) (id : ℕ) (target : Target) (value : List ℕ) (told : Told) (b : Option Binding) → binding past x ≡ b → told ≡ called past x id target value b → Outcome schema seqs past seq (Call x id target value) told
   of_call x id target value told None e h = rw h refuses
   of_call x id target value told (Some b) e h =
-      of_tests x id target value told b e (id == 0) (is_receiver b.side) (target.interface == b.interface) (is_request target.side) (nat_le 4096 (length (unread past (peer past x)))) refl refl refl refl refl h
+      of_tests x id target value told b e (id == 0) (is_receiver b.side) (target.interface == b.interface) (is_request target.side) (nat_le MAX_UNREAD_MESSAGES (length (unread past (peer past x)))) refl refl refl refl refl h
 
   -- an answer is one of these
   pub outcome : (asked : Asked) (told : Told) → told ≡ answer schema seqs past seq asked → Outcome schema seqs past seq asked told

@@ -2,6 +2,7 @@
 use Rattle.std.specs.Prelude.{ℕ, Bool, true, false, ◌+◌, ◌≡◌, ◌==◌, ◌&&◌, ◌++◌, nat_lt, nat_le, List, [], ◌∷◌, not, length, drop, reverse, if◌then◌else◌}
 use Rattle.std.specs.Prelude.{Option, Some, None, option_and_then}
 use Rattle.std.specs.List.{count_by}
+use Rattle.mj_base.specs.declared.limits.TheConstants.{MAX_UNREAD_MESSAGES}
 use Rattle.mj_base.specs.declared.ids.EndId.{EndId}
 use Rattle.mj_base.specs.declared.ids.SeqId.{SeqId}
 use Rattle.mj_schema.specs.declared.schema.Schema.{Schema}
@@ -129,7 +130,7 @@ called_at past x id target value b =
     if not (id == 0) then No NoName
     else (if is_receiver b.side then No WrongSide
     else (if not (asks_of b.interface target) then No WrongMethod
-    else (if nat_le 4096 (length (unread past (peer past x))) then No Full
+    else (if nat_le MAX_UNREAD_MESSAGES (length (unread past (peer past x))) then No Full
     else Sent 0 (message_bytes 0 target.method value))))
 
 abbrev pub called : List Event → EndId → ℕ → Target → List ℕ → Option Binding → Told

@@ -8,7 +8,8 @@ use Rattle.mj_schema.specs.declared.schema.Schema.{Schema}
 use Rattle.call_script.specs.declared.script.Pipe.{Pipe}
 use Rattle.call_script.specs.declared.script.Line.{Line}
 use Rattle.call_script.specs.declared.script.Script.{Script}
-use Rattle.call_script.specs.Spelling.{join_words, bind_lines, line_words, script_lines, are_distinct, names_of}
+use Rattle.call_script.specs.Spelling.{join_words, bind_lines, line_words, script_lines, names_of}
+use Rattle.mj_base.specs.Texts.{are_distinct}
 use Rattle.call_script.specs.Reading.{ArePipes, AreThePipes, NoPipes, AreLines, NoLines, IsSoundScript, SpellsScript, begins_join, joins_in_front}
 
 -- a line that begins no join ends the joins

@@ -2,6 +2,7 @@
 use Rattle.std.proofs.Common.{◌≡◌, ◌<◌, ◌≤◌, ℕ, List, [], ◌∷◌, ◌++◌, length, Some, None, sym, ap, ◌∙◌, subst, arith, inl, inr, true}
 use Rattle.std.specs.Prelude.{map, ◌⊎◌}
 use Rattle.std.specs.List.{flat_map, AllByRecursion, list_all}
+use Rattle.mj_base.specs.declared.limits.TheConstants.{MAX_SCRIPT_LINES}
 use Rattle.mj_schema.specs.declared.schema.Schema.{Schema}
 use Rattle.call_script.specs.declared.script.Pipe.{Pipe}
 use Rattle.call_script.specs.declared.script.Line.{Line}
@@ -46,7 +47,7 @@ module _ (schema : Schema) (bytes : List ℕ) (texts : List (List (List ℕ))) (
           distinct = spells.0.distinct;
           lines = spells.0.lines;
           plain = subst (λ (ls : List (List (List ℕ))). AllByRecursion (λ (words : List (List ℕ)). list_all is_plain words ≡ true) ls) same (plain bytes);
-          few = subst (λ (ls : List (List (List ℕ))). length ls ≤ 65536) spells.1 spells.2;
+          few = subst (λ (ls : List (List (List ℕ))). length ls ≤ MAX_SCRIPT_LINES) spells.1 spells.2;
         },
         spelled bytes (script_lines schema s) same (some_lines schema s),
       )

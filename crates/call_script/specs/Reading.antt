@@ -2,6 +2,7 @@
 use Rattle.std.specs.Prelude.{ℕ, suc, ◌≡◌, ◌<◌, ◌≤◌, ◌^◌, ◌++◌, Bool, true, false, List, [], ◌∷◌, All, length, map, codes, Option, Some, None, if◌then◌else◌, slice_get}
 use Rattle.std.specs.List.{flat_map, AllByRecursion}
 use Rattle.std.specs.Str.{bytes_eq}
+use Rattle.mj_base.specs.declared.limits.TheConstants.{MAX_SCRIPT_LINES}
 use Rattle.mj_schema.specs.declared.schema.Schema.{Schema}
 use Rattle.mj_schema.specs.declared.rows.StructRow.{StructRow}
 use Rattle.mj_schema.specs.Lookups.{request_of}
@@ -9,7 +10,8 @@ use Rattle.call_script.specs.declared.script.Pipe.{Pipe}
 use Rattle.call_script.specs.declared.script.PipeEnd.{PipeEnd}
 use Rattle.call_script.specs.declared.script.Line.{Line}
 use Rattle.call_script.specs.declared.script.Script.{Script}
-use Rattle.call_script.specs.Spelling.{IsPipe, IsLine, are_distinct, names_of, value_text, join_words, bind_lines, line_words, script_lines, name_of, method_called, method_name, method_text, is_name}
+use Rattle.call_script.specs.Spelling.{IsPipe, IsLine, names_of, value_text, join_words, bind_lines, line_words, script_lines, name_of, method_called, method_name, method_text, is_name}
+use Rattle.mj_base.specs.Texts.{are_distinct}
 
 -- the word names the method of this ordinal, which its name finds
 pub record NamesMethod (schema : Schema) (interface : ℕ) (word : List ℕ) (ordinal : ℕ) : Type 0 where
@@ -125,8 +127,8 @@ SpellsScript schema texts None = (script : Script) → IsSoundScript schema scri
 
 -- with at most 65,536 lines
 abbrev pub SpellsShort : Schema → List (List (List ℕ)) → Option Script → Type 0
-SpellsShort schema texts (Some script) = IsSoundScript schema script × (texts ≡ script_lines schema script) × (length texts ≤ 65536)
-SpellsShort schema texts None = (script : Script) → IsSoundScript schema script → length (script_lines schema script) ≤ 65536 → texts ≡ script_lines schema script → ⊥
+SpellsShort schema texts (Some script) = IsSoundScript schema script × (texts ≡ script_lines schema script) × (length texts ≤ MAX_SCRIPT_LINES)
+SpellsShort schema texts None = (script : Script) → IsSoundScript schema script → length (script_lines schema script) ≤ MAX_SCRIPT_LINES → texts ≡ script_lines schema script → ⊥
 
 -- how many lines at the front begin with the word join
 abbrev pub begins_join : List (List ℕ) → Bool

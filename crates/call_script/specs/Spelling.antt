@@ -3,6 +3,8 @@ use Rattle.std.specs.Prelude.{ℕ, ◌≡◌, ◌<◌, ◌≤◌, ◌^◌, ◌++
 use Rattle.std.specs.Option.{option_map}
 use Rattle.std.specs.List.{flat_map, list_all, list_any, AllByRecursion}
 use Rattle.std.specs.Str.{bytes_eq}
+use Rattle.mj_base.specs.Texts.{are_distinct}
+use Rattle.mj_base.specs.declared.limits.TheConstants.{MAX_SCRIPT_LINES}
 use Rattle.mj_schema.specs.declared.schema.Schema.{Schema}
 use Rattle.mj_schema.specs.declared.rows.InterfaceRow.{InterfaceRow}
 use Rattle.mj_schema.specs.declared.rows.MethodRow.{MethodRow}
@@ -88,11 +90,6 @@ is_name (c ∷ cs) = is_small_letter c && (list_all is_name_byte cs && nat_le (l
 abbrev pub is_plain : List ℕ → Bool
 is_plain word = list_all (λ c. not ((c == 32) || (c == 10))) word
 
--- whether no text stands twice
-abbrev pub are_distinct : List (List ℕ) → Bool
-are_distinct [] = true
-are_distinct (x ∷ xs) = not (list_any (bytes_eq x) xs) && are_distinct xs
-
 -- the names of a pipe's ends
 abbrev pub names_of : Pipe → List (List ℕ)
 names_of pipe = pipe.first ∷ pipe.second ∷ []
@@ -127,7 +124,7 @@ pub record IsScript (schema : Schema) (script : Script) : Type 0 where
   pub distinct : are_distinct (flat_map names_of script.pipes) ≡ true
   pub lines : AllByRecursion (IsLine schema script.pipes) script.lines
   pub plain : AllByRecursion (λ (words : List (List ℕ)). list_all is_plain words ≡ true) (script_lines schema script)
-  pub few : length (script_lines schema script) ≤ 65536
+  pub few : length (script_lines schema script) ≤ MAX_SCRIPT_LINES
 
 -- the bytes spell the script
 abbrev pub IsScriptOf : Schema → List ℕ → Script → Type 0

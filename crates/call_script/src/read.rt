@@ -5,20 +5,18 @@ ghost use Rattle.std.specs.List.{flat_map};
 ghost use Rattle.call_script.specs.declared.script.Script.{Script};
 ghost use Rattle.call_script.specs.Pieces.{word_lines};
 ghost use Rattle.call_script.specs.Words.{words_now};
-ghost use Rattle.call_script.specs.Spelling.{IsScriptOf, are_distinct, names_of};
+ghost use Rattle.call_script.specs.Spelling.{IsScriptOf, names_of};
+ghost use Rattle.mj_base.specs.Texts.{are_distinct};
 ghost use Rattle.call_script.specs.Reading.{SpellsScript, SpellsShort, begins_join, joins_in_front};
 
+use mj_base::limits::MAX_SCRIPT_LINES;
 use crate::lines::read_lines;
 use crate::pipes::read_pipes;
 use crate::script::{Pipe, Script};
 use crate::split::{Words, word_lines};
-use crate::words::distinct;
-use mj_base::Items;
+use mj_base::{Items, are_distinct};
 use mj_schema::Schema;
 use std::alloc::{AllocError, Global};
-
-/// The most lines that a script may have.
-const MOST_LINES: usize = 65_536;
 
 /// Why a script is not read.
 #[derive(Clone, Copy, Debug, PartialEq, Eq)]
@@ -61,7 +59,7 @@ fn names_differ(alloc: Global, pipes: &[Pipe]) -> Result<bool, AllocError>
         names.push(pipe.first.as_str().as_bytes())?;
         names.push(pipe.second.as_str().as_bytes())?;
     }
-    Ok(distinct(names.as_slice()))
+    Ok(are_distinct(names.as_slice()))
 }
 
 /// The script of these lines behind `seqs 1`.
@@ -124,7 +122,7 @@ fn read_words(alloc: Global, schema: &Schema, lines: &[Words]) -> Result<Option<
 fn read_short(alloc: Global, schema: &Schema, lines: &[Words]) -> Result<Option<Script>, AllocError>
     ensures { IfOk result (λ found. SpellsShort schema.now (map words_now lines.now) found) }
 {
-    if lines.len() > MOST_LINES {
+    if lines.len() > MAX_SCRIPT_LINES {
         return Ok(None);
     }
     read_words(alloc, schema, lines)

@@ -1,9 +1,8 @@
 //! Names, numbers and values, each in its one spelling.
 
 ghost use Rattle.std.specs.Prelude.{◌≡◌, ◌<◌, ◌^◌, ℕ, List, All, IfOk, map, decimal, Some, None, MatchOption};
-ghost use Rattle.std.specs.List.{list_all, list_any};
-ghost use Rattle.std.specs.Str.{bytes_eq};
-ghost use Rattle.call_script.specs.Spelling.{is_name, is_small_letter, is_name_byte, are_distinct};
+ghost use Rattle.std.specs.List.{list_all};
+ghost use Rattle.call_script.specs.Spelling.{is_name, is_small_letter, is_name_byte};
 ghost use Rattle.call_script.specs.Values.{SpellsNumber, SpellsValue, NoNumbers, AreNumbers, NoBrackets, IsInside};
 
 use crate::split::split;
@@ -40,30 +39,6 @@ fn are_name_bytes(bytes: &[u8]) -> bool
     ensures { result ≡ list_all is_name_byte bytes.now }
 {
     bytes.iter().all(|c| is_name_byte(*c))
-}
-
-/// Whether no name stands twice.
-pub(crate) fn distinct(names: &[&[u8]]) -> bool
-    ensures { result ≡ are_distinct (map (λ name. name.now) names.now) }
-{
-    for (number, name) in names.iter().enumerate() {
-        if has(&names[number + 1..], name) {
-            return false;
-        }
-    }
-    true
-}
-
-/// Whether the name is one of the names.
-fn has(names: &[&[u8]], name: &[u8]) -> bool
-    ensures { result ≡ list_any (bytes_eq name.now) (map (λ other. other.now) names.now) }
-{
-    for other in names {
-        if name == *other {
-            return true;
-        }
-    }
-    false
 }
 
 /// The number that the word spells in decimal, with no sign and no leading zero; none where it spells

@@ -2,7 +2,7 @@
 use Rattle.std.proofs.Common.{◌≡◌, ℕ, zero, suc, ◌+◌, ◌<◌, ◌≤◌, cond, List, [], ◌∷◌, ◌++◌, length, get_or, take, drop, refl, sym, ap, ◌∙◌, arith}
 use Rattle.std.proofs.lemmas.List.{take_all, drop_all}
 use Rattle.field_packing.specs.declared.holes.Hole.{Hole}
-use Rattle.field_packing.specs.Holes.{up, gap, has_room, first_fit, place_at, rest_of, end_of}
+use Rattle.field_packing.specs.steps.Holes.{up, gap, has_room, first_fit, place_at, rest_of, end_of}
 use Rattle.field_packing.proofs.Up.{by_test, up_below}
 
 pub take_and_drop : {A : Type 0} (xs : List A) (n : ℕ) → take n xs ++ drop n xs ≡ xs

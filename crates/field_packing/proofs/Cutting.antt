@@ -5,8 +5,8 @@ use Rattle.std.proofs.lemmas.Bool.{leb-true, leb-false, ltb-true, ltb-false}
 use Rattle.field_packing.specs.declared.holes.Hole.{Hole}
 use Rattle.mj_schema.specs.Layout.{Slot, is_free}
 use Rattle.mj_schema.proofs.Apart as layout
-use Rattle.field_packing.specs.Holes.{up, gap, has_room, place_at, rest_of, end_of}
-use Rattle.field_packing.specs.Tracks.{Within, AreSorted, Tracks}
+use Rattle.field_packing.specs.steps.Holes.{up, gap, has_room, place_at, rest_of, end_of}
+use Rattle.field_packing.specs.steps.Tracks.{Within, AreSorted, Tracks}
 use Rattle.field_packing.proofs.Up.{by_test, up_ge, up_aligned, up_least}
 
 -- one range or another

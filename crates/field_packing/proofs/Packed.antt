@@ -6,8 +6,8 @@ use Rattle.mj_schema.specs.declared.rows.Place.{Place}
 use Rattle.mj_schema.specs.Sizes.{size_of, alignment_of}
 use Rattle.mj_schema.specs.Layout.{Slot, slot_at, address_of, IsLeastPlace, ArePacked}
 use Rattle.field_packing.specs.declared.holes.Hole.{Hole}
-use Rattle.field_packing.specs.Holes.{AllBelow, place_at, rest_of, end_of}
-use Rattle.field_packing.specs.Tracks.{AreSorted, Tracks}
+use Rattle.field_packing.specs.steps.Holes.{AllBelow, place_at, rest_of, end_of}
+use Rattle.field_packing.specs.steps.Tracks.{AreSorted, Tracks}
 use Rattle.field_packing.proofs.Cutting.{sorted_end, tracks_on}
 
 -- what is taken after these fields

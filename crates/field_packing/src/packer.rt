@@ -2,8 +2,8 @@
 
 ghost use Rattle.std.specs.Prelude.{◌≡◌, ◌+◌, ◌*◌, ◌^◌, ◌<◌, ◌≤◌, ◌∷◌, [], List, IfOk, OnOk};
 ghost use Rattle.mj_schema.specs.Layout.{Slot, slot_at, address_of, IsLeastPlace};
-ghost use Rattle.field_packing.specs.Holes.{AllBelow, place_at, rest_of, end_of};
-ghost use Rattle.field_packing.specs.Tracks.{Tracks};
+ghost use Rattle.field_packing.specs.steps.Holes.{AllBelow, place_at, rest_of, end_of};
+ghost use Rattle.field_packing.specs.steps.Tracks.{Tracks};
 
 use crate::holes::{Hole, find_room, insert_hole, round_up};
 use mj_schema::{Kind, Place};

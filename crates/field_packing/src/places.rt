@@ -5,6 +5,7 @@ ghost use Rattle.mj_schema.specs.declared.rows.DraftField.{DraftField};
 ghost use Rattle.mj_schema.specs.declared.rows.Place.{Place};
 ghost use Rattle.mj_schema.specs.Layout.{ArePacked};
 
+use mj_base::limits::MAX_FIELDS;
 use crate::packer::Packer;
 use mj_schema::{DraftField, Kind, Place};
 use std::alloc::{AllocError, Global};
@@ -12,7 +13,7 @@ use std::alloc::{AllocError, Global};
 /// The places of fields of these kinds, in ordinal order: each has the least place that those
 /// before it leave free. No field begins behind 131,072 bytes.
 pub fn pack(alloc: Global, kinds: &[Kind]) -> Result<Vec<Place>, AllocError>
-    requires { length kinds.now ≤ 4096 }
+    requires { length kinds.now ≤ MAX_FIELDS }
     ensures packed { IfOk result (λ places. ArePacked [] kinds.now places.items) }
     ensures near { IfOk result (λ places. All (λ (place : Place). place.offset < 2 ^ 17) places.items) }
 {
@@ -26,7 +27,7 @@ pub fn pack(alloc: Global, kinds: &[Kind]) -> Result<Vec<Place>, AllocError>
 
 /// The same for fields that are declared.
 pub fn pack_fields(alloc: Global, fields: &[DraftField]) -> Result<Vec<Place>, AllocError>
-    requires { length fields.now ≤ 4096 }
+    requires { length fields.now ≤ MAX_FIELDS }
     ensures packed { IfOk result (λ places. ArePacked [] (map (λ (field : DraftField). field.kind) fields.now) places.items) }
     ensures near { IfOk result (λ places. All (λ (place : Place). place.offset < 2 ^ 17) places.items) }
 {

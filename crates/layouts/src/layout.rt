@@ -4,6 +4,7 @@ ghost use Rattle.std.specs.Prelude.{◌≡◌, map};
 ghost use Rattle.mj_schema.specs.declared.rows.DraftField.{DraftField};
 ghost use Rattle.mj_schema.specs.Layout.{never_fall};
 
+use mj_base::limits::MAX_FIELDS;
 use crate::kinds::kind_named;
 use mj_base::{Items, Text};
 use mj_schema::{DraftField, DraftStruct, Place, VersionRow};
@@ -89,7 +90,7 @@ fn rises(fields: &[DraftField]) -> bool
 
 /// The layout that packing gives; none where there is no such struct.
 fn packed(alloc: Global, fields: Vec<DraftField>) -> Result<Option<String>, AllocError> {
-    if fields.len() > 4096 || !rises(&fields) {
+    if fields.len() > MAX_FIELDS || !rises(&fields) {
         return Ok(None);
     }
     let name = Text::from_str(alloc, "s")?;

@@ -2,12 +2,15 @@
 #![tactic(auto)]
 
 mod bytes;
+mod distinct;
 mod header;
 mod ids;
 mod items;
+pub mod limits;
 mod text;
 
 pub use bytes::{le16, le32, le64, push_le32, round8};
+pub use distinct::are_distinct;
 pub use header::Header;
 pub use ids::{EndId, SeqId, Span};
 pub use items::Items;

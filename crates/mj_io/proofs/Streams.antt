@@ -3,7 +3,7 @@ use Rattle.std.proofs.Common.{◌≡◌, ◌≤◌, ◌<◌, ◌+◌, ◌-◌, �
 use Rattle.std.specs.Prelude.{Option}
 use Rattle.std.specs.Io.{StartsWith}
 use Rattle.std.specs.Io.KnownBytes.{Consumes, Keeps, IsAtEnd}
-use Rattle.mj_io.specs.Reading.{ReadUpTo, TakesAtMost}
+use Rattle.mj_io.specs.steps.Reading.{ReadUpTo, TakesAtMost}
 use Rattle.mj_io.specs.declared.Fetched.TheVariants.{Whole, Longer}
 
 -- what was read so far, with room for `left` bytes more

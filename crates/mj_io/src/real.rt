@@ -2,7 +2,7 @@
 
 ghost use Rattle.std.specs.Prelude.{◌≡◌, ◌+◌, ◌≤◌, length, None, IfOk};
 ghost use Rattle.std.specs.Io.{StartsWith};
-ghost use Rattle.mj_io.specs.Reading.{ReadUpTo, TakesAtMost};
+ghost use Rattle.mj_io.specs.steps.Reading.{ReadUpTo, TakesAtMost};
 
 use crate::{Fetched, Files, FilesError};
 use std::alloc::Global;

@@ -1,4 +1,4 @@
 pub mod Apart
 pub mod OneLayout
-pub mod Uint32Layout
+pub mod NarrowLayout
 pub mod RisingRows

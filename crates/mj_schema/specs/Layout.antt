@@ -2,6 +2,7 @@
 -- each at the least place that those before it leave free. Places are counted in bits from the header's end.
 use Rattle.std.specs.Prelude.{ℕ, ◌+◌, ◌*◌, ◌%◌, ◌≡◌, ◌<◌, ◌≤◌, Bool, true, ◌||◌, ◌&&◌, ◌==◌, nat_le, IsTrue, List, [], ◌∷◌, length, map}
 use Rattle.std.specs.List.{list_all}
+use Rattle.mj_base.specs.declared.limits.TheConstants.{MAX_FIELDS}
 use Rattle.mj_base.specs.Bytes.{rounded8}
 use Rattle.mj_schema.specs.declared.kind.Kind.{Kind}
 use Rattle.mj_schema.specs.declared.rows.DraftField.{DraftField}
@@ -9,7 +10,7 @@ use Rattle.mj_schema.specs.declared.rows.DraftStruct.{DraftStruct}
 use Rattle.mj_schema.specs.declared.rows.FieldRow.{FieldRow}
 use Rattle.mj_schema.specs.declared.rows.Place.{Place}
 use Rattle.mj_schema.specs.declared.rows.StructRow.{StructRow}
-use Rattle.mj_schema.specs.Sizes.{size_of, alignment_of, uint32, is_uint32}
+use Rattle.mj_schema.specs.Sizes.{size_of, alignment_of}
 use Rattle.mj_schema.specs.Versions.{version_rows}
 
 -- the bits of a field that has its place
@@ -65,7 +66,7 @@ never_fall version (next ∷ versions) = nat_le version next && never_fall next 
 
 -- a struct whose fields lie at their least places, with the row of each version
 pub record IsLaidOut (row : StructRow) : Type 0 where
-  pub few : length row.fields ≤ 4096
+  pub few : length row.fields ≤ MAX_FIELDS
   pub numbered : IsTrue (are_numbered 0 row.fields)
   pub rising : IsTrue (never_fall 0 (map (λ (field : FieldRow). field.min_version) row.fields))
   pub packed : ArePacked [] (map kind_of row.fields) (map place_of row.fields)
@@ -84,15 +85,3 @@ draft_field field = record { name = field.name; kind = field.kind; min_version =
 
 abbrev pub draft_of : StructRow → DraftStruct
 draft_of row = record { name = row.name; fields = map draft_field row.fields }
-
--- a field of an unsigned integer of 32 bits, there from version 0 on
-abbrev pub uint32_field : List ℕ → DraftField
-uint32_field name = record { name = name; kind = uint32; min_version = 0 }
-
--- the struct has the version 0 alone, and its fields are unsigned integers of 32 bits
-abbrev pub is_of_uint32 : StructRow → Bool
-is_of_uint32 row = list_all (λ (field : FieldRow). is_uint32 field.kind && (field.min_version == 0)) row.fields
-
--- the bytes of a struct of n unsigned integers of 32 bits with its header
-abbrev pub struct_bytes : ℕ → ℕ
-struct_bytes n = rounded8 (8 + 4 * n)

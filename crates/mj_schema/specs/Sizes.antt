@@ -1,5 +1,5 @@
 -- How much room the fields of a struct take (bindings_internal.h, pack.py): sizes and alignments, in bits.
-use Rattle.std.specs.Prelude.{ℕ, Bool, true, false}
+use Rattle.std.specs.Prelude.{ℕ}
 use Rattle.mj_schema.specs.declared.kind.Width.{Width}
 use Rattle.mj_schema.specs.declared.kind.Width.TheVariants.{Bits8, Bits16, Bits32, Bits64}
 use Rattle.mj_schema.specs.declared.kind.Kind.{Kind}
@@ -44,11 +44,3 @@ alignment_of (kinds.Remote interface nullable) = 32
 alignment_of (kinds.Receiver interface nullable) = 32
 alignment_of (kinds.AssociatedRemote interface nullable) = 32
 alignment_of (kinds.AssociatedReceiver interface nullable) = 32
-
--- an unsigned integer of 32 bits
-abbrev pub is_uint32 : Kind → Bool
-is_uint32 (kinds.Int Bits32 false) = true
-is_uint32 _ = false
-
-abbrev pub uint32 : Kind
-uint32 = kinds.Int Bits32 false

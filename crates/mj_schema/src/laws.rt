@@ -4,9 +4,10 @@ ghost use Rattle.std.specs.Prelude.{◌≡◌, [], List, IsTrue};
 ghost use Rattle.mj_schema.specs.declared.kind.Kind.{Kind};
 ghost use Rattle.mj_schema.specs.declared.rows.Place.{Place};
 ghost use Rattle.mj_schema.specs.declared.rows.StructRow.{StructRow};
-ghost use Rattle.mj_schema.specs.Layout.{ArePacked, IsLaidOut, draft_of, is_of_uint32};
+ghost use Rattle.mj_schema.specs.Layout.{ArePacked, IsLaidOut, draft_of};
+ghost use Rattle.mj_schema.specs.Narrow.{is_narrow};
 ghost use Rattle.mj_schema.specs.Versions.{is_table};
-ghost use Rattle.mj_schema.specs.Uint32Rows.{IsOfFourBytesEach};
+ghost use Rattle.mj_schema.specs.Narrow.{TakesFourBytesEach};
 
 /// Fields of some kinds have their places in one way.
 pub fn one_packing()
@@ -19,8 +20,8 @@ pub fn one_layout()
 {}
 
 /// Where all fields are unsigned integers of 32 bits, each has four bytes behind those before it.
-pub fn four_bytes_each()
-    ensures { (row : StructRow) → IsLaidOut row → IsTrue (is_of_uint32 row) → IsOfFourBytesEach row }
+pub fn narrow_fields_take_four_bytes()
+    ensures { (row : StructRow) → IsLaidOut row → IsTrue (is_narrow row) → TakesFourBytesEach row }
 {}
 
 /// The version rows of a struct begin with version 0, and their versions rise.

@@ -4,7 +4,8 @@ ghost use Rattle.std.specs.Prelude.{◌≡◌, ◌<◌, ◌^◌, ◌==◌, lengt
 ghost use Rattle.std.specs.List.{list_all, AllByRecursion};
 ghost use Rattle.std.specs.Option.{option_copied};
 ghost use Rattle.std.specs.Ordering.{int_eq};
-ghost use Rattle.mj_schema.specs.Layout.{IsLaidOut, is_of_uint32};
+ghost use Rattle.mj_schema.specs.Layout.{IsLaidOut};
+ghost use Rattle.mj_schema.specs.Narrow.{is_narrow};
 ghost use Rattle.mj_schema.specs.Proper.{all_laid_out-prop};
 
 use crate::rows::{EnumRow, InterfaceRow, MemberRow, MethodRow, StructRow, UnionRow};
@@ -21,7 +22,7 @@ pub struct Schema {
     pub ghost few: { length interfaces < 2 ^ 32 },
     pub ghost laid_out: { AllByRecursion IsLaidOut structs } by { all_laid_out-prop structs },
     // Until other kinds are encoded: what reads and writes messages takes each field for a uint32.
-    pub ghost of_uint32: { IsTrue (list_all is_of_uint32 structs) },
+    pub ghost narrow: { IsTrue (list_all is_narrow structs) },
 }
 
 impl Schema {

@@ -1,6 +1,7 @@
 -- What is asked for, found out a file at a time.
 use Rattle.std.proofs.Common.{◌≡◌, ◌≤◌, ℕ, List, length, refl, sym, subst, arith, inl, inr, Some, None}
 use Rattle.std.specs.Prelude.{Option, Result, Ok, Err, IfOk, IfErr}
+use Rattle.mj_base.specs.declared.limits.TheConstants.{MAX_FILE_BYTES}
 use Rattle.mj_io.specs.Outside.{Named, FilesState, FilesGoOn}
 use Rattle.mj_schema.specs.declared.schema.Schema.{Schema}
 use Rattle.mojom_ast.specs.declared.file.File.{File}
@@ -11,7 +12,7 @@ use Rattle.call_script.specs.declared.script.Script.{Script}
 use Rattle.call_script.specs.Spelling.{IsScriptOf}
 use Rattle.mojo_tool.specs.Work.{Work, Missing, TooLong, Refuses, Unreadable, Runs, Prints, RunWords, Fetching, Leads, Compiling, Parsing, Reading, Scripting, Running, Printing, AskedFor}
 use Rattle.mojo_tool.specs.Answers.{ReadFailed, refused_work, IsTextOf, IsRunText, IsPrintText}
-use Rattle.mojo_tool.specs.Stops.{Stops, HasBytes, IsLonger, IsLost, NotFetched, NotCompiled, NoScript}
+use Rattle.mojo_tool.specs.steps.Stops.{Stops, HasBytes, IsLonger, IsLost, NotFetched, NotCompiled, NoScript}
 use Rattle.mojo_tool.specs.declared.decide.Stop.{Stop}
 use Rattle.mojo_tool.specs.declared.decide.Stop.TheVariants.{Refused, ReadFault, NoMemory}
 
@@ -31,12 +32,12 @@ stopped before now name next (ReadFault other) why = record { rose = why.1; fail
 stopped before now name next NoMemory why = tt
 
 -- with the bytes of a file that is there, its work is what they lead on to
-leads_on : (told : Option (List Named)) (name bytes : List ℕ) (next : List Named → List ℕ → Work → Type 0) (work : Work) → HasBytes told name bytes → length bytes ≤ 1048576
+leads_on : (told : Option (List Named)) (name bytes : List ℕ) (next : List Named → List ℕ → Work → Type 0) (work : Work) → HasBytes told name bytes → length bytes ≤ MAX_FILE_BYTES
     → AskedFor told (λ files w. next files bytes w) work → AskedFor told (λ files w. Fetching files name (next files) w) work
 leads_on None name bytes next work has short asked = tt
 leads_on (Some files) name bytes next work has short asked = subst (λ (found : Option (List ℕ)). Leads name (next files) found work) (sym has) (inr (short, asked))
 
-leads_on_lost : (told : Option (List Named)) (name other bytes : List ℕ) (next : List Named → List ℕ → Work → Type 0) (before now : ℕ) → HasBytes told name bytes → length bytes ≤ 1048576
+leads_on_lost : (told : Option (List Named)) (name other bytes : List ℕ) (next : List Named → List ℕ → Work → Type 0) (before now : ℕ) → HasBytes told name bytes → length bytes ≤ MAX_FILE_BYTES
     → ReadFailed told (λ files w. next files bytes w) other before now → ReadFailed told (λ files w. Fetching files name (next files) w) other before now
 leads_on_lost None name other bytes next before now has short failed = tt
 leads_on_lost (Some files) name other bytes next before now has short (inl asked) = inl (subst (λ (found : Option (List ℕ)). Leads name (next files) found (Missing other)) (sym has) (inr (short, asked)))
@@ -73,7 +74,7 @@ unread None name bytes schema work none e = tt
 unread (Some files) name bytes schema work none e = inr (none, e)
 
 -- a file without a schema
-pub no_schema : (before now : FilesState) (words : RunWords) (bytes : List ℕ) (stop : Stop) → HasBytes before.told words.file bytes → length bytes ≤ 1048576 → NotCompiled (IsRefusedFile bytes) words.file stop
+pub no_schema : (before now : FilesState) (words : RunWords) (bytes : List ℕ) (stop : Stop) → HasBytes before.told words.file bytes → length bytes ≤ MAX_FILE_BYTES → NotCompiled (IsRefusedFile bytes) words.file stop
     → Stops before now (λ files w. Running files words w) stop
 no_schema before now words bytes (Refused refusal) has short why =
     leads_on before.told words.file bytes (λ files. Compiling words.file (Scripting files words.script)) (refused_work refusal) has short
@@ -82,7 +83,7 @@ no_schema before now words bytes (ReadFault other) has short why = absurd why
 no_schema before now words bytes NoMemory has short why = tt
 
 -- a file without a tree
-pub no_tree : (before now : FilesState) (name bytes : List ℕ) (stop : Stop) → HasBytes before.told name bytes → length bytes ≤ 1048576 → NotCompiled (IsUnread bytes) name stop
+pub no_tree : (before now : FilesState) (name bytes : List ℕ) (stop : Stop) → HasBytes before.told name bytes → length bytes ≤ MAX_FILE_BYTES → NotCompiled (IsUnread bytes) name stop
     → Stops before now (λ files w. Printing files name w) stop
 no_tree before now name bytes (Refused refusal) has short why =
     leads_on before.told name bytes (λ files. Parsing name) (refused_work refusal) has short (untreed before.told name bytes (refused_work refusal) why.0 why.1 why.2)
@@ -90,7 +91,7 @@ no_tree before now name bytes (ReadFault other) has short why = absurd why
 no_tree before now name bytes NoMemory has short why = tt
 
 -- the text of a tree
-pub tree_text : (told : Option (List Named)) (name bytes text : List ℕ) (tree : File) → HasBytes told name bytes → length bytes ≤ 1048576 → IsParsed bytes tree → text ≡ file_text tree
+pub tree_text : (told : Option (List Named)) (name bytes text : List ℕ) (tree : File) → HasBytes told name bytes → length bytes ≤ MAX_FILE_BYTES → IsParsed bytes tree → text ≡ file_text tree
     → IsPrintText told (λ files w. Printing files name w) text
 tree_text told name bytes text tree has short is e = record {
   tree = tree;
@@ -99,7 +100,7 @@ tree_text told name bytes text tree has short is e = record {
 }
 
 -- a file without a script
-pub no_script : (before now : FilesState) (name : List ℕ) (schema : Schema) (bytes : List ℕ) (stop : Stop) → HasBytes before.told name bytes → length bytes ≤ 1048576 → NoScript schema bytes name stop
+pub no_script : (before now : FilesState) (name : List ℕ) (schema : Schema) (bytes : List ℕ) (stop : Stop) → HasBytes before.told name bytes → length bytes ≤ MAX_FILE_BYTES → NoScript schema bytes name stop
     → Stops before now (λ files w. Scripting files name schema w) stop
 no_script before now name schema bytes (Refused refusal) has short why =
     leads_on before.told name bytes (λ files. Reading name schema) (refused_work refusal) has short (unread before.told name bytes schema (refused_work refusal) why.0 why.1)
@@ -107,7 +108,7 @@ no_script before now name schema bytes (ReadFault other) has short why = absurd 
 no_script before now name schema bytes NoMemory has short why = tt
 
 -- the script stops
-pub later : (before mid now : FilesState) (words : RunWords) (bytes : List ℕ) (schema : Schema) (stop : Stop) → FilesGoOn before mid → HasBytes before.told words.file bytes → length bytes ≤ 1048576 → IsSchemaOf bytes schema
+pub later : (before mid now : FilesState) (words : RunWords) (bytes : List ℕ) (schema : Schema) (stop : Stop) → FilesGoOn before mid → HasBytes before.told words.file bytes → length bytes ≤ MAX_FILE_BYTES → IsSchemaOf bytes schema
     → Stops mid now (λ files w. Scripting files words.script schema w) stop → Stops before now (λ files w. Running files words w) stop
 later before mid now words bytes schema (Refused refusal) on has short is stops =
     leads_on before.told words.file bytes (λ files. Compiling words.file (Scripting files words.script)) (refused_work refusal) has short
@@ -129,7 +130,7 @@ later before mid now words bytes schema (ReadFault other) on has short is stops 
 later before mid now words bytes schema NoMemory on has short is stops = tt
 
 -- the text of a script is that of the words
-pub right_text : (before mid : FilesState) (words : RunWords) (bytes text : List ℕ) (schema : Schema) → FilesGoOn before mid → HasBytes before.told words.file bytes → length bytes ≤ 1048576 → IsSchemaOf bytes schema
+pub right_text : (before mid : FilesState) (words : RunWords) (bytes text : List ℕ) (schema : Schema) → FilesGoOn before mid → HasBytes before.told words.file bytes → length bytes ≤ MAX_FILE_BYTES → IsSchemaOf bytes schema
     → IsRunText mid.told (λ files w. Scripting files words.script schema w) text → IsRunText before.told (λ files w. Running files words w) text
 right_text before mid words bytes text schema on has short is right = record {
   schema = right.schema;
@@ -141,7 +142,7 @@ right_text before mid words bytes text schema on has short is right = record {
 }
 
 -- the text of a run of the script
-pub script_text : (told : Option (List Named)) (name bytes text : List ℕ) (schema : Schema) (script : Script) → HasBytes told name bytes → length bytes ≤ 1048576 → IsScriptOf schema bytes script → IsTextOf schema script text
+pub script_text : (told : Option (List Named)) (name bytes text : List ℕ) (schema : Schema) (script : Script) → HasBytes told name bytes → length bytes ≤ MAX_FILE_BYTES → IsScriptOf schema bytes script → IsTextOf schema script text
     → IsRunText told (λ files w. Scripting files name schema w) text
 script_text told name bytes text schema script has short is text_of = record {
   schema = schema;

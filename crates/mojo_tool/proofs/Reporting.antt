@@ -4,8 +4,8 @@ use Rattle.std.specs.Prelude.{Option}
 use Rattle.mj_io.specs.Outside.{FilesState, SinkState}
 use Rattle.mojo_tool.specs.Work.{Command, command_of, NamesFile, IsWork}
 use Rattle.mojo_tool.specs.Answers.{Seen, Answers, IsRightText}
-use Rattle.mojo_tool.specs.Stops.{Stops, IsOf}
-use Rattle.mojo_tool.specs.Reports.{Printed, Reported}
+use Rattle.mojo_tool.specs.steps.Stops.{Stops, IsOf}
+use Rattle.mojo_tool.specs.steps.Reports.{Printed, Reported}
 use Rattle.mojo_tool.specs.declared.decide.Stop.{Stop}
 use Rattle.mojo_tool.specs.declared.decide.Stop.TheVariants as stop
 use Rattle.mojo_tool.specs.declared.status.Status.{Status}

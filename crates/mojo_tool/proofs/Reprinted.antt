@@ -3,7 +3,7 @@ use Rattle.std.proofs.Common.{◌≡◌, ℕ, List, ◌∙◌, ap, subst}
 use Rattle.mojom_ast.specs.declared.token.Token.{Token}
 use Rattle.mojom_ast.specs.declared.file.File.{File}
 use Rattle.mojom_ast.specs.Parsed.{Spells}
-use Rattle.mojom_grammar.proofs.Unique.{one_tree}
+use Rattle.grammar_laws.proofs.Unique.{one_tree}
 use Rattle.mojom_lexer.proofs.Laws.{one_reading}
 use Rattle.mojom_print.specs.FileText.{file_text}
 use Rattle.mojom_print.specs.Unplaced.{unplaced}

@@ -1,6 +1,7 @@
 -- What the words and the files ask for, in the order in which a call finds it out: the words, the Mojom file, the script, the run.
 use Rattle.std.specs.Prelude.{ℕ, ◌≡◌, ◌≤◌, ◌<◌, ◌&&◌, List, [], ◌∷◌, length, codes, if◌then◌else◌, Option, Some, None, ◌⊎◌}
 use Rattle.std.specs.Str.{bytes_eq}
+use Rattle.mj_base.specs.declared.limits.TheConstants.{MAX_FILE_BYTES}
 use Rattle.mj_io.specs.Outside.{Named, find_file}
 use Rattle.mj_schema.specs.declared.schema.Schema.{Schema}
 use Rattle.mojom_ast.specs.declared.file.File.{File}
@@ -51,7 +52,7 @@ pub data Work : Type 0 where
 -- the file is not there, or too long, or its bytes lead on
 abbrev pub Leads : List ℕ → (List ℕ → Work → Type 0) → Option (List ℕ) → Work → Type 0
 Leads name next None work = work ≡ Missing name
-Leads name next (Some bytes) work = ((1048576 < length bytes) × (work ≡ TooLong name)) ⊎ ((length bytes ≤ 1048576) × next bytes work)
+Leads name next (Some bytes) work = ((MAX_FILE_BYTES < length bytes) × (work ≡ TooLong name)) ⊎ ((length bytes ≤ MAX_FILE_BYTES) × next bytes work)
 
 abbrev pub Fetching : List Named → List ℕ → (List ℕ → Work → Type 0) → Work → Type 0
 Fetching files name next work = Leads name next (find_file files name) work

@@ -10,10 +10,11 @@ ghost use Rattle.call_script.specs.declared.script.Script.{Script};
 ghost use Rattle.call_script.specs.Spelling.{IsScript, IsScriptOf};
 ghost use Rattle.script_run.specs.Narrow.{IsNarrow};
 ghost use Rattle.mojo_tool.specs.Work.{NamesFile, IsWork, Run, Print, Scripting, Running, Printing};
-ghost use Rattle.mojo_tool.specs.Names.{asked_of};
+ghost use Rattle.mojo_tool.specs.steps.Names.{asked_of};
 ghost use Rattle.mojo_tool.specs.Answers.{IsTextOf, IsRunText, IsPrintText, IsRightText};
-ghost use Rattle.mojo_tool.specs.Stops.{Stops, IsOf, HasBytes, NotFetched, NotCompiled, NoScript};
+ghost use Rattle.mojo_tool.specs.steps.Stops.{Stops, IsOf, HasBytes, NotFetched, NotCompiled, NoScript};
 
+use mj_base::limits::MAX_FILE_BYTES;
 use crate::refusal::ToolRefusal;
 use crate::words::Command;
 use call_script::{Script, ScriptError};
@@ -24,9 +25,6 @@ use mojom_ast::File;
 use mojom_compile::CompileError;
 use std::alloc::Global;
 use std::sync::Arc;
-
-/// The most bytes that a file may have.
-const LIMIT: u64 = 1_048_576;
 
 /// Why there is no text.
 #[derive(Clone, Copy)]
@@ -41,12 +39,12 @@ pub enum Stop<'a> {
 fn fetch<'a, F: Files>(alloc: Global, files: &mut F, name: &'a str) -> Result<Vec<u8>, Stop<'a>>
     ensures on { FilesGoOn (F.state files.old) (F.state files.new) }
     ensures bytes { IfOk result (λ bytes. HasBytes (F.state files.old).told name.now bytes.items) }
-    ensures short { IfOk result (λ bytes. length bytes.items ≤ 1048576) }
+    ensures short { IfOk result (λ bytes. length bytes.items ≤ MAX_FILE_BYTES) }
     ensures stop { IfErr result (λ stop. NotFetched (F.state files.old) (F.state files.new) name.now stop) }
     ensures named { IfErr result (IsOf (λ named. named ≡ name.now)) }
 {
     let mut bytes = Vec::new(alloc);
-    match files.fetch(alloc, name, LIMIT, &mut bytes) {
+    match files.fetch(alloc, name, MAX_FILE_BYTES, &mut bytes) {
         Ok(Fetched::Whole) => Ok(bytes),
         Ok(Fetched::Longer) => Err(Stop::Refused(ToolRefusal::FileTooLong(name))),
         Err(FilesError::Failed) => Err(Stop::ReadFault(name)),

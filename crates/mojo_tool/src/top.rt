@@ -7,7 +7,7 @@ ghost use Rattle.mojom_compile.specs.Compiled.{IsParsed};
 ghost use Rattle.mojom_print.specs.FileText.{file_text};
 ghost use Rattle.mojo_tool.specs.Answers.{Answers, Seen, code_of, WroteOrFailed};
 ghost use Rattle.mojo_tool.specs.Complete.{IsComplete};
-ghost use Rattle.mojo_tool.specs.Reports.{Printed, Reported};
+ghost use Rattle.mojo_tool.specs.steps.Reports.{Printed, Reported};
 ghost use Rattle.mojo_tool.specs.Lines.{refusal_text, error_line, read_text};
 ghost use Rattle.mojo_tool.specs.Work.{command_of};
 ghost use Rattle.mojo_tool.specs.declared.status.Status.{Status};

@@ -2,7 +2,7 @@
 
 ghost use Rattle.std.specs.Prelude.{◌≡◌, map, string_bytes};
 ghost use Rattle.std.specs.Option.{option_map};
-ghost use Rattle.mojo_tool.specs.Names.{asked_of};
+ghost use Rattle.mojo_tool.specs.steps.Names.{asked_of};
 ghost use Rattle.mojo_tool.specs.Work.{command_of};
 
 /// What the words ask for.

@@ -1,1 +1,1 @@
-pub mod Classes
+pub mod ClassFacts

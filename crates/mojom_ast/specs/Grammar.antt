@@ -1,6 +1,7 @@
 -- The grammar, a line for each rule. A type may hold types: the rules that hold types take the number of types that
 -- may still stand round one another.
 use Rattle.std.specs.Prelude.{ℕ, zero, suc, List, [], ◌∷◌, unwrap_or}
+use Rattle.mojom_ast.specs.declared.classes.TheConstants.{NUMBER, STRING, ARRAY, MAP, HANDLE, PENDING_REMOTE, PENDING_RECEIVER, PENDING_ASSOCIATED_REMOTE, PENDING_ASSOCIATED_RECEIVER, MESSAGE_PIPE, DATA_PIPE_CONSUMER, DATA_PIPE_PRODUCER, SHARED_BUFFER, PLATFORM}
 use Rattle.mojom_ast.specs.declared.token.Keyword.TheVariants as keywords
 use Rattle.mojom_ast.specs.declared.token.Symbol.TheVariants.{Semicolon, Comma, Dot, OpenParen, CloseParen, OpenBracket, CloseBracket, OpenBrace, CloseBrace, Less, Greater, Equals, Arrow, Question, At, Plus, Minus}
 use Rattle.mojom_ast.specs.declared.names.Identifier.{Identifier}
@@ -47,11 +48,11 @@ identifier = as_value identifier_of (tok identifiers)
 
 -- Number
 unfoldable pub number : Lang Number
-number = as_value number_of (tok (1 ∷ []))
+number = as_value number_of (tok (NUMBER ∷ []))
 
 -- String
 unfoldable pub string : Lang StringLiteral
-string = as_value string_of (tok (2 ∷ []))
+string = as_value string_of (tok (STRING ∷ []))
 
 -- . Id
 unfoldable pub dotted : Lang Identifier
@@ -95,11 +96,11 @@ attributes = as_value (λ o. unwrap_or o []) (maybe bracketed)
 
 -- Sort: an Id that is one of these five
 unfoldable pub handle_sort : Lang HandleSort
-handle_sort = as_value (λ t. MessagePipe) (tok (36 ∷ []))
-    or as_value (λ t. DataPipeConsumer) (tok (37 ∷ []))
-    or as_value (λ t. DataPipeProducer) (tok (38 ∷ []))
-    or as_value (λ t. SharedBuffer) (tok (39 ∷ []))
-    or as_value (λ t. Platform) (tok (40 ∷ []))
+handle_sort = as_value (λ t. MessagePipe) (tok (MESSAGE_PIPE ∷ []))
+    or as_value (λ t. DataPipeConsumer) (tok (DATA_PIPE_CONSUMER ∷ []))
+    or as_value (λ t. DataPipeProducer) (tok (DATA_PIPE_PRODUCER ∷ []))
+    or as_value (λ t. SharedBuffer) (tok (SHARED_BUFFER ∷ []))
+    or as_value (λ t. Platform) (tok (PLATFORM ∷ []))
 
 -- < Sort >
 unfoldable pub sort_given : Lang HandleSort
@@ -138,7 +139,7 @@ base inside = array inside or map_of inside or handle or pending or as_value Nam
 
 -- what a type begins with: array, map, handle, a pending keyword or Id
 abbrev pub type_starts : List ℕ
-type_starts = 12 ∷ 13 ∷ 14 ∷ 15 ∷ 16 ∷ 17 ∷ 18 ∷ identifiers
+type_starts = ARRAY ∷ MAP ∷ HANDLE ∷ PENDING_REMOTE ∷ PENDING_RECEIVER ∷ PENDING_ASSOCIATED_REMOTE ∷ PENDING_ASSOCIATED_RECEIVER ∷ identifiers
 
 -- Type: Base with or without ? behind it, and with at most this many types round one another
 unfoldable pub type_at : ℕ → Lang TypeTree

@@ -1,5 +1,6 @@
 -- What a list of tokens is to the grammar.
 use Rattle.std.specs.Prelude.{◌≡◌, ℕ, List, []}
+use Rattle.mj_base.specs.declared.limits.TheConstants.{MAX_NESTED_TYPES}
 use Rattle.mojom_ast.specs.declared.token.Token.{Token}
 use Rattle.mojom_ast.specs.declared.file.File.{File}
 use Rattle.mojom_ast.specs.Lang.{Whole, Begun, Deep}
@@ -15,4 +16,4 @@ Begins ts = (n : ℕ) × (file n).followed Begun (λ f rest. rest ≡ []) ts
 
 -- The last token begins a type that stands inside 32 others.
 abbrev pub EndsTooDeep : List Token → Type 0
-EndsTooDeep ts = (file 32).followed Deep (λ f rest. ⊥) ts
+EndsTooDeep ts = (file MAX_NESTED_TYPES).followed Deep (λ f rest. ⊥) ts

@@ -3,6 +3,7 @@
 ghost use Rattle.std.specs.Prelude.{◌≡◌};
 ghost use Rattle.mojom_ast.specs.Classes.{keyword_class, symbol_class, identifier_class, class};
 
+use crate::classes;
 use crate::token::{Keyword, Sort, Symbol, Token};
 use mj_base::Text;
 
@@ -12,22 +13,22 @@ impl Keyword {
         ensures { result ≡ keyword_class self }
     {
         match self {
-            Keyword::Module => 3,
-            Keyword::Import => 4,
-            Keyword::Struct => 5,
-            Keyword::Union => 6,
-            Keyword::Enum => 7,
-            Keyword::Interface => 8,
-            Keyword::Const => 9,
-            Keyword::True => 10,
-            Keyword::False => 11,
-            Keyword::Array => 12,
-            Keyword::Map => 13,
-            Keyword::Handle => 14,
-            Keyword::PendingRemote => 15,
-            Keyword::PendingReceiver => 16,
-            Keyword::PendingAssociatedRemote => 17,
-            Keyword::PendingAssociatedReceiver => 18,
+            Keyword::Module => classes::MODULE,
+            Keyword::Import => classes::IMPORT,
+            Keyword::Struct => classes::STRUCT,
+            Keyword::Union => classes::UNION,
+            Keyword::Enum => classes::ENUM,
+            Keyword::Interface => classes::INTERFACE,
+            Keyword::Const => classes::CONST,
+            Keyword::True => classes::TRUE,
+            Keyword::False => classes::FALSE,
+            Keyword::Array => classes::ARRAY,
+            Keyword::Map => classes::MAP,
+            Keyword::Handle => classes::HANDLE,
+            Keyword::PendingRemote => classes::PENDING_REMOTE,
+            Keyword::PendingReceiver => classes::PENDING_RECEIVER,
+            Keyword::PendingAssociatedRemote => classes::PENDING_ASSOCIATED_REMOTE,
+            Keyword::PendingAssociatedReceiver => classes::PENDING_ASSOCIATED_RECEIVER,
         }
     }
 }
@@ -38,45 +39,45 @@ impl Symbol {
         ensures { result ≡ symbol_class self }
     {
         match self {
-            Symbol::Semicolon => 19,
-            Symbol::Comma => 20,
-            Symbol::Dot => 21,
-            Symbol::OpenParen => 22,
-            Symbol::CloseParen => 23,
-            Symbol::OpenBracket => 24,
-            Symbol::CloseBracket => 25,
-            Symbol::OpenBrace => 26,
-            Symbol::CloseBrace => 27,
-            Symbol::Less => 28,
-            Symbol::Greater => 29,
-            Symbol::Equals => 30,
-            Symbol::Arrow => 31,
-            Symbol::Question => 32,
-            Symbol::At => 33,
-            Symbol::Plus => 34,
-            Symbol::Minus => 35,
+            Symbol::Semicolon => classes::SEMICOLON,
+            Symbol::Comma => classes::COMMA,
+            Symbol::Dot => classes::DOT,
+            Symbol::OpenParen => classes::OPEN_PAREN,
+            Symbol::CloseParen => classes::CLOSE_PAREN,
+            Symbol::OpenBracket => classes::OPEN_BRACKET,
+            Symbol::CloseBracket => classes::CLOSE_BRACKET,
+            Symbol::OpenBrace => classes::OPEN_BRACE,
+            Symbol::CloseBrace => classes::CLOSE_BRACE,
+            Symbol::Less => classes::LESS,
+            Symbol::Greater => classes::GREATER,
+            Symbol::Equals => classes::EQUALS,
+            Symbol::Arrow => classes::ARROW,
+            Symbol::Question => classes::QUESTION,
+            Symbol::At => classes::AT,
+            Symbol::Plus => classes::PLUS,
+            Symbol::Minus => classes::MINUS,
         }
     }
 }
 
-/// The class of an identifier: one of its own for each sort of handles, 0 for the others.
+/// The class of an identifier: one of its own for each sort of handles, and one for all others.
 #[tactic(auto, unfolding(crate::specs::Classes::identifier_class))]
 fn identifier_class(text: &Text) -> u8
     ensures { result ≡ identifier_class text.now }
 {
     let word = text.as_str();
     if word == "message_pipe" {
-        36
+        classes::MESSAGE_PIPE
     } else if word == "data_pipe_consumer" {
-        37
+        classes::DATA_PIPE_CONSUMER
     } else if word == "data_pipe_producer" {
-        38
+        classes::DATA_PIPE_PRODUCER
     } else if word == "shared_buffer" {
-        39
+        classes::SHARED_BUFFER
     } else if word == "platform" {
-        40
+        classes::PLATFORM
     } else {
-        0
+        classes::IDENTIFIER
     }
 }
 
@@ -87,8 +88,8 @@ impl Token {
     {
         match &self.sort {
             Sort::Identifier(text) => identifier_class(text),
-            Sort::Number(_) => 1,
-            Sort::String(_) => 2,
+            Sort::Number(_) => classes::NUMBER,
+            Sort::String(_) => classes::STRING,
             Sort::Keyword(keyword) => keyword.class(),
             Sort::Symbol(symbol) => symbol.class(),
         }

@@ -3,6 +3,7 @@
 
 mod attributes;
 mod class;
+pub mod classes;
 mod definitions;
 mod fault;
 mod file;

@@ -8,12 +8,13 @@ use Rattle.mojom_ast.specs.declared.file.File.{File}
 use Rattle.mojom_ast.specs.declared.fault.Fault.TheVariants.{Unexpected, TooNested}
 use Rattle.mojom_ast.specs.Lang.{Read}
 use Rattle.mojom_ast.specs.Parsed.{Spells, Begins, EndsTooDeep}
-use Rattle.mojom_grammar.specs.Factored.{factored}
+use Rattle.grammar_laws.specs.steps.Factored.{factored}
 use Rattle.mojom_lexer.specs.Lexed.{AreTokens, OneReading}
 use Rattle.mojom_lexer.proofs.Laws.{one_reading}
 use Rattle.mojom_parser.specs.declared.error.ParseError.{ParseError}
 use Rattle.mojom_parser.specs.declared.error.ParseError.TheVariants as parse
-use Rattle.mojom_parser.specs.Parsed.{verdict, Agrees, Answers, AnswersAt, AnswersDeep, Blames}
+use Rattle.mojom_parser.specs.Parsed.{Answers, AnswersAt, AnswersDeep, Blames}
+use Rattle.mojom_parser.specs.steps.Verdict.{verdict, Agrees}
 use Rattle.mojom_parser.proofs.Places.{is_blamed, is_answered, is_exact, is_end, is_too_deep}
 use Rattle.mojom_compile.specs.declared.error.FileRefusal.{FileRefusal}
 use Rattle.mojom_compile.specs.declared.error.CompileError.{CompileError}

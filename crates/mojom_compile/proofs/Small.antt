@@ -4,6 +4,7 @@ use Rattle.std.specs.Prelude.{Option, Result, Ok, Err, nat_le, not, if◌then◌
 use Rattle.std.specs.List.{list_all, list_any, AllByRecursion}
 use Rattle.std.specs.Str.{bytes_eq}
 use Rattle.std.proofs.lemmas.Bool.Decides.{nat_tests}
+use Rattle.mj_base.specs.declared.limits.TheConstants.{MAX_METHODS, MAX_PARAMETERS}
 use Rattle.mojom_ast.specs.declared.definitions.Definition.{Definition}
 use Rattle.mojom_ast.specs.declared.file.File as files
 use Rattle.mojom_ast.specs.declared.file.Import.{Import}
@@ -11,7 +12,7 @@ use Rattle.mojom_compile.specs.declared.tree.Method.{Method}
 use Rattle.mojom_compile.specs.declared.tree.Interface.{Interface}
 use Rattle.mojom_compile.specs.declared.tree.File.{File}
 use Rattle.mojom_compile.specs.Sound.{is_basic_kind, are_distinct, is_allowed_method, is_allowed_interface, name_of}
-use Rattle.mojom_compile.specs.Few.{IsFewMethod, IsFew, AreFew}
+use Rattle.mojom_compile.specs.steps.Few.{IsFewMethod, IsFew, AreFew}
 use Rattle.mojom_compile.specs.Plain.{plain_definition, allowed, allowed_behind, behind, plain_definitions, place_of, plain_module, with_module, without_imports, plain_file}
 
 left : (x y : Bool) → (x && y) ≡ true → x ≡ true
@@ -24,7 +25,7 @@ right false y h = absurd cc
 
 few_method : (m : Method) → is_allowed_method m ≡ true → IsFewMethod m
 few_method m h =
-    let e : nat_le (length m.parameters) 4096 ≡ true = left (nat_le (length m.parameters) 4096) (are_distinct m.parameters) h in
+    let e : nat_le (length m.parameters) MAX_PARAMETERS ≡ true = left (nat_le (length m.parameters) MAX_PARAMETERS) (are_distinct m.parameters) h in
     record { few = grind (arith, nat_tests) }
 
 few_methods : (ms : List Method) → list_all is_allowed_method ms ≡ true → AllByRecursion IsFewMethod ms
@@ -35,11 +36,11 @@ few_interface : (i : Interface) → is_allowed_interface i ≡ true → IsFew i
 few_interface i h =
     let distinct : Bool = are_distinct (map name_of i.methods) in
     let all : Bool = list_all is_allowed_method i.methods in
-    let counted = right (not (is_basic_kind i.name)) (nat_le (length i.methods) 4096 && (distinct && all)) h in
-    let e : nat_le (length i.methods) 4096 ≡ true = left (nat_le (length i.methods) 4096) (distinct && all) counted in
+    let counted = right (not (is_basic_kind i.name)) (nat_le (length i.methods) MAX_METHODS && (distinct && all)) h in
+    let e : nat_le (length i.methods) MAX_METHODS ≡ true = left (nat_le (length i.methods) MAX_METHODS) (distinct && all) counted in
     record {
       few = grind (arith, nat_tests);
-      methods = few_methods i.methods (right distinct all (right (nat_le (length i.methods) 4096) (distinct && all) counted));
+      methods = few_methods i.methods (right distinct all (right (nat_le (length i.methods) MAX_METHODS) (distinct && all) counted));
     }
 
 -- what is found behind other interfaces is allowed

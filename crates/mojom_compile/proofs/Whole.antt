@@ -12,7 +12,8 @@ use Rattle.mj_schema.specs.declared.rows.InterfaceRow.{InterfaceRow}
 use Rattle.mj_schema.specs.declared.rows.DraftStruct.{DraftStruct}
 use Rattle.mj_schema.specs.declared.rows.UnionRow.{UnionRow}
 use Rattle.mj_schema.specs.declared.rows.EnumRow.{EnumRow}
-use Rattle.mj_schema.specs.Layout.{IsLaidOut, draft_of, is_of_uint32}
+use Rattle.mj_schema.specs.Layout.{IsLaidOut, draft_of}
+use Rattle.mj_schema.specs.Narrow.{is_narrow}
 use Rattle.mj_schema.specs.Proper.{all_laid_out-prop}
 use Rattle.mj_schema.proofs.OneLayout.{one_layout}
 use Rattle.mojom_compile.specs.declared.tree.File.{File}
@@ -24,22 +25,22 @@ use Rattle.mojom_compile.specs.Compiled.{IsSchemaOf, IsBeyond, IsRefusedFile, On
 use Rattle.mojom_compile.proofs.Readings.{one_tree}
 
 -- bytes have one schema
-same_proofs : (structs : List StructRow) (unions : List UnionRow) (enums : List EnumRow) (is : List InterfaceRow) (f g : length is < 2 ^ 32) (l m : AllByRecursion IsLaidOut structs) (u v : IsTrue (list_all is_of_uint32 structs)) → ◌≡◌ {A = Schema} (record { structs = structs; unions = unions; enums = enums; interfaces = is; few = f; laid_out = l; of_uint32 = u }) (record { structs = structs; unions = unions; enums = enums; interfaces = is; few = g; laid_out = m; of_uint32 = v })
+same_proofs : (structs : List StructRow) (unions : List UnionRow) (enums : List EnumRow) (is : List InterfaceRow) (f g : length is < 2 ^ 32) (l m : AllByRecursion IsLaidOut structs) (u v : IsTrue (list_all is_narrow structs)) → ◌≡◌ {A = Schema} (record { structs = structs; unions = unions; enums = enums; interfaces = is; few = f; laid_out = l; narrow = u }) (record { structs = structs; unions = unions; enums = enums; interfaces = is; few = g; laid_out = m; narrow = v })
 same_proofs structs unions enums is f g l m u v =
-    let prop : IsProp (IsTrue (list_all is_of_uint32 structs)) = hlevel props in
-    ap (λ (k : length is < 2 ^ 32). let s : Schema = record { structs = structs; unions = unions; enums = enums; interfaces = is; few = k; laid_out = l; of_uint32 = u } in s) (le_prop f g)
-    ∙ ap (λ (k : AllByRecursion IsLaidOut structs). let s : Schema = record { structs = structs; unions = unions; enums = enums; interfaces = is; few = g; laid_out = k; of_uint32 = u } in s) (all_laid_out-prop structs l m)
-    ∙ ap (λ (k : IsTrue (list_all is_of_uint32 structs)). let s : Schema = record { structs = structs; unions = unions; enums = enums; interfaces = is; few = g; laid_out = m; of_uint32 = k } in s) (prop u v)
+    let prop : IsProp (IsTrue (list_all is_narrow structs)) = hlevel props in
+    ap (λ (k : length is < 2 ^ 32). let s : Schema = record { structs = structs; unions = unions; enums = enums; interfaces = is; few = k; laid_out = l; narrow = u } in s) (le_prop f g)
+    ∙ ap (λ (k : AllByRecursion IsLaidOut structs). let s : Schema = record { structs = structs; unions = unions; enums = enums; interfaces = is; few = g; laid_out = k; narrow = u } in s) (all_laid_out-prop structs l m)
+    ∙ ap (λ (k : IsTrue (list_all is_narrow structs)). let s : Schema = record { structs = structs; unions = unions; enums = enums; interfaces = is; few = g; laid_out = m; narrow = k } in s) (prop u v)
 
 same_schema : (s t : Schema) → s.structs ≡ t.structs → s.unions ≡ t.unions → s.enums ≡ t.enums → s.interfaces ≡ t.interfaces → s ≡ t
-same_schema s t a b c d = same_rows s.structs t.structs s.unions t.unions s.enums t.enums s.interfaces t.interfaces a b c d s.few t.few s.laid_out t.laid_out s.of_uint32 t.of_uint32
+same_schema s t a b c d = same_rows s.structs t.structs s.unions t.unions s.enums t.enums s.interfaces t.interfaces a b c d s.few t.few s.laid_out t.laid_out s.narrow t.narrow
   where
-    same_rows : (structs others : List StructRow) (us vs : List UnionRow) (es gs : List EnumRow) (is js : List InterfaceRow) → structs ≡ others → us ≡ vs → es ≡ gs → is ≡ js → (f : length is < 2 ^ 32) (g : length js < 2 ^ 32) (l : AllByRecursion IsLaidOut structs) (m : AllByRecursion IsLaidOut others) (u : IsTrue (list_all is_of_uint32 structs)) (v : IsTrue (list_all is_of_uint32 others)) → ◌≡◌ {A = Schema} (record { structs = structs; unions = us; enums = es; interfaces = is; few = f; laid_out = l; of_uint32 = u }) (record { structs = others; unions = vs; enums = gs; interfaces = js; few = g; laid_out = m; of_uint32 = v })
+    same_rows : (structs others : List StructRow) (us vs : List UnionRow) (es gs : List EnumRow) (is js : List InterfaceRow) → structs ≡ others → us ≡ vs → es ≡ gs → is ≡ js → (f : length is < 2 ^ 32) (g : length js < 2 ^ 32) (l : AllByRecursion IsLaidOut structs) (m : AllByRecursion IsLaidOut others) (u : IsTrue (list_all is_narrow structs)) (v : IsTrue (list_all is_narrow others)) → ◌≡◌ {A = Schema} (record { structs = structs; unions = us; enums = es; interfaces = is; few = f; laid_out = l; narrow = u }) (record { structs = others; unions = vs; enums = gs; interfaces = js; few = g; laid_out = m; narrow = v })
     same_rows structs others us vs es gs is js a b c d f g l m u v =
-        subst (λ (rows : List UnionRow). ◌≡◌ {A = Schema} (record { structs = structs; unions = us; enums = es; interfaces = is; few = f; laid_out = l; of_uint32 = u }) (record { structs = others; unions = rows; enums = gs; interfaces = js; few = g; laid_out = m; of_uint32 = v })) b
-        (subst (λ (rows : List EnumRow). ◌≡◌ {A = Schema} (record { structs = structs; unions = us; enums = es; interfaces = is; few = f; laid_out = l; of_uint32 = u }) (record { structs = others; unions = us; enums = rows; interfaces = js; few = g; laid_out = m; of_uint32 = v })) c
-        (subst (λ (rows : List InterfaceRow). (h : length rows < 2 ^ 32) → ◌≡◌ {A = Schema} (record { structs = structs; unions = us; enums = es; interfaces = is; few = f; laid_out = l; of_uint32 = u }) (record { structs = others; unions = us; enums = es; interfaces = rows; few = h; laid_out = m; of_uint32 = v })) d
-        (subst (λ (rows : List StructRow). (n : AllByRecursion IsLaidOut rows) (w : IsTrue (list_all is_of_uint32 rows)) (h : length is < 2 ^ 32) → ◌≡◌ {A = Schema} (record { structs = structs; unions = us; enums = es; interfaces = is; few = f; laid_out = l; of_uint32 = u }) (record { structs = rows; unions = us; enums = es; interfaces = is; few = h; laid_out = n; of_uint32 = w })) a
+        subst (λ (rows : List UnionRow). ◌≡◌ {A = Schema} (record { structs = structs; unions = us; enums = es; interfaces = is; few = f; laid_out = l; narrow = u }) (record { structs = others; unions = rows; enums = gs; interfaces = js; few = g; laid_out = m; narrow = v })) b
+        (subst (λ (rows : List EnumRow). ◌≡◌ {A = Schema} (record { structs = structs; unions = us; enums = es; interfaces = is; few = f; laid_out = l; narrow = u }) (record { structs = others; unions = us; enums = rows; interfaces = js; few = g; laid_out = m; narrow = v })) c
+        (subst (λ (rows : List InterfaceRow). (h : length rows < 2 ^ 32) → ◌≡◌ {A = Schema} (record { structs = structs; unions = us; enums = es; interfaces = is; few = f; laid_out = l; narrow = u }) (record { structs = others; unions = us; enums = es; interfaces = rows; few = h; laid_out = m; narrow = v })) d
+        (subst (λ (rows : List StructRow). (n : AllByRecursion IsLaidOut rows) (w : IsTrue (list_all is_narrow rows)) (h : length is < 2 ^ 32) → ◌≡◌ {A = Schema} (record { structs = structs; unions = us; enums = es; interfaces = is; few = f; laid_out = l; narrow = u }) (record { structs = rows; unions = us; enums = es; interfaces = is; few = h; laid_out = n; narrow = w })) a
         (λ n w h. same_proofs structs us es is f h l n u w) m v) g))
 
 heads : (d e : DraftStruct) (ds es : List DraftStruct) → (d ∷ ds) ≡ (e ∷ es) → (d ≡ e) × (ds ≡ es)
@@ -100,5 +101,5 @@ pub one_more_laid_out : (rows : List StructRow) (row : StructRow) → AllByRecur
 one_more_laid_out [] row all is = (is, tt)
 one_more_laid_out (r ∷ rows) row all is = (all.0, one_more_laid_out rows row all.1 is)
 
-pub one_more_of_uint32 : (rows : List StructRow) (row : StructRow) → list_all is_of_uint32 rows ≡ true → is_of_uint32 row ≡ true → list_all is_of_uint32 (rows ++ row ∷ []) ≡ true
-one_more_of_uint32 rows row all is = list_all-append is_of_uint32 rows (row ∷ []) ∙ and_from _ _ all (and_from _ _ is refl)
+pub one_more_of_uint32 : (rows : List StructRow) (row : StructRow) → list_all is_narrow rows ≡ true → is_narrow row ≡ true → list_all is_narrow (rows ++ row ∷ []) ≡ true
+one_more_of_uint32 rows row all is = list_all-append is_narrow rows (row ∷ []) ∙ and_from _ _ all (and_from _ _ is refl)

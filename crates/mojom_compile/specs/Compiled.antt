@@ -6,7 +6,7 @@ use Rattle.mojom_ast.specs.declared.file.File as trees
 use Rattle.mojom_ast.specs.Parsed.{Spells, EndsTooDeep}
 use Rattle.mojom_lexer.specs.declared.error.LexError.{LexError}
 use Rattle.mojom_lexer.specs.declared.error.LexError.TheVariants as lex
-use Rattle.mojom_lexer.specs.Lexed.{AreTokens, IsRefused}
+use Rattle.mojom_lexer.specs.Lexed.{AreTokens, IsLexicalRefusal}
 use Rattle.mojom_parser.specs.declared.error.ParseError.{ParseError}
 use Rattle.mojom_parser.specs.declared.error.ParseError.TheVariants as parse
 use Rattle.mojom_parser.specs.Parsed.{Blames}
@@ -73,7 +73,7 @@ IsFault tokens parse.Memory = ⊥
 -- the bytes are no tokens
 pub record IsNoText (bytes : List ℕ) (refusal : FileRefusal) : Type 0 where
   pub error : LexError
-  pub refused : IsRefused bytes error
+  pub refused : IsLexicalRefusal bytes error
   pub named : lexical error ≡ Refused refusal
 
 -- the tokens are no file

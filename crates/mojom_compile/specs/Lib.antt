@@ -1,6 +1,6 @@
 pub mod Sound
 pub mod Plain
 pub mod Causes
-pub mod Few
 pub mod Rows
 pub mod Compiled
+pub mod steps

@@ -5,7 +5,8 @@ use Rattle.mj_schema.specs.declared.rows.DraftStruct.{DraftStruct}
 use Rattle.mj_schema.specs.declared.rows.MethodRow.{MethodRow}
 use Rattle.mj_schema.specs.declared.rows.InterfaceRow.{InterfaceRow}
 use Rattle.mj_schema.specs.declared.schema.Schema.{Schema}
-use Rattle.mj_schema.specs.Layout.{draft_of, uint32_field}
+use Rattle.mj_schema.specs.Layout.{draft_of}
+use Rattle.mj_schema.specs.Narrow.{narrow_field}
 use Rattle.mojom_compile.specs.declared.tree.Method.{Method}
 use Rattle.mojom_compile.specs.declared.tree.Interface.{Interface}
 use Rattle.mojom_compile.specs.declared.tree.File.{File}
@@ -20,7 +21,7 @@ within outer inner = outer ++ (codes "." ++ inner)
 
 -- the struct of a method's parameters, `INTERFACE.METHOD.request`: its fields in their order
 abbrev pub request_struct : List ℕ → Method → DraftStruct
-request_struct interface method = record { name = within (within interface method.name) (codes "request"); fields = map uint32_field method.parameters }
+request_struct interface method = record { name = within (within interface method.name) (codes "request"); fields = map narrow_field method.parameters }
 
 -- the structs of an interface, one for each method in order
 abbrev pub structs_in : List ℕ → Interface → List DraftStruct

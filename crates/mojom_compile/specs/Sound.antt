@@ -2,6 +2,7 @@
 use Rattle.std.specs.Prelude.{ℕ, nat_le, Bool, true, not, ◌&&◌, List, [], ◌∷◌, codes, map, length}
 use Rattle.std.specs.List.{list_all, list_any}
 use Rattle.std.specs.Str.{bytes_eq}
+use Rattle.mj_base.specs.declared.limits.TheConstants.{MAX_METHODS, MAX_PARAMETERS}
 use Rattle.mojom_compile.specs.declared.tree.Method.{Method}
 use Rattle.mojom_compile.specs.declared.tree.Interface.{Interface}
 
@@ -20,7 +21,7 @@ are_distinct (name ∷ names) = not (list_any (bytes_eq name) names) && are_dist
 
 -- no two parameters of one name, and at most 4,096
 abbrev pub is_allowed_method : Method → Bool
-is_allowed_method method = nat_le (length method.parameters) 4096 && are_distinct method.parameters
+is_allowed_method method = nat_le (length method.parameters) MAX_PARAMETERS && are_distinct method.parameters
 
 abbrev pub name_of : Method → List ℕ
 name_of method = method.name
@@ -28,4 +29,4 @@ name_of method = method.name
 -- not named as a basic kind, no two methods of one name, and at most 4,096
 abbrev pub is_allowed_interface : Interface → Bool
 is_allowed_interface interface =
-    not (is_basic_kind interface.name) && (nat_le (length interface.methods) 4096 && (are_distinct (map name_of interface.methods) && list_all is_allowed_method interface.methods))
+    not (is_basic_kind interface.name) && (nat_le (length interface.methods) MAX_METHODS && (are_distinct (map name_of interface.methods) && list_all is_allowed_method interface.methods))

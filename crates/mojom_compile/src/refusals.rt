@@ -8,9 +8,7 @@ ghost use Rattle.mojom_compile.specs.Sound.{is_basic_kind, are_distinct, is_allo
 
 use crate::tree::{Interface, Method};
 use mj_base::Text;
-
-/// The most methods of an interface, and the most parameters of a method.
-const MOST: usize = 4096;
+use mj_base::limits::{MAX_METHODS, MAX_PARAMETERS};
 
 /// Whether the word is one of these.
 fn is_among(words: &[&str], word: &str) -> bool
@@ -88,7 +86,7 @@ fn is_allowed_method(method: &Method) -> bool
     ensures { result ≡ is_allowed_method method.now }
 {
     let names = method.parameters.as_slice();
-    names.len() <= MOST && are_distinct(names)
+    names.len() <= MAX_PARAMETERS && are_distinct(names)
 }
 
 /// Whether nothing in the methods is refused, each taken by itself.
@@ -109,7 +107,7 @@ pub fn is_allowed_interface(interface: &Interface) -> bool
 {
     let methods = interface.methods.as_slice();
     !is_basic_kind(interface.name.as_str())
-        && methods.len() <= MOST
+        && methods.len() <= MAX_METHODS
         && methods_differ(methods)
         && are_allowed_methods(methods)
 }

@@ -2,15 +2,17 @@
 
 ghost use Rattle.std.specs.Prelude.{◌≡◌, ◌≤◌, ◌<◌, ◌+◌, ◌^◌, ◌++◌, IfOk, IsTrue, OnOk, length, map};
 ghost use Rattle.std.specs.List.{AllByRecursion, flat_map, list_all};
-ghost use Rattle.mj_schema.specs.Layout.{IsLaidOut, draft_of, is_of_uint32};
-ghost use Rattle.mojom_compile.specs.Few.{IsFewMethod, AreFew};
+ghost use Rattle.mj_schema.specs.Layout.{IsLaidOut, draft_of};
+ghost use Rattle.mj_schema.specs.Narrow.{is_narrow};
+ghost use Rattle.mojom_compile.specs.steps.Few.{IsFewMethod, AreFew};
 ghost use Rattle.mojom_compile.specs.Rows.{dotted, within, request_struct, structs_in, methods_from, IsSchema};
 
+use mj_base::limits::{MAX_METHODS, MAX_PARAMETERS};
 use crate::tree::{File, Method};
 use mj_base::{Items, Text};
 use mj_schema::{InterfaceRow, MethodRow, Schema, StructRow};
 use std::alloc::{AllocError, Global};
-use version_tables::lay_out_uint32;
+use version_tables::lay_out_narrow;
 
 /// The full name of what stands in another thing.
 fn within(alloc: Global, outer: &str, inner: &str) -> Result<Text, AllocError>
@@ -38,14 +40,14 @@ fn dotted(alloc: Global, ids: &[Text]) -> Result<Text, AllocError>
 
 /// The struct of a method's parameters, in the interface of this full name.
 fn request_struct(alloc: Global, interface: &str, method: &Method) -> Result<StructRow, AllocError>
-    requires { length method.now.parameters ≤ 4096 }
+    requires { length method.now.parameters ≤ MAX_PARAMETERS }
     ensures draft { IfOk result (λ row. draft_of row ≡ request_struct interface.now method.now) }
     ensures laid_out { IfOk result IsLaidOut }
-    ensures of_uint32 { IfOk result (λ row. IsTrue (is_of_uint32 row)) }
+    ensures narrow { IfOk result (λ row. IsTrue (is_narrow row)) }
 {
     let full = within(alloc, interface, method.name.as_str())?;
     let name = within(alloc, full.as_str(), "request")?;
-    lay_out_uint32(alloc, name, method.parameters.as_slice())
+    lay_out_narrow(alloc, name, method.parameters.as_slice())
 }
 
 /// Adds the structs of an interface's methods, in order.
@@ -57,11 +59,11 @@ fn add_structs(
 ) -> Result<(), AllocError>
     requires few { AllByRecursion IsFewMethod methods.now }
     requires laid_out { AllByRecursion IsLaidOut structs.old.items }
-    requires of_uint32 { IsTrue (list_all is_of_uint32 structs.old.items) }
+    requires narrow { IsTrue (list_all is_narrow structs.old.items) }
     ensures drafts { OnOk result (map draft_of structs.new.items ≡ map draft_of structs.old.items ++ map (request_struct interface.now) methods.now) }
     ensures count { OnOk result (length structs.new.items ≡ length structs.old.items + length methods.now) }
     ensures laid_out { OnOk result (AllByRecursion IsLaidOut structs.new.items) }
-    ensures of_uint32 { OnOk result (IsTrue (list_all is_of_uint32 structs.new.items)) }
+    ensures narrow { OnOk result (IsTrue (list_all is_narrow structs.new.items)) }
 {
     for method in methods {
         structs.push(request_struct(alloc, interface, method)?)?;
@@ -71,7 +73,7 @@ fn add_structs(
 
 /// The rows of an interface's methods, whose structs begin at this number.
 fn methods(alloc: Global, methods: &[Method], first: u32) -> Result<Vec<MethodRow>, AllocError>
-    requires few { length methods.now ≤ 4096 }
+    requires few { length methods.now ≤ MAX_METHODS }
     requires fits { first + length methods.now < 2 ^ 32 }
     ensures { IfOk result (λ rows. rows.items ≡ methods_from 0 first methods.now) }
 {

@@ -3,7 +3,7 @@ use Rattle.std.proofs.Common.{◌≡◌, ℕ, suc, ◌+◌, ◌-◌, ◌<◌, Li
 use Rattle.std.specs.List.{starts_with}
 use Rattle.std.proofs.lemmas.List.{take_all, length-drop}
 use Rattle.std.specs.Option.{option_map}
-use Rattle.mojom_lexer.specs.Scans.{before_close}
+use Rattle.mojom_lexer.specs.steps.Scans.{before_close}
 
 abbrev pub behind_first : List ℕ → List ℕ
 behind_first [] = []

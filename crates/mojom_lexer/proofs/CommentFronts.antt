@@ -6,7 +6,7 @@ use Rattle.std.proofs.lemmas.List.{take-append-drop, length-take-le}
 use Rattle.std.proofs.lemmas.Bool.Decides.{nat_tests}
 use Rattle.mojom_lexer.specs.Pieces.{Is, IsLongest, BeginsNone, is_line_comment, has_close, stays_on_line, IsBlockCommentOf}
 use Rattle.mojom_lexer.specs.Pieces.Kind.{Comment}
-use Rattle.mojom_lexer.specs.Scans.{kind_at, run_len, before_close}
+use Rattle.mojom_lexer.specs.steps.Scans.{kind_at, run_len, before_close}
 use Rattle.mojom_lexer.proofs.Runs.{left, right, both, run_within, run_passes, run_most}
 use Rattle.mojom_lexer.proofs.FirstBytes.{longest_of, none_of, begins_comment}
 use Rattle.mojom_lexer.proofs.Closes.{behind_first}

@@ -9,7 +9,7 @@ use Rattle.mojom_lexer.specs.Words.{single_symbol, symbol_of, symbol_in, symbols
 use Rattle.mojom_lexer.specs.Numbers.{is_decimal, is_hexadecimal, is_number}
 use Rattle.mojom_lexer.specs.Pieces.{Kind, Is, IsLongest, BeginsNone, is_line_comment, stays_on_line}
 use Rattle.mojom_lexer.specs.Pieces.Kind.{Blank, Comment, Word, Numeral, Quoted, Sign}
-use Rattle.mojom_lexer.specs.Scans.{kind_of, kind_at}
+use Rattle.mojom_lexer.specs.steps.Scans.{kind_of, kind_at}
 use Rattle.mojom_lexer.proofs.Runs.{left, right}
 
 abbrev pub first_of : List ℕ → ℕ

@@ -8,7 +8,7 @@ use Rattle.mojom_ast.specs.declared.token.Token.{Token}
 use Rattle.mojom_lexer.specs.declared.error.LexError.{LexError}
 use Rattle.mojom_lexer.specs.declared.error.LexError.TheVariants.{BadUtf8, BadChar, OpenComment, OpenString, LeadingZero, NumberTooLong, Memory}
 use Rattle.mojom_lexer.specs.Pieces.{IsPiece, IsLongest}
-use Rattle.mojom_lexer.specs.Lexed.{IsPassedOver, Spells, Reaches, AreTokens, Refuses, StopsAt, IsRefused, OneReading}
+use Rattle.mojom_lexer.specs.Lexed.{IsPassedOver, SpellsSort, Reaches, AreTokens, Refuses, StopsAt, IsLexicalRefusal, OneReading}
 use Rattle.mojom_lexer.specs.Lexed.Reaches.{starts, passes, takes}
 use Rattle.mojom_lexer.proofs.FirstBytes.{none_empty}
 use Rattle.mojom_lexer.proofs.Steps.{token_at}
@@ -17,7 +17,7 @@ use Rattle.mojom_lexer.proofs.Meanings.{one_sort, passed_no_token, one_length, o
 
 -- the tokens after a piece: none more, or one more
 abbrev pub Adds : ℕ → ℕ → List ℕ → List Token → List Token → Type 0
-Adds at len p tokens more = (IsPassedOver p × (more ≡ tokens)) ⊎ ((s : Sort) × Spells s p × (more ≡ tokens ++ token_at s at len ∷ []))
+Adds at len p tokens more = (IsPassedOver p × (more ≡ tokens)) ⊎ ((s : Sort) × SpellsSort s p × (more ≡ tokens ++ token_at s at len ∷ []))
 
 -- one piece more
 pub record Step (bs : List ℕ) (at : ℕ) (tokens : List Token) (to : ℕ) (more : List Token) : Type 0 where
@@ -145,7 +145,7 @@ pub record IsNoText (bs : List ℕ) (error : LexError) : Type 0 where
   pub no_utf8 : IsUtf8 bs → ⊥
   pub is : error ≡ BadUtf8 (utf8_valid_len bs)
 
-split : (bs : List ℕ) (error : LexError) → IsRefused bs error → IsNoText bs error ⊎ StopsAt bs error
+split : (bs : List ℕ) (error : LexError) → IsLexicalRefusal bs error → IsNoText bs error ⊎ StopsAt bs error
 split bs (BadUtf8 place) h = inl (record { no_utf8 = h.0; is = ap BadUtf8 h.1 })
 split bs (BadChar place) h = inr h
 split bs (OpenComment place) h = inr h
@@ -157,7 +157,7 @@ split bs Memory h = inr h
 one_list : (bs : List ℕ) (us vs : List Token) → AreTokens bs us → AreTokens bs vs → us ≡ vs
 one_list bs us vs h k = let x = counted bs (length bs) us h.reaches in let y = counted bs (length bs) vs k.reaches in same_tokens bs x.0 y.0 us vs x.1 y.1
 
-one_refusal : (bs : List ℕ) (d e : LexError) → IsRefused bs d → IsRefused bs e → d ≡ e
+one_refusal : (bs : List ℕ) (d e : LexError) → IsLexicalRefusal bs d → IsLexicalRefusal bs e → d ≡ e
 one_refusal bs d e h k = step (split bs d h) (split bs e k)
   where
     step : IsNoText bs d ⊎ StopsAt bs d → IsNoText bs e ⊎ StopsAt bs e → d ≡ e
@@ -166,7 +166,7 @@ one_refusal bs d e h k = step (split bs d h) (split bs e k)
     step (inr x) (inl y) = absurd (y.no_utf8 x.utf8)
     step (inr x) (inr y) = let a = counted bs x.at x.tokens x.reaches in let b = counted bs y.at y.tokens y.reaches in one_stop bs a.0 b.0 x.at y.at x.tokens y.tokens d e a.1 b.1 x.refuses y.refuses
 
-never_both : (bs : List ℕ) (us : List Token) (e : LexError) → AreTokens bs us → IsRefused bs e → ⊥
+never_both : (bs : List ℕ) (us : List Token) (e : LexError) → AreTokens bs us → IsLexicalRefusal bs e → ⊥
 never_both bs us e h k = step (split bs e k)
   where
     step : IsNoText bs e ⊎ StopsAt bs e → ⊥

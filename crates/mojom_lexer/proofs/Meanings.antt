@@ -11,11 +11,11 @@ use Rattle.mojom_lexer.specs.declared.error.LexError.{LexError}
 use Rattle.mojom_lexer.specs.declared.error.LexError.TheVariants.{BadUtf8, BadChar, OpenComment, OpenString, LeadingZero, NumberTooLong, Memory}
 use Rattle.mojom_lexer.specs.Numbers.{is_number, has_leading_zero}
 use Rattle.mojom_lexer.specs.Strings.{Part, spelled, is_part, IsStringOf, text_of}
-use Rattle.mojom_lexer.specs.Strings.Part.{Plain, Escape}
+use Rattle.mojom_lexer.specs.Strings.Part.{Literal, Escape}
 use Rattle.mojom_lexer.specs.Pieces.{Kind, Is, IsPiece, IsLongest, BeginsNone}
 use Rattle.mojom_lexer.specs.Pieces.Kind.{Blank, Comment, Word, Numeral, Quoted, Sign}
-use Rattle.mojom_lexer.specs.Lexed.{IsPassedOver, Spells, HasBadEscape, HasLeadingZero, IsTooLong, Refuses, begins_comment, begins_string}
-use Rattle.mojom_lexer.specs.Scans.{parts_of}
+use Rattle.mojom_lexer.specs.Lexed.{IsPassedOver, SpellsSort, HasBadEscape, HasLeadingZero, IsTooLong, Refuses, begins_comment, begins_string}
+use Rattle.mojom_lexer.specs.steps.Scans.{parts_of}
 use Rattle.mojom_lexer.proofs.Runs.{left, right}
 use Rattle.mojom_lexer.proofs.Closes.{behind_first}
 use Rattle.mojom_lexer.proofs.FirstBytes.{first_tells, none_empty, same_kind}
@@ -33,7 +33,7 @@ sort_kind (Number value) = Numeral
 sort_kind (String text) = Quoted
 sort_kind (Symbol s) = Sign
 
-spells_kind : (s : Sort) (p : List ℕ) → Spells s p → Is (sort_kind s) p
+spells_kind : (s : Sort) (p : List ℕ) → SpellsSort s p → Is (sort_kind s) p
 unfolding sort_kind
 spells_kind (Identifier text) p h = h.0
 spells_kind (Keyword k) p h = h.0
@@ -58,7 +58,7 @@ not_comment (String text) e = absurd (cc)
 not_comment (Symbol s) e = absurd (cc)
 
 -- what is passed over is no token
-pub passed_no_token : (s : Sort) (p : List ℕ) → IsPassedOver p → Spells s p → ⊥
+pub passed_no_token : (s : Sort) (p : List ℕ) → IsPassedOver p → SpellsSort s p → ⊥
 passed_no_token s p (inl h) g = not_passed s (one_kind (sort_kind s) Blank p (spells_kind s p g) h)
 passed_no_token s p (inr h) g = not_comment s (one_kind (sort_kind s) Comment p (spells_kind s p g) h)
 
@@ -74,7 +74,7 @@ not_slash false false r e = refl
 
 parts_again : (ps : List Part) → list_all is_part ps ≡ true → parts_of false (flat_map spelled ps) ≡ ps
 parts_again [] e = refl
-parts_again (Plain c ∷ ps) e = let f : (c == 92) ≡ false = not_slash (c == 34) (c == 92) (c == 10) (left (is_part (Plain c)) (list_all is_part ps) e) in rw f (ap (λ (qs : List Part). Plain c ∷ qs) (parts_again ps (right (is_part (Plain c)) (list_all is_part ps) e)))
+parts_again (Literal c ∷ ps) e = let f : (c == 92) ≡ false = not_slash (c == 34) (c == 92) (c == 10) (left (is_part (Literal c)) (list_all is_part ps) e) in rw f (ap (λ (qs : List Part). Literal c ∷ qs) (parts_again ps (right (is_part (Literal c)) (list_all is_part ps) e)))
 parts_again (Escape c ∷ ps) e = ap (λ (qs : List Part). Escape c ∷ qs) (parts_again ps (right (is_part (Escape c)) (list_all is_part ps) e))
 
 pub inside_of : List ℕ → List ℕ
@@ -113,11 +113,11 @@ same_symbol : (a b : symbol.Symbol) → Some a ≡ Some b → a ≡ b
 unfolding symbol_or
 same_symbol a b e = ap (symbol_or a) e
 
-other_kind : (s t : Sort) (p : List ℕ) → Spells s p → Spells t p → sort_kind s ≡ sort_kind t
+other_kind : (s t : Sort) (p : List ℕ) → SpellsSort s p → SpellsSort t p → sort_kind s ≡ sort_kind t
 other_kind s t p h k = one_kind (sort_kind s) (sort_kind t) p (spells_kind s p h) (spells_kind t p k)
 
 -- bytes spell one token
-pub one_sort : (s t : Sort) (p : List ℕ) → Spells s p → Spells t p → s ≡ t
+pub one_sort : (s t : Sort) (p : List ℕ) → SpellsSort s p → SpellsSort t p → s ≡ t
 unfolding sort_kind
 one_sort (Identifier a) (Identifier b) p h k = ap Identifier (h.2 ∙ sym k.2)
 one_sort (Identifier a) (Keyword b) p h k = let e = sym h.1 ∙ k.1 in absurd (cc)
@@ -152,7 +152,7 @@ piece_error at p = cond (is_number p) (cond (has_leading_zero p) (LeadingZero at
 pub record IsPieceError (at : ℕ) (bs : List ℕ) (error : LexError) : Type 0 where
   pub len : ℕ
   pub longest : IsLongest bs len
-  pub no_token : (s : Sort) → Spells s (take len bs) → ⊥
+  pub no_token : (s : Sort) → SpellsSort s (take len bs) → ⊥
   pub no_pass : IsPassedOver (take len bs) → ⊥
   pub is : error ≡ piece_error at (take len bs)
 
@@ -168,7 +168,7 @@ string_no_number p h = step (is_number p) refl
     step true e = let k : Quoted ≡ Numeral = one_kind Quoted Numeral p h e in absurd (cc)
     step false e = refl
 
-escape_no_token : (n : ℕ) (p : List ℕ) → HasBadEscape n p → (s : Sort) → Spells s p → ⊥
+escape_no_token : (n : ℕ) (p : List ℕ) → HasBadEscape n p → (s : Sort) → SpellsSort s p → ⊥
 unfolding sort_kind
 escape_no_token n p h (String text) g =
     let same : h.0 ≡ g.0 = sym (string_parts h.0 p h.1) ∙ string_parts g.0 p g.1 in
@@ -176,12 +176,12 @@ escape_no_token n p h (String text) g =
     absurd (cc)
 escape_no_token n p h s g = let e = one_kind (sort_kind s) Quoted p (spells_kind s p g) (h.0, h.1) in absurd (cc)
 
-zero_no_token : (p : List ℕ) → HasLeadingZero p → (s : Sort) → Spells s p → ⊥
+zero_no_token : (p : List ℕ) → HasLeadingZero p → (s : Sort) → SpellsSort s p → ⊥
 unfolding sort_kind
 zero_no_token p h (Number value) g = let e : true ≡ false = sym h.1 ∙ g.leads in absurd (cc)
 zero_no_token p h s g = let e = one_kind (sort_kind s) Numeral p (spells_kind s p g) h.0 in absurd (cc)
 
-long_no_token : (p : List ℕ) → IsTooLong p → (s : Sort) → Spells s p → ⊥
+long_no_token : (p : List ℕ) → IsTooLong p → (s : Sort) → SpellsSort s p → ⊥
 unfolding sort_kind
 long_no_token p h (Number value) g = let w = g.worth in let f = g.fits in let l = h.2 in omega arith
 long_no_token p h s g = let e = one_kind (sort_kind s) Numeral p (spells_kind s p g) h.0 in absurd (cc)
@@ -261,7 +261,7 @@ one_why at bs d e h k = step (why at bs d h) (why at bs e k)
 
 -- a piece that goes on
 abbrev pub GoesOn : List ℕ → Type 0
-GoesOn p = IsPassedOver p ⊎ ((s : Sort) × Spells s p)
+GoesOn p = IsPassedOver p ⊎ ((s : Sort) × SpellsSort s p)
 
 -- where a piece goes on nothing is refused
 pub goes_or_stops : (at : ℕ) (bs : List ℕ) (len : ℕ) (error : LexError) → IsLongest bs len → GoesOn (take len bs) → Refuses at bs error → ⊥

@@ -4,10 +4,10 @@ use Rattle.std.specs.List.{list_all, flat_map}
 use Rattle.std.specs.Option.{option_map}
 use Rattle.std.proofs.lemmas.List.{take-append-drop, length-take-le}
 use Rattle.mojom_lexer.specs.Strings.{Part, spelled, is_part, quoted, IsStringOf}
-use Rattle.mojom_lexer.specs.Strings.Part.{Plain, Escape}
+use Rattle.mojom_lexer.specs.Strings.Part.{Literal, Escape}
 use Rattle.mojom_lexer.specs.Pieces.{Is, IsLongest, BeginsNone}
 use Rattle.mojom_lexer.specs.Pieces.Kind.{Quoted}
-use Rattle.mojom_lexer.specs.Scans.{kind_at, before_quote, parts_of}
+use Rattle.mojom_lexer.specs.steps.Scans.{kind_at, before_quote, parts_of}
 use Rattle.mojom_lexer.proofs.Runs.{left, right, both}
 use Rattle.mojom_lexer.proofs.FirstBytes.{longest_of, none_of, begins_quoted, eqb_same}
 use Rattle.mojom_lexer.proofs.Closes.{behind_first}
@@ -39,7 +39,7 @@ closed_now c cs e = let q : c ≡ 34 = eqb_same c 34 e in record {
   spells = refl;
 }
 
-plain_ok : (c : ℕ) → (c == 10) ≡ false → (c == 34) ≡ false → (c == 92) ≡ false → is_part (Plain c) ≡ true
+plain_ok : (c : ℕ) → (c == 10) ≡ false → (c == 34) ≡ false → (c == 92) ≡ false → is_part (Literal c) ≡ true
 plain_ok c e f g = rw (e, f, g) refl
 
 after_escape : (c : ℕ) (cs : List ℕ) (m : ℕ) → (c == 10) ≡ false → Closes false cs m → Closes true (c ∷ cs) (suc m)
@@ -62,7 +62,7 @@ after_plain : (c : ℕ) (cs : List ℕ) (m : ℕ) → (c == 10) ≡ false → (c
 after_plain c cs m e f g h = record {
   room = let r = h.room in omega arith;
   close = ap (λ (bs : List ℕ). c ∷ bs) h.close;
-  parts = rw g (both (is_part (Plain c)) (list_all is_part (parts_of false (take m cs))) (plain_ok c e f g) h.parts);
+  parts = rw g (both (is_part (Literal c)) (list_all is_part (parts_of false (take m cs))) (plain_ok c e f g) h.parts);
   spells = rw g (ap (λ (bs : List ℕ). c ∷ bs) h.spells);
 }
 
@@ -92,7 +92,7 @@ none_of_three false true r e = absurd (cc)
 none_of_three false false true e = absurd (cc)
 none_of_three false false false e = (refl, refl, refl)
 
-over_plain : (c : ℕ) (cs : List ℕ) → is_part (Plain c) ≡ true → before_quote false (c ∷ cs) ≡ option_map suc (before_quote false cs)
+over_plain : (c : ℕ) (cs : List ℕ) → is_part (Literal c) ≡ true → before_quote false (c ∷ cs) ≡ option_map suc (before_quote false cs)
 over_plain c cs e = let h = none_of_three (c == 34) (c == 92) (c == 10) e in let a : (c == 34) ≡ false = h.0 in let b : (c == 92) ≡ false = h.1 in let d : (c == 10) ≡ false = h.2 in rw (d, a, b) refl
 
 over_escape : (c : ℕ) (cs : List ℕ) → is_part (Escape c) ≡ true → before_quote false (92 ∷ c ∷ cs) ≡ option_map suc (option_map suc (before_quote false cs))
@@ -100,8 +100,8 @@ over_escape c cs e = let d : (c == 10) ≡ false = not_true (c == 10) e in rw (d
 
 pub quote_again : (parts : List Part) (rest : List ℕ) → list_all is_part parts ≡ true → before_quote false (flat_map spelled parts ++ 34 ∷ rest) ≡ Some (length (flat_map spelled parts))
 quote_again [] rest e = refl
-quote_again (Plain c ∷ ps) rest e =
-    over_plain c (flat_map spelled ps ++ 34 ∷ rest) (left (is_part (Plain c)) (list_all is_part ps) e) ∙ ap (option_map suc) (quote_again ps rest (right (is_part (Plain c)) (list_all is_part ps) e))
+quote_again (Literal c ∷ ps) rest e =
+    over_plain c (flat_map spelled ps ++ 34 ∷ rest) (left (is_part (Literal c)) (list_all is_part ps) e) ∙ ap (option_map suc) (quote_again ps rest (right (is_part (Literal c)) (list_all is_part ps) e))
 quote_again (Escape c ∷ ps) rest e =
     over_escape c (flat_map spelled ps ++ 34 ∷ rest) (left (is_part (Escape c)) (list_all is_part ps) e) ∙ ap (λ (r : Option ℕ). option_map suc (option_map suc r)) (quote_again ps rest (right (is_part (Escape c)) (list_all is_part ps) e))
 

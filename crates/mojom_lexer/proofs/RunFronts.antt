@@ -6,7 +6,7 @@ use Rattle.mojom_lexer.specs.Words.{is_word}
 use Rattle.mojom_lexer.specs.Numbers.{is_decimal, is_hexadecimal, is_number}
 use Rattle.mojom_lexer.specs.Pieces.{Is, IsLongest}
 use Rattle.mojom_lexer.specs.Pieces.Kind.{Blank, Word, Numeral}
-use Rattle.mojom_lexer.specs.Scans.{kind_at, run_len, number_len}
+use Rattle.mojom_lexer.specs.steps.Scans.{kind_at, run_len, number_len}
 use Rattle.mojom_lexer.proofs.Runs.{left, right, both, run_within, run_passes, run_most}
 use Rattle.mojom_lexer.proofs.Numerals.{hex_front, prefix_x}
 use Rattle.mojom_lexer.proofs.FirstBytes.{longest_of, begins_blank, begins_word, begins_numeral}

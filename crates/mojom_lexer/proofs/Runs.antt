@@ -6,7 +6,7 @@ use Rattle.std.proofs.lemmas.Str.{IsUtf8-from_ascii}
 use Rattle.std.proofs.lemmas.Bool.Decides.{nat_tests}
 use Rattle.mojom_lexer.specs.Bytes.{is_letter, goes_on}
 use Rattle.mojom_lexer.specs.Words.{is_word}
-use Rattle.mojom_lexer.specs.Scans.{run_len}
+use Rattle.mojom_lexer.specs.steps.Scans.{run_len}
 
 pub both : (a b : Bool) → a ≡ true → b ≡ true → (a && b) ≡ true
 both true b e h = h

@@ -9,7 +9,7 @@ use Rattle.mojom_lexer.specs.Words.{single_symbol, symbol_of}
 use Rattle.mojom_lexer.specs.Pieces.{Kind, IsLongest, BeginsNone}
 use Rattle.mojom_lexer.specs.Pieces.Kind.{Comment, Quoted, Sign}
 use Rattle.mojom_lexer.specs.Lexed.{IsBadChar, begins_comment, begins_string}
-use Rattle.mojom_lexer.specs.Scans.{kind_of, kind_at}
+use Rattle.mojom_lexer.specs.steps.Scans.{kind_of, kind_at}
 use Rattle.mojom_lexer.proofs.Runs.{left, right, both}
 use Rattle.mojom_lexer.proofs.FirstBytes.{longest_of, none_kind}
 use Rattle.mojom_lexer.proofs.CommentFronts.{same_as, slash_none}

@@ -14,8 +14,8 @@ use Rattle.mojom_lexer.specs.Numbers.{is_number, has_leading_zero, number_value}
 use Rattle.mojom_lexer.specs.Strings.{IsStringOf, text_of}
 use Rattle.mojom_lexer.specs.Pieces.{Kind, Is, IsLongest, BeginsNone, stays_on_line}
 use Rattle.mojom_lexer.specs.Pieces.Kind.{Blank, Comment, Word, Numeral, Quoted, Sign}
-use Rattle.mojom_lexer.specs.Lexed.{Spells, HasFront, HasLeadingZero, IsTooLong, IsBadChar, Refuses, begins_comment, begins_string}
-use Rattle.mojom_lexer.specs.Scans.{kind_of, kind_at, BeginsSign, run_len, number_len, before_close, before_quote, parts_of, IsBadEscape, Stands}
+use Rattle.mojom_lexer.specs.Lexed.{SpellsSort, HasFront, HasLeadingZero, IsTooLong, IsBadChar, Refuses, begins_comment, begins_string}
+use Rattle.mojom_lexer.specs.steps.Scans.{kind_of, kind_at, BeginsSign, run_len, number_len, before_close, before_quote, parts_of, IsBadEscape, Stands}
 use Rattle.mojom_lexer.proofs.Runs.{run_within}
 use Rattle.mojom_lexer.proofs.RunFronts.{blank_longest, word_longest, number_longest}
 use Rattle.mojom_lexer.proofs.QuoteFronts.{quote_longest, quote_none}
@@ -35,7 +35,7 @@ word_room bs len l = subst (λ (n : ℕ). n ≤ length bs) (sym l) (run_within g
 pub word_is : (bs : List ℕ) (len : ℕ) → kind_at bs ≡ Some Word → len ≡ run_len goes_on bs → is_word (take len bs) ≡ true
 word_is bs len e l = subst (λ (n : ℕ). is_word (take n bs) ≡ true) (sym l) (word_longest bs e).1
 
-pub word_stands : (bs : List ℕ) (len : ℕ) (sort : Sort) → kind_at bs ≡ Some Word → len ≡ run_len goes_on bs → Spells sort (take len bs) → Stands (record { sort = Some sort; len = len }) bs
+pub word_stands : (bs : List ℕ) (len : ℕ) (sort : Sort) → kind_at bs ≡ Some Word → len ≡ run_len goes_on bs → SpellsSort sort (take len bs) → Stands (record { sort = Some sort; len = len }) bs
 word_stands bs len sort e l h = record { longest = subst (λ (n : ℕ). IsLongest bs n) (sym l) (word_longest bs e).0; means = h }
 
 number_front : (bs : List ℕ) (len : ℕ) → kind_at bs ≡ Some Numeral → len ≡ number_len bs → IsLongest bs len × (is_number (take len bs) ≡ true)

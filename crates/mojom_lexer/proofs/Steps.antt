@@ -7,7 +7,7 @@ use Rattle.mojom_lexer.specs.declared.pieces.Piece.{Piece}
 use Rattle.mojom_lexer.specs.Pieces.{IsPiece, IsLongest}
 use Rattle.mojom_lexer.specs.Lexed.{Reaches}
 use Rattle.mojom_lexer.specs.Lexed.Reaches.{starts, passes, takes}
-use Rattle.mojom_lexer.specs.Scans.{Means, Stands}
+use Rattle.mojom_lexer.specs.steps.Scans.{Means, Stands}
 use Rattle.mojom_lexer.proofs.FirstBytes.{none_empty}
 use Rattle.mojom_lexer.proofs.Standing.{rest_of}
 

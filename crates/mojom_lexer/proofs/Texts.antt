@@ -3,8 +3,8 @@ use Rattle.std.proofs.Common.{◌≡◌, ℕ, ◌+◌, ◌<◌, List, [], ◌∷
 use Rattle.std.proofs.Math.Seq.{drop-length}
 use Rattle.std.proofs.lemmas.List.{append-nil}
 use Rattle.mojom_lexer.specs.Strings.{Part, escaped, then_text, text_of}
-use Rattle.mojom_lexer.specs.Strings.Part.{Plain, Escape}
-use Rattle.mojom_lexer.specs.Scans.{parts_of, with_text}
+use Rattle.mojom_lexer.specs.Strings.Part.{Literal, Escape}
+use Rattle.mojom_lexer.specs.steps.Scans.{parts_of, with_text}
 
 -- the bytes before `i` give `text`, and with what follows the whole is `total`; a part that began with a backslash is still open
 abbrev pub IsReadTo : Bool → ℕ → List ℕ → List ℕ → Result (List ℕ) ℕ → Type 0
@@ -31,12 +31,12 @@ escape_bad i text bs total lt so_far e =
 
 pub slash_on : (i : ℕ) (text bs : List ℕ) (total : Result (List ℕ) ℕ) → i < length bs → IsReadTo false i text bs total → (get_or bs i 0 == 92) ≡ true → IsReadTo true (i + 1) text bs total
 slash_on i text bs total lt so_far e =
-    let here : parts_of false (drop i bs) ≡ parts_of true (drop (i + 1) bs) = ap (parts_of false) (cut bs i lt) ∙ ap (λ (b : Bool). cond b (parts_of true (drop (i + 1) bs)) (Plain (get_or bs i 0) ∷ parts_of false (drop (i + 1) bs))) e in
+    let here : parts_of false (drop i bs) ≡ parts_of true (drop (i + 1) bs) = ap (parts_of false) (cut bs i lt) ∙ ap (λ (b : Bool). cond b (parts_of true (drop (i + 1) bs)) (Literal (get_or bs i 0) ∷ parts_of false (drop (i + 1) bs))) e in
     subst (λ (ps : List Part). with_text text (text_of (i + 1) ps) ≡ total) here so_far
 
 pub plain_on : (i : ℕ) (text bs : List ℕ) (total : Result (List ℕ) ℕ) → i < length bs → IsReadTo false i text bs total → (get_or bs i 0 == 92) ≡ false → IsReadTo false (i + 1) (text ++ get_or bs i 0 ∷ []) bs total
 plain_on i text bs total lt so_far e =
-    let here : parts_of false (drop i bs) ≡ Plain (get_or bs i 0) ∷ parts_of false (drop (i + 1) bs) = ap (parts_of false) (cut bs i lt) ∙ ap (λ (b : Bool). cond b (parts_of true (drop (i + 1) bs)) (Plain (get_or bs i 0) ∷ parts_of false (drop (i + 1) bs))) e in
+    let here : parts_of false (drop i bs) ≡ Literal (get_or bs i 0) ∷ parts_of false (drop (i + 1) bs) = ap (parts_of false) (cut bs i lt) ∙ ap (λ (b : Bool). cond b (parts_of true (drop (i + 1) bs)) (Literal (get_or bs i 0) ∷ parts_of false (drop (i + 1) bs))) e in
     sym (longer text (get_or bs i 0) (i + 1) (text_of (i + 1 + 1) (parts_of false (drop (i + 1) bs)))) ∙ subst (λ (ps : List Part). with_text text (text_of (i + 1) ps) ≡ total) here so_far
 
 ended : (b : Bool) (at : ℕ) (text : List ℕ) → with_text text (text_of at (parts_of b [])) ≡ Ok text

@@ -21,9 +21,9 @@ use Rattle.mojom_lexer.specs.Numbers.{has_leading_zero, number_value}
 use Rattle.mojom_lexer.specs.Strings.{text_of}
 use Rattle.mojom_lexer.specs.Pieces.{Kind, IsLongest, stays_on_line}
 use Rattle.mojom_lexer.specs.Pieces.Kind.{Blank, Comment, Word, Numeral, Quoted, Sign}
-use Rattle.mojom_lexer.specs.Lexed.{Reaches, AreTokens, Refuses, StopsAt, IsRefused}
+use Rattle.mojom_lexer.specs.Lexed.{Reaches, AreTokens, Refuses, StopsAt, IsLexicalRefusal}
 use Rattle.mojom_lexer.specs.Lexed.Reaches.{starts, passes, takes}
-use Rattle.mojom_lexer.specs.Scans.{kind_of, run_len, number_len, before_close, before_quote, parts_of, Means, Stands}
+use Rattle.mojom_lexer.specs.steps.Scans.{kind_of, run_len, number_len, before_close, before_quote, parts_of, Means, Stands}
 use Rattle.mojom_lexer.proofs.FirstBytes.{begins_sign}
 use Rattle.mojom_lexer.proofs.SignFronts.{bad_char, bad_slash}
 use Rattle.mojom_lexer.proofs.Standing.{blank_stands, word_is, word_stands, number_stands, leading_zero, too_long, string_stands, open_string, bad_escape, line_stands, block_stands, open_comment, arrow_stands, symbol_stands}
@@ -93,9 +93,9 @@ module _ (at c : ℕ) (cs : List ℕ) where
 
 -- tokens, or a refusal
 abbrev pub Reading : List ℕ → Type 0
-Reading bs = ((tokens : List Token) × AreTokens bs tokens) ⊎ ((error : LexError) × IsRefused bs error)
+Reading bs = ((tokens : List Token) × AreTokens bs tokens) ⊎ ((error : LexError) × IsLexicalRefusal bs error)
 
-stop : (bs : List ℕ) (error : LexError) → StopsAt bs error → IsRefused bs error
+stop : (bs : List ℕ) (error : LexError) → StopsAt bs error → IsLexicalRefusal bs error
 stop bs (BadUtf8 place) h = absurd h.refuses
 stop bs (BadChar place) h = h
 stop bs (OpenComment place) h = h

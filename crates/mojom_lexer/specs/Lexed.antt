@@ -25,18 +25,18 @@ pub record IsNumber (value : ℕ) (bytes : List ℕ) : Type 0 where
   pub fits : value < 2 ^ 64
 
 -- what a token is, by its bytes
-abbrev pub Spells : Sort → List ℕ → Type 0
-Spells (Identifier text) bytes = (is_word bytes ≡ true) × (keyword_of bytes ≡ None) × (text ≡ bytes)
-Spells (Keyword keyword) bytes = (is_word bytes ≡ true) × (keyword_of bytes ≡ Some keyword)
-Spells (Number value) bytes = IsNumber value bytes
-Spells (String text) bytes = (parts : List Part) × IsStringOf parts bytes × (text_of 1 parts ≡ Ok text)
-Spells (Symbol symbol) bytes = symbol_of bytes ≡ Some symbol
+abbrev pub SpellsSort : Sort → List ℕ → Type 0
+SpellsSort (Identifier text) bytes = (is_word bytes ≡ true) × (keyword_of bytes ≡ None) × (text ≡ bytes)
+SpellsSort (Keyword keyword) bytes = (is_word bytes ≡ true) × (keyword_of bytes ≡ Some keyword)
+SpellsSort (Number value) bytes = IsNumber value bytes
+SpellsSort (String text) bytes = (parts : List Part) × IsStringOf parts bytes × (text_of 1 parts ≡ Ok text)
+SpellsSort (Symbol symbol) bytes = symbol_of bytes ≡ Some symbol
 
 -- from the file's start, piece by piece, each the longest at its place, to a place: the tokens among them
 pub data Reaches (bytes : List ℕ) : ℕ → List Token → Type 0 where
   starts : Reaches bytes 0 []
   passes : (at len : ℕ) (tokens : List Token) → Reaches bytes at tokens → IsLongest (drop at bytes) len → IsPassedOver (take len (drop at bytes)) → Reaches bytes (at + len) tokens
-  takes : (at len : ℕ) (tokens : List Token) (sort : Sort) → Reaches bytes at tokens → IsLongest (drop at bytes) len → Spells sort (take len (drop at bytes))
+  takes : (at len : ℕ) (tokens : List Token) (sort : Sort) → Reaches bytes at tokens → IsLongest (drop at bytes) len → SpellsSort sort (take len (drop at bytes))
       → Reaches bytes (at + len) (tokens ++ record { sort = sort; span = record { start = at; len = len } } ∷ [])
 
 -- the bytes are these tokens
@@ -96,16 +96,16 @@ pub record StopsAt (bytes : List ℕ) (error : LexError) : Type 0 where
   pub refuses : Refuses at (drop at bytes) error
 
 -- the refusal of the bytes: first that they aren't UTF-8, then the first by place
-abbrev pub IsRefused : List ℕ → LexError → Type 0
-IsRefused bytes (BadUtf8 place) = ¬ IsUtf8 bytes × (place ≡ utf8_valid_len bytes)
-IsRefused bytes error = StopsAt bytes error
+abbrev pub IsLexicalRefusal : List ℕ → LexError → Type 0
+IsLexicalRefusal bytes (BadUtf8 place) = ¬ IsUtf8 bytes × (place ≡ utf8_valid_len bytes)
+IsLexicalRefusal bytes error = StopsAt bytes error
 
 -- bytes have just one list of tokens or just one refusal, and never both
 pub record OneReading (bytes : List ℕ) : Type 0 where
-  pub some : ((tokens : List Token) × AreTokens bytes tokens) ⊎ ((error : LexError) × IsRefused bytes error)
+  pub some : ((tokens : List Token) × AreTokens bytes tokens) ⊎ ((error : LexError) × IsLexicalRefusal bytes error)
   pub one_list : (tokens others : List Token) → AreTokens bytes tokens → AreTokens bytes others → tokens ≡ others
-  pub one_refusal : (error other : LexError) → IsRefused bytes error → IsRefused bytes other → error ≡ other
-  pub never_both : (tokens : List Token) (error : LexError) → AreTokens bytes tokens → IsRefused bytes error → ⊥
+  pub one_refusal : (error other : LexError) → IsLexicalRefusal bytes error → IsLexicalRefusal bytes other → error ≡ other
+  pub never_both : (tokens : List Token) (error : LexError) → AreTokens bytes tokens → IsLexicalRefusal bytes error → ⊥
 
 -- tokens stand in order and apart, within the file, and each has a byte or more
 pub record InOrder (bytes : List ℕ) (tokens : List Token) : Type 0 where

@@ -4,4 +4,4 @@ pub mod Numbers
 pub mod Strings
 pub mod Pieces
 pub mod Lexed
-pub mod Scans
+pub mod steps

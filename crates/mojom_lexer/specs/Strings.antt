@@ -4,17 +4,17 @@ use Rattle.std.specs.List.{list_all, flat_map}
 
 -- a part of a string: a byte that stands for itself, or a backslash and a byte
 pub data Part : Type 0 where
-  Plain : ℕ → Part
+  Literal : ℕ → Part
   Escape : ℕ → Part
 
 -- the bytes of a part
 abbrev pub spelled : Part → List ℕ
-spelled (Plain c) = c ∷ []
+spelled (Literal c) = c ∷ []
 spelled (Escape c) = 92 ∷ c ∷ []
 
 -- a quote, a backslash and LF do not stand for themselves; a backslash does not stand before LF
 abbrev pub is_part : Part → Bool
-is_part (Plain c) = not (c == 34 || c == 92 || c == 10)
+is_part (Literal c) = not (c == 34 || c == 92 || c == 10)
 is_part (Escape c) = not (c == 10)
 
 -- a quote, the parts, and a quote
@@ -32,7 +32,7 @@ escaped c = if c == 34 then Some 34 else (if c == 92 then Some 92 else (if c == 
 
 -- the byte that a part stands for, if it stands for any
 abbrev pub meaning : Part → Option ℕ
-meaning (Plain c) = Some c
+meaning (Literal c) = Some c
 meaning (Escape c) = escaped c
 
 -- a part's byte, and then the text of the others; the first part that stands for nothing is at `at`, before theirs

@@ -2,7 +2,7 @@
 
 ghost use Rattle.std.specs.Prelude.{◌≡◌};
 ghost use Rattle.mojom_lexer.specs.Pieces.{stays_on_line};
-ghost use Rattle.mojom_lexer.specs.Scans.{run_len, before_close};
+ghost use Rattle.mojom_lexer.specs.steps.Scans.{run_len, before_close};
 
 /// How many bytes stand before the end of the line.
 pub fn line_len(bytes: &[u8]) -> usize

@@ -3,7 +3,7 @@
 ghost use Rattle.std.specs.Prelude.{◌≡◌, ◌≢◌, ℕ, List, IfOk, IfErr, IsUtf8};
 ghost use Rattle.mojom_ast.specs.declared.token.Token.{Token};
 ghost use Rattle.mojom_lexer.specs.declared.error.LexError.TheVariants.{Memory};
-ghost use Rattle.mojom_lexer.specs.Lexed.{AreTokens, IsRefused, StopsAt, OneReading, InOrder};
+ghost use Rattle.mojom_lexer.specs.Lexed.{AreTokens, IsLexicalRefusal, StopsAt, OneReading, InOrder};
 
 use crate::error::LexError;
 use crate::pieces::{Piece, first_piece};
@@ -16,7 +16,7 @@ use std::alloc::Global;
 /// they have no tokens.
 pub fn lex(alloc: Global, bytes: &[u8]) -> Result<Vec<Token>, LexError>
     ensures tokens { IfOk result (λ tokens. AreTokens bytes.now tokens.items) }
-    ensures refused { IfErr result (λ error. error ≢ Memory → IsRefused bytes.now error) }
+    ensures refused { IfErr result (λ error. error ≢ Memory → IsLexicalRefusal bytes.now error) }
 {
     match from_utf8(bytes) {
         Ok(_) => tokens(alloc, bytes),

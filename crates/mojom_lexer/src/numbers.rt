@@ -4,7 +4,7 @@ ghost use Rattle.std.specs.Prelude.{◌≡◌, ◌≤◌, ◌<◌, ◌^◌, true
 ghost use Rattle.std.specs.List.{list_all};
 ghost use Rattle.mojom_lexer.specs.Bytes.{is_digit, is_hex_digit};
 ghost use Rattle.mojom_lexer.specs.Numbers.{is_number, has_leading_zero, number_value, is_hexadecimal, digit_value, value_from};
-ghost use Rattle.mojom_lexer.specs.Scans.{run_len, number_len};
+ghost use Rattle.mojom_lexer.specs.steps.Scans.{run_len, number_len};
 
 use crate::words::is_digit;
 

@@ -4,8 +4,8 @@ ghost use Rattle.std.specs.Prelude.{◌≡◌, ◌≢◌, ◌+◌, ◌<◌, ◌^
 ghost use Rattle.mojom_lexer.specs.declared.error.LexError.TheVariants.{Memory};
 ghost use Rattle.mojom_lexer.specs.Words.{is_word};
 ghost use Rattle.mojom_lexer.specs.Pieces.Kind.{Blank, Comment, Word, Numeral, Quoted};
-ghost use Rattle.mojom_lexer.specs.Lexed.{Refuses, Spells};
-ghost use Rattle.mojom_lexer.specs.Scans.{kind_at, Stands, BeginsSign};
+ghost use Rattle.mojom_lexer.specs.Lexed.{Refuses, SpellsSort};
+ghost use Rattle.mojom_lexer.specs.steps.Scans.{kind_at, Stands, BeginsSign};
 
 use crate::comments::{before_close, line_len};
 use crate::error::LexError;
@@ -78,7 +78,7 @@ fn word(alloc: Global, bytes: &[u8]) -> Result<Piece, LexError>
 /// The keyword or the identifier that the word is.
 fn word_sort(alloc: Global, word: &[u8]) -> Result<Sort, AllocError>
     requires { is_word word.now ≡ true }
-    ensures { IfOk result (λ sort. Spells sort word.now) }
+    ensures { IfOk result (λ sort. SpellsSort sort word.now) }
 {
     let word = as_text(word);
     match keyword(word) {

@@ -2,7 +2,7 @@
 
 ghost use Rattle.std.specs.Prelude.{◌≡◌, ◌+◌, ◌<◌, ◌^◌, false, length, IfOk, IfErr, Ok};
 ghost use Rattle.mojom_lexer.specs.Strings.{escaped, text_of};
-ghost use Rattle.mojom_lexer.specs.Scans.{before_quote, parts_of, IsBadEscape};
+ghost use Rattle.mojom_lexer.specs.steps.Scans.{before_quote, parts_of, IsBadEscape};
 
 use crate::error::LexError;
 use mj_base::Items;

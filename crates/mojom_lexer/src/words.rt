@@ -3,7 +3,7 @@
 ghost use Rattle.std.specs.Prelude.{◌≡◌, true, map};
 ghost use Rattle.mojom_lexer.specs.Bytes.{is_blank, is_digit, is_letter, goes_on};
 ghost use Rattle.mojom_lexer.specs.Words.{is_word, keyword_of, keyword_in, single_symbol};
-ghost use Rattle.mojom_lexer.specs.Scans.{run_len};
+ghost use Rattle.mojom_lexer.specs.steps.Scans.{run_len};
 
 use mojom_ast::{Keyword, Symbol};
 

@@ -2,10 +2,10 @@
 use Rattle.std.proofs.Common.{◌≡◌, ℕ, suc, ◌-◌, ◌+◌, ◌≤◌, ◌<◌, List, [], ◌∷◌, ◌++◌, Option, Some, Ok, Err, true, false, refl, sym, ap, ◌∙◌, append_assoc, arith}
 use Rattle.std.proofs.lemmas.List.{append-nil}
 use Rattle.mojom_ast.specs.declared.fault.Fault.{Fault}
-use Rattle.mojom_parser.specs.declared.error.Stop.{Stop}
-use Rattle.mojom_parser.specs.declared.error.Stop.TheVariants as causes
+use Rattle.mojom_parser.specs.declared.error.ReadError.{ReadError}
+use Rattle.mojom_parser.specs.declared.error.ReadError.TheVariants as causes
 use Rattle.mojom_ast.specs.declared.token.Token.{Token}
-use Rattle.mojom_parser.specs.Reading.{Fails, with_front}
+use Rattle.mojom_parser.specs.steps.Reading.{Fails, with_front}
 use Rattle.mojom_ast.specs.Lang.{Lang, Read, ◌>>=◌, front_in, tok, tok_read, ◌▹◌, as_value, maybe, times, joined, commas, listed}
 
 regroup : {A : Type 0} (front : List A) (x : A) (read : Read (List A)) → with_front front (read >>= λ y. Ok (x ∷ y.0, y.1)) ≡ with_front (front ++ x ∷ []) read
@@ -27,7 +27,7 @@ module _ {A : Type 0} (one : Lang A) (n1 : one.null ≡ false) (others : Lang (L
   pub pair_end : (ts : List Token) (f : Fault) → front_in one.starts ts ≡ true → one.read ts ≡ Err f → (as_value joined (maybe (one ▹ others))).read ts ≡ Err f
   pair_end ts f b h = rw (n1, b, h) refl
 
-  pub pair_fails : (ts : List Token) (e : Stop) → front_in one.starts ts ≡ true → Fails e (one.read ts) → Fails e ((as_value joined (maybe (one ▹ others))).read ts)
+  pub pair_fails : (ts : List Token) (e : ReadError) → front_in one.starts ts ≡ true → Fails e (one.read ts) → Fails e ((as_value joined (maybe (one ▹ others))).read ts)
   pair_fails ts causes.Memory b h = tt
   pair_fails ts (causes.Fault f) b h = pair_end ts f b h
 
@@ -46,7 +46,7 @@ module _ {A : Type 0} (some : ℕ → Lang (List A)) where
       let last : with_front front ((some (count - i)).read ts) ≡ with_front front r = rw (k, step (count - (i + 1))) refl in
       sym so_far ∙ last
 
-  pub ends : (e : Stop) (front : List A) (count i : ℕ) (ts : List Token) (total : Read (List A)) → i < count → ((f : Fault) → e ≡ causes.Fault f → (n : ℕ) → (some (suc n)).read ts ≡ Err f)
+  pub ends : (e : ReadError) (front : List A) (count i : ℕ) (ts : List Token) (total : Read (List A)) → i < count → ((f : Fault) → e ≡ causes.Fault f → (n : ℕ) → (some (suc n)).read ts ≡ Err f)
       → with_front front ((some (count - i)).read ts) ≡ total → Fails e total
   ends causes.Memory front count i ts total lt step so_far = tt
   ends (causes.Fault f) front count i ts total lt step so_far = finishes front count i ts total (Err f) lt (step f refl) so_far
@@ -60,7 +60,7 @@ module _ {A : Type 0} (some : ℕ → Lang (List A)) where
       let last : with_front front ((some (count - i)).read ts) ≡ Ok (front, ts) = rw (k, none) (ap (λ (xs : List A). Ok (xs, ts)) (append-nil front)) in
       sym so_far ∙ last
 
-pub fault_of : {A : Type 0} (e : Stop) (f : Fault) (r : Read A) → e ≡ causes.Fault f → Fails e r → r ≡ Err f
+pub fault_of : {A : Type 0} (e : ReadError) (f : Fault) (r : Read A) → e ≡ causes.Fault f → Fails e r → r ≡ Err f
 fault_of causes.Memory f r same h = absurd (cc)
 fault_of (causes.Fault g) f r same h = h ∙ (cc)
 
@@ -73,7 +73,7 @@ module _ {A : Type 0} (one : Lang A) (n1 : one.null ≡ false) where
   unfolding times
   times_off ts b n = pair_off one n1 (times n one) ts b
 
-  pub times_end : (ts : List Token) (e : Stop) → front_in one.starts ts ≡ true → Fails e (one.read ts) → (f : Fault) → e ≡ causes.Fault f → (n : ℕ) → (times (suc n) one).read ts ≡ Err f
+  pub times_end : (ts : List Token) (e : ReadError) → front_in one.starts ts ≡ true → Fails e (one.read ts) → (f : Fault) → e ≡ causes.Fault f → (n : ℕ) → (times (suc n) one).read ts ≡ Err f
   unfolding times
   times_end ts e b h f same n = pair_end one n1 (times n one) ts f b (fault_of e f (one.read ts) same h)
 
@@ -112,7 +112,7 @@ module _ {A : Type 0} (one : Lang A) (n1 : one.null ≡ false) where
   unfolding commas
   commas_off ts b n = item_off one n1 (commas n one) ts b
 
-  pub commas_end : (ts : List Token) (e : Stop) → front_in one.starts ts ≡ true → Fails e (one.read ts) → (f : Fault) → e ≡ causes.Fault f → (n : ℕ) → (commas (suc n) one).read ts ≡ Err f
+  pub commas_end : (ts : List Token) (e : ReadError) → front_in one.starts ts ≡ true → Fails e (one.read ts) → (f : Fault) → e ≡ causes.Fault f → (n : ℕ) → (commas (suc n) one).read ts ≡ Err f
   unfolding commas
   commas_end ts e b h f same n = item_end one n1 (commas n one) ts f b (fault_of e f (one.read ts) same h)
 

@@ -7,16 +7,17 @@ use Rattle.mojom_ast.specs.declared.file.File.{File}
 use Rattle.mojom_ast.specs.declared.token.Token.{Token}
 use Rattle.mojom_ast.specs.Lang.{Begun, Deep, Read}
 use Rattle.mojom_ast.specs.Parsed.{Spells, Begins, EndsTooDeep}
-use Rattle.mojom_grammar.specs.Factored.{factored}
-use Rattle.mojom_grammar.proofs.Asks.{Spelled, Beginning, TooDeep}
-use Rattle.mojom_grammar.proofs.Finds.{Passes}
-use Rattle.mojom_grammar.proofs.Fronts.{short_file}
-use Rattle.mojom_grammar.proofs.Depths.{sink_file}
-use Rattle.mojom_grammar.proofs.Statements.{good_factored}
-use Rattle.mojom_grammar.proofs.Same.{to_factored, from_factored}
+use Rattle.grammar_laws.specs.steps.Factored.{factored}
+use Rattle.grammar_laws.proofs.Asks.{Spelled, Beginning, TooDeep}
+use Rattle.grammar_laws.proofs.Finds.{Passes}
+use Rattle.grammar_laws.proofs.Fronts.{short_file}
+use Rattle.grammar_laws.proofs.Depths.{sink_file}
+use Rattle.grammar_laws.proofs.Statements.{good_factored}
+use Rattle.grammar_laws.proofs.Same.{to_factored, from_factored}
 use Rattle.mojom_parser.specs.declared.error.ParseError.{ParseError}
 use Rattle.mojom_parser.specs.declared.error.ParseError.TheVariants as errors
-use Rattle.mojom_parser.specs.Parsed.{verdict, Agrees, Answers, AnswersAt, AnswersDeep, Blames}
+use Rattle.mojom_parser.specs.Parsed.{Answers, AnswersAt, AnswersDeep, Blames}
+use Rattle.mojom_parser.specs.steps.Verdict.{verdict, Agrees}
 use Rattle.mojom_parser.proofs.Verdicts.{told, found, whole, begun, too_deep}
 
 pub left_in : (ts : List Token) (l : ℕ) → (factored 32).read ts ≡ Err (Unexpected l) → l ≤ length ts

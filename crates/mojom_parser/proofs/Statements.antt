@@ -11,10 +11,10 @@ use Rattle.mojom_ast.specs.declared.file.Import.{Import}
 use Rattle.mojom_ast.specs.Trees.{make_definition, make_import}
 use Rattle.mojom_ast.specs.Lang.{Lang, Read, ◌>>=◌, front_in, ◌▹◌, as_value, maybe, times}
 use Rattle.mojom_ast.specs.Grammar.{attributes, bracketed, definition_item, definition, struct_of, union_of, enum_of, interface_of, const_of, import_path}
-use Rattle.mojom_grammar.specs.Factored.{Statements, Statement, DefinitionLine, ImportLine, gathered, attributed, statement_starts, statement, statements}
-use Rattle.mojom_parser.specs.declared.error.Stop.{Stop}
-use Rattle.mojom_parser.specs.declared.error.Stop.TheVariants as causes
-use Rattle.mojom_parser.specs.Reading.{Fails, with_imports}
+use Rattle.grammar_laws.specs.steps.Factored.{Statements, Statement, DefinitionLine, ImportLine, gathered, attributed, statement_starts, statement, statements}
+use Rattle.mojom_parser.specs.declared.error.ReadError.{ReadError}
+use Rattle.mojom_parser.specs.declared.error.ReadError.TheVariants as causes
+use Rattle.mojom_parser.specs.steps.Reading.{Fails, with_imports}
 use Rattle.mojom_parser.proofs.Loops.{fault_of}
 
 regroup : (front : List Import) (x : Import) (read : Read Statements) → with_imports front (read >>= λ y. Ok ((x ∷ y.0.0, y.0.1), y.1)) ≡ with_imports (front ++ x ∷ []) read
@@ -86,7 +86,7 @@ module _ (l : ℕ) where
       let last : with_imports front ((statements (count - i) l 32).read ts) ≡ with_imports front r = ap (λ (n : ℕ). with_imports front ((statements n l 32).read ts)) k ∙ ap (λ (q : Read Statements). with_imports front q) (step (count - (i + 1))) in
       sym so_far ∙ last
 
-  pub ends : (e : Stop) (front : List Import) (count i : ℕ) (ts : List Token) (total : Read Statements) → i < count → ((f : Fault) → e ≡ causes.Fault f → (n : ℕ) → (statements (suc n) l 32).read ts ≡ Err f)
+  pub ends : (e : ReadError) (front : List Import) (count i : ℕ) (ts : List Token) (total : Read Statements) → i < count → ((f : Fault) → e ≡ causes.Fault f → (n : ℕ) → (statements (suc n) l 32).read ts ≡ Err f)
       → with_imports front ((statements (count - i) l 32).read ts) ≡ total → Fails e total
   ends causes.Memory front count i ts total lt step so_far = tt
   ends (causes.Fault f) front count i ts total lt step so_far = finishes front count i ts total (Err f) lt (step f refl) so_far
@@ -105,7 +105,7 @@ module _ (l : ℕ) where
   unfolding statements
   step_off ts b n = round_off (statements n l 32) l ts b
 
-  pub step_end : (ts : List Token) (e : Stop) → front_in statement_starts ts ≡ true → Fails e (attributes.read ts) → (f : Fault) → e ≡ causes.Fault f → (n : ℕ) → (statements (suc n) l 32).read ts ≡ Err f
+  pub step_end : (ts : List Token) (e : ReadError) → front_in statement_starts ts ≡ true → Fails e (attributes.read ts) → (f : Fault) → e ≡ causes.Fault f → (n : ℕ) → (statements (suc n) l 32).read ts ≡ Err f
   unfolding statements
   step_end ts e b h f same n = round_end (statements n l 32) l ts f b (fault_of e f (attributes.read ts) same h)
 
@@ -113,7 +113,7 @@ module _ (l : ℕ) where
   unfolding statements
   step_definitions ts a after definitions rest b h d k n = round_on (statements n l 32) l ts a after b h ∙ on_definitions (statements n l 32) l a after d ∙ ap (λ (r : Read (List Definition)). ◌>>=◌ {A = List Definition × List Token} {B = Statements × List Token} r (λ x. Ok (([], x.0), x.1))) k
 
-  pub end_definitions : (ts : List Token) (a : List Attribute) (after : List Token) (e : Stop) → front_in statement_starts ts ≡ true → attributes.read ts ≡ Ok (a, after) → front_in (definition_item 32).starts after ≡ true → Fails e (definitions_read l a after) → (f : Fault) → e ≡ causes.Fault f → (n : ℕ) → (statements (suc n) l 32).read ts ≡ Err f
+  pub end_definitions : (ts : List Token) (a : List Attribute) (after : List Token) (e : ReadError) → front_in statement_starts ts ≡ true → attributes.read ts ≡ Ok (a, after) → front_in (definition_item 32).starts after ≡ true → Fails e (definitions_read l a after) → (f : Fault) → e ≡ causes.Fault f → (n : ℕ) → (statements (suc n) l 32).read ts ≡ Err f
   unfolding statements
   end_definitions ts a after e b h d k f same n = round_on (statements n l 32) l ts a after b h ∙ on_definitions (statements n l 32) l a after d ∙ ap (λ (r : Read (List Definition)). ◌>>=◌ {A = List Definition × List Token} {B = Statements × List Token} r (λ x. Ok (([], x.0), x.1))) (fault_of e f (definitions_read l a after) same k)
 
@@ -121,6 +121,6 @@ module _ (l : ℕ) where
   unfolding statements
   step_import ts a after path next b h d k n = round_on (statements n l 32) l ts a after b h ∙ on_import (statements n l 32) l a after path next d k
 
-  pub end_import : (ts : List Token) (a : List Attribute) (after : List Token) (e : Stop) → front_in statement_starts ts ≡ true → attributes.read ts ≡ Ok (a, after) → front_in (definition_item 32).starts after ≡ false → Fails e (import_path.read after) → (f : Fault) → e ≡ causes.Fault f → (n : ℕ) → (statements (suc n) l 32).read ts ≡ Err f
+  pub end_import : (ts : List Token) (a : List Attribute) (after : List Token) (e : ReadError) → front_in statement_starts ts ≡ true → attributes.read ts ≡ Ok (a, after) → front_in (definition_item 32).starts after ≡ false → Fails e (import_path.read after) → (f : Fault) → e ≡ causes.Fault f → (n : ℕ) → (statements (suc n) l 32).read ts ≡ Err f
   unfolding statements
   end_import ts a after e b h d k f same n = round_on (statements n l 32) l ts a after b h ∙ no_import (statements n l 32) l a after f d (fault_of e f (import_path.read after) same k)

@@ -6,12 +6,12 @@ use Rattle.mojom_ast.specs.declared.file.File.{File}
 use Rattle.mojom_ast.specs.Lang.{Whole, Begun, Deep, Read}
 use Rattle.mojom_ast.specs.Grammar.{file}
 use Rattle.mojom_ast.specs.Parsed.{Spells, Begins, EndsTooDeep}
-use Rattle.mojom_grammar.specs.Factored.{factored}
-use Rattle.mojom_grammar.proofs.Asks.{Spelled, Beginning, TooDeep}
-use Rattle.mojom_grammar.proofs.Tells.{Told}
-use Rattle.mojom_grammar.proofs.Finds.{Passes, Outcome}
-use Rattle.mojom_grammar.proofs.Statements.{good_factored}
-use Rattle.mojom_grammar.proofs.Same.{to_factored, from_factored}
+use Rattle.grammar_laws.specs.steps.Factored.{factored}
+use Rattle.grammar_laws.proofs.Asks.{Spelled, Beginning, TooDeep}
+use Rattle.grammar_laws.proofs.Tells.{Told}
+use Rattle.grammar_laws.proofs.Finds.{Passes, Outcome}
+use Rattle.grammar_laws.proofs.Statements.{good_factored}
+use Rattle.grammar_laws.proofs.Same.{to_factored, from_factored}
 
 pub told : (ts : List Token) (r : Read File) → (factored 32).read ts ≡ r → Told (factored 32) ts r
 told ts r e = subst (λ (x : Read File). Told (factored 32) ts x) e ((good_factored 32 32).tells ts)

@@ -1,2 +1,2 @@
-pub mod Reading
 pub mod Parsed
+pub mod steps

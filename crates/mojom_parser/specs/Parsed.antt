@@ -36,20 +36,3 @@ AnswersAt at (Ok f) = ⊥
 AnswersAt at (Err errors.Memory) = Unit {0}
 AnswersAt at (Err (errors.Unexpected n)) = n ≡ at
 AnswersAt at (Err (errors.TooNested n)) = n < at
-
--- What reading by the rule of a file says of so many tokens.
-abbrev pub verdict : ℕ → Read File → Result File ParseError
-verdict n (Ok x) = verdict_ok n x.0 x.1
-  where
-    verdict_ok : ℕ → File → List Token → Result File ParseError
-    verdict_ok m f [] = Ok f
-    verdict_ok m f (t ∷ ts) = Err (errors.Unexpected (m - length (t ∷ ts)))
-verdict n (Err (Unexpected left)) = Err (errors.Unexpected (n - left))
-verdict n (Err (TooNested left)) = Err (errors.TooNested (n - left))
-
--- The answer is the verdict, unless memory ran out.
-abbrev pub Agrees : Result File ParseError → Result File ParseError → Type 0
-Agrees (Ok f) v = v ≡ Ok f
-Agrees (Err errors.Memory) v = Unit {0}
-Agrees (Err (errors.Unexpected at)) v = v ≡ Err (errors.Unexpected at)
-Agrees (Err (errors.TooNested at)) v = v ≡ Err (errors.TooNested at)

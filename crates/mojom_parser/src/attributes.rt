@@ -3,9 +3,9 @@
 ghost use Rattle.std.specs.Prelude.{◌≡◌};
 ghost use Rattle.mojom_ast.specs.Lang.{list};
 ghost use Rattle.mojom_ast.specs.Grammar.{attribute, attributes};
-ghost use Rattle.mojom_parser.specs.Reading.{Gives};
+ghost use Rattle.mojom_parser.specs.steps.Reading.{Gives};
 
-use crate::error::Stop;
+use crate::error::ReadError;
 use crate::tokens::{identifier, is_identifier, is_symbol, symbol};
 use crate::values::assigned;
 use mj_base::Items;
@@ -13,7 +13,7 @@ use mojom_ast::{Attribute, Symbol, Token};
 use std::alloc::Global;
 
 #[tactic(auto, unfolding(mojom_ast::specs::Grammar::attribute))]
-fn attribute(alloc: Global, tokens: &[Token]) -> Result<(Attribute, &[Token]), Stop>
+fn attribute(alloc: Global, tokens: &[Token]) -> Result<(Attribute, &[Token]), ReadError>
     ensures { Gives (λ x. (x.0, x.1.now)) result (attribute.read tokens.now) }
 {
     let (name, rest) = identifier(alloc, tokens)?;
@@ -22,7 +22,7 @@ fn attribute(alloc: Global, tokens: &[Token]) -> Result<(Attribute, &[Token]), S
 }
 
 /// Attributes with commas between them, and maybe one after the last.
-fn attribute_list(alloc: Global, tokens: &[Token]) -> Result<(Vec<Attribute>, &[Token]), Stop>
+fn attribute_list(alloc: Global, tokens: &[Token]) -> Result<(Vec<Attribute>, &[Token]), ReadError>
     ensures { Gives (λ x. (x.0.items, x.1.now)) result ((list attribute).read tokens.now) }
 {
     let mut attributes = Vec::new(alloc);
@@ -44,7 +44,7 @@ fn attribute_list(alloc: Global, tokens: &[Token]) -> Result<(Vec<Attribute>, &[
 
 /// The attributes that stand next, none where no bracket opens.
 #[tactic(auto, unfolding(mojom_ast::specs::Grammar::attributes, mojom_ast::specs::Grammar::bracketed))]
-pub fn attributes(alloc: Global, tokens: &[Token]) -> Result<(Items<Attribute>, &[Token]), Stop>
+pub fn attributes(alloc: Global, tokens: &[Token]) -> Result<(Items<Attribute>, &[Token]), ReadError>
     ensures { Gives (λ x. (x.0, x.1.now)) result (attributes.read tokens.now) }
 {
     if !is_symbol(tokens, Symbol::OpenBracket) {

@@ -3,12 +3,13 @@
 ghost use Rattle.std.specs.Prelude.{◌≡◌};
 ghost use Rattle.mojom_ast.specs.Lang.{front_in, list};
 ghost use Rattle.mojom_ast.specs.Grammar.{const_of, enumerator, enum_of};
-ghost use Rattle.mojom_parser.specs.Reading.{Gives};
+ghost use Rattle.mojom_parser.specs.steps.Reading.{Gives};
 
+use mj_base::limits::MAX_NESTED_TYPES;
 use crate::attributes::attributes;
-use crate::error::Stop;
+use crate::error::ReadError;
 use crate::tokens::{identifier, is_identifier, is_symbol, keyword, symbol};
-use crate::types::{LEVELS, type_of};
+use crate::types::{type_of};
 use crate::values::{assigned, value};
 use mj_base::Items;
 use mojom_ast::{Const, Enum, Enumerator, Keyword, Symbol, Token};
@@ -16,8 +17,8 @@ use std::alloc::Global;
 
 /// A constant.
 #[tactic(auto, unfolding(mojom_ast::specs::Grammar::const_of))]
-pub fn const_of(alloc: Global, tokens: &[Token]) -> Result<(Const, &[Token]), Stop>
-    ensures { Gives (λ x. (x.0, x.1.now)) result ((const_of LEVELS).read tokens.now) }
+pub fn const_of(alloc: Global, tokens: &[Token]) -> Result<(Const, &[Token]), ReadError>
+    ensures { Gives (λ x. (x.0, x.1.now)) result ((const_of MAX_NESTED_TYPES).read tokens.now) }
 {
     let (_, rest) = keyword(tokens, Keyword::Const)?;
     let (kind, rest) = type_of(alloc, rest)?;
@@ -29,7 +30,7 @@ pub fn const_of(alloc: Global, tokens: &[Token]) -> Result<(Const, &[Token]), St
 }
 
 #[tactic(auto, unfolding(mojom_ast::specs::Grammar::enumerator))]
-fn enumerator(alloc: Global, tokens: &[Token]) -> Result<(Enumerator, &[Token]), Stop>
+fn enumerator(alloc: Global, tokens: &[Token]) -> Result<(Enumerator, &[Token]), ReadError>
     ensures { Gives (λ x. (x.0, x.1.now)) result (enumerator.read tokens.now) }
 {
     let (attributes, rest) = attributes(alloc, tokens)?;
@@ -54,7 +55,7 @@ fn begins_enumerator(tokens: &[Token]) -> bool
 }
 
 /// Enumerators with commas between them, and maybe one after the last.
-fn enumerator_list(alloc: Global, tokens: &[Token]) -> Result<(Vec<Enumerator>, &[Token]), Stop>
+fn enumerator_list(alloc: Global, tokens: &[Token]) -> Result<(Vec<Enumerator>, &[Token]), ReadError>
     ensures { Gives (λ x. (x.0.items, x.1.now)) result ((list enumerator).read tokens.now) }
 {
     let mut enumerators = Vec::new(alloc);
@@ -76,7 +77,7 @@ fn enumerator_list(alloc: Global, tokens: &[Token]) -> Result<(Vec<Enumerator>, 
 
 /// An enum.
 #[tactic(auto, unfolding(mojom_ast::specs::Grammar::enum_of))]
-pub fn enum_of(alloc: Global, tokens: &[Token]) -> Result<(Enum, &[Token]), Stop>
+pub fn enum_of(alloc: Global, tokens: &[Token]) -> Result<(Enum, &[Token]), ReadError>
     ensures { Gives (λ x. (x.0, x.1.now)) result (enum_of.read tokens.now) }
 {
     let (_, rest) = keyword(tokens, Keyword::Enum)?;

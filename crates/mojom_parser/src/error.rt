@@ -1,31 +1,31 @@
 //! Why tokens are no file.
 
 ghost use Rattle.std.specs.Prelude.{◌≡◌};
-ghost use Rattle.mojom_parser.specs.declared.error.Stop.TheVariants.{Memory};
+ghost use Rattle.mojom_parser.specs.declared.error.ReadError.TheVariants.{Memory};
 
 use mojom_ast::Fault;
 use std::alloc::{AllocError, AllocFailed};
 
 /// Why the reading of a rule stopped.
 #[derive(Debug, Drop)]
-pub enum Stop {
+pub enum ReadError {
     Memory,
     Fault(Fault),
 }
 
-impl From<AllocError> for Stop {
+impl From<AllocError> for ReadError {
     ghost from_gives = { λ _ e. e ≡ Memory };
 
-    fn from(_e: AllocError) -> Stop {
-        Stop::Memory
+    fn from(_e: AllocError) -> ReadError {
+        ReadError::Memory
     }
 }
 
-impl<T: Drop> From<AllocFailed<T>> for Stop {
+impl<T: Drop> From<AllocFailed<T>> for ReadError {
     ghost from_gives = { λ _ e. e ≡ Memory };
 
-    fn from(_e: AllocFailed<T>) -> Stop {
-        Stop::Memory
+    fn from(_e: AllocFailed<T>) -> ReadError {
+        ReadError::Memory
     }
 }
 

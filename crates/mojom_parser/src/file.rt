@@ -4,16 +4,16 @@ ghost use Rattle.std.specs.Prelude.{◌≡◌, ◌∷◌};
 ghost use Rattle.mojom_ast.specs.Trees.{make_definition};
 ghost use Rattle.mojom_ast.specs.Lang.{as_value, front_in, times, ◌▹◌};
 ghost use Rattle.mojom_ast.specs.Grammar.{definition_item, definition, module_name, import_path};
-ghost use Rattle.mojom_grammar.specs.Factored.{OtherLine, opened_by, definition_starts, statement_starts, file_starts, definition_line, import_line, module_line, statement, statements, factored};
-ghost use Rattle.mojom_parser.specs.Reading.{Gives, with_front, with_imports};
+ghost use Rattle.grammar_laws.specs.steps.Factored.{OtherLine, opened_by, definition_starts, statement_starts, file_starts, definition_line, import_line, module_line, statement, statements, factored};
+ghost use Rattle.mojom_parser.specs.steps.Reading.{Gives, with_front, with_imports};
 
+use mj_base::limits::MAX_NESTED_TYPES;
 use crate::attributes::attributes;
 use crate::constants::{const_of, enum_of};
-use crate::error::Stop;
+use crate::error::ReadError;
 use crate::interfaces::interface_of;
 use crate::structs::{struct_of, union_of};
 use crate::tokens::{is_keyword, is_symbol, keyword, string, symbol};
-use crate::types::LEVELS;
 use crate::values::name;
 use mj_base::Items;
 use mojom_ast::{
@@ -24,8 +24,8 @@ use std::alloc::Global;
 
 /// What a definition is, behind its attributes.
 #[tactic(auto, unfolding(mojom_ast::specs::Grammar::definition_item, mojom_ast::specs::Grammar::struct_of, mojom_ast::specs::Grammar::union_of, mojom_ast::specs::Grammar::enum_of, mojom_ast::specs::Grammar::interface_of))]
-fn definition_item(alloc: Global, tokens: &[Token]) -> Result<(DefinitionItem, &[Token]), Stop>
-    ensures { Gives (λ x. (x.0, x.1.now)) result ((definition_item LEVELS).read tokens.now) }
+fn definition_item(alloc: Global, tokens: &[Token]) -> Result<(DefinitionItem, &[Token]), ReadError>
+    ensures { Gives (λ x. (x.0, x.1.now)) result ((definition_item MAX_NESTED_TYPES).read tokens.now) }
 {
     if is_keyword(tokens, Keyword::Struct) {
         let (item, rest) = struct_of(alloc, tokens)?;
@@ -48,8 +48,8 @@ fn definition_item(alloc: Global, tokens: &[Token]) -> Result<(DefinitionItem, &
 }
 
 #[tactic(auto, unfolding(mojom_ast::specs::Grammar::definition))]
-fn definition(alloc: Global, tokens: &[Token]) -> Result<(Definition, &[Token]), Stop>
-    ensures { Gives (λ x. (x.0, x.1.now)) result ((definition LEVELS).read tokens.now) }
+fn definition(alloc: Global, tokens: &[Token]) -> Result<(Definition, &[Token]), ReadError>
+    ensures { Gives (λ x. (x.0, x.1.now)) result ((definition MAX_NESTED_TYPES).read tokens.now) }
 {
     let (attributes, rest) = attributes(alloc, tokens)?;
     let (item, rest) = definition_item(alloc, rest)?;
@@ -59,7 +59,7 @@ fn definition(alloc: Global, tokens: &[Token]) -> Result<(Definition, &[Token]),
 /// Whether the next token begins a definition behind its attributes.
 #[tactic(auto, unfolding(mojom_ast::specs::Grammar::definition_item, mojom_ast::specs::Grammar::struct_of, mojom_ast::specs::Grammar::union_of, mojom_ast::specs::Grammar::enum_of, mojom_ast::specs::Grammar::interface_of, mojom_ast::specs::Grammar::const_of))]
 fn begins_item(tokens: &[Token]) -> bool
-    ensures { result ≡ front_in (definition_item LEVELS).starts tokens.now }
+    ensures { result ≡ front_in (definition_item MAX_NESTED_TYPES).starts tokens.now }
 {
     is_keyword(tokens, Keyword::Struct)
         || is_keyword(tokens, Keyword::Union)
@@ -99,8 +99,8 @@ fn more_definitions(
     limit: usize,
     definitions: Vec<Definition>,
     tokens: &[Token],
-) -> Result<(Vec<Definition>, &[Token]), Stop>
-    ensures { Gives (λ x. (x.0.items, x.1.now)) result (with_front definitions.items ((times limit (definition LEVELS)).read tokens.now)) }
+) -> Result<(Vec<Definition>, &[Token]), ReadError>
+    ensures { Gives (λ x. (x.0.items, x.1.now)) result (with_front definitions.items ((times limit (definition MAX_NESTED_TYPES)).read tokens.now)) }
 {
     let mut definitions = definitions;
     let mut rest = tokens;
@@ -121,8 +121,8 @@ fn definitions(
     limit: usize,
     attributes: Items<Attribute>,
     tokens: &[Token],
-) -> Result<(Vec<Definition>, &[Token]), Stop>
-    ensures { Gives (λ x. (x.0.items, x.1.now)) result ((as_value (λ x. make_definition (attributes, x.0) ∷ x.1) (definition_item LEVELS ▹ times limit (definition LEVELS))).read tokens.now) }
+) -> Result<(Vec<Definition>, &[Token]), ReadError>
+    ensures { Gives (λ x. (x.0.items, x.1.now)) result ((as_value (λ x. make_definition (attributes, x.0) ∷ x.1) (definition_item MAX_NESTED_TYPES ▹ times limit (definition MAX_NESTED_TYPES))).read tokens.now) }
 {
     let (item, rest) = definition_item(alloc, tokens)?;
     let mut definitions = Vec::new(alloc);
@@ -132,7 +132,7 @@ fn definitions(
 
 /// `import`, a path and `;`.
 #[tactic(auto, unfolding(mojom_ast::specs::Grammar::import_path))]
-fn import_path(alloc: Global, tokens: &[Token]) -> Result<(StringLiteral, &[Token]), Stop>
+fn import_path(alloc: Global, tokens: &[Token]) -> Result<(StringLiteral, &[Token]), ReadError>
     ensures { Gives (λ x. (x.0, x.1.now)) result (import_path.read tokens.now) }
 {
     let (_, rest) = keyword(tokens, Keyword::Import)?;
@@ -143,7 +143,7 @@ fn import_path(alloc: Global, tokens: &[Token]) -> Result<(StringLiteral, &[Toke
 
 /// `module`, a name and `;`.
 #[tactic(auto, unfolding(mojom_ast::specs::Grammar::module_name))]
-fn module_name(alloc: Global, tokens: &[Token]) -> Result<(Name, &[Token]), Stop>
+fn module_name(alloc: Global, tokens: &[Token]) -> Result<(Name, &[Token]), ReadError>
     ensures { Gives (λ x. (x.0, x.1.now)) result (module_name.read tokens.now) }
 {
     let (_, rest) = keyword(tokens, Keyword::Module)?;
@@ -158,8 +158,8 @@ fn statements(
     limit: usize,
     imports: Vec<Import>,
     tokens: &[Token],
-) -> Result<(Vec<Import>, Vec<Definition>, &[Token]), Stop>
-    ensures { Gives (λ x. ((x.0.items, x.1.items), x.2.now)) result (with_imports imports.items ((statements limit limit LEVELS).read tokens.now)) }
+) -> Result<(Vec<Import>, Vec<Definition>, &[Token]), ReadError>
+    ensures { Gives (λ x. ((x.0.items, x.1.items), x.2.now)) result (with_imports imports.items ((statements limit limit MAX_NESTED_TYPES).read tokens.now)) }
 {
     let mut imports = imports;
     let mut rest = tokens;
@@ -185,8 +185,8 @@ fn with_module(
     limit: usize,
     attributes: Items<Attribute>,
     tokens: &[Token],
-) -> Result<(File, &[Token]), Stop>
-    ensures { Gives (λ x. (x.0, x.1.now)) result ((as_value (λ s. opened_by attributes s) (module_line (statements limit limit LEVELS))).read tokens.now) }
+) -> Result<(File, &[Token]), ReadError>
+    ensures { Gives (λ x. (x.0, x.1.now)) result ((as_value (λ s. opened_by attributes s) (module_line (statements limit limit MAX_NESTED_TYPES))).read tokens.now) }
 {
     let (name, rest) = module_name(alloc, tokens)?;
     let (imports, definitions, rest) = statements(alloc, limit, Vec::new(alloc), rest)?;
@@ -206,8 +206,8 @@ fn only_definitions(
     limit: usize,
     attributes: Items<Attribute>,
     tokens: &[Token],
-) -> Result<(File, &[Token]), Stop>
-    ensures { Gives (λ x. (x.0, x.1.now)) result ((as_value (λ s. opened_by attributes (OtherLine s)) (definition_line limit LEVELS)).read tokens.now) }
+) -> Result<(File, &[Token]), ReadError>
+    ensures { Gives (λ x. (x.0, x.1.now)) result ((as_value (λ s. opened_by attributes (OtherLine s)) (definition_line limit MAX_NESTED_TYPES)).read tokens.now) }
 {
     let (definitions, rest) = definitions(alloc, limit, attributes, tokens)?;
     Ok((
@@ -226,8 +226,8 @@ fn from_import(
     limit: usize,
     attributes: Items<Attribute>,
     tokens: &[Token],
-) -> Result<(File, &[Token]), Stop>
-    ensures { Gives (λ x. (x.0, x.1.now)) result ((as_value (λ s. opened_by attributes (OtherLine s)) (import_line (statements limit limit LEVELS))).read tokens.now) }
+) -> Result<(File, &[Token]), ReadError>
+    ensures { Gives (λ x. (x.0, x.1.now)) result ((as_value (λ s. opened_by attributes (OtherLine s)) (import_line (statements limit limit MAX_NESTED_TYPES))).read tokens.now) }
 {
     let (path, rest) = import_path(alloc, tokens)?;
     let mut imports = Vec::new(alloc);
@@ -251,8 +251,8 @@ fn without_module(
     limit: usize,
     attributes: Items<Attribute>,
     tokens: &[Token],
-) -> Result<(File, &[Token]), Stop>
-    ensures { Gives (λ x. (x.0, x.1.now)) result ((as_value (λ s. opened_by attributes (OtherLine s)) (statement (statements limit limit LEVELS) limit LEVELS)).read tokens.now) }
+) -> Result<(File, &[Token]), ReadError>
+    ensures { Gives (λ x. (x.0, x.1.now)) result ((as_value (λ s. opened_by attributes (OtherLine s)) (statement (statements limit limit MAX_NESTED_TYPES) limit MAX_NESTED_TYPES)).read tokens.now) }
 {
     if begins_item(tokens) {
         return only_definitions(alloc, limit, attributes, tokens);
@@ -276,9 +276,9 @@ fn begins_file(tokens: &[Token]) -> bool
 }
 
 /// A file, and the tokens after it.
-#[tactic(auto, unfolding(mojom_grammar::specs::Factored::factored, mojom_grammar::specs::Factored::opening, mojom_ast::specs::Grammar::attributes, mojom_ast::specs::Grammar::bracketed, mojom_ast::specs::Grammar::module_name, mojom_ast::specs::Grammar::import_path, mojom_ast::specs::Grammar::definition_item, mojom_ast::specs::Grammar::struct_of, mojom_ast::specs::Grammar::union_of, mojom_ast::specs::Grammar::enum_of, mojom_ast::specs::Grammar::interface_of, mojom_ast::specs::Grammar::const_of))]
-pub fn file(alloc: Global, tokens: &[Token]) -> Result<(File, &[Token]), Stop>
-    ensures { Gives (λ x. (x.0, x.1.now)) result ((factored LEVELS).read tokens.now) }
+#[tactic(auto, unfolding(grammar_laws::specs::steps::Factored::factored, grammar_laws::specs::steps::Factored::opening, mojom_ast::specs::Grammar::attributes, mojom_ast::specs::Grammar::bracketed, mojom_ast::specs::Grammar::module_name, mojom_ast::specs::Grammar::import_path, mojom_ast::specs::Grammar::definition_item, mojom_ast::specs::Grammar::struct_of, mojom_ast::specs::Grammar::union_of, mojom_ast::specs::Grammar::enum_of, mojom_ast::specs::Grammar::interface_of, mojom_ast::specs::Grammar::const_of))]
+pub fn file(alloc: Global, tokens: &[Token]) -> Result<(File, &[Token]), ReadError>
+    ensures { Gives (λ x. (x.0, x.1.now)) result ((factored MAX_NESTED_TYPES).read tokens.now) }
 {
     if !begins_file(tokens) {
         return Ok((

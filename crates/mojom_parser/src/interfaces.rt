@@ -3,13 +3,14 @@
 ghost use Rattle.std.specs.Prelude.{◌≡◌};
 ghost use Rattle.mojom_ast.specs.Lang.{as_value, front_in, joined, many, maybe, ◌▹◌};
 ghost use Rattle.mojom_ast.specs.Grammar.{parameter, next_parameter, parameters, response, method, interface_item, interface_member, interface_of};
-ghost use Rattle.mojom_parser.specs.Reading.{Gives, with_front};
+ghost use Rattle.mojom_parser.specs.steps.Reading.{Gives, with_front};
 
+use mj_base::limits::MAX_NESTED_TYPES;
 use crate::attributes::attributes;
 use crate::constants::{const_of, enum_of};
-use crate::error::Stop;
+use crate::error::ReadError;
 use crate::tokens::{identifier, is_identifier, is_keyword, is_symbol, keyword, symbol};
-use crate::types::{LEVELS, begins_type, type_of};
+use crate::types::{begins_type, type_of};
 use crate::values::ordinal;
 use mj_base::Items;
 use mojom_ast::{
@@ -18,8 +19,8 @@ use mojom_ast::{
 use std::alloc::Global;
 
 #[tactic(auto, unfolding(mojom_ast::specs::Grammar::parameter))]
-fn parameter(alloc: Global, tokens: &[Token]) -> Result<(Parameter, &[Token]), Stop>
-    ensures { Gives (λ x. (x.0, x.1.now)) result ((parameter LEVELS).read tokens.now) }
+fn parameter(alloc: Global, tokens: &[Token]) -> Result<(Parameter, &[Token]), ReadError>
+    ensures { Gives (λ x. (x.0, x.1.now)) result ((parameter MAX_NESTED_TYPES).read tokens.now) }
 {
     let (attributes, rest) = attributes(alloc, tokens)?;
     let (kind, rest) = type_of(alloc, rest)?;
@@ -38,8 +39,8 @@ fn parameter(alloc: Global, tokens: &[Token]) -> Result<(Parameter, &[Token]), S
 
 /// A comma and a parameter.
 #[tactic(auto, unfolding(mojom_ast::specs::Grammar::next_parameter))]
-fn next_parameter(alloc: Global, tokens: &[Token]) -> Result<(Parameter, &[Token]), Stop>
-    ensures { Gives (λ x. (x.0, x.1.now)) result ((next_parameter LEVELS).read tokens.now) }
+fn next_parameter(alloc: Global, tokens: &[Token]) -> Result<(Parameter, &[Token]), ReadError>
+    ensures { Gives (λ x. (x.0, x.1.now)) result ((next_parameter MAX_NESTED_TYPES).read tokens.now) }
 {
     let (_, rest) = symbol(tokens, Symbol::Comma)?;
     parameter(alloc, rest)
@@ -50,8 +51,8 @@ fn next_parameters(
     alloc: Global,
     parameters: Vec<Parameter>,
     tokens: &[Token],
-) -> Result<(Vec<Parameter>, &[Token]), Stop>
-    ensures { Gives (λ x. (x.0.items, x.1.now)) result (with_front parameters.items ((many (next_parameter LEVELS)).read tokens.now)) }
+) -> Result<(Vec<Parameter>, &[Token]), ReadError>
+    ensures { Gives (λ x. (x.0.items, x.1.now)) result (with_front parameters.items ((many (next_parameter MAX_NESTED_TYPES)).read tokens.now)) }
 {
     let mut parameters = parameters;
     let mut rest = tokens;
@@ -69,14 +70,14 @@ fn next_parameters(
 /// Whether the next token begins a parameter.
 #[tactic(auto, unfolding(mojom_ast::specs::Grammar::parameter, mojom_ast::specs::Grammar::attributes, mojom_ast::specs::Grammar::bracketed))]
 fn begins_parameter(tokens: &[Token]) -> bool
-    ensures { result ≡ front_in (parameter LEVELS).starts tokens.now }
+    ensures { result ≡ front_in (parameter MAX_NESTED_TYPES).starts tokens.now }
 {
     is_symbol(tokens, Symbol::OpenBracket) || begins_type(tokens)
 }
 
 /// What stands between the parentheses of a parameter list.
-fn parameter_list(alloc: Global, tokens: &[Token]) -> Result<(Vec<Parameter>, &[Token]), Stop>
-    ensures { Gives (λ x. (x.0.items, x.1.now)) result ((as_value joined (maybe (parameter LEVELS ▹ many (next_parameter LEVELS)))).read tokens.now) }
+fn parameter_list(alloc: Global, tokens: &[Token]) -> Result<(Vec<Parameter>, &[Token]), ReadError>
+    ensures { Gives (λ x. (x.0.items, x.1.now)) result ((as_value joined (maybe (parameter MAX_NESTED_TYPES ▹ many (next_parameter MAX_NESTED_TYPES)))).read tokens.now) }
 {
     let mut parameters = Vec::new(alloc);
     if !begins_parameter(tokens) {
@@ -89,8 +90,8 @@ fn parameter_list(alloc: Global, tokens: &[Token]) -> Result<(Vec<Parameter>, &[
 
 /// A parameter list, with its parentheses.
 #[tactic(auto, unfolding(mojom_ast::specs::Grammar::parameters))]
-fn parameters(alloc: Global, tokens: &[Token]) -> Result<(Items<Parameter>, &[Token]), Stop>
-    ensures { Gives (λ x. (x.0, x.1.now)) result ((parameters LEVELS).read tokens.now) }
+fn parameters(alloc: Global, tokens: &[Token]) -> Result<(Items<Parameter>, &[Token]), ReadError>
+    ensures { Gives (λ x. (x.0, x.1.now)) result ((parameters MAX_NESTED_TYPES).read tokens.now) }
 {
     let (_, rest) = symbol(tokens, Symbol::OpenParen)?;
     let (parameters, rest) = parameter_list(alloc, rest)?;
@@ -100,8 +101,8 @@ fn parameters(alloc: Global, tokens: &[Token]) -> Result<(Items<Parameter>, &[To
 
 /// `=>` and a parameter list, where they stand.
 #[tactic(auto, unfolding(mojom_ast::specs::Grammar::response))]
-fn response(alloc: Global, tokens: &[Token]) -> Result<(Option<Items<Parameter>>, &[Token]), Stop>
-    ensures { Gives (λ x. (x.0, x.1.now)) result ((maybe (response LEVELS)).read tokens.now) }
+fn response(alloc: Global, tokens: &[Token]) -> Result<(Option<Items<Parameter>>, &[Token]), ReadError>
+    ensures { Gives (λ x. (x.0, x.1.now)) result ((maybe (response MAX_NESTED_TYPES)).read tokens.now) }
 {
     if !is_symbol(tokens, Symbol::Arrow) {
         return Ok((None, tokens));
@@ -112,8 +113,8 @@ fn response(alloc: Global, tokens: &[Token]) -> Result<(Option<Items<Parameter>>
 }
 
 #[tactic(auto, unfolding(mojom_ast::specs::Grammar::method))]
-fn method(alloc: Global, tokens: &[Token]) -> Result<(Method, &[Token]), Stop>
-    ensures { Gives (λ x. (x.0, x.1.now)) result ((method LEVELS).read tokens.now) }
+fn method(alloc: Global, tokens: &[Token]) -> Result<(Method, &[Token]), ReadError>
+    ensures { Gives (λ x. (x.0, x.1.now)) result ((method MAX_NESTED_TYPES).read tokens.now) }
 {
     let (name, rest) = identifier(alloc, tokens)?;
     let (ordinal, rest) = ordinal(rest)?;
@@ -133,8 +134,8 @@ fn method(alloc: Global, tokens: &[Token]) -> Result<(Method, &[Token]), Stop>
 
 /// What stands in an interface behind its attributes.
 #[tactic(auto, unfolding(mojom_ast::specs::Grammar::interface_item, mojom_ast::specs::Grammar::const_of, mojom_ast::specs::Grammar::enum_of))]
-fn interface_item(alloc: Global, tokens: &[Token]) -> Result<(InterfaceItem, &[Token]), Stop>
-    ensures { Gives (λ x. (x.0, x.1.now)) result ((interface_item LEVELS).read tokens.now) }
+fn interface_item(alloc: Global, tokens: &[Token]) -> Result<(InterfaceItem, &[Token]), ReadError>
+    ensures { Gives (λ x. (x.0, x.1.now)) result ((interface_item MAX_NESTED_TYPES).read tokens.now) }
 {
     if is_keyword(tokens, Keyword::Const) {
         let (item, rest) = const_of(alloc, tokens)?;
@@ -149,8 +150,8 @@ fn interface_item(alloc: Global, tokens: &[Token]) -> Result<(InterfaceItem, &[T
 }
 
 #[tactic(auto, unfolding(mojom_ast::specs::Grammar::interface_member))]
-fn interface_member(alloc: Global, tokens: &[Token]) -> Result<(InterfaceMember, &[Token]), Stop>
-    ensures { Gives (λ x. (x.0, x.1.now)) result ((interface_member LEVELS).read tokens.now) }
+fn interface_member(alloc: Global, tokens: &[Token]) -> Result<(InterfaceMember, &[Token]), ReadError>
+    ensures { Gives (λ x. (x.0, x.1.now)) result ((interface_member MAX_NESTED_TYPES).read tokens.now) }
 {
     let (attributes, rest) = attributes(alloc, tokens)?;
     let (item, rest) = interface_item(alloc, rest)?;
@@ -160,7 +161,7 @@ fn interface_member(alloc: Global, tokens: &[Token]) -> Result<(InterfaceMember,
 /// Whether the next token begins what may stand in an interface.
 #[tactic(auto, unfolding(mojom_ast::specs::Grammar::interface_member, mojom_ast::specs::Grammar::attributes, mojom_ast::specs::Grammar::bracketed, mojom_ast::specs::Grammar::interface_item, mojom_ast::specs::Grammar::const_of, mojom_ast::specs::Grammar::enum_of, mojom_ast::specs::Grammar::method, mojom_ast::specs::Grammar::identifier))]
 fn begins_interface_member(tokens: &[Token]) -> bool
-    ensures { result ≡ front_in (interface_member LEVELS).starts tokens.now }
+    ensures { result ≡ front_in (interface_member MAX_NESTED_TYPES).starts tokens.now }
 {
     is_symbol(tokens, Symbol::OpenBracket)
         || is_keyword(tokens, Keyword::Const)
@@ -171,8 +172,8 @@ fn begins_interface_member(tokens: &[Token]) -> bool
 fn interface_members(
     alloc: Global,
     tokens: &[Token],
-) -> Result<(Vec<InterfaceMember>, &[Token]), Stop>
-    ensures { Gives (λ x. (x.0.items, x.1.now)) result ((many (interface_member LEVELS)).read tokens.now) }
+) -> Result<(Vec<InterfaceMember>, &[Token]), ReadError>
+    ensures { Gives (λ x. (x.0.items, x.1.now)) result ((many (interface_member MAX_NESTED_TYPES)).read tokens.now) }
 {
     let mut members = Vec::new(alloc);
     let mut rest = tokens;
@@ -189,8 +190,8 @@ fn interface_members(
 
 /// An interface.
 #[tactic(auto, unfolding(mojom_ast::specs::Grammar::interface_of))]
-pub fn interface_of(alloc: Global, tokens: &[Token]) -> Result<(Interface, &[Token]), Stop>
-    ensures { Gives (λ x. (x.0, x.1.now)) result ((interface_of LEVELS).read tokens.now) }
+pub fn interface_of(alloc: Global, tokens: &[Token]) -> Result<(Interface, &[Token]), ReadError>
+    ensures { Gives (λ x. (x.0, x.1.now)) result ((interface_of MAX_NESTED_TYPES).read tokens.now) }
 {
     let (_, rest) = keyword(tokens, Keyword::Interface)?;
     let (name, rest) = identifier(alloc, rest)?;

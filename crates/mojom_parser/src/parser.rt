@@ -3,10 +3,12 @@
 ghost use Rattle.std.specs.Prelude.{◌≡◌, ℕ, ◌+◌, ◌-◌, ◌<◌, ◌≤◌, length, take, IfOk, IfErr};
 ghost use Rattle.mojom_ast.specs.declared.file.File.{File};
 ghost use Rattle.mojom_ast.specs.Parsed.{Spells, Begins, EndsTooDeep};
-ghost use Rattle.mojom_grammar.specs.Factored.{factored};
-ghost use Rattle.mojom_parser.specs.Parsed.{verdict, Agrees, Answers, AnswersAt, AnswersDeep, Blames};
+ghost use Rattle.grammar_laws.specs.steps.Factored.{factored};
+ghost use Rattle.mojom_parser.specs.Parsed.{Answers, AnswersAt, AnswersDeep, Blames};
+ghost use Rattle.mojom_parser.specs.steps.Verdict.{verdict, Agrees};
 
-use crate::error::{ParseError, Stop};
+use mj_base::limits::MAX_NESTED_TYPES;
+use crate::error::{ParseError, ReadError};
 use crate::file::file;
 use mojom_ast::{Fault, File, Token};
 use std::alloc::Global;
@@ -21,7 +23,7 @@ fn place(tokens: &[Token], left: usize) -> u64
 
 /// What the reading of a file says of all the tokens.
 fn judge(alloc: Global, tokens: &[Token]) -> Result<File, ParseError>
-    ensures { Agrees result (verdict (length tokens.now) ((factored 32).read tokens.now)) }
+    ensures { Agrees result (verdict (length tokens.now) ((factored MAX_NESTED_TYPES).read tokens.now)) }
 {
     match file(alloc, tokens) {
         Ok((tree, rest)) => {
@@ -31,11 +33,11 @@ fn judge(alloc: Global, tokens: &[Token]) -> Result<File, ParseError>
                 Err(ParseError::Unexpected(place(tokens, rest.len())))
             }
         }
-        Err(Stop::Fault(Fault::Unexpected(left))) => {
+        Err(ReadError::Fault(Fault::Unexpected(left))) => {
             Err(ParseError::Unexpected(place(tokens, left)))
         }
-        Err(Stop::Fault(Fault::TooNested(left))) => Err(ParseError::TooNested(place(tokens, left))),
-        Err(Stop::Memory) => Err(ParseError::Memory),
+        Err(ReadError::Fault(Fault::TooNested(left))) => Err(ParseError::TooNested(place(tokens, left))),
+        Err(ReadError::Memory) => Err(ParseError::Memory),
     }
 }
 

@@ -3,13 +3,14 @@
 ghost use Rattle.std.specs.Prelude.{◌≡◌};
 ghost use Rattle.mojom_ast.specs.Lang.{front_in, many};
 ghost use Rattle.mojom_ast.specs.Grammar.{field, struct_item, struct_member, struct_of, union_field, union_of};
-ghost use Rattle.mojom_parser.specs.Reading.{Gives};
+ghost use Rattle.mojom_parser.specs.steps.Reading.{Gives};
 
+use mj_base::limits::MAX_NESTED_TYPES;
 use crate::attributes::attributes;
 use crate::constants::{const_of, enum_of};
-use crate::error::Stop;
+use crate::error::ReadError;
 use crate::tokens::{identifier, is_keyword, is_symbol, keyword, symbol};
-use crate::types::{LEVELS, begins_type, type_of};
+use crate::types::{begins_type, type_of};
 use crate::values::{assigned, ordinal};
 use mj_base::Items;
 use mojom_ast::{
@@ -18,8 +19,8 @@ use mojom_ast::{
 use std::alloc::Global;
 
 #[tactic(auto, unfolding(mojom_ast::specs::Grammar::field))]
-fn field(alloc: Global, tokens: &[Token]) -> Result<(Field, &[Token]), Stop>
-    ensures { Gives (λ x. (x.0, x.1.now)) result ((field LEVELS).read tokens.now) }
+fn field(alloc: Global, tokens: &[Token]) -> Result<(Field, &[Token]), ReadError>
+    ensures { Gives (λ x. (x.0, x.1.now)) result ((field MAX_NESTED_TYPES).read tokens.now) }
 {
     let (kind, rest) = type_of(alloc, tokens)?;
     let (name, rest) = identifier(alloc, rest)?;
@@ -39,8 +40,8 @@ fn field(alloc: Global, tokens: &[Token]) -> Result<(Field, &[Token]), Stop>
 
 /// What stands in a struct behind its attributes.
 #[tactic(auto, unfolding(mojom_ast::specs::Grammar::struct_item, mojom_ast::specs::Grammar::const_of, mojom_ast::specs::Grammar::enum_of))]
-fn struct_item(alloc: Global, tokens: &[Token]) -> Result<(StructItem, &[Token]), Stop>
-    ensures { Gives (λ x. (x.0, x.1.now)) result ((struct_item LEVELS).read tokens.now) }
+fn struct_item(alloc: Global, tokens: &[Token]) -> Result<(StructItem, &[Token]), ReadError>
+    ensures { Gives (λ x. (x.0, x.1.now)) result ((struct_item MAX_NESTED_TYPES).read tokens.now) }
 {
     if is_keyword(tokens, Keyword::Const) {
         let (item, rest) = const_of(alloc, tokens)?;
@@ -55,8 +56,8 @@ fn struct_item(alloc: Global, tokens: &[Token]) -> Result<(StructItem, &[Token])
 }
 
 #[tactic(auto, unfolding(mojom_ast::specs::Grammar::struct_member))]
-fn struct_member(alloc: Global, tokens: &[Token]) -> Result<(StructMember, &[Token]), Stop>
-    ensures { Gives (λ x. (x.0, x.1.now)) result ((struct_member LEVELS).read tokens.now) }
+fn struct_member(alloc: Global, tokens: &[Token]) -> Result<(StructMember, &[Token]), ReadError>
+    ensures { Gives (λ x. (x.0, x.1.now)) result ((struct_member MAX_NESTED_TYPES).read tokens.now) }
 {
     let (attributes, rest) = attributes(alloc, tokens)?;
     let (item, rest) = struct_item(alloc, rest)?;
@@ -66,7 +67,7 @@ fn struct_member(alloc: Global, tokens: &[Token]) -> Result<(StructMember, &[Tok
 /// Whether the next token begins what may stand in a struct.
 #[tactic(auto, unfolding(mojom_ast::specs::Grammar::struct_member, mojom_ast::specs::Grammar::attributes, mojom_ast::specs::Grammar::bracketed, mojom_ast::specs::Grammar::struct_item, mojom_ast::specs::Grammar::const_of, mojom_ast::specs::Grammar::enum_of, mojom_ast::specs::Grammar::field))]
 fn begins_struct_member(tokens: &[Token]) -> bool
-    ensures { result ≡ front_in (struct_member LEVELS).starts tokens.now }
+    ensures { result ≡ front_in (struct_member MAX_NESTED_TYPES).starts tokens.now }
 {
     is_symbol(tokens, Symbol::OpenBracket)
         || is_keyword(tokens, Keyword::Const)
@@ -74,8 +75,8 @@ fn begins_struct_member(tokens: &[Token]) -> bool
         || begins_type(tokens)
 }
 
-fn struct_members(alloc: Global, tokens: &[Token]) -> Result<(Vec<StructMember>, &[Token]), Stop>
-    ensures { Gives (λ x. (x.0.items, x.1.now)) result ((many (struct_member LEVELS)).read tokens.now) }
+fn struct_members(alloc: Global, tokens: &[Token]) -> Result<(Vec<StructMember>, &[Token]), ReadError>
+    ensures { Gives (λ x. (x.0.items, x.1.now)) result ((many (struct_member MAX_NESTED_TYPES)).read tokens.now) }
 {
     let mut members = Vec::new(alloc);
     let mut rest = tokens;
@@ -92,8 +93,8 @@ fn struct_members(alloc: Global, tokens: &[Token]) -> Result<(Vec<StructMember>,
 
 /// A struct.
 #[tactic(auto, unfolding(mojom_ast::specs::Grammar::struct_of))]
-pub fn struct_of(alloc: Global, tokens: &[Token]) -> Result<(Struct, &[Token]), Stop>
-    ensures { Gives (λ x. (x.0, x.1.now)) result ((struct_of LEVELS).read tokens.now) }
+pub fn struct_of(alloc: Global, tokens: &[Token]) -> Result<(Struct, &[Token]), ReadError>
+    ensures { Gives (λ x. (x.0, x.1.now)) result ((struct_of MAX_NESTED_TYPES).read tokens.now) }
 {
     let (_, rest) = keyword(tokens, Keyword::Struct)?;
     let (name, rest) = identifier(alloc, rest)?;
@@ -111,8 +112,8 @@ pub fn struct_of(alloc: Global, tokens: &[Token]) -> Result<(Struct, &[Token]), 
 }
 
 #[tactic(auto, unfolding(mojom_ast::specs::Grammar::union_field))]
-fn union_field(alloc: Global, tokens: &[Token]) -> Result<(UnionField, &[Token]), Stop>
-    ensures { Gives (λ x. (x.0, x.1.now)) result ((union_field LEVELS).read tokens.now) }
+fn union_field(alloc: Global, tokens: &[Token]) -> Result<(UnionField, &[Token]), ReadError>
+    ensures { Gives (λ x. (x.0, x.1.now)) result ((union_field MAX_NESTED_TYPES).read tokens.now) }
 {
     let (attributes, rest) = attributes(alloc, tokens)?;
     let (kind, rest) = type_of(alloc, rest)?;
@@ -133,13 +134,13 @@ fn union_field(alloc: Global, tokens: &[Token]) -> Result<(UnionField, &[Token])
 /// Whether the next token begins a union's field.
 #[tactic(auto, unfolding(mojom_ast::specs::Grammar::union_field, mojom_ast::specs::Grammar::attributes, mojom_ast::specs::Grammar::bracketed))]
 fn begins_union_field(tokens: &[Token]) -> bool
-    ensures { result ≡ front_in (union_field LEVELS).starts tokens.now }
+    ensures { result ≡ front_in (union_field MAX_NESTED_TYPES).starts tokens.now }
 {
     is_symbol(tokens, Symbol::OpenBracket) || begins_type(tokens)
 }
 
-fn union_fields(alloc: Global, tokens: &[Token]) -> Result<(Vec<UnionField>, &[Token]), Stop>
-    ensures { Gives (λ x. (x.0.items, x.1.now)) result ((many (union_field LEVELS)).read tokens.now) }
+fn union_fields(alloc: Global, tokens: &[Token]) -> Result<(Vec<UnionField>, &[Token]), ReadError>
+    ensures { Gives (λ x. (x.0.items, x.1.now)) result ((many (union_field MAX_NESTED_TYPES)).read tokens.now) }
 {
     let mut fields = Vec::new(alloc);
     let mut rest = tokens;
@@ -156,8 +157,8 @@ fn union_fields(alloc: Global, tokens: &[Token]) -> Result<(Vec<UnionField>, &[T
 
 /// A union.
 #[tactic(auto, unfolding(mojom_ast::specs::Grammar::union_of))]
-pub fn union_of(alloc: Global, tokens: &[Token]) -> Result<(Union, &[Token]), Stop>
-    ensures { Gives (λ x. (x.0, x.1.now)) result ((union_of LEVELS).read tokens.now) }
+pub fn union_of(alloc: Global, tokens: &[Token]) -> Result<(Union, &[Token]), ReadError>
+    ensures { Gives (λ x. (x.0, x.1.now)) result ((union_of MAX_NESTED_TYPES).read tokens.now) }
 {
     let (_, rest) = keyword(tokens, Keyword::Union)?;
     let (name, rest) = identifier(alloc, rest)?;

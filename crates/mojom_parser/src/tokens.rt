@@ -5,9 +5,9 @@ ghost use Rattle.mojom_ast.specs.Classes.{keyword_class, symbol_class, identifie
 ghost use Rattle.mojom_ast.specs.Lang.{has, front_in, tok, keyword, symbol};
 ghost use Rattle.mojom_ast.specs.Trees.{text_in};
 ghost use Rattle.mojom_ast.specs.Grammar.{identifier, number, string};
-ghost use Rattle.mojom_parser.specs.Reading.{Gives, identifier_at};
+ghost use Rattle.mojom_parser.specs.steps.Reading.{Gives, identifier_at};
 
-use crate::error::Stop;
+use crate::error::ReadError;
 use mj_base::{Span, Text};
 use mojom_ast::{Fault, Identifier, Keyword, Number, Sort, StringLiteral, Symbol, Token};
 use std::alloc::{AllocError, Global};
@@ -23,7 +23,7 @@ pub fn is_next(tokens: &[Token], class: u8) -> bool
 }
 
 /// The next token, which is of the class, and those after it.
-pub fn expect(tokens: &[Token], class: u8) -> Result<(&Token, &[Token]), Stop>
+pub fn expect(tokens: &[Token], class: u8) -> Result<(&Token, &[Token]), ReadError>
     ensures { Gives (λ x. (x.0.now, x.1.now)) result ((tok (class ∷ [])).read tokens.now) }
 {
     match tokens {
@@ -31,10 +31,10 @@ pub fn expect(tokens: &[Token], class: u8) -> Result<(&Token, &[Token]), Stop>
             if token.class() == class {
                 Ok((token, rest))
             } else {
-                Err(Stop::Fault(Fault::Unexpected(tokens.len())))
+                Err(ReadError::Fault(Fault::Unexpected(tokens.len())))
             }
         }
-        [] => Err(Stop::Fault(Fault::Unexpected(0))),
+        [] => Err(ReadError::Fault(Fault::Unexpected(0))),
     }
 }
 
@@ -46,7 +46,7 @@ pub fn is_symbol(tokens: &[Token], mark: Symbol) -> bool
 }
 
 /// The symbol, and the tokens after it.
-pub fn symbol(tokens: &[Token], mark: Symbol) -> Result<(&Token, &[Token]), Stop>
+pub fn symbol(tokens: &[Token], mark: Symbol) -> Result<(&Token, &[Token]), ReadError>
     ensures { Gives (λ x. (x.0.now, x.1.now)) result ((symbol mark).read tokens.now) }
 {
     expect(tokens, mark.class())
@@ -60,14 +60,14 @@ pub fn is_keyword(tokens: &[Token], word: Keyword) -> bool
 }
 
 /// The keyword, and the tokens after it.
-pub fn keyword(tokens: &[Token], word: Keyword) -> Result<(&Token, &[Token]), Stop>
+pub fn keyword(tokens: &[Token], word: Keyword) -> Result<(&Token, &[Token]), ReadError>
     ensures { Gives (λ x. (x.0.now, x.1.now)) result ((keyword word).read tokens.now) }
 {
     expect(tokens, word.class())
 }
 
 /// Whether the next token is an identifier.
-#[tactic(auto, using(mojom_ast::proofs::Classes::identifier_is, mojom_ast::proofs::Classes::keyword_no_identifier, mojom_ast::proofs::Classes::symbol_no_identifier))]
+#[tactic(auto, using(mojom_ast::proofs::ClassFacts::identifier_is, mojom_ast::proofs::ClassFacts::keyword_no_identifier, mojom_ast::proofs::ClassFacts::symbol_no_identifier))]
 pub fn is_identifier(tokens: &[Token]) -> bool
     ensures { result ≡ front_in identifiers tokens.now }
 {
@@ -88,7 +88,7 @@ fn copied(alloc: Global, text: &Text) -> Result<Text, AllocError>
 }
 
 /// The text of an identifier.
-#[tactic(auto, using(mojom_ast::proofs::Classes::identifier_is, mojom_ast::proofs::Classes::keyword_no_identifier, mojom_ast::proofs::Classes::symbol_no_identifier))]
+#[tactic(auto, using(mojom_ast::proofs::ClassFacts::identifier_is, mojom_ast::proofs::ClassFacts::keyword_no_identifier, mojom_ast::proofs::ClassFacts::symbol_no_identifier))]
 fn text_of(token: &Token) -> Option<&Text>
     ensures { MatchOption result (has identifiers (class token.now) ≡ false) (λ text. (has identifiers (class token.now) ≡ true) × (text.now ≡ text_in token.now.sort)) }
 {
@@ -100,20 +100,20 @@ fn text_of(token: &Token) -> Option<&Text>
 
 /// The text of an identifier, where it stands, and the tokens after it.
 #[tactic(auto, unfolding(mojom_ast::specs::Grammar::identifier))]
-fn identifier_text(tokens: &[Token]) -> Result<(&Text, Span, &[Token]), Stop>
+fn identifier_text(tokens: &[Token]) -> Result<(&Text, Span, &[Token]), ReadError>
     ensures { Gives (λ x. (identifier_at x.0.now x.1, x.2.now)) result (identifier.read tokens.now) }
 {
     match tokens {
         [token, rest @ ..] => match text_of(token) {
             Some(text) => Ok((text, token.span, rest)),
-            None => Err(Stop::Fault(Fault::Unexpected(tokens.len()))),
+            None => Err(ReadError::Fault(Fault::Unexpected(tokens.len()))),
         },
-        [] => Err(Stop::Fault(Fault::Unexpected(0))),
+        [] => Err(ReadError::Fault(Fault::Unexpected(0))),
     }
 }
 
 /// An identifier, and the tokens after it.
-pub fn identifier(alloc: Global, tokens: &[Token]) -> Result<(Identifier, &[Token]), Stop>
+pub fn identifier(alloc: Global, tokens: &[Token]) -> Result<(Identifier, &[Token]), ReadError>
     ensures { Gives (λ x. (x.0, x.1.now)) result (identifier.read tokens.now) }
 {
     let (text, span, rest) = identifier_text(tokens)?;
@@ -122,8 +122,8 @@ pub fn identifier(alloc: Global, tokens: &[Token]) -> Result<(Identifier, &[Toke
 }
 
 /// A number, and the tokens after it.
-#[tactic(auto, unfolding(mojom_ast::specs::Grammar::number), using(mojom_ast::proofs::Classes::identifier_no_number, mojom_ast::proofs::Classes::keyword_no_number, mojom_ast::proofs::Classes::symbol_no_number))]
-pub fn number(tokens: &[Token]) -> Result<(Number, &[Token]), Stop>
+#[tactic(auto, unfolding(mojom_ast::specs::Grammar::number), using(mojom_ast::proofs::ClassFacts::identifier_no_number, mojom_ast::proofs::ClassFacts::keyword_no_number, mojom_ast::proofs::ClassFacts::symbol_no_number))]
+pub fn number(tokens: &[Token]) -> Result<(Number, &[Token]), ReadError>
     ensures { Gives (λ x. (x.0, x.1.now)) result (number.read tokens.now) }
 {
     match tokens {
@@ -135,16 +135,16 @@ pub fn number(tokens: &[Token]) -> Result<(Number, &[Token]), Stop>
                 },
                 rest,
             )),
-            _ => Err(Stop::Fault(Fault::Unexpected(tokens.len()))),
+            _ => Err(ReadError::Fault(Fault::Unexpected(tokens.len()))),
         },
-        [] => Err(Stop::Fault(Fault::Unexpected(0))),
+        [] => Err(ReadError::Fault(Fault::Unexpected(0))),
     }
 }
 
 /// Whether the next token is a number.
-#[tactic(auto, using(mojom_ast::proofs::Classes::identifier_no_number, mojom_ast::proofs::Classes::keyword_no_number, mojom_ast::proofs::Classes::symbol_no_number))]
+#[tactic(auto, using(mojom_ast::proofs::ClassFacts::identifier_no_number, mojom_ast::proofs::ClassFacts::keyword_no_number, mojom_ast::proofs::ClassFacts::symbol_no_number))]
 pub fn is_number(tokens: &[Token]) -> bool
-    ensures { result ≡ front_in (1 ∷ []) tokens.now }
+    ensures { result ≡ front_in (classes.NUMBER ∷ []) tokens.now }
 {
     match tokens {
         [token, ..] => match &token.sort {
@@ -156,9 +156,9 @@ pub fn is_number(tokens: &[Token]) -> bool
 }
 
 /// Whether the next token is a string.
-#[tactic(auto, using(mojom_ast::proofs::Classes::identifier_no_string, mojom_ast::proofs::Classes::keyword_no_string, mojom_ast::proofs::Classes::symbol_no_string))]
+#[tactic(auto, using(mojom_ast::proofs::ClassFacts::identifier_no_string, mojom_ast::proofs::ClassFacts::keyword_no_string, mojom_ast::proofs::ClassFacts::symbol_no_string))]
 pub fn is_string(tokens: &[Token]) -> bool
-    ensures { result ≡ front_in (2 ∷ []) tokens.now }
+    ensures { result ≡ front_in (classes.STRING ∷ []) tokens.now }
 {
     match tokens {
         [token, ..] => match &token.sort {
@@ -170,8 +170,8 @@ pub fn is_string(tokens: &[Token]) -> bool
 }
 
 /// A string, and the tokens after it.
-#[tactic(auto, unfolding(mojom_ast::specs::Grammar::string), using(mojom_ast::proofs::Classes::identifier_no_string, mojom_ast::proofs::Classes::keyword_no_string, mojom_ast::proofs::Classes::symbol_no_string))]
-pub fn string(alloc: Global, tokens: &[Token]) -> Result<(StringLiteral, &[Token]), Stop>
+#[tactic(auto, unfolding(mojom_ast::specs::Grammar::string), using(mojom_ast::proofs::ClassFacts::identifier_no_string, mojom_ast::proofs::ClassFacts::keyword_no_string, mojom_ast::proofs::ClassFacts::symbol_no_string))]
+pub fn string(alloc: Global, tokens: &[Token]) -> Result<(StringLiteral, &[Token]), ReadError>
     ensures { Gives (λ x. (x.0, x.1.now)) result (string.read tokens.now) }
 {
     match tokens {
@@ -186,8 +186,8 @@ pub fn string(alloc: Global, tokens: &[Token]) -> Result<(StringLiteral, &[Token
                     rest,
                 ))
             }
-            _ => Err(Stop::Fault(Fault::Unexpected(tokens.len()))),
+            _ => Err(ReadError::Fault(Fault::Unexpected(tokens.len()))),
         },
-        [] => Err(Stop::Fault(Fault::Unexpected(0))),
+        [] => Err(ReadError::Fault(Fault::Unexpected(0))),
     }
 }

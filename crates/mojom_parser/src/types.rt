@@ -5,35 +5,23 @@ ghost use Rattle.mojom_ast.specs.TypeTrees.{TypeTree, base_view, type_view};
 ghost use Rattle.mojom_ast.specs.Lang.{as_value, maybe, symbol, deep, front_in};
 ghost use Rattle.mojom_ast.specs.Grammar.{handle_sort, sort_given, handle, pending_sort, pending, count, array, map_of, base, type_starts, type_within};
 ghost use Rattle.mojom_ast.specs.declared.token.Symbol.TheVariants.{Question};
-ghost use Rattle.mojom_parser.specs.Reading.{Gives, Fails};
+ghost use Rattle.mojom_parser.specs.steps.Reading.{Gives, Fails};
 
-use crate::error::Stop;
+use mj_base::limits::MAX_NESTED_TYPES;
+use crate::error::ReadError;
 use crate::tokens::{
     expect, is_identifier, is_keyword, is_next, is_symbol, keyword, number, symbol,
 };
 use crate::values::name;
 use mojom_ast::{
     BaseNode, Fault, HandleSort, Keyword, Number, PendingSort, Symbol, Token, Type, TypeNode,
+    classes,
 };
 use std::alloc::Global;
 
-/// The classes of the identifiers that are sorts of handles.
-const MESSAGE_PIPE: u8 = 36;
-
-const DATA_PIPE_CONSUMER: u8 = 37;
-
-const DATA_PIPE_PRODUCER: u8 = 38;
-
-const SHARED_BUFFER: u8 = 39;
-
-const PLATFORM: u8 = 40;
-
-/// How many types may stand round one another.
-pub const LEVELS: u32 = 32;
-
 /// `,` and a number, where they stand.
 #[tactic(auto, unfolding(mojom_ast::specs::Grammar::count))]
-fn count(tokens: &[Token]) -> Result<(Option<Number>, &[Token]), Stop>
+fn count(tokens: &[Token]) -> Result<(Option<Number>, &[Token]), ReadError>
     ensures { Gives (λ x. (x.0, x.1.now)) result ((maybe count).read tokens.now) }
 {
     if !is_symbol(tokens, Symbol::Comma) {
@@ -45,7 +33,7 @@ fn count(tokens: &[Token]) -> Result<(Option<Number>, &[Token]), Stop>
 }
 
 /// Whether `?` stands next, and the tokens after it.
-fn question(tokens: &[Token]) -> Result<(bool, &[Token]), Stop>
+fn question(tokens: &[Token]) -> Result<(bool, &[Token]), ReadError>
     ensures { Gives (λ x. (x.0, x.1.now)) result ((as_value is_some (maybe (symbol Question))).read tokens.now) }
 {
     if !is_symbol(tokens, Symbol::Question) {
@@ -57,7 +45,7 @@ fn question(tokens: &[Token]) -> Result<(bool, &[Token]), Stop>
 
 #[cycle(kind)]
 #[tactic(auto, unfolding(mojom_ast::specs::Grammar::array))]
-fn array(alloc: Global, left: u32, tokens: &[Token]) -> Result<(BaseNode, &[Token]), Stop>
+fn array(alloc: Global, left: u32, tokens: &[Token]) -> Result<(BaseNode, &[Token]), ReadError>
     ensures { Gives (λ x. (base_view x.0, x.1.now)) result ((array (type_within left)).read tokens.now) }
 {
     let (_, rest) = keyword(tokens, Keyword::Array)?;
@@ -76,7 +64,7 @@ fn array(alloc: Global, left: u32, tokens: &[Token]) -> Result<(BaseNode, &[Toke
 
 #[cycle(kind)]
 #[tactic(auto, unfolding(mojom_ast::specs::Grammar::map_of))]
-fn map_of(alloc: Global, left: u32, tokens: &[Token]) -> Result<(BaseNode, &[Token]), Stop>
+fn map_of(alloc: Global, left: u32, tokens: &[Token]) -> Result<(BaseNode, &[Token]), ReadError>
     ensures { Gives (λ x. (base_view x.0, x.1.now)) result ((map_of (type_within left)).read tokens.now) }
 {
     let (_, rest) = keyword(tokens, Keyword::Map)?;
@@ -96,32 +84,32 @@ fn map_of(alloc: Global, left: u32, tokens: &[Token]) -> Result<(BaseNode, &[Tok
 
 /// The sort of a handle.
 #[tactic(auto, unfolding(mojom_ast::specs::Grammar::handle_sort))]
-fn handle_sort(tokens: &[Token]) -> Result<(HandleSort, &[Token]), Stop>
+fn handle_sort(tokens: &[Token]) -> Result<(HandleSort, &[Token]), ReadError>
     ensures { Gives (λ x. (x.0, x.1.now)) result (handle_sort.read tokens.now) }
 {
-    if is_next(tokens, MESSAGE_PIPE) {
-        let (_, rest) = expect(tokens, MESSAGE_PIPE)?;
+    if is_next(tokens, classes::MESSAGE_PIPE) {
+        let (_, rest) = expect(tokens, classes::MESSAGE_PIPE)?;
         return Ok((HandleSort::MessagePipe, rest));
     }
-    if is_next(tokens, DATA_PIPE_CONSUMER) {
-        let (_, rest) = expect(tokens, DATA_PIPE_CONSUMER)?;
+    if is_next(tokens, classes::DATA_PIPE_CONSUMER) {
+        let (_, rest) = expect(tokens, classes::DATA_PIPE_CONSUMER)?;
         return Ok((HandleSort::DataPipeConsumer, rest));
     }
-    if is_next(tokens, DATA_PIPE_PRODUCER) {
-        let (_, rest) = expect(tokens, DATA_PIPE_PRODUCER)?;
+    if is_next(tokens, classes::DATA_PIPE_PRODUCER) {
+        let (_, rest) = expect(tokens, classes::DATA_PIPE_PRODUCER)?;
         return Ok((HandleSort::DataPipeProducer, rest));
     }
-    if is_next(tokens, SHARED_BUFFER) {
-        let (_, rest) = expect(tokens, SHARED_BUFFER)?;
+    if is_next(tokens, classes::SHARED_BUFFER) {
+        let (_, rest) = expect(tokens, classes::SHARED_BUFFER)?;
         return Ok((HandleSort::SharedBuffer, rest));
     }
-    let (_, rest) = expect(tokens, PLATFORM)?;
+    let (_, rest) = expect(tokens, classes::PLATFORM)?;
     Ok((HandleSort::Platform, rest))
 }
 
 /// A sort of handles between angle brackets, where it stands.
 #[tactic(auto, unfolding(mojom_ast::specs::Grammar::sort_given))]
-fn sort_given(tokens: &[Token]) -> Result<(Option<HandleSort>, &[Token]), Stop>
+fn sort_given(tokens: &[Token]) -> Result<(Option<HandleSort>, &[Token]), ReadError>
     ensures { Gives (λ x. (x.0, x.1.now)) result ((maybe sort_given).read tokens.now) }
 {
     if !is_symbol(tokens, Symbol::Less) {
@@ -135,7 +123,7 @@ fn sort_given(tokens: &[Token]) -> Result<(Option<HandleSort>, &[Token]), Stop>
 
 /// A handle.
 #[tactic(auto, unfolding(mojom_ast::specs::Grammar::handle))]
-fn handle(tokens: &[Token]) -> Result<(BaseNode, &[Token]), Stop>
+fn handle(tokens: &[Token]) -> Result<(BaseNode, &[Token]), ReadError>
     ensures { Gives (λ x. (base_view x.0, x.1.now)) result (handle.read tokens.now) }
 {
     let (_, rest) = keyword(tokens, Keyword::Handle)?;
@@ -145,7 +133,7 @@ fn handle(tokens: &[Token]) -> Result<(BaseNode, &[Token]), Stop>
 
 /// One of the four keywords for an end of an interface.
 #[tactic(auto, unfolding(mojom_ast::specs::Grammar::pending_sort))]
-fn pending_sort(tokens: &[Token]) -> Result<(PendingSort, &[Token]), Stop>
+fn pending_sort(tokens: &[Token]) -> Result<(PendingSort, &[Token]), ReadError>
     ensures { Gives (λ x. (x.0, x.1.now)) result (pending_sort.read tokens.now) }
 {
     if is_keyword(tokens, Keyword::PendingRemote) {
@@ -166,7 +154,7 @@ fn pending_sort(tokens: &[Token]) -> Result<(PendingSort, &[Token]), Stop>
 
 /// An end of an interface.
 #[tactic(auto, unfolding(mojom_ast::specs::Grammar::pending))]
-fn pending(alloc: Global, tokens: &[Token]) -> Result<(BaseNode, &[Token]), Stop>
+fn pending(alloc: Global, tokens: &[Token]) -> Result<(BaseNode, &[Token]), ReadError>
     ensures { Gives (λ x. (base_view x.0, x.1.now)) result (pending.read tokens.now) }
 {
     let (sort, rest) = pending_sort(tokens)?;
@@ -189,7 +177,7 @@ fn begins_pending(tokens: &[Token]) -> bool
 
 #[cycle(kind)]
 #[tactic(auto, unfolding(mojom_ast::specs::Grammar::base, mojom_ast::specs::Grammar::array, mojom_ast::specs::Grammar::map_of, mojom_ast::specs::Grammar::handle))]
-fn base(alloc: Global, left: u32, tokens: &[Token]) -> Result<(BaseNode, &[Token]), Stop>
+fn base(alloc: Global, left: u32, tokens: &[Token]) -> Result<(BaseNode, &[Token]), ReadError>
     ensures { Gives (λ x. (base_view x.0, x.1.now)) result ((base (type_within left)).read tokens.now) }
 {
     if is_keyword(tokens, Keyword::Array) {
@@ -211,7 +199,7 @@ fn base(alloc: Global, left: u32, tokens: &[Token]) -> Result<(BaseNode, &[Token
 /// A type that may hold so many levels of types, itself among them.
 #[cycle(kind)]
 #[tactic(auto, unfolding(mojom_ast::specs::Grammar::type_at))]
-fn node(alloc: Global, left: u32, tokens: &[Token]) -> Result<(TypeNode, &[Token]), Stop>
+fn node(alloc: Global, left: u32, tokens: &[Token]) -> Result<(TypeNode, &[Token]), ReadError>
     ensures { Gives (λ x. (type_view x.0, x.1.now)) result ((type_within left).read tokens.now) }
 {
     if left == 0 {
@@ -236,20 +224,20 @@ pub fn begins_type(tokens: &[Token]) -> bool
         || is_identifier(tokens)
 }
 
-fn too_deep(tokens: &[Token]) -> Stop
+fn too_deep(tokens: &[Token]) -> ReadError
     ensures { Fails result ((deep {A = TypeTree} type_starts).read tokens.now) }
 {
     if begins_type(tokens) {
-        Stop::Fault(Fault::TooNested(tokens.len()))
+        ReadError::Fault(Fault::TooNested(tokens.len()))
     } else {
-        Stop::Fault(Fault::Unexpected(tokens.len()))
+        ReadError::Fault(Fault::Unexpected(tokens.len()))
     }
 }
 
 /// A type, and the tokens after it.
-pub fn type_of(alloc: Global, tokens: &[Token]) -> Result<(Type, &[Token]), Stop>
-    ensures { Gives (λ x. (x.0, x.1.now)) result ((type_within LEVELS).read tokens.now) }
+pub fn type_of(alloc: Global, tokens: &[Token]) -> Result<(Type, &[Token]), ReadError>
+    ensures { Gives (λ x. (x.0, x.1.now)) result ((type_within MAX_NESTED_TYPES).read tokens.now) }
 {
-    let (node, rest) = node(alloc, LEVELS, tokens)?;
+    let (node, rest) = node(alloc, MAX_NESTED_TYPES, tokens)?;
     Ok((Type::new(node), rest))
 }

@@ -3,9 +3,9 @@
 ghost use Rattle.std.specs.Prelude.{◌≡◌, ◌∷◌, []};
 ghost use Rattle.mojom_ast.specs.Lang.{front_in, maybe, many, symbol, ◌▹◌};
 ghost use Rattle.mojom_ast.specs.Grammar.{dotted, name, number, ordinal, boolean, signed, value, assigned};
-ghost use Rattle.mojom_parser.specs.Reading.{Gives, with_front};
+ghost use Rattle.mojom_parser.specs.steps.Reading.{Gives, with_front};
 
-use crate::error::Stop;
+use crate::error::ReadError;
 use crate::tokens::{
     identifier, is_keyword, is_number, is_string, is_symbol, keyword, number, string, symbol,
 };
@@ -15,7 +15,7 @@ use std::alloc::Global;
 
 /// A dot and an identifier.
 #[tactic(auto, unfolding(mojom_ast::specs::Grammar::dotted))]
-fn dotted(alloc: Global, tokens: &[Token]) -> Result<(Identifier, &[Token]), Stop>
+fn dotted(alloc: Global, tokens: &[Token]) -> Result<(Identifier, &[Token]), ReadError>
     ensures { Gives (λ x. (x.0, x.1.now)) result (dotted.read tokens.now) }
 {
     let (_, rest) = symbol(tokens, Symbol::Dot)?;
@@ -27,7 +27,7 @@ fn dotted_parts(
     alloc: Global,
     parts: Vec<Identifier>,
     tokens: &[Token],
-) -> Result<(Vec<Identifier>, &[Token]), Stop>
+) -> Result<(Vec<Identifier>, &[Token]), ReadError>
     ensures { Gives (λ x. (x.0.items, x.1.now)) result (with_front parts.items ((many dotted).read tokens.now)) }
 {
     let mut parts = parts;
@@ -45,7 +45,7 @@ fn dotted_parts(
 
 /// A name, and the tokens after it.
 #[tactic(auto, unfolding(mojom_ast::specs::Grammar::name))]
-pub fn name(alloc: Global, tokens: &[Token]) -> Result<(Name, &[Token]), Stop>
+pub fn name(alloc: Global, tokens: &[Token]) -> Result<(Name, &[Token]), ReadError>
     ensures { Gives (λ x. (x.0, x.1.now)) result (name.read tokens.now) }
 {
     let (first, rest) = identifier(alloc, tokens)?;
@@ -62,7 +62,7 @@ pub fn name(alloc: Global, tokens: &[Token]) -> Result<(Name, &[Token]), Stop>
 
 /// `@` and a number, where they stand.
 #[tactic(auto, unfolding(mojom_ast::specs::Grammar::ordinal))]
-pub fn ordinal(tokens: &[Token]) -> Result<(Option<Number>, &[Token]), Stop>
+pub fn ordinal(tokens: &[Token]) -> Result<(Option<Number>, &[Token]), ReadError>
     ensures { Gives (λ x. (x.0, x.1.now)) result ((maybe ordinal).read tokens.now) }
 {
     if !is_symbol(tokens, Symbol::At) {
@@ -75,7 +75,7 @@ pub fn ordinal(tokens: &[Token]) -> Result<(Option<Number>, &[Token]), Stop>
 
 /// `true` or `false`.
 #[tactic(auto, unfolding(mojom_ast::specs::Grammar::boolean))]
-fn boolean(tokens: &[Token]) -> Result<(Value, &[Token]), Stop>
+fn boolean(tokens: &[Token]) -> Result<(Value, &[Token]), ReadError>
     ensures { Gives (λ x. (x.0, x.1.now)) result (boolean.read tokens.now) }
 {
     if is_keyword(tokens, Keyword::True) {
@@ -99,7 +99,7 @@ fn boolean(tokens: &[Token]) -> Result<(Value, &[Token]), Stop>
 }
 
 /// A sign and a number.
-fn with_sign(tokens: &[Token], sign: Symbol) -> Result<(&Token, Number, &[Token]), Stop>
+fn with_sign(tokens: &[Token], sign: Symbol) -> Result<(&Token, Number, &[Token]), ReadError>
     ensures { Gives (λ x. ((x.0.now, x.1), x.2.now)) result ((symbol sign ▹ number).read tokens.now) }
 {
     let (token, rest) = symbol(tokens, sign)?;
@@ -120,7 +120,7 @@ fn number_value(negative: bool, magnitude: u64, span: Span) -> Value
 
 /// A number, maybe with a sign before it.
 #[tactic(auto, unfolding(mojom_ast::specs::Grammar::signed, mojom_ast::specs::Grammar::number))]
-fn signed(tokens: &[Token]) -> Result<(Value, &[Token]), Stop>
+fn signed(tokens: &[Token]) -> Result<(Value, &[Token]), ReadError>
     ensures { Gives (λ x. (x.0, x.1.now)) result (signed.read tokens.now) }
 {
     if is_number(tokens) {
@@ -153,7 +153,7 @@ fn begins_boolean(tokens: &[Token]) -> bool
 
 /// A value, and the tokens after it.
 #[tactic(auto, unfolding(mojom_ast::specs::Grammar::value, mojom_ast::specs::Grammar::string))]
-pub fn value(alloc: Global, tokens: &[Token]) -> Result<(Value, &[Token]), Stop>
+pub fn value(alloc: Global, tokens: &[Token]) -> Result<(Value, &[Token]), ReadError>
     ensures { Gives (λ x. (x.0, x.1.now)) result (value.read tokens.now) }
 {
     if is_string(tokens) {
@@ -172,7 +172,7 @@ pub fn value(alloc: Global, tokens: &[Token]) -> Result<(Value, &[Token]), Stop>
 
 /// `=` and a value, where they stand.
 #[tactic(auto, unfolding(mojom_ast::specs::Grammar::assigned))]
-pub fn assigned(alloc: Global, tokens: &[Token]) -> Result<(Option<Value>, &[Token]), Stop>
+pub fn assigned(alloc: Global, tokens: &[Token]) -> Result<(Option<Value>, &[Token]), ReadError>
     ensures { Gives (λ x. (x.0, x.1.now)) result ((maybe assigned).read tokens.now) }
 {
     if !is_symbol(tokens, Symbol::Equals) {

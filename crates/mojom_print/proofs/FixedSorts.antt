@@ -12,7 +12,7 @@ use Rattle.mojom_ast.specs.declared.token.Sort.TheVariants as sorts
 use Rattle.mojom_ast.specs.Classes.{keyword_class, symbol_class, identifier_class, class_of, identifiers}
 use Rattle.mojom_ast.specs.Lang.{has}
 use Rattle.mojom_ast.specs.Trees.{text_in, number_in, bytes_in}
-use Rattle.mojom_ast.proofs.Classes.{identifier_no_number, identifier_no_string, keyword_no_identifier, keyword_no_number, keyword_no_string, symbol_no_identifier, symbol_no_number, symbol_no_string}
+use Rattle.mojom_ast.proofs.ClassFacts.{identifier_no_number, identifier_no_string, keyword_no_identifier, keyword_no_number, keyword_no_string, symbol_no_identifier, symbol_no_number, symbol_no_string}
 use Rattle.mojom_lexer.proofs.FirstBytes.{eqb_same}
 
 -- the classes of one sort

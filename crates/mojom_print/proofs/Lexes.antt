@@ -9,7 +9,7 @@ use Rattle.std.specs.List.{list_all, flat_map}
 use Rattle.mojom_ast.specs.declared.token.Sort.{Sort}
 use Rattle.mojom_lexer.specs.Bytes.{is_blank}
 use Rattle.mojom_lexer.specs.Pieces.{IsLongest}
-use Rattle.mojom_lexer.specs.Lexed.{Spells}
+use Rattle.mojom_lexer.specs.Lexed.{SpellsSort}
 use Rattle.mojom_lexer.proofs.Runs.{left, right}
 use Rattle.mojom_print.proofs.Prints.{AllLexical}
 
@@ -33,7 +33,7 @@ run_stops p (x ∷ xs) rest s (suc m) le h = let r : m ≤ length xs = run_stops
 pub data Lexes : List ℕ → List Sort → Type 0 where
   ends : Lexes [] []
   blank : (c : ℕ) (bs : List ℕ) (ss : List Sort) → is_blank c ≡ true → Lexes bs ss → Lexes (c ∷ bs) ss
-  token : (p bs : List ℕ) (s : Sort) (ss : List Sort) → Spells s p → IsLongest (p ++ bs) (length p) → Lexes bs ss → Lexes (p ++ bs) (s ∷ ss)
+  token : (p bs : List ℕ) (s : Sort) (ss : List Sort) → SpellsSort s p → IsLongest (p ++ bs) (length p) → Lexes bs ss → Lexes (p ++ bs) (s ∷ ss)
 
 -- Wherever none of q follows the text, none of p stands at its front and it is these tokens.
 pub record Tells (p q : ℕ → Bool) (text : List ℕ) (sorts : List Sort) : Type 0 where
@@ -107,7 +107,7 @@ pub blanks : {p : ℕ → Bool} (c : ℕ) (cs : List ℕ) → list_all is_blank 
 blanks c cs h f = record { parts = λ g rest s. f; told = λ g rest more s l. blanks_lex (c ∷ cs) rest more h l; utf8 = λ g. IsUtf8-from_ascii (c ∷ cs) (blanks_ascii (c ∷ cs) h) }
 
 -- one token
-pub one : {p : ℕ → Bool} (q : ℕ → Bool) (c : ℕ) (cs : List ℕ) (s : Sort) → Spells s (c ∷ cs) → (AllLexical (s ∷ []) → IsUtf8 (c ∷ cs)) → not (p c) ≡ true → ((rest : List ℕ) → stops q rest ≡ true → IsLongest ((c ∷ cs) ++ rest) (length (c ∷ cs))) → Tells p q (c ∷ cs) (s ∷ [])
+pub one : {p : ℕ → Bool} (q : ℕ → Bool) (c : ℕ) (cs : List ℕ) (s : Sort) → SpellsSort s (c ∷ cs) → (AllLexical (s ∷ []) → IsUtf8 (c ∷ cs)) → not (p c) ≡ true → ((rest : List ℕ) → stops q rest ≡ true → IsLongest ((c ∷ cs) ++ rest) (length (c ∷ cs))) → Tells p q (c ∷ cs) (s ∷ [])
 one q c cs s h u f longest = record { parts = λ g rest e. f; told = λ g rest more e l. token (c ∷ cs) rest s more h (longest rest e) l; utf8 = u }
 
 -- lists of texts which anything may follow

@@ -10,7 +10,7 @@ use Rattle.mojom_ast.specs.declared.token.Sort.TheVariants as sorts
 use Rattle.mojom_ast.specs.declared.token.Token.{Token}
 use Rattle.mojom_ast.specs.Classes.{class, keyword_class, symbol_class}
 use Rattle.mojom_ast.specs.Lang.{Lang, Whole, has, tok, keyword, symbol, ◌▹◌, as_value, ◌or◌, maybe, times, many, joined}
-use Rattle.mojom_lexer.specs.Lexed.{Spells}
+use Rattle.mojom_lexer.specs.Lexed.{SpellsSort}
 use Rattle.mojom_print.proofs.Shows.{sort_of, token_off, both_off, Shows, shows_tok, shows_sorts, shows_seq, shows_value, shows_left, shows_right, shows_some, shows_none, shows_no_times, shows_many}
 use Rattle.mojom_print.proofs.FixedSorts.{keyword_sort, symbol_sort}
 
@@ -25,7 +25,7 @@ IsText (sorts.Symbol s) = Unit {0}
 -- bytes are a token of the sort
 pub record Lexical (s : Sort) : Type 0 where
   pub bytes : List ℕ
-  pub spelled : Spells s bytes
+  pub spelled : SpellsSort s bytes
   pub text : IsText s
 
 abbrev pub AllLexical : List Sort → Type 0

@@ -12,7 +12,7 @@ use Rattle.mojom_lexer.specs.Words.{single_symbol}
 use Rattle.mojom_lexer.specs.Strings.{Part, spelled, quoted}
 use Rattle.mojom_lexer.specs.Pieces.{Kind, Is, IsLongest}
 use Rattle.mojom_lexer.specs.Pieces.Kind.{Blank, Word, Numeral, Quoted, Sign}
-use Rattle.mojom_lexer.specs.Lexed.{Spells, Reaches, AreTokens}
+use Rattle.mojom_lexer.specs.Lexed.{SpellsSort, Reaches, AreTokens}
 use Rattle.mojom_lexer.specs.Lexed.Reaches.{starts, passes, takes}
 use Rattle.mojom_lexer.proofs.Runs.{left, right, both}
 use Rattle.mojom_lexer.proofs.FirstBytes.{same_kind, first_tells, longest_of, none_empty}
@@ -38,7 +38,7 @@ string_text bytes at len ps h e =
     let inside : quoted ps ++ rest ≡ 34 ∷ (flat_map spelled ps ++ 34 ∷ rest) = ap (λ (l : List ℕ). 34 ∷ l) (append_assoc (flat_map spelled ps) (34 ∷ []) rest) in
     quoted_utf8 (take at bytes) (flat_map spelled ps) rest (subst IsUtf8 (sym parts ∙ ap (λ (l : List ℕ). take at bytes ++ l) inside) h)
 
-piece_text : (bytes : List ℕ) (at len : ℕ) (s : Sort) → IsUtf8 bytes → Spells s (take len (drop at bytes)) → IsText s
+piece_text : (bytes : List ℕ) (at len : ℕ) (s : Sort) → IsUtf8 bytes → SpellsSort s (take len (drop at bytes)) → IsText s
 piece_text bytes at len (sorts.Identifier text) h e = tt
 piece_text bytes at len (sorts.Keyword k) h e = tt
 piece_text bytes at len (sorts.Number n) h e = tt
@@ -76,7 +76,7 @@ record IsSolid (p : List ℕ) : Type 0 where
   pub is : Is kind p
   pub no_blank : kind ≡ Blank → ⊥
 
-solid : (s : Sort) (p : List ℕ) → Spells s p → IsSolid p
+solid : (s : Sort) (p : List ℕ) → SpellsSort s p → IsSolid p
 solid (sorts.Identifier text) p h = record { kind = Word; is = h.0; no_blank = λ e. absurd (cc) }
 solid (sorts.Keyword k) p h = record { kind = Word; is = h.0; no_blank = λ e. absurd (cc) }
 solid (sorts.Number n) p h = record { kind = Numeral; is = h.number; no_blank = λ e. absurd (cc) }
@@ -115,7 +115,7 @@ record Taken (bytes : List ℕ) (at : ℕ) (tokens : List Token) (s : Sort) (cs 
   pub rest : drop to bytes ≡ cs
   pub count : to + length cs ≡ length bytes
 
-taken : (bytes : List ℕ) (at : ℕ) (tokens : List Token) (bs p cs : List ℕ) (s : Sort) → Reaches bytes at tokens → drop at bytes ≡ bs ++ (p ++ cs) → at + length (bs ++ (p ++ cs)) ≡ length bytes → list_all is_blank bs ≡ true → Spells s p → IsLongest (p ++ cs) (length p) → Taken bytes at tokens s cs
+taken : (bytes : List ℕ) (at : ℕ) (tokens : List Token) (bs p cs : List ℕ) (s : Sort) → Reaches bytes at tokens → drop at bytes ≡ bs ++ (p ++ cs) → at + length (bs ++ (p ++ cs)) ≡ length bytes → list_all is_blank bs ≡ true → SpellsSort s p → IsLongest (p ++ cs) (length p) → Taken bytes at tokens s cs
 taken bytes at tokens bs p cs s r e n h is longest =
     let place : ℕ = at + length bs in
     let there : drop place bytes ≡ p ++ cs = further bytes at bs (p ++ cs) e in
@@ -128,7 +128,7 @@ taken bytes at tokens bs p cs s r e n h is longest =
       sort = refl;
       reaches = takes place (length p) tokens s (passed bytes at tokens bs (p ++ cs) r e h (solid_front p cs (solid s p is)))
           (subst (λ (l : List ℕ). IsLongest l (length p)) (sym there) longest)
-          (subst (λ (l : List ℕ). Spells s l) (sym front) is);
+          (subst (λ (l : List ℕ). SpellsSort s l) (sym front) is);
       rest = further bytes place p cs there;
       count = omega arith;
     }

@@ -4,9 +4,9 @@ use Rattle.std.specs.Prelude.{map}
 use Rattle.std.specs.List.{list_all, flat_map}
 use Rattle.mojom_ast.specs.declared.token.Sort.TheVariants as sorts
 use Rattle.mojom_lexer.specs.Strings.{Part, spelled, is_part, IsStringOf, meaning, then_text, text_of}
-use Rattle.mojom_lexer.specs.Strings.Part.{Plain, Escape}
+use Rattle.mojom_lexer.specs.Strings.Part.{Literal, Escape}
 use Rattle.mojom_lexer.specs.Pieces.{IsLongest}
-use Rattle.mojom_lexer.specs.Scans.{before_quote}
+use Rattle.mojom_lexer.specs.steps.Scans.{before_quote}
 use Rattle.mojom_lexer.proofs.Runs.{both}
 use Rattle.mojom_lexer.proofs.FirstBytes.{eqb_same}
 use Rattle.mojom_lexer.proofs.QuoteFronts.{quote_again, quote_longest}
@@ -19,7 +19,7 @@ part_by true b c d x = Escape 34
 part_by false true c d x = Escape 92
 part_by false false true d x = Escape 110
 part_by false false false true x = Escape 116
-part_by false false false false x = Plain x
+part_by false false false false x = Literal x
 
 -- the part that a byte is written as
 part_for : ℕ → Part

@@ -8,7 +8,7 @@ use Rattle.std.proofs.lemmas.List.{length-append}
 use Rattle.std.proofs.lemmas.Str.{IsUtf8-nil, IsUtf8-append, IsUtf8-from_ascii, IsUtf8-take, IsUtf8-drop, IsCharBoundary-before_ascii, IsCharBoundary-after_ascii, encode_ascii}
 use lib.Utf8.{scalar, scalars, encode, encodes}
 use Rattle.mojom_lexer.specs.Strings.{Part, spelled, escaped, then_text, text_of}
-use Rattle.mojom_lexer.specs.Strings.Part.{Plain, Escape}
+use Rattle.mojom_lexer.specs.Strings.Part.{Literal, Escape}
 use Rattle.mojom_lexer.proofs.Runs.{left, right}
 use Rattle.mojom_lexer.proofs.FirstBytes.{eqb_same}
 use Rattle.mojom_print.proofs.Utf8Texts.{high, encode_high, high_bytes, one_char, one_ascii}
@@ -60,7 +60,7 @@ no_high b e h = let f : high 92 ≡ true = subst (λ (c : ℕ). high c ≡ true)
 behind_high : (bs xs : List ℕ) (ps : List Part) (at : ℕ) (text : List ℕ) → list_all high bs ≡ true → flat_map spelled ps ≡ bs ++ xs → text_of at ps ≡ Ok text → Behind bs xs text
 behind_high [] xs ps at text h e f = record { parts = ps; at = at; more = text; bytes = e; reads = f; is = refl }
 behind_high (b ∷ bs) xs [] at text h e f = absurd (cc)
-behind_high (b ∷ bs) xs (Plain c ∷ ps) at text h e f =
+behind_high (b ∷ bs) xs (Literal c ∷ ps) at text h e f =
     let r = part_read at (Some c) (text_of (at + 1) ps) text f in
     let same : c ≡ b = cc in
     let tail : flat_map spelled ps ≡ bs ++ xs = cc in
@@ -104,7 +104,7 @@ tail_short c n cs h = omega arith
 -- the characters of the parts' bytes give those of the text
 parts_utf8 : (n : ℕ) (cs : List ℕ) (ps : List Part) (at : ℕ) (text : List ℕ) → length cs ≤ n → scalars cs ≡ true → flat_map spelled ps ≡ encodes cs → text_of at ps ≡ Ok text → IsUtf8 text
 parts_utf8 n cs [] at text le h e f = let s : ◌≡◌ {A = Result (List ℕ) ℕ} (Ok []) (Ok text) = f in let g : [] ≡ text = cc in subst IsUtf8 g IsUtf8-nil
-parts_utf8 n [] (Plain c ∷ ps) at text le h e f = absurd (cc)
+parts_utf8 n [] (Literal c ∷ ps) at text le h e f = absurd (cc)
 parts_utf8 n [] (Escape d ∷ ps) at text le h e f = absurd (cc)
 parts_utf8 zero (c ∷ cs) (p ∷ ps) at text le h e f = absurd (omega arith)
 parts_utf8 (suc n) (c ∷ cs) (p ∷ ps) at text le h e f = step (parts_utf8 n) p (nat_lt c 128) refl e f
@@ -137,7 +137,7 @@ parts_utf8 (suc n) (c ∷ cs) (p ∷ ps) at text le h e f = step (parts_utf8 n) 
 
     step : Shorter → (p : Part) (v : Bool) → nat_lt c 128 ≡ v → flat_map spelled (p ∷ ps) ≡ encode c ++ encodes cs → text_of at (p ∷ ps) ≡ Ok text → IsUtf8 text
     step others p false v e f = beyond others v p e f
-    step others (Plain d) true v e f = let low : c < 128 = grind (arith, nat_tests) in plain others d low (e ∙ ap (λ (bs : List ℕ). bs ++ encodes cs) (encode_ascii c low)) f
+    step others (Literal d) true v e f = let low : c < 128 = grind (arith, nat_tests) in plain others d low (e ∙ ap (λ (bs : List ℕ). bs ++ encodes cs) (encode_ascii c low)) f
     step others (Escape d) true v e f = let low : c < 128 = grind (arith, nat_tests) in escape others d (e ∙ ap (λ (bs : List ℕ). bs ++ encodes cs) (encode_ascii c low)) f
 
 pub text_utf8 : (ps : List Part) (at : ℕ) (text : List ℕ) → IsUtf8 (flat_map spelled ps) → text_of at ps ≡ Ok text → IsUtf8 text

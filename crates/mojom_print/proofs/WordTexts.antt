@@ -13,8 +13,8 @@ use Rattle.mojom_lexer.specs.Bytes.{is_letter, goes_on}
 use Rattle.mojom_lexer.specs.Words.{is_word, keyword_of, single_symbol}
 use Rattle.mojom_lexer.specs.Pieces.{IsLongest}
 use Rattle.mojom_lexer.specs.Pieces.Kind.{Word, Sign}
-use Rattle.mojom_lexer.specs.Lexed.{Spells}
-use Rattle.mojom_lexer.specs.Scans.{kind_of}
+use Rattle.mojom_lexer.specs.Lexed.{SpellsSort}
+use Rattle.mojom_lexer.specs.steps.Scans.{kind_of}
 use Rattle.mojom_lexer.proofs.Runs.{left, right, both, word_utf8}
 use Rattle.mojom_lexer.proofs.FirstBytes.{first_tells, longest_of}
 use Rattle.mojom_lexer.proofs.SignFronts.{symbol_longest, arrow_longest}
@@ -38,16 +38,16 @@ word_longest c cs rest e s =
     (subst (λ (bs : List ℕ). is_word bs ≡ true) (sym (take-append_seam (c ∷ cs) rest)) e)
     (λ more le h. run_stops goes_on (c ∷ cs) rest s more le (word_each (take more ((c ∷ cs) ++ rest)) h))
 
-pub word_tells : (c : ℕ) (cs : List ℕ) (s : Sort) → is_word (c ∷ cs) ≡ true → Spells s (c ∷ cs) → Tells none goes_on (c ∷ cs) (s ∷ [])
+pub word_tells : (c : ℕ) (cs : List ℕ) (s : Sort) → is_word (c ∷ cs) ≡ true → SpellsSort s (c ∷ cs) → Tells none goes_on (c ∷ cs) (s ∷ [])
 word_tells c cs s w h = one goes_on c cs s h (λ g. word_utf8 (c ∷ cs) w) refl (λ rest e. word_longest c cs rest w e)
 
 -- an identifier
-pub of_identifier : (text bytes : List ℕ) → Spells (sorts.Identifier text) bytes → (is_word text ≡ true) × Spells (sorts.Identifier text) text
+pub of_identifier : (text bytes : List ℕ) → SpellsSort (sorts.Identifier text) bytes → (is_word text ≡ true) × SpellsSort (sorts.Identifier text) text
 of_identifier text bytes h =
     let e : bytes ≡ text = sym h.2 in
     (subst (λ (bs : List ℕ). is_word bs ≡ true) e h.0, (subst (λ (bs : List ℕ). is_word bs ≡ true) e h.0, subst (λ (bs : List ℕ). keyword_of bs ≡ None) e h.1, refl))
 
-identifier_told : (text : List ℕ) → (is_word text ≡ true) → Spells (sorts.Identifier text) text → (rest : List ℕ) (more : List Sort) → stops goes_on rest ≡ true → Lexes rest more → Lexes (text ++ rest) (sorts.Identifier text ∷ more)
+identifier_told : (text : List ℕ) → (is_word text ≡ true) → SpellsSort (sorts.Identifier text) text → (rest : List ℕ) (more : List Sort) → stops goes_on rest ≡ true → Lexes rest more → Lexes (text ++ rest) (sorts.Identifier text ∷ more)
 identifier_told [] w h rest more s l = absurd (cc)
 identifier_told (c ∷ cs) w h rest more s l = (word_tells c cs (sorts.Identifier (c ∷ cs)) w h).told (record { bytes = c ∷ cs; spelled = h; text = tt }, tt) rest more s l
 

@@ -6,7 +6,7 @@ use mj_base::{Items, Text};
 use mj_schema::{InterfaceRow, MethodRow, Schema};
 use std::alloc::{AllocError, Global};
 use std::test::Fail;
-use version_tables::lay_out_uint32;
+use version_tables::lay_out_narrow;
 
 /// A call of 7 and its take.
 const TAKEN: &str = "0 0 join 0 -> made [e0.0,e0.1]
@@ -32,7 +32,7 @@ done 4
 /// The schema of `module t; interface P { Ping(uint32 n); };`.
 fn ping(alloc: Global) -> Result<Schema, AllocError> {
     let names = [Text::from_str(alloc, "n")?];
-    let params = lay_out_uint32(alloc, Text::from_str(alloc, "t.P.Ping.request")?, &names)?;
+    let params = lay_out_narrow(alloc, Text::from_str(alloc, "t.P.Ping.request")?, &names)?;
     let method = MethodRow {
         name: Text::from_str(alloc, "Ping")?,
         ordinal: 0,

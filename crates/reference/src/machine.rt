@@ -1,5 +1,6 @@
 //! The machine, read off the events before: a past is the list of them, the oldest first.
 
+use mj_base::limits::MAX_UNREAD_MESSAGES;
 use crate::wire;
 use bind_model::{Asked, Binding, Event, Side, Taken, Told, Why};
 use mj_base::{EndId, Items, SeqId};
@@ -217,7 +218,7 @@ fn called(
         Told::No(Why::WrongSide)
     } else if !is_method {
         Told::No(Why::WrongMethod)
-    } else if waiting >= 4096 {
+    } else if waiting >= MAX_UNREAD_MESSAGES {
         Told::No(Why::Full)
     } else {
         let bytes = wire::message_bytes(alloc, target.method, value)?;

@@ -8,9 +8,11 @@ ghost use Rattle.bind_model.specs.Laws.{IsAllowed, SuitsPeer};
 ghost use Rattle.bind_model.specs.Machine.{binding, peer};
 ghost use Rattle.bind_model.specs.declared.event.Asked.{Asked};
 ghost use Rattle.bind_model.specs.declared.event.Told.{Told};
-ghost use Rattle.mj_schema.specs.Layout.{IsLaidOut, is_of_uint32};
+ghost use Rattle.mj_schema.specs.Layout.{IsLaidOut};
+ghost use Rattle.mj_schema.specs.Narrow.{is_narrow};
 ghost use Rattle.wire_model.specs.Tight.{HasTarget};
 
+use mj_base::limits::MAX_FIELDS;
 use super::*;
 use bind_core::{Command, Core, Handle, Reply};
 use bind_model::{Asked, Binding, Event, Side, Taken, Told, Why};
@@ -20,7 +22,7 @@ use std::alloc::{AllocError, Global};
 use std::process::Abort;
 use std::sync::Arc;
 use std::test::Fail;
-use version_tables::lay_out_uint32;
+use version_tables::lay_out_narrow;
 use wire_model::{MessageSide, Target, prepare};
 
 const ONLY: SeqId = SeqId(0);
@@ -58,11 +60,11 @@ fn end(serial: u32) -> EndId {
 
 /// A struct of these parameters.
 fn params(alloc: Global, name: &str, fields: &[Text]) -> Result<StructRow, AllocError>
-    requires { length fields.now ≤ 4096 }
+    requires { length fields.now ≤ MAX_FIELDS }
     ensures laid_out { IfOk result IsLaidOut }
-    ensures of_uint32 { IfOk result (λ row. IsTrue (is_of_uint32 row)) }
+    ensures narrow { IfOk result (λ row. IsTrue (is_narrow row)) }
 {
-    lay_out_uint32(alloc, Text::from_str(alloc, name)?, fields)
+    lay_out_narrow(alloc, Text::from_str(alloc, name)?, fields)
 }
 
 fn method(alloc: Global, name: &str, number: u32) -> Result<MethodRow, AllocError>

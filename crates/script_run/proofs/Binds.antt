@@ -3,6 +3,7 @@ use Rattle.std.proofs.Common.{◌≡◌, ◌≢◌, ◌+◌, ◌*◌, ◌<◌, �
 use Rattle.std.specs.Prelude.{slice_get}
 use Rattle.std.proofs.lemmas.Option.{slice_get_read}
 use Rattle.std.proofs.lemmas.List.{length-replicate}
+use Rattle.mj_base.specs.declared.limits.TheConstants.{MAX_EVENTS, MAX_SCRIPT_LINES}
 use Rattle.mj_base.specs.declared.ids.EndId.{EndId}
 use Rattle.bind_model.specs.declared.event.Asked.{Asked}
 use Rattle.bind_model.specs.declared.event.Asked.TheVariants as asks
@@ -79,7 +80,7 @@ module _ (pipes : List Pipe) (before : Run) where
         let first = first_left (2 * length pipes) (place_of j e) end rest (place_few j (length pipes) e inside) (sym b.held ∙ q) in
         rw first.0 (bind_allowed now.core.schema pipes (past_of now) j e b.suited inside)
 
-    pub binds_few : length pipes ≤ 65536 → length now.core.events < 16777216
+    pub binds_few : length pipes ≤ MAX_SCRIPT_LINES → length now.core.events < MAX_EVENTS
     binds_few few = omega (arith, past_length now, phase_length _ _ _ _ b.phase, b.start, place_few j (length pipes) e inside)
 
     pub binds_more : (after : Run) → BoundFirst now after (side_of e) (interface_at pipes j) → Binds pipes before after (place_of j e + 1)

@@ -13,6 +13,7 @@ ghost use Rattle.script_run.specs.OfScript.{IsPart, PastOfScript, sequence_0, ne
 ghost use Rattle.script_run.specs.Narrow.{IsNarrow};
 ghost use Rattle.script_run.specs.Going.{past_of, IsGoing, Went, DidPart, BoundFirst};
 
+use mj_base::limits::{MAX_EVENTS, MAX_SCRIPT_LINES};
 use crate::lines::command_of_line;
 use crate::runner::NoMemory;
 use bind_core::{Command, Core, Handle, Handles, Refused, Reply};
@@ -68,7 +69,7 @@ impl Run {
         requires going { IsGoing self.old }
         requires seq { seq ≡ sequence_0 }
         requires allowed { IsAllowed self.old.core.schema (past_of self.old) (asked_of command) }
-        requires few { length self.old.core.events < 16777216 }
+        requires few { length self.old.core.events < MAX_EVENTS }
         requires refused { vec_len self.old.refused < vec_capacity self.old.refused }
         ensures went { OnOk result (Went self.old self.new (asked_of command)) }
         ensures reply { IfOk result (λ reply. told_of reply ≡ answer self.old.core.schema 1 (past_of self.old) sequence_0 (asked_of command)) }
@@ -93,7 +94,7 @@ impl Run {
         requires going { IsGoing self.old }
         requires seq { seq ≡ sequence_0 }
         requires allowed { IsAllowed self.old.core.schema (past_of self.old) (asked_of command) }
-        requires few { length self.old.core.events < 16777216 }
+        requires few { length self.old.core.events < MAX_EVENTS }
         requires told { vec_len self.old.told < vec_capacity self.old.told }
         requires refused { vec_len self.old.refused < vec_capacity self.old.refused }
         ensures went { OnOk result (Went self.old self.new (asked_of command)) }
@@ -112,7 +113,7 @@ impl Run {
     /// A new pipe, whose handles are held.
     fn join(&mut self, alloc: Global) -> Result<(), NoMemory>
         requires going { IsGoing self.old }
-        requires few { length self.old.core.events < 16777216 }
+        requires few { length self.old.core.events < MAX_EVENTS }
         requires held { self.old.held.items ≡ made (past_of self.old) }
         ensures went { OnOk result (Went self.old self.new (asks.Join sequence_0)) }
         ensures held { OnOk result (self.new.held.items ≡ made (past_of self.new)) }
@@ -151,7 +152,7 @@ impl Run {
     /// A join for each pipe.
     fn join_all(&mut self, alloc: Global, pipes: &[Pipe]) -> Result<(), NoMemory>
         requires going { IsGoing self.old }
-        requires few { length pipes.now ≤ 65536 }
+        requires few { length pipes.now ≤ MAX_SCRIPT_LINES }
         requires fresh { past_of self.old ≡ [] }
         requires held { self.old.held.items ≡ [] }
         ensures did { OnOk result (DidPart (next_of (joins_of pipes.now)) self.old self.new) }
@@ -169,7 +170,7 @@ impl Run {
         requires some { self.old.held.items ≢ [] }
         requires allowed { (end : EndId) → (rest : List EndId) → self.old.held.items ≡ end ∷ rest →
             IsAllowed self.old.core.schema (past_of self.old) (asks.Bind end side interface) }
-        requires few { length self.old.core.events < 16777216 }
+        requires few { length self.old.core.events < MAX_EVENTS }
         ensures { OnOk result (BoundFirst self.old self.new side interface) }
     {
         self.room()?;
@@ -180,7 +181,7 @@ impl Run {
     /// Binds the ends of each pipe.
     fn bind_all(&mut self, alloc: Global, pipes: &[Pipe]) -> Result<(), NoMemory>
         requires going { IsGoing self.old }
-        requires few { length pipes.now ≤ 65536 }
+        requires few { length pipes.now ≤ MAX_SCRIPT_LINES }
         requires joined { IsPart (next_of (joins_of pipes.now)) [] (past_of self.old) }
         requires held { self.old.held.items ≡ made (past_of self.old) }
         ensures { OnOk result (DidPart (next_of (binds_from self.old.held.items 0 pipes.now)) self.old self.new) }
@@ -205,7 +206,7 @@ impl Run {
         requires schema { schema.now ≡ self.old.core.schema }
         requires narrow { IsNarrow schema.now }
         requires lines { AllByRecursion (IsLine schema.now pipes.now) lines.now }
-        requires few { length self.old.core.events + length lines.now < 16777216 }
+        requires few { length self.old.core.events + length lines.now < MAX_EVENTS }
         ensures { OnOk result (DidPart (next_of (map (line_asks pipes.now ends.now) lines.now)) self.old self.new) }
     {
         for line in lines {
@@ -219,9 +220,9 @@ impl Run {
     /// Takes wherever a message is ready, until none is.
     fn drain(&mut self, alloc: Global) -> Result<(), NoMemory>
         requires going { IsGoing self.old }
-        requires few { length self.old.core.events ≤ 65536 }
+        requires few { length self.old.core.events ≤ MAX_SCRIPT_LINES }
         ensures did { OnOk result (DidPart (next_take self.old.core.schema (past_of self.old)) self.old self.new) }
-        ensures few { OnOk result (length self.new.core.events ≤ 131072) }
+        ensures few { OnOk result (length self.new.core.events ≤ 2 * MAX_SCRIPT_LINES) }
     {
         while let Some((seq, end)) = self.core.ready() {
             self.room()?;
@@ -241,7 +242,7 @@ impl Run {
         ensures going { OnOk result (IsGoing self.new) }
         ensures schema { OnOk result (self.new.core.schema ≡ schema.now) }
         ensures script { OnOk result (PastOfScript schema.now script.now (past_of self.new)) }
-        ensures few { OnOk result (length self.new.core.events ≤ 131072) }
+        ensures few { OnOk result (length self.new.core.events ≤ 2 * MAX_SCRIPT_LINES) }
     {
         let pipes = script.pipes.as_slice();
         self.join_all(alloc, pipes)?;

@@ -8,6 +8,7 @@ ghost use Rattle.call_script.specs.Spelling.{IsScript};
 ghost use Rattle.script_run.specs.OfScript.{OfScript};
 ghost use Rattle.script_run.specs.Narrow.{IsNarrow};
 
+use mj_base::limits::MAX_SCRIPT_LINES;
 use crate::run::Run;
 use bind_model::History;
 use call_script::Script;
@@ -28,7 +29,7 @@ pub fn run_alone(alloc: Global, schema: Arc<Schema>, script: &Script) -> Result<
     // Each call was prepared with the schema, and the bindings of each pipe suit one another.
     ensures allowed { IfOk result (λ history. AllAllowed (arc_value schema) (reverse history.events)) }
     ensures script { IfOk result (λ history. OfScript (arc_value schema) script.now history.events) }
-    ensures few { IfOk result (λ history. length history.events ≤ 131072) }
+    ensures few { IfOk result (λ history. length history.events ≤ 2 * MAX_SCRIPT_LINES) }
 {
     let Ok(shared) = Arc::try_clone(&schema) else {
         return Err(NoMemory);

@@ -12,13 +12,13 @@ use mj_schema::{InterfaceRow, MethodRow, Schema};
 use std::alloc::{AllocError, Global};
 use std::sync::Arc;
 use std::test::Fail;
-use version_tables::lay_out_uint32;
+use version_tables::lay_out_narrow;
 
 /// `module t; interface P { Ping(uint32 n); };`, and a script that calls `Ping(7)`.
 fn ping(alloc: Global) -> Result<(Schema, Script), AllocError>
     ensures { IfOk result (λ pair. IsScript pair.0 pair.1 × IsNarrow pair.0) }
 {
-    let params = lay_out_uint32(
+    let params = lay_out_narrow(
         alloc,
         Text::from_str(alloc, "t.P.Ping")?,
         &[Text::from_str(alloc, "n")?],

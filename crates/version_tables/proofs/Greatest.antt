@@ -7,7 +7,7 @@ use Rattle.std.proofs.lemmas.List.{take_all}
 use Rattle.std.proofs.lemmas.List.Elements.{All-nil, All-cons}
 use Rattle.mj_schema.specs.declared.rows.VersionRow.{VersionRow}
 use Rattle.mj_schema.specs.Versions.{is_rising, is_table}
-use Rattle.version_tables.specs.Rows.{found_in}
+use Rattle.version_tables.specs.steps.Rows.{found_in}
 
 by_test : (t : Bool) (P : Bool → Type 0) → (t ≡ true → P true) → (t ≡ false → P false) → P t
 by_test true P yes_ no_ = yes_ refl

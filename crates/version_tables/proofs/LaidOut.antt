@@ -3,6 +3,7 @@ use Rattle.std.proofs.Common.{◌≡◌, ℕ, suc, ◌+◌, ◌≤◌, true, Lis
 use Rattle.std.specs.Prelude.{map}
 use Rattle.std.proofs.lemmas.Bool.{and_from}
 use Rattle.std.proofs.lemmas.Bool.Decides.{Decides-eqb}
+use Rattle.mj_base.specs.declared.limits.TheConstants.{MAX_FIELDS}
 use Rattle.mj_schema.specs.declared.kind.Kind.{Kind}
 use Rattle.mj_schema.specs.declared.rows.DraftField.{DraftField}
 use Rattle.mj_schema.specs.declared.rows.DraftStruct.{DraftStruct}
@@ -44,7 +45,7 @@ kept k (f ∷ fs) (p ∷ ps) same =
       drafts = ap (λ (gs : List DraftField). f ∷ gs) rest.drafts;
     }
 
-pub laid_out : (name : List ℕ) (fs : List DraftField) (ps : List Place) (rows : List FieldRow) (versions : List VersionRow) → length fs ≤ 4096 → never_fall 0 (map (λ (f : DraftField). f.min_version) fs) ≡ true → ArePacked [] (map (λ (f : DraftField). f.kind) fs) ps → length ps ≡ length fs → rows ≡ field_rows 0 fs ps → versions ≡ version_rows (field_rows 0 fs ps) → IsLaidOut (record { name = name; fields = rows; versions = versions }) × (draft_of (record { name = name; fields = rows; versions = versions }) ≡ record { name = name; fields = fs })
+pub laid_out : (name : List ℕ) (fs : List DraftField) (ps : List Place) (rows : List FieldRow) (versions : List VersionRow) → length fs ≤ MAX_FIELDS → never_fall 0 (map (λ (f : DraftField). f.min_version) fs) ≡ true → ArePacked [] (map (λ (f : DraftField). f.kind) fs) ps → length ps ≡ length fs → rows ≡ field_rows 0 fs ps → versions ≡ version_rows (field_rows 0 fs ps) → IsLaidOut (record { name = name; fields = rows; versions = versions }) × (draft_of (record { name = name; fields = rows; versions = versions }) ≡ record { name = name; fields = fs })
 laid_out name fs ps rows versions few rising packed same rows-is versions-is =
     let k = kept 0 fs ps same in
     let is : IsLaidOut (record { name = name; fields = field_rows 0 fs ps; versions = version_rows (field_rows 0 fs ps) }) = record {

@@ -7,4 +7,4 @@ mod structs;
 mod tests;
 
 pub use rows::{row_for, table};
-pub use structs::{lay_out, lay_out_uint32};
+pub use structs::{lay_out, lay_out_narrow};

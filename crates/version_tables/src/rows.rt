@@ -7,8 +7,9 @@ ghost use Rattle.mj_schema.specs.declared.rows.Place.{Place};
 ghost use Rattle.mj_schema.specs.declared.rows.VersionRow.{VersionRow};
 ghost use Rattle.mj_schema.specs.Layout.{field_rows, never_fall};
 ghost use Rattle.mj_schema.specs.Versions.{bytes_of, version_rows, is_table};
-ghost use Rattle.version_tables.specs.Rows.{found_in};
+ghost use Rattle.version_tables.specs.steps.Rows.{found_in};
 
+use mj_base::limits::MAX_FIELDS;
 use mj_base::round8;
 use mj_schema::{DraftField, Place, VersionRow};
 use std::alloc::{AllocError, Global};
@@ -21,7 +22,7 @@ pub fn table(
     fields: &[DraftField],
     places: &[Place],
 ) -> Result<Vec<VersionRow>, AllocError>
-    requires few { length fields.now ≤ 4096 }
+    requires few { length fields.now ≤ MAX_FIELDS }
     requires places { length places.now ≡ length fields.now }
     requires near { All (λ (place : Place). place.offset < 2 ^ 17) places.now }
     requires rising { IsTrue (never_fall 0 (map (λ (field : DraftField). field.min_version) fields.now)) }
@@ -52,7 +53,7 @@ fn end_of(field: &DraftField, place: Place) -> u32
 
 /// The row of a version that has so many fields, the last of which ends before this byte.
 fn row(version: u32, fields: usize, end: u32) -> VersionRow
-    requires few { fields ≤ 4096 }
+    requires few { fields ≤ MAX_FIELDS }
     requires near { end < 2 ^ 18 }
     ensures { result ≡ record { version = version; fields = fields; bytes = rounded8 (8 + end) } }
 {

@@ -2,8 +2,10 @@
 
 ghost use Rattle.std.specs.Prelude.{◌≡◌, ◌≤◌, IfOk, IsTrue, length, map};
 ghost use Rattle.mj_schema.specs.declared.rows.DraftField.{DraftField};
-ghost use Rattle.mj_schema.specs.Layout.{IsLaidOut, draft_of, field_rows, is_of_uint32, never_fall, uint32_field};
+ghost use Rattle.mj_schema.specs.Layout.{IsLaidOut, draft_of, field_rows, never_fall};
+ghost use Rattle.mj_schema.specs.Narrow.{is_narrow, narrow_field};
 
+use mj_base::limits::MAX_FIELDS;
 use crate::rows::table;
 use field_packing::pack_fields;
 use mj_base::{Items, Text};
@@ -13,7 +15,7 @@ use std::alloc::{AllocError, Global};
 /// The struct with the places of its fields and its version rows. The versions of its fields never
 /// fall.
 pub fn lay_out(alloc: Global, draft: DraftStruct) -> Result<StructRow, AllocError>
-    requires few { length draft.fields ≤ 4096 }
+    requires few { length draft.fields ≤ MAX_FIELDS }
     requires rising { IsTrue (never_fall 0 (map (λ (field : DraftField). field.min_version) draft.fields)) }
     ensures laid_out { IfOk result IsLaidOut }
     ensures draft { IfOk result (λ row. draft_of row ≡ draft) }
@@ -30,14 +32,14 @@ pub fn lay_out(alloc: Global, draft: DraftStruct) -> Result<StructRow, AllocErro
 }
 
 /// A struct of unsigned integers of 32 bits with these names, all there from version 0 on.
-pub fn lay_out_uint32(alloc: Global, name: Text, fields: &[Text]) -> Result<StructRow, AllocError>
-    requires { length fields.now ≤ 4096 }
+pub fn lay_out_narrow(alloc: Global, name: Text, fields: &[Text]) -> Result<StructRow, AllocError>
+    requires { length fields.now ≤ MAX_FIELDS }
     ensures laid_out { IfOk result IsLaidOut }
-    ensures draft { IfOk result (λ row. draft_of row ≡ record { name = name; fields = map uint32_field fields.now }) }
-    ensures of_uint32 { IfOk result (λ row. IsTrue (is_of_uint32 row)) }
+    ensures draft { IfOk result (λ row. draft_of row ≡ record { name = name; fields = map narrow_field fields.now }) }
+    ensures narrow { IfOk result (λ row. IsTrue (is_narrow row)) }
     ensures count { IfOk result (λ row. length row.fields ≡ length fields.now) }
 {
-    let fields = uint32_fields(alloc, fields)?;
+    let fields = narrow_fields(alloc, fields)?;
     lay_out(
         alloc,
         DraftStruct {
@@ -48,8 +50,8 @@ pub fn lay_out_uint32(alloc: Global, name: Text, fields: &[Text]) -> Result<Stru
 }
 
 /// The fields of these names.
-fn uint32_fields(alloc: Global, names: &[Text]) -> Result<Vec<DraftField>, AllocError>
-    ensures { IfOk result (λ fields. fields.items ≡ map uint32_field names.now) }
+fn narrow_fields(alloc: Global, names: &[Text]) -> Result<Vec<DraftField>, AllocError>
+    ensures { IfOk result (λ fields. fields.items ≡ map narrow_field names.now) }
 {
     let mut fields = Vec::new(alloc);
     for name in names {
@@ -68,7 +70,7 @@ fn place_fields(
     fields: Vec<DraftField>,
     places: &[Place],
 ) -> Result<Vec<FieldRow>, AllocError>
-    requires few { length fields.items ≤ 4096 }
+    requires few { length fields.items ≤ MAX_FIELDS }
     requires places { length places.now ≡ length fields.items }
     ensures { IfOk result (λ rows. rows.items ≡ field_rows 0 fields.items places.now) }
 {

@@ -48,7 +48,7 @@ fn no_fields_have_one_row(rt: HostRuntime) -> Result<(), Fail> {
 fn two_numbers_fill_16_bytes(rt: HostRuntime) -> Result<(), Fail> {
     let alloc = rt.alloc();
     let names = [Text::from_str(alloc, "x")?, Text::from_str(alloc, "y")?];
-    let laid_out = lay_out_uint32(alloc, Text::from_str(alloc, "s.Point")?, &names)?;
+    let laid_out = lay_out_narrow(alloc, Text::from_str(alloc, "s.Point")?, &names)?;
     assert_eq!(rt; laid_out.versions.as_slice(), [row(0, 2, 16)].as_slice());
     Ok(())
 }

@@ -8,7 +8,7 @@ use Rattle.mj_base.specs.Bytes.{le32_at}
 use Rattle.mj_base.specs.Header.{has_header, header_fields}
 use Rattle.mj_schema.specs.declared.schema.Schema.{Schema}
 use Rattle.mj_schema.specs.declared.rows.StructRow.{StructRow}
-use Rattle.mj_schema.specs.Layout.{struct_bytes}
+use Rattle.mj_schema.specs.Narrow.{struct_bytes}
 use Rattle.mj_schema.specs.Lookups.{request_of}
 use Rattle.wire_model.specs.declared.wire_decoder.Request.{Request}
 use Rattle.wire_model.specs.Stands.{has_row, has_struct, numbers_at, request_with, request_in}

@@ -4,10 +4,11 @@ use Rattle.std.specs.Prelude.{nat_le, ◌==◌}
 use Rattle.std.specs.List.{All, flat_map}
 use Rattle.std.proofs.lemmas.Bool.Decides.{nat_tests}
 use Rattle.std.proofs.lemmas.List.{length-replicate}
+use Rattle.mj_base.specs.declared.limits.TheConstants.{MAX_PAYLOAD_BYTES}
 use Rattle.mj_base.specs.Bytes.{le32_at, le32_bytes}
 use Rattle.mj_base.specs.Header.{header_of, header_bytes}
 use Rattle.mj_schema.specs.declared.schema.Schema.{Schema}
-use Rattle.mj_schema.specs.Layout.{struct_bytes}
+use Rattle.mj_schema.specs.Narrow.{struct_bytes}
 use Rattle.wire_model.specs.declared.target.Target.{Target}
 use Rattle.wire_model.specs.declared.wire_decoder.Request.{Request}
 use Rattle.wire_model.specs.Tight.{params_bytes, message_bytes, IsPrepared}
@@ -44,7 +45,7 @@ header_of-header_bytes id name payload small named =
     rw (whole, long, id_is, name_is, left) refl
 
 -- a struct that was written gives its numbers
-pub struct_at-params_bytes : (front values : List ℕ) → All (λ n. n < 2 ^ 32) values → struct_bytes (length values) ≤ 16777216 → struct_at (front ++ params_bytes values) (length front) (length values) ≡ Some values
+pub struct_at-params_bytes : (front values : List ℕ) → All (λ n. n < 2 ^ 32) values → struct_bytes (length values) ≤ MAX_PAYLOAD_BYTES → struct_at (front ++ params_bytes values) (length front) (length values) ≡ Some values
 struct_at-params_bytes front values small short =
     let bytes = front ++ params_bytes values in
     let at = length front in

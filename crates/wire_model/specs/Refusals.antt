@@ -1,9 +1,10 @@
 -- Why a value is not prepared.
 use Rattle.std.specs.Prelude.{ℕ, ◌≡◌, ◌<◌, List, [], length, Option, Some}
 use Rattle.std.specs.Option.{option_map}
+use Rattle.mj_base.specs.declared.limits.TheConstants.{MAX_PAYLOAD_BYTES}
 use Rattle.mj_schema.specs.declared.schema.Schema.{Schema}
 use Rattle.mj_schema.specs.declared.rows.StructRow.{StructRow}
-use Rattle.mj_schema.specs.Layout.{struct_bytes}
+use Rattle.mj_schema.specs.Narrow.{struct_bytes}
 use Rattle.mj_schema.specs.Lookups.{request_of}
 use Rattle.wire_model.specs.declared.target.Target.{Target}
 use Rattle.wire_model.specs.declared.wire_encoder.PrepareError.{PrepareError}
@@ -15,7 +16,7 @@ parameter_count schema target = option_map (λ (row : StructRow). length row.fie
 
 -- a value of another count than its method has parameters misfits as a whole; one of the right count is too long
 -- where its struct has more than 16,777,216 bytes; want of memory may come at any value
-abbrev pub IsRefused : Schema → Target → List ℕ → PrepareError → Type 0
-IsRefused schema target value (Misfit path) = (path ≡ []) × ¬ (parameter_count schema target ≡ Some (length value))
-IsRefused schema target value TooLong = (parameter_count schema target ≡ Some (length value)) × (16777216 < struct_bytes (length value))
-IsRefused schema target value Memory = Unit {0}
+abbrev pub IsPrepareRefusal : Schema → Target → List ℕ → PrepareError → Type 0
+IsPrepareRefusal schema target value (Misfit path) = (path ≡ []) × ¬ (parameter_count schema target ≡ Some (length value))
+IsPrepareRefusal schema target value TooLong = (parameter_count schema target ≡ Some (length value)) × (MAX_PAYLOAD_BYTES < struct_bytes (length value))
+IsPrepareRefusal schema target value Memory = Unit {0}

@@ -5,7 +5,7 @@ use Rattle.mj_base.specs.Header.{header_of}
 use Rattle.mj_base.specs.declared.header.Header.{Header}
 use Rattle.mj_schema.specs.declared.schema.Schema.{Schema}
 use Rattle.mj_schema.specs.declared.rows.StructRow.{StructRow}
-use Rattle.mj_schema.specs.Layout.{struct_bytes}
+use Rattle.mj_schema.specs.Narrow.{struct_bytes}
 use Rattle.mj_schema.specs.Lookups.{request_of}
 use Rattle.wire_model.specs.declared.wire_decoder.Request.{Request}
 

@@ -1,11 +1,12 @@
 -- The one tight encoding of a message: each object directly behind the one before, rounded up to 8, and zeros in all gaps.
 use Rattle.std.specs.Prelude.{ℕ, ◌≡◌, ◌≤◌, ◌<◌, ◌^◌, ◌+◌, ◌-◌, ◌*◌, ◌++◌, List, All, length, replicate, Some, IsSome}
 use Rattle.std.specs.List.{flat_map}
+use Rattle.mj_base.specs.declared.limits.TheConstants.{MAX_PAYLOAD_BYTES}
 use Rattle.mj_base.specs.Bytes.{le32_bytes}
 use Rattle.mj_base.specs.Header.{header_bytes}
 use Rattle.mj_schema.specs.declared.schema.Schema.{Schema}
 use Rattle.mj_schema.specs.declared.rows.StructRow.{StructRow}
-use Rattle.mj_schema.specs.Layout.{struct_bytes}
+use Rattle.mj_schema.specs.Narrow.{struct_bytes}
 use Rattle.mj_schema.specs.Lookups.{request_of}
 use Rattle.wire_model.specs.declared.target.Target.{Target}
 use Rattle.wire_model.specs.declared.target.MessageSide.TheVariants.{Request}
@@ -28,6 +29,6 @@ pub record IsPrepared (schema : Schema) (target : Target) (value : List ℕ) : T
   pub there : request_of schema target.interface target.method ≡ Some row
   pub request : target.side ≡ Request
   pub count : length value ≡ length row.fields
-  pub short : struct_bytes (length value) ≤ 16777216
+  pub short : struct_bytes (length value) ≤ MAX_PAYLOAD_BYTES
   pub small : All (λ n. n < 2 ^ 32) value
   pub named : target.method < 2 ^ 32

@@ -1,7 +1,7 @@
 //! How many bytes a struct takes.
 
 ghost use Rattle.std.specs.Prelude.{◌≡◌, ◌<◌, ◌^◌};
-ghost use Rattle.mj_schema.specs.Layout.{struct_bytes};
+ghost use Rattle.mj_schema.specs.Narrow.{struct_bytes};
 
 use mj_base::round8;
 

@@ -8,7 +8,7 @@ use mj_base::{Items, Text};
 use mj_schema::{InterfaceRow, MethodRow, Schema};
 use std::alloc::{AllocError, Global};
 use std::test::Fail;
-use version_tables::lay_out_uint32;
+use version_tables::lay_out_narrow;
 
 const PING: Target = Target {
     interface: 0,
@@ -20,7 +20,7 @@ const PING: Target = Target {
 fn ping_schema(alloc: Global) -> Result<Schema, AllocError>
     ensures { IfOk result (λ schema. HasTarget schema PING) }
 {
-    let params = lay_out_uint32(
+    let params = lay_out_narrow(
         alloc,
         Text::from_str(alloc, "t.P.Ping")?,
         &[Text::from_str(alloc, "n")?],

@@ -1,10 +1,11 @@
 //! Encoding: a value is prepared first, and sealed when its endpoint is known.
 
 ghost use Rattle.std.specs.Prelude.{◌≡◌, ◌++◌, ◌<◌, ◌^◌, OnOk, IfOk, IfErr, Some, length};
-ghost use Rattle.mj_schema.specs.Layout.{struct_bytes};
-ghost use Rattle.wire_model.specs.Refusals.{parameter_count, IsRefused};
+ghost use Rattle.mj_schema.specs.Narrow.{struct_bytes};
+ghost use Rattle.wire_model.specs.Refusals.{parameter_count, IsPrepareRefusal};
 ghost use Rattle.wire_model.specs.Tight.{message_bytes, params_bytes, HasTarget, IsPrepared};
 
+use mj_base::limits::MAX_PAYLOAD_BYTES;
 use crate::message_header::push_header;
 use crate::numbers::push_numbers;
 use crate::struct_size::struct_size;
@@ -13,9 +14,6 @@ use mj_base::{Items, push_le32};
 use mj_schema::Schema;
 use std::alloc::{AllocError, Global};
 use std::marker::Model;
-
-/// The greatest payload that is sent, in bytes.
-const MAX_PAYLOAD: u64 = 16_777_216;
 
 /// A value that fits its target, with its payload made. Contracts see the target and the value.
 #[derive(Drop)]
@@ -91,7 +89,7 @@ pub fn prepare(
     requires { HasTarget schema.now target }
     ensures ok { IfOk result (λ prepared.
         (prepared ≡ record { target = target; value = value.now }) × IsPrepared schema.now target value.now) }
-    ensures refused { IfErr result (IsRefused schema.now target value.now) }
+    ensures refused { IfErr result (IsPrepareRefusal schema.now target value.now) }
 {
     let numbers = value.as_slice();
     check_value(alloc, schema, target, numbers)?;
@@ -111,12 +109,12 @@ fn check_value(
 ) -> Result<(), PrepareError>
     requires { HasTarget schema.now target }
     ensures ok { OnOk result (IsPrepared schema.now target numbers.now) }
-    ensures refused { IfErr result (IsRefused schema.now target numbers.now) }
+    ensures refused { IfErr result (IsPrepareRefusal schema.now target numbers.now) }
 {
     if numbers.len() != parameter_count(schema, target) {
         return Err(PrepareError::Misfit(Items::new(alloc)));
     }
-    if struct_size(numbers.len()) > MAX_PAYLOAD {
+    if struct_size(numbers.len()) > MAX_PAYLOAD_BYTES {
         return Err(PrepareError::TooLong);
     }
     Ok(())

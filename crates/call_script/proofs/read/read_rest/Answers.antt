@@ -4,7 +4,8 @@ use Rattle.call_script.specs.Words.{words_now}
 use Rattle.std.proofs.Common.{List}
 use Rattle.std.specs.List.{flat_map}
 use Rattle.call_script.specs.declared.script.Pipe.{Pipe}
-use Rattle.call_script.specs.Spelling.{are_distinct, names_of}
+use Rattle.call_script.specs.Spelling.{names_of}
+use Rattle.mj_base.specs.Texts.{are_distinct}
 use Rattle.call_script.specs.Reading.{joins_in_front, NoLines, AreLines}
 use Rattle.call_script.proofs.LineWords.{said_of, said_none}
 use Rattle.call_script.proofs.WordLists.{front_now, back_now, none_now, some_now}

@@ -1,6 +1,6 @@
 use Rattle.std.proofs.Common.{subst, List, ℕ}
 use Rattle.mojom_compile.specs.Compiled.{IsUnread}
-use Rattle.mojo_tool.specs.Stops.{NotCompiled}
+use Rattle.mojo_tool.specs.steps.Stops.{NotCompiled}
 use Rattle.mojo_tool.proofs.Asking.{ok_goes, no_tree, tree_text}
 use Rattle.mojo_tool.proofs.decide.decide_print.Goals as goal
 

@@ -1,5 +1,5 @@
 use Rattle.std.proofs.Common.{subst, List, ℕ}
-use Rattle.mojo_tool.specs.Stops.{NotCompiled}
+use Rattle.mojo_tool.specs.steps.Stops.{NotCompiled}
 use Rattle.mojom_compile.specs.Compiled.{IsRefusedFile}
 use Rattle.mojo_tool.proofs.Asking.{ok_goes, err_goes, no_schema, later, right_text}
 use Rattle.mojo_tool.proofs.decide.decide_run.Goals as goal

@@ -1,4 +1,4 @@
-use Rattle.mojo_tool.specs.Names.{asked_of}
+use Rattle.mojo_tool.specs.steps.Names.{asked_of}
 use Rattle.mojo_tool.proofs.Reporting.{printed, reported}
 use Rattle.mojo_tool.proofs.top.alone.Goals as goal
 

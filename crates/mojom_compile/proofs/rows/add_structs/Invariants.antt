@@ -1,7 +1,8 @@
 use Rattle.std.proofs.Common.{◌≡◌, ◌+◌, take, map, length, ◌++◌}
 use Rattle.std.specs.Prelude.{IsTrue}
 use Rattle.std.specs.List.{AllByRecursion, list_all}
-use Rattle.mj_schema.specs.Layout.{IsLaidOut, draft_of, is_of_uint32}
+use Rattle.mj_schema.specs.Layout.{IsLaidOut, draft_of}
+use Rattle.mj_schema.specs.Narrow.{is_narrow}
 use Rattle.mojom_compile.specs.Rows.{request_struct}
 use Rattle.mojom_compile.proofs.rows.add_structs.Given as goal
 
@@ -10,5 +11,5 @@ invariant-loop-method l = record {
   drafts : map draft_of l.structs.items ≡ map draft_of l.initial.structs.items ++ map (request_struct l.interface) (take l.method-index l.methods);
   count : length l.structs.items ≡ length l.initial.structs.items + l.method-index;
   laid_out : AllByRecursion IsLaidOut l.structs.items;
-  of_uint32 : IsTrue (list_all is_of_uint32 l.structs.items);
+  narrow : IsTrue (list_all is_narrow l.structs.items);
 }

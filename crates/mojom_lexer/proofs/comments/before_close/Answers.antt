@@ -1,6 +1,6 @@
 use Rattle.std.proofs.Common.{sym, ◌∙◌}
 use Rattle.mojom_lexer.proofs.Closes.{close_on}
-use Rattle.mojom_lexer.specs.Scans.{before_close}
+use Rattle.mojom_lexer.specs.steps.Scans.{before_close}
 use Rattle.mojom_lexer.proofs.comments.before_close.Goals as goal
 
 pub loop-len-preserved : goal.loop-len-preserved

@@ -1,6 +1,6 @@
 use Rattle.std.proofs.Common.{◌≡◌, ◌+◌, drop}
 use Rattle.std.specs.Option.{option_map}
-use Rattle.mojom_lexer.specs.Scans.{before_close}
+use Rattle.mojom_lexer.specs.steps.Scans.{before_close}
 use Rattle.mojom_lexer.proofs.comments.before_close.Given as goal
 
 abbrev pub invariant-loop-len : goal.invariant-loop-len

@@ -1,6 +1,6 @@
 use Rattle.std.proofs.Common.{◌≡◌, ◌+◌, drop}
 use Rattle.mojom_lexer.specs.Pieces.{stays_on_line}
-use Rattle.mojom_lexer.specs.Scans.{run_len}
+use Rattle.mojom_lexer.specs.steps.Scans.{run_len}
 use Rattle.mojom_lexer.proofs.comments.line_len.Given as goal
 
 abbrev pub invariant-loop-len : goal.invariant-loop-len

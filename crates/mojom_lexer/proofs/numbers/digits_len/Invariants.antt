@@ -1,6 +1,6 @@
 use Rattle.std.proofs.Common.{◌≡◌, ◌+◌, drop}
 use Rattle.mojom_lexer.specs.Bytes.{is_digit}
-use Rattle.mojom_lexer.specs.Scans.{run_len}
+use Rattle.mojom_lexer.specs.steps.Scans.{run_len}
 use Rattle.mojom_lexer.proofs.numbers.digits_len.Given as goal
 
 abbrev pub invariant-loop-len : goal.invariant-loop-len

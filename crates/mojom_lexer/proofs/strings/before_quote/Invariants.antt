@@ -1,6 +1,6 @@
 use Rattle.std.proofs.Common.{◌≡◌, ◌+◌, drop, false}
 use Rattle.std.specs.Option.{option_map}
-use Rattle.mojom_lexer.specs.Scans.{before_quote}
+use Rattle.mojom_lexer.specs.steps.Scans.{before_quote}
 use Rattle.mojom_lexer.proofs.strings.before_quote.Given as goal
 
 abbrev pub invariant-loop-len : goal.invariant-loop-len

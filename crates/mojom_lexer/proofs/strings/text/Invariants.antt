@@ -1,5 +1,5 @@
 use Rattle.mojom_lexer.specs.Strings.{text_of}
-use Rattle.mojom_lexer.specs.Scans.{parts_of}
+use Rattle.mojom_lexer.specs.steps.Scans.{parts_of}
 use Rattle.mojom_lexer.proofs.Texts.{IsReadTo}
 use Rattle.std.proofs.Common.{false}
 use Rattle.mojom_lexer.proofs.strings.text.Given as goal

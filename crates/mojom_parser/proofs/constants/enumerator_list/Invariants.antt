@@ -1,7 +1,7 @@
 use Rattle.std.proofs.Common.{◌≡◌, length, ◌-◌}
 use Rattle.mojom_ast.specs.Lang.{commas, list}
 use Rattle.mojom_ast.specs.Grammar.{enumerator}
-use Rattle.mojom_parser.specs.Reading.{with_front}
+use Rattle.mojom_parser.specs.steps.Reading.{with_front}
 use Rattle.mojom_parser.proofs.constants.enumerator_list.Given as goal
 
 abbrev pub invariant-loop : goal.invariant-loop

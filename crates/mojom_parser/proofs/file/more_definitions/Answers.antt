@@ -3,8 +3,8 @@ use Rattle.std.proofs.lemmas.Result.{err_from_is_err_and}
 use Rattle.mojom_ast.specs.declared.token.Token.{Token}
 use Rattle.mojom_ast.specs.Lang.{times, front_in}
 use Rattle.mojom_ast.specs.Grammar.{definition, attributes, bracketed, definition_item, struct_of, union_of, enum_of, interface_of, const_of}
-use Rattle.mojom_grammar.specs.Factored.{definition_starts}
-use Rattle.mojom_parser.specs.Reading.{with_front}
+use Rattle.grammar_laws.specs.steps.Factored.{definition_starts}
+use Rattle.mojom_parser.specs.steps.Reading.{with_front}
 use Rattle.mojom_parser.proofs.Loops.{goes_on, ends, halts, is_done, times_on, times_off, times_end, times_none}
 use Rattle.mojom_parser.proofs.file.more_definitions.Goals as goal
 

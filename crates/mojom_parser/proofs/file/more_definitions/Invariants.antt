@@ -1,7 +1,7 @@
 use Rattle.std.proofs.Common.{◌≡◌, ◌-◌}
 use Rattle.mojom_ast.specs.Lang.{times}
 use Rattle.mojom_ast.specs.Grammar.{definition}
-use Rattle.mojom_parser.specs.Reading.{with_front}
+use Rattle.mojom_parser.specs.steps.Reading.{with_front}
 use Rattle.mojom_parser.proofs.file.more_definitions.Given as goal
 
 abbrev pub invariant-loop : goal.invariant-loop

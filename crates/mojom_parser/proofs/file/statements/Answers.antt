@@ -2,8 +2,8 @@ use Rattle.std.proofs.Common.{List, [], Ok, sym, ap, ◌∙◌}
 use Rattle.std.proofs.lemmas.Result.{err_from_is_err_and}
 use Rattle.mojom_ast.specs.declared.definitions.Definition.{Definition}
 use Rattle.mojom_ast.specs.Trees.{make_import}
-use Rattle.mojom_grammar.specs.Factored.{statements}
-use Rattle.mojom_parser.specs.Reading.{with_imports}
+use Rattle.grammar_laws.specs.steps.Factored.{statements}
+use Rattle.mojom_parser.specs.steps.Reading.{with_imports}
 use Rattle.mojom_parser.proofs.Statements.{goes_on, ends, halts, is_done, step_off, step_end, step_definitions, end_definitions, step_import, end_import}
 use Rattle.mojom_parser.proofs.file.statements.Goals as goal
 

@@ -1,6 +1,6 @@
 use Rattle.std.proofs.Common.{◌≡◌, ◌-◌}
-use Rattle.mojom_grammar.specs.Factored.{statements}
-use Rattle.mojom_parser.specs.Reading.{with_imports}
+use Rattle.grammar_laws.specs.steps.Factored.{statements}
+use Rattle.mojom_parser.specs.steps.Reading.{with_imports}
 use Rattle.mojom_parser.proofs.file.statements.Given as goal
 
 abbrev pub invariant-loop : goal.invariant-loop

@@ -3,7 +3,7 @@ use Rattle.std.proofs.lemmas.Result.{err_from_is_err_and}
 use Rattle.mojom_ast.specs.declared.token.Token.{Token}
 use Rattle.mojom_ast.specs.Lang.{times, many, front_in}
 use Rattle.mojom_ast.specs.Grammar.{next_parameter, next_parameter}
-use Rattle.mojom_parser.specs.Reading.{with_front}
+use Rattle.mojom_parser.specs.steps.Reading.{with_front}
 use Rattle.mojom_parser.proofs.Loops.{goes_on, ends, halts, is_done, times_on, times_off, times_end, times_none}
 use Rattle.mojom_parser.proofs.interfaces.next_parameters.Goals as goal
 

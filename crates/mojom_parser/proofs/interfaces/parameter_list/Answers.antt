@@ -3,7 +3,7 @@ use Rattle.std.proofs.lemmas.Result.{err_from_is_err_and}
 use Rattle.mojom_ast.specs.declared.definitions.Parameter.{Parameter}
 use Rattle.mojom_ast.specs.Lang.{Read, as_value, joined, many, maybe, ◌▹◌}
 use Rattle.mojom_ast.specs.Grammar.{parameter, next_parameter, attributes, bracketed}
-use Rattle.mojom_parser.specs.Reading.{Gives, with_front}
+use Rattle.mojom_parser.specs.steps.Reading.{Gives, with_front}
 use Rattle.mojom_parser.proofs.Loops.{pair_on, pair_off, pair_fails}
 use Rattle.mojom_parser.proofs.interfaces.parameter_list.Goals as goal
 

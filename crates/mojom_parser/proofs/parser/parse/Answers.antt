@@ -2,9 +2,10 @@ use Rattle.std.proofs.Common.{Result, Ok, Err, IfOk, IfErr, length, List}
 use Rattle.mojom_ast.specs.declared.file.File.{File}
 use Rattle.mojom_ast.specs.declared.token.Token.{Token}
 use Rattle.mojom_ast.specs.Parsed.{Spells}
-use Rattle.mojom_grammar.specs.Factored.{factored}
+use Rattle.grammar_laws.specs.steps.Factored.{factored}
 use Rattle.mojom_parser.specs.declared.error.ParseError.{ParseError}
-use Rattle.mojom_parser.specs.Parsed.{verdict, Agrees, Blames}
+use Rattle.mojom_parser.specs.Parsed.{Blames}
+use Rattle.mojom_parser.specs.steps.Verdict.{verdict, Agrees}
 use Rattle.mojom_parser.proofs.Places.{is_spelled, is_blamed, is_answered, is_exact, is_end, is_too_deep}
 use Rattle.mojom_parser.proofs.parser.parse.Goals as goal
 

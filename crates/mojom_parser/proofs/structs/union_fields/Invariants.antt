@@ -1,7 +1,7 @@
 use Rattle.std.proofs.Common.{◌≡◌, length, ◌-◌}
 use Rattle.mojom_ast.specs.Lang.{times, many}
 use Rattle.mojom_ast.specs.Grammar.{union_field}
-use Rattle.mojom_parser.specs.Reading.{with_front}
+use Rattle.mojom_parser.specs.steps.Reading.{with_front}
 use Rattle.mojom_parser.proofs.structs.union_fields.Given as goal
 
 abbrev pub invariant-loop : goal.invariant-loop

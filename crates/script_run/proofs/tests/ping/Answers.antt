@@ -6,8 +6,8 @@ use Rattle.script_run.proofs.tests.ping.Goals as goal
 pub invariant_of-schema-clause-laid_out : goal.invariant_of-schema-clause-laid_out
 invariant_of-schema-clause-laid_out c = rw (c.from_vec-2.ensures, c.in_ok-vec-2.ensures.items) (c.in_ok-params.ensures.laid_out, tt)
 
-pub invariant_of-schema-clause-of_uint32 : goal.invariant_of-schema-clause-of_uint32
-invariant_of-schema-clause-of_uint32 c = rw (c.from_vec-2.ensures, c.in_ok-vec-2.ensures.items) (rw c.in_ok-params.ensures.of_uint32 refl)
+pub invariant_of-schema-clause-narrow : goal.invariant_of-schema-clause-narrow
+invariant_of-schema-clause-narrow c = rw (c.from_vec-2.ensures, c.in_ok-vec-2.ensures.items) (rw c.in_ok-params.ensures.narrow refl)
 
 pub returns : goal.returns
 returns c =

@@ -1,5 +1,5 @@
 use Rattle.std.proofs.Common.{◌≡◌, ◌+◌, ◌<◌, ◌≤◌, length, get_or, sym, ap, ◌∙◌, arith}
-use Rattle.field_packing.specs.Holes.{up, first_fit}
+use Rattle.field_packing.specs.steps.Holes.{up, first_fit}
 use Rattle.field_packing.proofs.Cuts.{place_cut, rest_is, end_cut, place_behind, rest_added, end_behind}
 use Rattle.field_packing.proofs.packer.Packer.take_bits.Goals as goal
 

@@ -1,0 +1,61 @@
+-- Why there is no text.
+use Rattle.std.specs.Prelude.{ℕ, ◌≡◌, ◌<◌, ◌⊎◌, List, length, Option, Some, None}
+use Rattle.mj_base.specs.declared.limits.TheConstants.{MAX_FILE_BYTES}
+use Rattle.mj_io.specs.Outside.{Named, find_file, FilesState, Rose}
+use Rattle.mj_schema.specs.declared.schema.Schema.{Schema}
+use Rattle.mojom_compile.specs.declared.error.FileRefusal.{FileRefusal}
+use Rattle.call_script.specs.declared.script.Script.{Script}
+use Rattle.call_script.specs.Spelling.{IsScriptOf}
+use Rattle.mojo_tool.specs.Work.{Work, AskedFor, TooLong, Refuses, Unreadable}
+use Rattle.mojo_tool.specs.Answers.{ReadFailed, refused_work, refused_name}
+use Rattle.mojo_tool.specs.declared.decide.Stop.{Stop}
+use Rattle.mojo_tool.specs.declared.decide.Stop.TheVariants.{Refused, ReadFault, NoMemory}
+
+-- these are the bytes of that name, over files that tell
+abbrev pub HasBytes : Option (List Named) → List ℕ → List ℕ → Type 0
+HasBytes None name bytes = Unit {0}
+HasBytes (Some files) name bytes = find_file files name ≡ Some bytes
+
+-- the name has more bytes than a file may have, over files that tell
+abbrev pub IsLonger : Option (List Named) → List ℕ → Type 0
+IsLonger None name = Unit {0}
+IsLonger (Some files) name = (bytes : List ℕ) × (find_file files name ≡ Some bytes) × (MAX_FILE_BYTES < length bytes)
+
+-- the name isn't there, or a fault on a name that is there was counted, over files that tell
+abbrev pub IsLost : Option (List Named) → List ℕ → ℕ → ℕ → Type 0
+IsLost None name before now = Unit {0}
+IsLost (Some files) name before now = (find_file files name ≡ None) ⊎ Rose before now
+
+-- why a file was not fetched
+abbrev pub NotFetched : FilesState → FilesState → List ℕ → Stop → Type 0
+NotFetched before now name (Refused refusal) = IsLonger before.told name × (refused_work refusal ≡ TooLong name)
+NotFetched before now name (ReadFault other) = (other.now ≡ name) × Rose before.faults now.faults × IsLost before.told name before.there now.there
+NotFetched before now name NoMemory = Unit {0}
+
+pub record FaultOfFiles (before now : FilesState) (ask : List Named → Work → Type 0) (name : List ℕ) : Type 0 where
+  pub rose : Rose before.faults now.faults
+  pub failed : ReadFailed before.told ask name before.there now.there
+
+-- no text, though this is asked for
+abbrev pub Stops : FilesState → FilesState → (List Named → Work → Type 0) → Stop → Type 0
+Stops before now ask (Refused refusal) = AskedFor before.told ask (refused_work refusal)
+Stops before now ask (ReadFault name) = FaultOfFiles before now ask name.now
+Stops before now ask NoMemory = Unit {0}
+
+-- the bytes are refused so, or there was no memory to tell
+abbrev pub NotCompiled : (FileRefusal → Type 0) → List ℕ → Stop → Type 0
+NotCompiled Such name (Refused refusal) = (why : FileRefusal) × Such why × (refused_work refusal ≡ Refuses name why)
+NotCompiled Such name (ReadFault other) = ⊥
+NotCompiled Such name NoMemory = Unit {0}
+
+-- the bytes are no script of the schema, or there was no memory to tell
+abbrev pub NoScript : Schema → List ℕ → List ℕ → Stop → Type 0
+NoScript schema bytes name (Refused refusal) = ((script : Script) → IsScriptOf schema bytes script → ⊥) × (refused_work refusal ≡ Unreadable name)
+NoScript schema bytes name (ReadFault other) = ⊥
+NoScript schema bytes name NoMemory = Unit {0}
+
+-- the file that is named is such a one
+abbrev pub IsOf : (List ℕ → Type 0) → Stop → Type 0
+IsOf Such (Refused refusal) = Such (refused_name refusal)
+IsOf Such (ReadFault name) = Such name.now
+IsOf Such NoMemory = Unit {0}

@@ -1,5 +1,0 @@
-use Rattle.mojom_grammar.proofs.Unique.{one_tree}
-use Rattle.mojom_grammar.proofs.one_tree.Goals as goal
-
-pub returns : goal.returns
-returns c = λ tokens one other s t. one_tree tokens one other s t
