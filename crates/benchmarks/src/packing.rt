@@ -3,6 +3,7 @@
 ghost use Rattle.std.specs.Prelude.{◌≡◌, ◌≤◌, IfOk, length};
 
 use field_packing::pack;
+use mj_base::limits::MAX_FIELDS;
 use mj_schema::{HandleSort, Kind, Width};
 use std::alloc::{AllocError, Global};
 use std::io;
@@ -56,7 +57,7 @@ fn kinds(alloc: Global, count: usize) -> Result<Vec<Kind>, AllocError>
 
 /// Prints the nanoseconds of one packing of so many fields.
 fn time<R: Print + AllocGlobal + CpuClock>(rt: &R, count: usize) -> io::Result<()>
-    requires { count ≤ 4096 }
+    requires { count ≤ MAX_FIELDS }
 {
     let kinds = kinds(rt.alloc(), count)?;
     let start = rt.thread_cpu_time()?;
@@ -72,5 +73,5 @@ fn time<R: Print + AllocGlobal + CpuClock>(rt: &R, count: usize) -> io::Result<(
 pub fn time_all<R: Print + AllocGlobal + CpuClock>(rt: &R) -> io::Result<()> {
     time(rt, 256)?;
     time(rt, 1024)?;
-    time(rt, 4096)
+    time(rt, MAX_FIELDS)
 }

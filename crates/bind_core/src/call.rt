@@ -8,11 +8,11 @@ ghost use Rattle.bind_core.specs.Rows.{way, room_at, row_at};
 ghost use Rattle.bind_core.specs.Calls.{AreOf};
 ghost use Rattle.bind_core.specs.Steps.{CanDo, Done, Undone};
 
-use mj_base::limits::MAX_UNREAD_MESSAGES;
 use crate::commands::{Command, Refused, Reply};
 use crate::state::{State, refuse};
 use crate::table::Table;
 use bind_model::{Asked, Event, Message, Side, Told, Why};
+use mj_base::limits::MAX_UNREAD_MESSAGES;
 use mj_base::{EndId, Items, SeqId};
 use std::alloc::{AllocError, Global};
 use wire_model::{Head, MessageSide, Prepared, Target, seal};

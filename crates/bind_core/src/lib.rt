@@ -14,8 +14,6 @@ mod state;
 mod stepper;
 mod table;
 mod take;
-#[cfg(test)]
-mod tests;
 
 pub use commands::{Command, Refused, Reply};
 pub use handle::{Ended, Handle, Handles};

@@ -8,13 +8,13 @@ ghost use Rattle.bind_model.specs.Ready.{ready};
 ghost use Rattle.bind_core.specs.Plain.{asked_of, told_of, HandsBack, command_of, IsSpentAt};
 ghost use Rattle.bind_core.specs.Asks.{told_at};
 
-use mj_base::limits::MAX_EVENTS;
 use crate::commands::{Command, Refused, Reply};
 use crate::handle::{Ended, Handles};
 use crate::state;
 use crate::state::State;
 use crate::table::Table;
 use bind_model::History;
+use mj_base::limits::MAX_EVENTS;
 use mj_base::{EndId, SeqId};
 use mj_schema::Schema;
 use std::alloc::Global;

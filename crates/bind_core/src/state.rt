@@ -5,13 +5,13 @@ ghost use Rattle.bind_model.specs.declared.event.Told.{Told};
 ghost use Rattle.bind_core.specs.Plain.{asked_of};
 ghost use Rattle.bind_core.specs.Steps.{Holds, CanDo, Done, Undone, told_in, MayAsk};
 
-use mj_base::limits::MAX_EVENTS;
 use crate::commands::{Command, Refused, Reply};
 use crate::handle::Handle;
 use crate::table::Table;
 use crate::{bind, call, join, take};
 use bind_model::{Asked, Event, History, Told, Why};
 use mj_base::SeqId;
+use mj_base::limits::MAX_EVENTS;
 use mj_schema::Schema;
 use std::alloc::Global;
 use std::sync::Arc;

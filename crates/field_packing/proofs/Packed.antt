@@ -17,18 +17,21 @@ taken_after taken [] (p ∷ ps) = taken
 taken_after taken (k ∷ ks) [] = taken
 taken_after taken (k ∷ ks) (p ∷ ps) = taken_after (slot_at k (address_of p) ∷ taken) ks ps
 
-packed_more : (taken : List Slot) (ks : List Kind) (ps : List Place) (k : Kind) (p : Place) → ArePacked taken ks ps → IsLeastPlace (taken_after taken ks ps) k p → ArePacked taken (ks ++ k ∷ []) (ps ++ p ∷ [])
+packed_more : (taken : List Slot) (ks : List Kind) (ps : List Place) (k : Kind) (p : Place) → ArePacked taken ks ps
+    → IsLeastPlace (taken_after taken ks ps) k p → ArePacked taken (ks ++ k ∷ []) (ps ++ p ∷ [])
 packed_more taken [] [] k p h l = (l, tt)
 packed_more taken [] (q ∷ ps) k p h l = absurd h
 packed_more taken (j ∷ ks) [] k p h l = absurd h
 packed_more taken (j ∷ ks) (q ∷ ps) k p h l = (h.0, packed_more (slot_at j (address_of q) ∷ taken) ks ps k p h.1 l)
 
-taken_more : (taken : List Slot) (ks : List Kind) (ps : List Place) (k : Kind) (p : Place) → ArePacked taken ks ps → taken_after taken (ks ++ k ∷ []) (ps ++ p ∷ []) ≡ slot_at k (address_of p) ∷ taken_after taken ks ps
+taken_more : (taken : List Slot) (ks : List Kind) (ps : List Place) (k : Kind) (p : Place) → ArePacked taken ks ps
+    → taken_after taken (ks ++ k ∷ []) (ps ++ p ∷ []) ≡ slot_at k (address_of p) ∷ taken_after taken ks ps
 taken_more taken [] [] k p h = refl
 taken_more taken [] (q ∷ ps) k p h = absurd h
 taken_more taken (j ∷ ks) [] k p h = absurd h
 taken_more taken (j ∷ ks) (q ∷ ps) k p h = taken_more (slot_at j (address_of q) ∷ taken) ks ps k p h.1
 
+-- holes in order begin below the end: for what a packer requires of its holes
 pub holes_below : (lo : ℕ) (hs : List Hole) (end n : ℕ) → AreSorted lo hs end → end < n → AllBelow n hs
 holes_below lo [] end n h lt = All-nil (λ x. x.start < n)
 holes_below lo (x ∷ hs) end n h lt =
@@ -43,7 +46,11 @@ pub record Grows (ks : List Kind) (ps : List Place) (hs : List Hole) (end : ℕ)
 pub nothing_taken : (hs : List Hole) (end : ℕ) → Tracks [] hs end → Grows [] [] hs end
 nothing_taken hs end tracks = record { tracks = tracks; packed = tt }
 
-pub grown : (ks more : List Kind) (ps pushed : List Place) (k : Kind) (p : Place) (hs hs' : List Hole) (end end' : ℕ) → more ≡ ks ++ k ∷ [] → pushed ≡ ps ++ p ∷ [] → Grows ks ps hs end → ((taken : List Slot) → Tracks taken hs end → IsLeastPlace taken k p × Tracks (slot_at k (address_of p) ∷ taken) hs' end' × (address_of p < end')) → Grows more pushed hs' end' × (address_of p < end')
+-- one more field is placed: for the loops of `pack` and `pack_fields`
+pub grown : (ks more : List Kind) (ps pushed : List Place) (k : Kind) (p : Place) (hs hs' : List Hole) (end end' : ℕ) → more ≡ ks ++ k ∷ []
+    → pushed ≡ ps ++ p ∷ [] → Grows ks ps hs end → ((taken : List Slot) → Tracks taken hs end
+    → IsLeastPlace taken k p × Tracks (slot_at k (address_of p) ∷ taken) hs' end' × (address_of p < end'))
+    → Grows more pushed hs' end' × (address_of p < end')
 grown ks more ps pushed k p hs hs' end end' more-is pushed-is g next =
     let on = next (taken_after [] ks ps) g.tracks in
     let grows : Grows (ks ++ k ∷ []) (ps ++ p ∷ []) hs' end' = record {
@@ -53,7 +60,10 @@ grown ks more ps pushed k p hs hs' end end' more-is pushed-is g next =
     (rw (more-is, pushed-is) grows, on.2)
 
 -- where the holes put a field
-pub placed : (kind : Kind) (place : Place) (taken : List Slot) (hs hs' : List Hole) (end end' : ℕ) → 0 < size_of kind → 0 < alignment_of kind → place.bit < 8 → address_of place ≡ place_at (size_of kind) (alignment_of kind) hs end → hs' ≡ rest_of (size_of kind) (alignment_of kind) hs end → end' ≡ end_of (size_of kind) (alignment_of kind) hs end → Tracks taken hs end → IsLeastPlace taken kind place × Tracks (slot_at kind (address_of place) ∷ taken) hs' end' × (address_of place < end')
+pub placed : (kind : Kind) (place : Place) (taken : List Slot) (hs hs' : List Hole) (end end' : ℕ) → 0 < size_of kind → 0 < alignment_of kind
+    → place.bit < 8 → address_of place ≡ place_at (size_of kind) (alignment_of kind) hs end → hs' ≡ rest_of (size_of kind) (alignment_of kind) hs end
+    → end' ≡ end_of (size_of kind) (alignment_of kind) hs end → Tracks taken hs end
+    → IsLeastPlace taken kind place × Tracks (slot_at kind (address_of place) ∷ taken) hs' end' × (address_of place < end')
 placed kind place taken hs hs' end end' some positive bit at-is hs-is end-is tracks =
     let on = tracks_on (size_of kind) (alignment_of kind) positive some taken hs end tracks in (
       record { bit = bit; aligned = rw at-is on.aligned; free = rw at-is on.free; least = λ other m f. rw at-is (on.least other m f) },

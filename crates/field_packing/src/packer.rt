@@ -32,7 +32,9 @@ impl Packer {
         requires holes { AllBelow (2 ^ 30) self.old.holes.items }
         requires end { self.old.end < 2 ^ 30 }
         ensures least { IfOk result (λ place. (taken : List Slot) → Tracks taken self.old.holes.items self.old.end →
-            IsLeastPlace taken kind.now place × Tracks (slot_at kind.now (address_of place) ∷ taken) self.new.holes.items self.new.end × (address_of place < self.new.end)) }
+            IsLeastPlace taken kind.now place
+            × Tracks (slot_at kind.now (address_of place) ∷ taken) self.new.holes.items self.new.end
+            × (address_of place < self.new.end)) }
         ensures end { OnOk result (self.new.end ≤ self.old.end + 192) }
     {
         let at = self.take_bits(kind.size(), kind.alignment())?;

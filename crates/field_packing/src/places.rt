@@ -5,8 +5,8 @@ ghost use Rattle.mj_schema.specs.declared.rows.DraftField.{DraftField};
 ghost use Rattle.mj_schema.specs.declared.rows.Place.{Place};
 ghost use Rattle.mj_schema.specs.Layout.{ArePacked};
 
-use mj_base::limits::MAX_FIELDS;
 use crate::packer::Packer;
+use mj_base::limits::MAX_FIELDS;
 use mj_schema::{DraftField, Kind, Place};
 use std::alloc::{AllocError, Global};
 

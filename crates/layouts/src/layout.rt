@@ -4,8 +4,8 @@ ghost use Rattle.std.specs.Prelude.{◌≡◌, map};
 ghost use Rattle.mj_schema.specs.declared.rows.DraftField.{DraftField};
 ghost use Rattle.mj_schema.specs.Layout.{never_fall};
 
-use mj_base::limits::MAX_FIELDS;
 use crate::kinds::kind_named;
+use mj_base::limits::MAX_FIELDS;
 use mj_base::{Items, Text};
 use mj_schema::{DraftField, DraftStruct, Place, VersionRow};
 use std::alloc::{AllocError, Global};

@@ -1,6 +1,6 @@
 //! Little-endian numbers in bytes.
 
-ghost use Rattle.std.specs.Prelude.{◌≡◌, ◌+◌, ◌≤◌, ◌^◌, ◌-◌, length, ℕ, ◌++◌, OnOk, take, drop};
+ghost use Rattle.std.specs.Prelude.{◌≡◌, ◌+◌, ◌≤◌, ◌^◌, ◌-◌, length, ℕ, ◌++◌, OnOk, OnErr, take, drop};
 ghost use Rattle.mj_base.specs.Bytes.{le16_at, le32_at, le64_at, le32_bytes, rounded8};
 
 use std::alloc::AllocError;
@@ -28,12 +28,13 @@ pub fn le64(bytes: &[u8], at: u64) -> u64
     requires { at + 8 ≤ length bytes.now }
     ensures { result ≡ le64_at bytes.now at }
 {
-    u64::from(le32(bytes, at)) + u64::from(le32(bytes, at + 4)) * 4294967296
+    u64::from(le32(bytes, at)) + u64::from(le32(bytes, at + 4)) * 0x1_0000_0000
 }
 
-/// Adds the four bytes of a number at the end.
+/// Adds the four bytes of a number at the end; without memory for them none is added.
 pub fn push_le32(out: &mut Vec<u8>, n: u32) -> Result<(), AllocError>
-    ensures { OnOk result (out.new.items ≡ out.old.items ++ le32_bytes n) }
+    ensures ok { OnOk result (out.new.items ≡ out.old.items ++ le32_bytes n) }
+    ensures err { OnErr result (out.new.items ≡ out.old.items) }
 {
     out.extend_from_slice(&n.to_le_bytes())
 }

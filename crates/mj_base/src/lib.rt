@@ -11,7 +11,7 @@ mod text;
 
 pub use bytes::{le16, le32, le64, push_le32, round8};
 pub use distinct::are_distinct;
-pub use header::Header;
+pub use header::{EXPECTS_RESPONSE, HEADER_BYTES, Header, IS_RESPONSE};
 pub use ids::{EndId, SeqId, Span};
 pub use items::Items;
 pub use text::Text;

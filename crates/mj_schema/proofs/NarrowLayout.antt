@@ -1,4 +1,4 @@
--- Unsigned integers of 32 bits lie one behind the other.
+-- Narrow fields lie one behind another.
 use Rattle.std.proofs.Common.{◌≡◌, ℕ, zero, suc, ◌+◌, ◌*◌, ◌/◌, ◌%◌, ◌≤◌, inl, inr, Bool, true, List, [], ◌∷◌, length, refl, ap, ◌∙◌, arith}
 use Rattle.std.specs.Prelude.{◌==◌, ◌&&◌, nat_le, max, map}
 use Rattle.std.specs.List.{list_all}
@@ -11,30 +11,28 @@ use Rattle.mj_schema.specs.declared.rows.FieldRow.{FieldRow}
 use Rattle.mj_schema.specs.declared.rows.Place.{Place}
 use Rattle.mj_schema.specs.declared.rows.StructRow.{StructRow}
 use Rattle.mj_schema.specs.Sizes.{size_of, alignment_of}
-use Rattle.mj_schema.specs.Narrow.{is_uint32}
+use Rattle.mj_schema.specs.Narrow.{is_narrow_kind, is_narrow, AreNarrowPlaces, HasNarrowLayout}
 use Rattle.mj_schema.specs.Layout.{Slot, is_free, address_of, IsLeastPlace, ArePacked, kind_of, place_of, IsLaidOut}
-use Rattle.mj_schema.specs.Narrow.{is_narrow}
 use Rattle.mj_schema.specs.Versions.{end_of, greatest, fields_up_to, versions_behind}
-use Rattle.mj_schema.specs.Narrow.{AreOneBehindAnother, TakesFourBytesEach}
 use Rattle.mj_schema.proofs.Apart.{free_cons, cons_free}
 
-uint32_room : (kind : Kind) → is_uint32 kind ≡ true → (size_of kind ≡ 32) × (alignment_of kind ≡ 32)
-uint32_room kinds.Bool e = absurd cc
-uint32_room (kinds.Int Bits8 signed) e = absurd cc
-uint32_room (kinds.Int Bits16 signed) e = absurd cc
-uint32_room (kinds.Int Bits32 signed) e = (refl, refl)
-uint32_room (kinds.Int Bits64 signed) e = absurd cc
-uint32_room (kinds.Enum number) e = absurd cc
-uint32_room (kinds.Text nullable) e = absurd cc
-uint32_room (kinds.Handle sort nullable) e = absurd cc
-uint32_room (kinds.Array' p of count nullable) e = absurd cc
-uint32_room (kinds.Map' p key q value nullable) e = absurd cc
-uint32_room (kinds.Struct number nullable) e = absurd cc
-uint32_room (kinds.Union number nullable) e = absurd cc
-uint32_room (kinds.Remote interface nullable) e = absurd cc
-uint32_room (kinds.Receiver interface nullable) e = absurd cc
-uint32_room (kinds.AssociatedRemote interface nullable) e = absurd cc
-uint32_room (kinds.AssociatedReceiver interface nullable) e = absurd cc
+narrow_room : (kind : Kind) → is_narrow_kind kind ≡ true → (size_of kind ≡ 32) × (alignment_of kind ≡ 32)
+narrow_room kinds.Bool e = absurd cc
+narrow_room (kinds.Int Bits8 signed) e = absurd cc
+narrow_room (kinds.Int Bits16 signed) e = absurd cc
+narrow_room (kinds.Int Bits32 signed) e = (refl, refl)
+narrow_room (kinds.Int Bits64 signed) e = absurd cc
+narrow_room (kinds.Enum number) e = absurd cc
+narrow_room (kinds.Text nullable) e = absurd cc
+narrow_room (kinds.Handle sort nullable) e = absurd cc
+narrow_room (kinds.Array' p of count nullable) e = absurd cc
+narrow_room (kinds.Map' p key q value nullable) e = absurd cc
+narrow_room (kinds.Struct number nullable) e = absurd cc
+narrow_room (kinds.Union number nullable) e = absurd cc
+narrow_room (kinds.Remote interface nullable) e = absurd cc
+narrow_room (kinds.Receiver interface nullable) e = absurd cc
+narrow_room (kinds.AssociatedRemote interface nullable) e = absurd cc
+narrow_room (kinds.AssociatedReceiver interface nullable) e = absurd cc
 
 -- the slots of k fields
 abbrev word : ℕ → Slot
@@ -55,9 +53,9 @@ behind_free (suc k) q h =
     let le = behind_free k q parts.1 in
     elim parts.0 [ inl before ↦ omega arith | inr behind ↦ omega arith ]
 
-next_address : (k : ℕ) (kind : Kind) (place : Place) → is_uint32 kind ≡ true → IsLeastPlace (words k) kind place → (place.offset ≡ 4 * k) × (place.bit ≡ 0)
+next_address : (k : ℕ) (kind : Kind) (place : Place) → is_narrow_kind kind ≡ true → IsLeastPlace (words k) kind place → (place.offset ≡ 4 * k) × (place.bit ≡ 0)
 next_address k kind place is h =
-    let room = uint32_room kind is in
+    let room = narrow_room kind is in
     let at = address_of place in
     let aligned : at % 32 ≡ 0 = rw room.1 at h.aligned in
     let whole : 32 * (at / 32) ≡ at = omega arith in
@@ -68,15 +66,16 @@ next_address k kind place is h =
     (omega arith, omega arith)
 
 abbrev is_plain : FieldRow → Bool
-is_plain field = is_uint32 field.kind && (field.min_version == 0)
+is_plain field = is_narrow_kind field.kind && (field.min_version == 0)
 
-in_order : (k : ℕ) (fields : List FieldRow) → list_all is_plain fields ≡ true → ArePacked (words k) (map kind_of fields) (map place_of fields) → AreOneBehindAnother k fields
+in_order : (k : ℕ) (fields : List FieldRow) → list_all is_plain fields ≡ true → ArePacked (words k) (map kind_of fields) (map place_of fields)
+    → AreNarrowPlaces k fields
 in_order k [] all h = tt
 in_order k (field ∷ fields) all h =
     let parts = and_parts (is_plain field) (list_all is_plain fields) all in
-    let plain = and_parts (is_uint32 field.kind) (field.min_version == 0) parts.0 in
+    let plain = and_parts (is_narrow_kind field.kind) (field.min_version == 0) parts.0 in
     let here = next_address k field.kind (place_of field) plain.0 h.0 in
-    let room = uint32_room field.kind plain.0 in
+    let room = narrow_room field.kind plain.0 in
     let address : address_of (place_of field) ≡ 32 * k = omega (arith, here.0, here.1) in
     let rest : ArePacked (word (32 * k) ∷ words k) (map kind_of fields) (map place_of fields) = rw (address, room.0) at h.1 in
     (here.0, here.1, in_order (suc k) fields parts.1 rest)
@@ -85,31 +84,33 @@ no_more_versions : (fields : List FieldRow) → list_all is_plain fields ≡ tru
 no_more_versions [] all = refl
 no_more_versions (field ∷ fields) all =
     let parts = and_parts (is_plain field) (list_all is_plain fields) all in
-    let plain = and_parts (is_uint32 field.kind) (field.min_version == 0) parts.0 in
+    let plain = and_parts (is_narrow_kind field.kind) (field.min_version == 0) parts.0 in
     rw plain.1 (no_more_versions fields parts.1)
 
 all_fields : (fields : List FieldRow) → list_all is_plain fields ≡ true → fields_up_to 0 fields ≡ fields
 all_fields [] all = refl
 all_fields (field ∷ fields) all =
     let parts = and_parts (is_plain field) (list_all is_plain fields) all in
-    let plain = and_parts (is_uint32 field.kind) (field.min_version == 0) parts.0 in
+    let plain = and_parts (is_narrow_kind field.kind) (field.min_version == 0) parts.0 in
     let zero_is = (Decides-eqb field.min_version 0).0 plain.1 in
     let there : nat_le field.min_version 0 ≡ true = le-leb field.min_version 0 (omega arith) in
     rw there (ap (λ (fs : List FieldRow). field ∷ fs) (all_fields fields parts.1))
 
 -- the greatest end, where so many fields stand before
-greatest_end : (k : ℕ) (fields : List FieldRow) → list_all is_plain fields ≡ true → AreOneBehindAnother k fields → max (4 * k) (greatest (map end_of fields)) ≡ 4 * (k + length fields)
+greatest_end : (k : ℕ) (fields : List FieldRow) → list_all is_plain fields ≡ true → AreNarrowPlaces k fields
+    → max (4 * k) (greatest (map end_of fields)) ≡ 4 * (k + length fields)
 greatest_end k [] all h = omega arith
 greatest_end k (field ∷ fields) all h =
     let parts = and_parts (is_plain field) (list_all is_plain fields) all in
-    let plain = and_parts (is_uint32 field.kind) (field.min_version == 0) parts.0 in
-    let room = uint32_room field.kind plain.0 in
+    let plain = and_parts (is_narrow_kind field.kind) (field.min_version == 0) parts.0 in
+    let room = narrow_room field.kind plain.0 in
     let later = greatest_end (suc k) fields parts.1 h.2 in
     let here : end_of field ≡ 4 * suc k = rw room.0 (omega (arith, h.0)) in
     let offset = h.0 in
     omega arith
 
-pub narrow_layout : (row : StructRow) → IsLaidOut row → is_narrow row ≡ true → TakesFourBytesEach row
+-- the law of narrow structs: for `narrow_fields_take_four_bytes`
+pub narrow_layout : (row : StructRow) → IsLaidOut row → is_narrow row ≡ true → HasNarrowLayout row
 narrow_layout row is all =
     let order = in_order 0 row.fields all is.packed in
     let end = greatest_end 0 row.fields all order in

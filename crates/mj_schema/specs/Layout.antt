@@ -48,9 +48,11 @@ ArePacked taken [] (place ∷ places) = ⊥
 ArePacked taken (kind ∷ kinds) [] = ⊥
 ArePacked taken (kind ∷ kinds) (place ∷ places) = IsLeastPlace taken kind place × ArePacked (slot_at kind (address_of place) ∷ taken) kinds places
 
+-- what a field holds
 abbrev pub kind_of : FieldRow → Kind
 kind_of field = field.kind
 
+-- where a field lies
 abbrev pub place_of : FieldRow → Place
 place_of field = record { offset = field.offset; bit = field.bit }
 
@@ -77,11 +79,13 @@ abbrev pub field_rows : ℕ → List DraftField → List Place → List FieldRow
 field_rows k [] places = []
 field_rows k (field ∷ fields) [] = []
 field_rows k (field ∷ fields) (place ∷ places) =
-    record { name = field.name; ordinal = k; kind = field.kind; offset = place.offset; bit = place.bit; min_version = field.min_version } ∷ field_rows (k + 1) fields places
+    record { name = field.name; ordinal = k; kind = field.kind; offset = place.offset; bit = place.bit; min_version = field.min_version }
+    ∷ field_rows (k + 1) fields places
 
--- the struct without places and rows
+-- a field without its place
 abbrev pub draft_field : FieldRow → DraftField
 draft_field field = record { name = field.name; kind = field.kind; min_version = field.min_version }
 
+-- a struct without places and rows
 abbrev pub draft_of : StructRow → DraftStruct
 draft_of row = record { name = row.name; fields = map draft_field row.fields }

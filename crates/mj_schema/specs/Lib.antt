@@ -1,6 +1,6 @@
 pub mod Sizes
 pub mod Versions
 pub mod Layout
-pub mod Proper
 pub mod Narrow
 pub mod Lookups
+pub mod steps

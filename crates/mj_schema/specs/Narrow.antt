@@ -1,4 +1,4 @@
--- The structs that are read and written until other kinds are: fields of `uint32` that are there from version 0 on.
+-- The narrow form: what is encoded until other kinds are. A narrow struct has `uint32` fields alone, all there from version 0 on.
 use Rattle.std.specs.Prelude.{ℕ, suc, ◌+◌, ◌*◌, ◌≡◌, ◌&&◌, ◌==◌, Bool, true, false, List, [], ◌∷◌, length}
 use Rattle.std.specs.List.{list_all}
 use Rattle.mj_base.specs.Bytes.{rounded8}
@@ -9,32 +9,33 @@ use Rattle.mj_schema.specs.declared.rows.DraftField.{DraftField}
 use Rattle.mj_schema.specs.declared.rows.FieldRow.{FieldRow}
 use Rattle.mj_schema.specs.declared.rows.StructRow.{StructRow}
 
--- an unsigned integer of 32 bits
-abbrev pub is_uint32 : Kind → Bool
-is_uint32 (kinds.Int Bits32 false) = true
-is_uint32 _ = false
+-- the one narrow kind, `uint32`
+abbrev pub narrow_kind : Kind
+narrow_kind = kinds.Int Bits32 false
 
-abbrev pub uint32 : Kind
-uint32 = kinds.Int Bits32 false
+-- whether a kind is the narrow one
+abbrev pub is_narrow_kind : Kind → Bool
+is_narrow_kind (kinds.Int Bits32 false) = true
+is_narrow_kind _ = false
 
--- a field of an unsigned integer of 32 bits, there from version 0 on
+-- the narrow field of this name as it is declared
 abbrev pub narrow_field : List ℕ → DraftField
-narrow_field name = record { name = name; kind = uint32; min_version = 0 }
+narrow_field name = record { name = name; kind = narrow_kind; min_version = 0 }
 
--- the struct has the version 0 alone, and its fields are unsigned integers of 32 bits
+-- whether each field of a struct is narrow and there from version 0 on
 abbrev pub is_narrow : StructRow → Bool
-is_narrow row = list_all (λ (field : FieldRow). is_uint32 field.kind && (field.min_version == 0)) row.fields
+is_narrow row = list_all (λ (field : FieldRow). is_narrow_kind field.kind && (field.min_version == 0)) row.fields
 
--- the bytes of a struct of n unsigned integers of 32 bits with its header
-abbrev pub struct_bytes : ℕ → ℕ
-struct_bytes n = rounded8 (8 + 4 * n)
+-- the bytes of a struct of so many narrow fields: 8 of its header and 4 for each, rounded up to a multiple of 8
+abbrev pub narrow_struct_bytes : ℕ → ℕ
+narrow_struct_bytes count = rounded8 (8 + 4 * count)
 
--- each field behind those before it, four bytes each, where k stand before
-abbrev pub AreOneBehindAnother : ℕ → List FieldRow → Type 0
-AreOneBehindAnother k [] = Unit {0}
-AreOneBehindAnother k (field ∷ fields) = (field.offset ≡ 4 * k) × (field.bit ≡ 0) × AreOneBehindAnother (suc k) fields
+-- narrow fields lie one behind another, each in its four bytes, where so many lie before them
+abbrev pub AreNarrowPlaces : ℕ → List FieldRow → Type 0
+AreNarrowPlaces before [] = Unit {0}
+AreNarrowPlaces before (field ∷ fields) = (field.offset ≡ 4 * before) × (field.bit ≡ 0) × AreNarrowPlaces (suc before) fields
 
--- a struct of the one version 0, each of whose fields has four bytes
-pub record TakesFourBytesEach (row : StructRow) : Type 0 where
-  pub fields : AreOneBehindAnother 0 row.fields
-  pub versions : row.versions ≡ record { version = 0; fields = length row.fields; bytes = struct_bytes (length row.fields) } ∷ []
+-- how a narrow struct is laid out: its fields one behind another, and the row of version 0 alone
+pub record HasNarrowLayout (row : StructRow) : Type 0 where
+  pub fields : AreNarrowPlaces 0 row.fields
+  pub versions : row.versions ≡ record { version = 0; fields = length row.fields; bytes = narrow_struct_bytes (length row.fields) } ∷ []

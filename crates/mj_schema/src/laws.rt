@@ -5,9 +5,8 @@ ghost use Rattle.mj_schema.specs.declared.kind.Kind.{Kind};
 ghost use Rattle.mj_schema.specs.declared.rows.Place.{Place};
 ghost use Rattle.mj_schema.specs.declared.rows.StructRow.{StructRow};
 ghost use Rattle.mj_schema.specs.Layout.{ArePacked, IsLaidOut, draft_of};
-ghost use Rattle.mj_schema.specs.Narrow.{is_narrow};
+ghost use Rattle.mj_schema.specs.Narrow.{is_narrow, HasNarrowLayout};
 ghost use Rattle.mj_schema.specs.Versions.{is_table};
-ghost use Rattle.mj_schema.specs.Narrow.{TakesFourBytesEach};
 
 /// Fields of some kinds have their places in one way.
 pub fn one_packing()
@@ -19,9 +18,10 @@ pub fn one_layout()
     ensures { (one two : StructRow) → IsLaidOut one → IsLaidOut two → draft_of one ≡ draft_of two → one ≡ two }
 {}
 
-/// Where all fields are unsigned integers of 32 bits, each has four bytes behind those before it.
+/// Where all fields are `uint32` and there from version 0 on, each has the four bytes behind those
+/// before it.
 pub fn narrow_fields_take_four_bytes()
-    ensures { (row : StructRow) → IsLaidOut row → IsTrue (is_narrow row) → TakesFourBytesEach row }
+    ensures { (row : StructRow) → IsLaidOut row → IsTrue (is_narrow row) → HasNarrowLayout row }
 {}
 
 /// The version rows of a struct begin with version 0, and their versions rise.

@@ -6,7 +6,7 @@ ghost use Rattle.std.specs.Option.{option_copied};
 ghost use Rattle.std.specs.Ordering.{int_eq};
 ghost use Rattle.mj_schema.specs.Layout.{IsLaidOut};
 ghost use Rattle.mj_schema.specs.Narrow.{is_narrow};
-ghost use Rattle.mj_schema.specs.Proper.{all_laid_out-prop};
+ghost use Rattle.mj_schema.specs.steps.Proper.{all_laid_out-prop};
 
 use crate::rows::{EnumRow, InterfaceRow, MemberRow, MethodRow, StructRow, UnionRow};
 use mj_base::Items;
@@ -21,7 +21,7 @@ pub struct Schema {
     pub interfaces: Items<InterfaceRow>,
     pub ghost few: { length interfaces < 2 ^ 32 },
     pub ghost laid_out: { AllByRecursion IsLaidOut structs } by { all_laid_out-prop structs },
-    // Until other kinds are encoded: what reads and writes messages takes each field for a uint32.
+    // The narrow form: what reads and writes messages takes each field for a `uint32`.
     pub ghost narrow: { IsTrue (list_all is_narrow structs) },
 }
 

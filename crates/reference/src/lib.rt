@@ -1,14 +1,10 @@
 //! The definitions computed literally on small inputs: plain, slow, and apart from the code that they
-//! are proved of. Tests compare it with worked examples and with the machine.
+//! are proved of. The tests of `worked_example` compare it with worked examples and with the machine.
 #![tactic(auto)]
 
-#[cfg(test)]
-mod history_tests;
 pub mod layout;
 mod machine;
 mod script;
-#[cfg(test)]
-mod tests;
 mod text;
 mod wire;
 

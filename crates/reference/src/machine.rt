@@ -1,8 +1,8 @@
 //! The machine, read off the events before: a past is the list of them, the oldest first.
 
-use mj_base::limits::MAX_UNREAD_MESSAGES;
 use crate::wire;
 use bind_model::{Asked, Binding, Event, Side, Taken, Told, Why};
+use mj_base::limits::MAX_UNREAD_MESSAGES;
 use mj_base::{EndId, Items, SeqId};
 use mj_schema::Schema;
 use std::alloc::{AllocError, Global};

@@ -7,4 +7,3 @@ pub mod Takes
 pub mod Steps
 pub mod Listed
 pub mod Whole
-pub mod PingScript

@@ -4,7 +4,5 @@
 mod lines;
 mod run;
 mod runner;
-#[cfg(test)]
-mod tests;
 
 pub use runner::{NoMemory, run_alone};

@@ -1,7 +1,7 @@
 //! What the lines of a script ask.
 
 ghost use Rattle.std.specs.Prelude.{◌≡◌, ◌≤◌, List, length, Some, IfOk};
-ghost use Rattle.mj_schema.specs.Narrow.{struct_bytes};
+ghost use Rattle.mj_schema.specs.Narrow.{narrow_struct_bytes};
 ghost use Rattle.wire_model.specs.Refusals.{parameter_count};
 ghost use Rattle.wire_model.specs.Tight.{HasTarget, IsPrepared};
 ghost use Rattle.bind_model.specs.declared.event.Asked.TheVariants as asks;
@@ -12,11 +12,11 @@ ghost use Rattle.call_script.specs.Spelling.{IsLine, interface_at};
 ghost use Rattle.script_run.specs.OfScript.{end_at, line_asks};
 ghost use Rattle.script_run.specs.Narrow.{IsNarrow};
 
-use mj_base::limits::MAX_PAYLOAD_BYTES;
 use crate::runner::NoMemory;
 use bind_core::Command;
 use call_script::{Line, Pipe, PipeEnd};
 use mj_base::EndId;
+use mj_base::limits::MAX_PAYLOAD_BYTES;
 use mj_schema::Schema;
 use std::alloc::Global;
 use wire_model::{MessageSide, PrepareError, Target, Value, prepare};
@@ -87,7 +87,7 @@ fn call(
 ) -> Result<Command, NoMemory>
     requires target { HasTarget schema.now target }
     requires fits { parameter_count schema.now target ≡ Some (length value.now) }
-    requires short { struct_bytes (length value.now) ≤ MAX_PAYLOAD_BYTES }
+    requires short { narrow_struct_bytes (length value.now) ≤ MAX_PAYLOAD_BYTES }
     ensures asked { IfOk result (λ command. asked_of command ≡ asks.Call end 0 target value.now) }
     ensures allowed { IfOk result (λ command. IsPrepared schema.now target value.now) }
 {

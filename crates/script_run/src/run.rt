@@ -1,6 +1,6 @@
 //! A run, a step at a time.
 
-ghost use Rattle.std.specs.Prelude.{◌≡◌, ◌≢◌, ◌+◌, ◌<◌, ◌≤◌, List, [], ◌∷◌, ◌++◌, length, map, IfOk, OnOk, vec_len, vec_capacity};
+ghost use Rattle.std.specs.Prelude.{◌≡◌, ◌≢◌, ◌+◌, ◌*◌, ◌<◌, ◌≤◌, List, [], ◌∷◌, ◌++◌, length, map, IfOk, OnOk, vec_len, vec_capacity};
 ghost use Rattle.std.specs.List.{AllByRecursion};
 ghost use Rattle.std.specs.Arc.{arc_value};
 ghost use Rattle.mj_base.specs.declared.ids.EndId.{EndId};
@@ -13,12 +13,12 @@ ghost use Rattle.script_run.specs.OfScript.{IsPart, PastOfScript, sequence_0, ne
 ghost use Rattle.script_run.specs.Narrow.{IsNarrow};
 ghost use Rattle.script_run.specs.Going.{past_of, IsGoing, Went, DidPart, BoundFirst};
 
-use mj_base::limits::{MAX_EVENTS, MAX_SCRIPT_LINES};
 use crate::lines::command_of_line;
 use crate::runner::NoMemory;
 use bind_core::{Command, Core, Handle, Handles, Refused, Reply};
 use bind_model::{History, Side};
 use call_script::{Line, Pipe, Script};
+use mj_base::limits::{MAX_EVENTS, MAX_SCRIPT_LINES};
 use mj_base::{EndId, SeqId};
 use mj_schema::Schema;
 use std::alloc::Global;

@@ -1,6 +1,6 @@
 //! A whole run.
 
-ghost use Rattle.std.specs.Prelude.{◌≤◌, length, reverse, IfOk};
+ghost use Rattle.std.specs.Prelude.{◌*◌, ◌≤◌, length, reverse, IfOk};
 ghost use Rattle.std.specs.Arc.{arc_value};
 ghost use Rattle.bind_model.specs.Machine.{Legal};
 ghost use Rattle.bind_model.specs.Laws.{AllAllowed};
@@ -8,10 +8,10 @@ ghost use Rattle.call_script.specs.Spelling.{IsScript};
 ghost use Rattle.script_run.specs.OfScript.{OfScript};
 ghost use Rattle.script_run.specs.Narrow.{IsNarrow};
 
-use mj_base::limits::MAX_SCRIPT_LINES;
 use crate::run::Run;
 use bind_model::History;
 use call_script::Script;
+use mj_base::limits::MAX_SCRIPT_LINES;
 use mj_schema::Schema;
 use std::alloc::Global;
 use std::sync::Arc;

@@ -14,6 +14,7 @@ use Rattle.mj_schema.specs.Layout.{Slot, slot_at, address_of, ArePacked, kind_of
 use Rattle.mj_schema.specs.Versions.{version_rows}
 use Rattle.version_tables.proofs.Growing.{length-field_rows}
 
+-- as many places as kinds: for `lay_out`
 pub packed_length : (taken : List Slot) (ks : List Kind) (ps : List Place) → ArePacked taken ks ps → length ps ≡ length ks
 packed_length taken [] [] h = refl
 packed_length taken [] (p ∷ ps) h = absurd h
@@ -45,7 +46,12 @@ kept k (f ∷ fs) (p ∷ ps) same =
       drafts = ap (λ (gs : List DraftField). f ∷ gs) rest.drafts;
     }
 
-pub laid_out : (name : List ℕ) (fs : List DraftField) (ps : List Place) (rows : List FieldRow) (versions : List VersionRow) → length fs ≤ MAX_FIELDS → never_fall 0 (map (λ (f : DraftField). f.min_version) fs) ≡ true → ArePacked [] (map (λ (f : DraftField). f.kind) fs) ps → length ps ≡ length fs → rows ≡ field_rows 0 fs ps → versions ≡ version_rows (field_rows 0 fs ps) → IsLaidOut (record { name = name; fields = rows; versions = versions }) × (draft_of (record { name = name; fields = rows; versions = versions }) ≡ record { name = name; fields = fs })
+-- the struct that `lay_out` gives is laid out, and has its draft
+pub laid_out : (name : List ℕ) (fs : List DraftField) (ps : List Place) (rows : List FieldRow) (versions : List VersionRow) → length fs ≤ MAX_FIELDS
+    → never_fall 0 (map (λ (f : DraftField). f.min_version) fs) ≡ true → ArePacked [] (map (λ (f : DraftField). f.kind) fs) ps → length ps ≡ length fs
+    → rows ≡ field_rows 0 fs ps → versions ≡ version_rows (field_rows 0 fs ps)
+    → IsLaidOut (record { name = name; fields = rows; versions = versions }) × (draft_of (record { name = name; fields = rows; versions = versions })
+    ≡ record { name = name; fields = fs })
 laid_out name fs ps rows versions few rising packed same rows-is versions-is =
     let k = kept 0 fs ps same in
     let is : IsLaidOut (record { name = name; fields = field_rows 0 fs ps; versions = version_rows (field_rows 0 fs ps) }) = record {
@@ -55,5 +61,6 @@ laid_out name fs ps rows versions few rising packed same rows-is versions-is =
       packed = rw (k.kinds, k.places) packed;
       versions = refl;
     } in
-    let same_draft : ◌≡◌ {A = DraftStruct} (record { name = name; fields = map draft_field (field_rows 0 fs ps) }) (record { name = name; fields = fs }) = ap (λ (gs : List DraftField). record { name = name; fields = gs }) k.drafts in
+    let same_draft : ◌≡◌ {A = DraftStruct} (record { name = name; fields = map draft_field (field_rows 0 fs ps) })
+    (record { name = name; fields = fs }) = ap (λ (gs : List DraftField). record { name = name; fields = gs }) k.drafts in
     rw (rows-is, versions-is) (is, same_draft)

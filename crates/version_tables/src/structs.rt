@@ -5,9 +5,9 @@ ghost use Rattle.mj_schema.specs.declared.rows.DraftField.{DraftField};
 ghost use Rattle.mj_schema.specs.Layout.{IsLaidOut, draft_of, field_rows, never_fall};
 ghost use Rattle.mj_schema.specs.Narrow.{is_narrow, narrow_field};
 
-use mj_base::limits::MAX_FIELDS;
 use crate::rows::table;
 use field_packing::pack_fields;
+use mj_base::limits::MAX_FIELDS;
 use mj_base::{Items, Text};
 use mj_schema::{DraftField, DraftStruct, FieldRow, Kind, Place, StructRow};
 use std::alloc::{AllocError, Global};

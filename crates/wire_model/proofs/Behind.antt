@@ -8,7 +8,7 @@ use Rattle.mj_base.specs.Bytes.{le32_at}
 use Rattle.mj_base.specs.Header.{has_header, header_fields}
 use Rattle.mj_schema.specs.declared.schema.Schema.{Schema}
 use Rattle.mj_schema.specs.declared.rows.StructRow.{StructRow}
-use Rattle.mj_schema.specs.Narrow.{struct_bytes}
+use Rattle.mj_schema.specs.Narrow.{narrow_struct_bytes}
 use Rattle.mj_schema.specs.Lookups.{request_of}
 use Rattle.wire_model.specs.declared.wire_decoder.Request.{Request}
 use Rattle.wire_model.specs.Stands.{has_row, has_struct, numbers_at, request_with, request_in}
@@ -51,8 +51,8 @@ module _ (bytes more : List ℕ) where
       let flags = le32_at-front 16 (omega arith) in
       rw (long, size, version, flags) parts.1
 
-  has_row-large : (size version fields : ℕ) → has_row size version fields ≡ true → struct_bytes fields ≤ size
-  has_row-large size zero fields is = let e : size ≡ struct_bytes fields = grind (arith, nat_tests) in omega arith
+  has_row-large : (size version fields : ℕ) → has_row size version fields ≡ true → narrow_struct_bytes fields ≤ size
+  has_row-large size zero fields is = let e : size ≡ narrow_struct_bytes fields = grind (arith, nat_tests) in omega arith
   has_row-large size (suc version) fields is = grind (arith, nat_tests)
 
   has_struct-front : (at fields : ℕ) → has_struct bytes at fields ≡ true → (has_struct (bytes ++ more) at fields ≡ true) × (at + 8 + 4 * fields ≤ length bytes)

@@ -8,7 +8,7 @@ use Rattle.mj_base.specs.declared.limits.TheConstants.{MAX_PAYLOAD_BYTES}
 use Rattle.mj_base.specs.Bytes.{le32_at, le32_bytes}
 use Rattle.mj_base.specs.Header.{header_of, header_bytes}
 use Rattle.mj_schema.specs.declared.schema.Schema.{Schema}
-use Rattle.mj_schema.specs.Narrow.{struct_bytes}
+use Rattle.mj_schema.specs.Narrow.{narrow_struct_bytes}
 use Rattle.wire_model.specs.declared.target.Target.{Target}
 use Rattle.wire_model.specs.declared.wire_decoder.Request.{Request}
 use Rattle.wire_model.specs.Tight.{params_bytes, message_bytes, IsPrepared}
@@ -20,10 +20,10 @@ length-flat_map : (values : List ℕ) → length (flat_map le32_bytes values) �
 length-flat_map [] = refl
 length-flat_map (n ∷ values) = omega (arith, length-flat_map values)
 
-pub length-params_bytes : (values : List ℕ) → length (params_bytes values) ≡ struct_bytes (length values)
+pub length-params_bytes : (values : List ℕ) → length (params_bytes values) ≡ narrow_struct_bytes (length values)
 length-params_bytes values =
-    let zeros : List ℕ = replicate (struct_bytes (length values) - (8 + 4 * length values)) 0 in
-    omega (arith, length-append (flat_map le32_bytes values) zeros, length-flat_map values, length-replicate {A = ℕ} (struct_bytes (length values) - (8 + 4 * length values)) 0)
+    let zeros : List ℕ = replicate (narrow_struct_bytes (length values) - (8 + 4 * length values)) 0 in
+    omega (arith, length-append (flat_map le32_bytes values) zeros, length-flat_map values, length-replicate {A = ℕ} (narrow_struct_bytes (length values) - (8 + 4 * length values)) 0)
 
 -- the header is one, of this id and this name
 pub header_of-header_bytes : (id name : ℕ) (payload : List ℕ) → id < 2 ^ 32 → name < 2 ^ 32 → header_of (header_bytes id name ++ payload) ≡ Some (record {
@@ -45,11 +45,11 @@ header_of-header_bytes id name payload small named =
     rw (whole, long, id_is, name_is, left) refl
 
 -- a struct that was written gives its numbers
-pub struct_at-params_bytes : (front values : List ℕ) → All (λ n. n < 2 ^ 32) values → struct_bytes (length values) ≤ MAX_PAYLOAD_BYTES → struct_at (front ++ params_bytes values) (length front) (length values) ≡ Some values
+pub struct_at-params_bytes : (front values : List ℕ) → All (λ n. n < 2 ^ 32) values → narrow_struct_bytes (length values) ≤ MAX_PAYLOAD_BYTES → struct_at (front ++ params_bytes values) (length front) (length values) ≡ Some values
 struct_at-params_bytes front values small short =
     let bytes = front ++ params_bytes values in
     let at = length front in
-    let size = struct_bytes (length values) in
+    let size = narrow_struct_bytes (length values) in
     let whole : length bytes ≡ at + size = length-append front (params_bytes values) ∙ ap (λ n. at + n) (length-params_bytes values) in
     let there : at + 0 ≡ at = omega arith in
     let size_is : le32_at bytes at ≡ size = rw there at (le32_at-append front (params_bytes values) 0) ∙ le32_at-le32_bytes size (drop 4 (params_bytes values)) (omega arith) in

@@ -4,7 +4,7 @@ use Rattle.std.specs.Option.{option_map}
 use Rattle.mj_base.specs.declared.limits.TheConstants.{MAX_PAYLOAD_BYTES}
 use Rattle.mj_schema.specs.declared.schema.Schema.{Schema}
 use Rattle.mj_schema.specs.declared.rows.StructRow.{StructRow}
-use Rattle.mj_schema.specs.Narrow.{struct_bytes}
+use Rattle.mj_schema.specs.Narrow.{narrow_struct_bytes}
 use Rattle.mj_schema.specs.Lookups.{request_of}
 use Rattle.wire_model.specs.declared.target.Target.{Target}
 use Rattle.wire_model.specs.declared.wire_encoder.PrepareError.{PrepareError}
@@ -18,5 +18,5 @@ parameter_count schema target = option_map (λ (row : StructRow). length row.fie
 -- where its struct has more than 16,777,216 bytes; want of memory may come at any value
 abbrev pub IsPrepareRefusal : Schema → Target → List ℕ → PrepareError → Type 0
 IsPrepareRefusal schema target value (Misfit path) = (path ≡ []) × ¬ (parameter_count schema target ≡ Some (length value))
-IsPrepareRefusal schema target value TooLong = (parameter_count schema target ≡ Some (length value)) × (MAX_PAYLOAD_BYTES < struct_bytes (length value))
+IsPrepareRefusal schema target value TooLong = (parameter_count schema target ≡ Some (length value)) × (MAX_PAYLOAD_BYTES < narrow_struct_bytes (length value))
 IsPrepareRefusal schema target value Memory = Unit {0}

@@ -5,13 +5,13 @@ use Rattle.mj_base.specs.Header.{header_of}
 use Rattle.mj_base.specs.declared.header.Header.{Header}
 use Rattle.mj_schema.specs.declared.schema.Schema.{Schema}
 use Rattle.mj_schema.specs.declared.rows.StructRow.{StructRow}
-use Rattle.mj_schema.specs.Narrow.{struct_bytes}
+use Rattle.mj_schema.specs.Narrow.{narrow_struct_bytes}
 use Rattle.mj_schema.specs.Lookups.{request_of}
 use Rattle.wire_model.specs.declared.wire_decoder.Request.{Request}
 
 -- the row rule: a struct of the known version has exactly its bytes, a newer one at least as many
 abbrev pub has_row : ℕ → ℕ → ℕ → Bool
-has_row num_bytes version fields = if version == 0 then num_bytes == struct_bytes fields else nat_le (struct_bytes fields) num_bytes
+has_row num_bytes version fields = if version == 0 then num_bytes == narrow_struct_bytes fields else nat_le (narrow_struct_bytes fields) num_bytes
 
 -- the numbers of so many fields, one behind the other
 abbrev pub numbers_at : List ℕ → ℕ → ℕ → List ℕ

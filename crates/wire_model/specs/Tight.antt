@@ -6,14 +6,14 @@ use Rattle.mj_base.specs.Bytes.{le32_bytes}
 use Rattle.mj_base.specs.Header.{header_bytes}
 use Rattle.mj_schema.specs.declared.schema.Schema.{Schema}
 use Rattle.mj_schema.specs.declared.rows.StructRow.{StructRow}
-use Rattle.mj_schema.specs.Narrow.{struct_bytes}
+use Rattle.mj_schema.specs.Narrow.{narrow_struct_bytes}
 use Rattle.mj_schema.specs.Lookups.{request_of}
 use Rattle.wire_model.specs.declared.target.Target.{Target}
 use Rattle.wire_model.specs.declared.target.MessageSide.TheVariants.{Request}
 
 -- a parameter struct: num_bytes, version 0, its numbers, and zeros up to a multiple of 8
 abbrev pub params_bytes : List ℕ → List ℕ
-params_bytes values = le32_bytes (struct_bytes (length values)) ++ (le32_bytes 0 ++ (flat_map le32_bytes values ++ replicate (struct_bytes (length values) - (8 + 4 * length values)) 0))
+params_bytes values = le32_bytes (narrow_struct_bytes (length values)) ++ (le32_bytes 0 ++ (flat_map le32_bytes values ++ replicate (narrow_struct_bytes (length values) - (8 + 4 * length values)) 0))
 
 -- a message to the endpoint of this id: its header, and its parameter struct as the payload
 unfoldable pub message_bytes : ℕ → ℕ → List ℕ → List ℕ
@@ -29,6 +29,6 @@ pub record IsPrepared (schema : Schema) (target : Target) (value : List ℕ) : T
   pub there : request_of schema target.interface target.method ≡ Some row
   pub request : target.side ≡ Request
   pub count : length value ≡ length row.fields
-  pub short : struct_bytes (length value) ≤ MAX_PAYLOAD_BYTES
+  pub short : narrow_struct_bytes (length value) ≤ MAX_PAYLOAD_BYTES
   pub small : All (λ n. n < 2 ^ 32) value
   pub named : target.method < 2 ^ 32

@@ -6,8 +6,6 @@ mod message_header;
 mod numbers;
 mod struct_size;
 mod target;
-#[cfg(test)]
-mod tests;
 mod wire_decoder;
 mod wire_encoder;
 

@@ -1,14 +1,11 @@
 //! The header of a message in bytes.
 
-ghost use Rattle.std.specs.Prelude.{◌≡◌, ◌++◌, OnOk};
-ghost use Rattle.mj_base.specs.Header.{has_header, header_of, header_bytes};
+ghost use Rattle.std.specs.Prelude.{◌≡◌, ◌<◌, ◌++◌, OnOk};
+ghost use Rattle.mj_base.specs.Header.{has_flag, has_header, header_of, header_bytes};
 
 use crate::numbers::push_numbers;
-use mj_base::{Header, Span, le32};
+use mj_base::{EXPECTS_RESPONSE, HEADER_BYTES, Header, IS_RESPONSE, Span, le32};
 use std::alloc::AllocError;
-
-/// The bytes of a header without a request id.
-const HEADER_BYTES: u32 = 24;
 
 /// The header that the bytes begin with; none exactly where they begin with none.
 pub fn read_header(bytes: &[u8]) -> Option<Header>
@@ -39,10 +36,19 @@ pub fn read_header(bytes: &[u8]) -> Option<Header>
 fn has_header(bytes: &[u8]) -> bool
     ensures { result ≡ has_header bytes.now }
 {
-    bytes.len() >= 24
+    bytes.len() >= HEADER_BYTES as usize
         && le32(bytes, 0) == HEADER_BYTES
         && le32(bytes, 4) == 0
-        && le32(bytes, 16) % 4 == 0
+        && !has_flag(le32(bytes, 16), EXPECTS_RESPONSE)
+        && !has_flag(le32(bytes, 16), IS_RESPONSE)
+}
+
+/// Whether a flag, a power of 2, is among the flags.
+fn has_flag(flags: u32, flag: u32) -> bool
+    requires { 0 < flag }
+    ensures { result ≡ has_flag flags flag }
+{
+    flags / flag % 2 == 1
 }
 
 /// Adds the header of a request that expects no response.

@@ -1,15 +1,15 @@
 //! Encoding: a value is prepared first, and sealed when its endpoint is known.
 
 ghost use Rattle.std.specs.Prelude.{◌≡◌, ◌++◌, ◌<◌, ◌^◌, OnOk, IfOk, IfErr, Some, length};
-ghost use Rattle.mj_schema.specs.Narrow.{struct_bytes};
+ghost use Rattle.mj_schema.specs.Narrow.{narrow_struct_bytes};
 ghost use Rattle.wire_model.specs.Refusals.{parameter_count, IsPrepareRefusal};
 ghost use Rattle.wire_model.specs.Tight.{message_bytes, params_bytes, HasTarget, IsPrepared};
 
-use mj_base::limits::MAX_PAYLOAD_BYTES;
 use crate::message_header::push_header;
 use crate::numbers::push_numbers;
 use crate::struct_size::struct_size;
 use crate::target::{Target, Value};
+use mj_base::limits::MAX_PAYLOAD_BYTES;
 use mj_base::{Items, push_le32};
 use mj_schema::Schema;
 use std::alloc::{AllocError, Global};
@@ -133,7 +133,7 @@ fn parameter_count(schema: &Schema, target: Target) -> usize
 
 /// The struct of the parameters.
 fn params_payload(alloc: Global, values: &[u32]) -> Result<Items<u8>, AllocError>
-    requires { struct_bytes (length values.now) < 2 ^ 32 }
+    requires { narrow_struct_bytes (length values.now) < 2 ^ 32 }
     ensures { IfOk result (λ bytes. bytes ≡ params_bytes values.now) }
 {
     let mut payload = Vec::new(alloc);

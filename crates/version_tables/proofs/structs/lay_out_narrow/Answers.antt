@@ -9,4 +9,5 @@ lay_out-requires-clause-rising c = rw (c.from_vec.ensures, c.in_ok-fields.ensure
 pub returns-clause-narrow : goal.returns-clause-narrow
 returns-clause-narrow c =
     let made = c.from_vec.ensures ∙ c.in_ok-fields.ensures in
-    if_ok c.lay_out.result _ _ (λ row e. is_narrow_struct row c.args.name c.args.fields.now (e ∙ ap (λ fields. let draft : DraftStruct = record { name = c.args.name; fields = fields } in draft) made)) c.lay_out.ensures.draft
+    if_ok c.lay_out.result _ _ (λ row e. is_narrow_struct row c.args.name c.args.fields.now
+    (e ∙ ap (λ fields. let draft : DraftStruct = record { name = c.args.name; fields = fields } in draft) made)) c.lay_out.ensures.draft

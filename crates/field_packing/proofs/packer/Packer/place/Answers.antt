@@ -22,4 +22,10 @@ returns-clause-least c taken tracks =
 pub returns-clause-end : goal.returns-clause-end
 returns-clause-end c =
     let positive : 0 < c.alignment.result = omega (arith, c.alignment.ensures.bounds) in
-    omega (arith, c.in_ok-at.ensures.end, end_below c.size.result c.alignment.result c.args.self.now.end c.args.self.now.holes.items positive, c.size.ensures.bounds, c.alignment.ensures.bounds)
+    omega (
+      arith,
+      c.in_ok-at.ensures.end,
+      end_below c.size.result c.alignment.result c.args.self.now.end c.args.self.now.holes.items positive,
+      c.size.ensures.bounds,
+      c.alignment.ensures.bounds,
+    )
