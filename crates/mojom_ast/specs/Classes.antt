@@ -11,6 +11,7 @@ use Rattle.mojom_ast.specs.declared.token.Sort.{Sort}
 use Rattle.mojom_ast.specs.declared.token.Sort.TheVariants as sorts
 use Rattle.mojom_ast.specs.declared.token.Token.{Token}
 
+-- the class of a keyword
 abbrev pub keyword_class : Keyword → ℕ
 keyword_class keywords.Module = MODULE
 keyword_class keywords.Import = IMPORT
@@ -29,6 +30,7 @@ keyword_class keywords.PendingReceiver = PENDING_RECEIVER
 keyword_class keywords.PendingAssociatedRemote = PENDING_ASSOCIATED_REMOTE
 keyword_class keywords.PendingAssociatedReceiver = PENDING_ASSOCIATED_RECEIVER
 
+-- the class of a symbol
 abbrev pub symbol_class : Symbol → ℕ
 symbol_class symbols.Semicolon = SEMICOLON
 symbol_class symbols.Comma = COMMA
@@ -58,6 +60,7 @@ identifier_class text =
     else (if bytes_eq text (codes "platform") then PLATFORM
     else IDENTIFIER))))
 
+-- the class of what a token is
 abbrev pub class_of : Sort → ℕ
 class_of (sorts.Identifier text) = identifier_class text
 class_of (sorts.Number n) = NUMBER
@@ -65,6 +68,7 @@ class_of (sorts.String bytes) = STRING
 class_of (sorts.Keyword k) = keyword_class k
 class_of (sorts.Symbol s) = symbol_class s
 
+-- the class of a token
 abbrev pub class : Token → ℕ
 class t = class_of t.sort
 

@@ -1,4 +1,4 @@
--- The grammar, a line for each rule. A type may hold types: the rules that hold types take the number of types that
+-- The grammar of the Mojom IDL reference, a definition for each rule. A type may hold types: the rules that hold types take the number of types that
 -- may still stand round one another.
 use Rattle.std.specs.Prelude.{ℕ, zero, suc, List, [], ◌∷◌, unwrap_or}
 use Rattle.mojom_ast.specs.declared.classes.TheConstants.{NUMBER, STRING, ARRAY, MAP, HANDLE, PENDING_REMOTE, PENDING_RECEIVER, PENDING_ASSOCIATED_REMOTE, PENDING_ASSOCIATED_RECEIVER, MESSAGE_PIPE, DATA_PIPE_CONSUMER, DATA_PIPE_PRODUCER, SHARED_BUFFER, PLATFORM}
@@ -146,6 +146,7 @@ unfoldable pub type_at : ℕ → Lang TypeTree
 type_at zero = deep type_starts
 type_at (suc n) = as_value make_type (base (labelled type_starts (type_at n)) ▹ maybe (symbol Question))
 
+-- Type, as it stands in other rules
 abbrev pub type_within : ℕ → Lang TypeTree
 type_within n = labelled type_starts (type_at n)
 
@@ -169,6 +170,7 @@ field n = as_value make_field (type_within n ▹ identifier ▹ maybe ordinal �
 unfoldable pub struct_item : ℕ → Lang StructItem
 struct_item n = as_value struct_items.Const (const_of n) or as_value struct_items.Enum enum_of or as_value struct_items.Field (field n)
 
+-- Attrs? one of Const, Enum, Field, with its attributes
 unfoldable pub struct_member : ℕ → Lang StructMember
 struct_member n = as_value make_struct_member (attributes ▹ struct_item n)
 
@@ -188,6 +190,7 @@ union_of n = as_value make_union (keyword keywords.Union ▹ identifier ▹ symb
 unfoldable pub parameter : ℕ → Lang Parameter
 parameter n = as_value make_parameter (attributes ▹ type_within n ▹ identifier ▹ maybe ordinal)
 
+-- , Attrs? Type Id Ord?
 unfoldable pub next_parameter : ℕ → Lang Parameter
 next_parameter n = as_value behind (symbol Comma ▹ parameter n)
 
@@ -207,17 +210,27 @@ method n = as_value make_method (identifier ▹ maybe ordinal ▹ parameters n �
 unfoldable pub interface_item : ℕ → Lang InterfaceItem
 interface_item n = as_value interface_items.Const (const_of n) or as_value interface_items.Enum enum_of or as_value interface_items.Method (method n)
 
+-- Attrs? one of Const, Enum, Method, with its attributes
 unfoldable pub interface_member : ℕ → Lang InterfaceMember
 interface_member n = as_value make_interface_member (attributes ▹ interface_item n)
 
 -- Interface: interface Id { (Attrs? one of Const, Enum, Method)* } ;
 unfoldable pub interface_of : ℕ → Lang Interface
-interface_of n = as_value make_interface (keyword keywords.Interface ▹ identifier ▹ symbol OpenBrace ▹ many (interface_member n) ▹ symbol CloseBrace ▹ symbol Semicolon)
+interface_of n =
+    as_value make_interface (
+    keyword keywords.Interface ▹ identifier ▹ symbol OpenBrace ▹ many (interface_member n) ▹ symbol CloseBrace ▹ symbol Semicolon
+    )
 
 -- Def: Attrs? one of Struct, Union, Enum, Interface, Const
 unfoldable pub definition_item : ℕ → Lang DefinitionItem
-definition_item n = as_value items.Struct (struct_of n) or as_value items.Union (union_of n) or as_value items.Enum enum_of or as_value items.Interface (interface_of n) or as_value items.Const (const_of n)
+definition_item n =
+    as_value items.Struct (struct_of n)
+    or as_value items.Union (union_of n)
+    or as_value items.Enum enum_of
+    or as_value items.Interface (interface_of n)
+    or as_value items.Const (const_of n)
 
+-- Def, with its attributes
 unfoldable pub definition : ℕ → Lang Definition
 definition n = as_value make_definition (attributes ▹ definition_item n)
 

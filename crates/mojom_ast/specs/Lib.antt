@@ -1,7 +1,7 @@
 pub mod Classes
 pub mod TypeTrees
-pub mod TypeCodes
 pub mod Lang
 pub mod Trees
 pub mod Grammar
 pub mod Parsed
+pub mod steps

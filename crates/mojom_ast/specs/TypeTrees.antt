@@ -15,10 +15,12 @@ pub data BaseTree : Type 0 where
   HandleOf : Option HandleSort → BaseTree
   PendingOf : PendingSort → Name → BaseTree
 
+-- a type: what stands before ?, and whether ? stands
 pub record TypeTree : Type 0 where
   pub base : BaseTree
   pub nullable : Bool
 
+-- what the code keeps of a type without ?, as a tree
 abbrev pub base_view : bases.BaseNode → BaseTree
 base_view (bases.Name n) = Named n
 base_view (bases.Array' p b n count) = ArrayOf (base_view b) n count
@@ -26,5 +28,6 @@ base_view (bases.Map' p b n q c k) = MapOf (base_view b) n (base_view c) k
 base_view (bases.Handle sort) = HandleOf sort
 base_view (bases.Pending sort name) = PendingOf sort name
 
+-- what the code keeps of a type, as a tree
 abbrev pub type_view : nodes.TypeNode → TypeTree
 type_view t = record { base = base_view t.base; nullable = t.nullable }

@@ -15,7 +15,7 @@ pub struct Type {
 impl Model for Type {
     ghost use Rattle.std.specs.Coded.{codes};
     ghost use Rattle.mojom_ast.specs.TypeTrees.{TypeTree, type_view};
-    ghost use Rattle.mojom_ast.specs.TypeCodes.{type_code};
+    ghost use Rattle.mojom_ast.specs.steps.TypeCodes.{type_code};
 
     ghost Value = { TypeTree };
 

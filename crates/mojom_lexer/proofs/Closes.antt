@@ -5,6 +5,7 @@ use Rattle.std.proofs.lemmas.List.{take_all, length-drop}
 use Rattle.std.specs.Option.{option_map}
 use Rattle.mojom_lexer.specs.steps.Scans.{before_close}
 
+-- all but the first
 abbrev pub behind_first : List ℕ → List ℕ
 behind_first [] = []
 behind_first (c ∷ cs) = cs
@@ -17,7 +18,10 @@ later : (i : ℕ) (found : Option ℕ) → option_map (λ n. i + n) (option_map 
 later i (Some n) = ap Some (let e : i + suc n ≡ (i + 1) + n = omega arith in e)
 later i None = refl
 
-pub close_on : (bs : List ℕ) (i : ℕ) (total : Option ℕ) → i < length bs → starts_with nat_eq (take (length bs - i) (drop i bs)) (codes "*/") ≡ false → option_map (λ n. i + n) (before_close (drop i bs)) ≡ total → option_map (λ n. (i + 1) + n) (before_close (drop (i + 1) bs)) ≡ total
+-- where no `*/` stands, the search goes on one byte later
+pub close_on : (bs : List ℕ) (i : ℕ) (total : Option ℕ)
+    → i < length bs → starts_with nat_eq (take (length bs - i) (drop i bs)) (codes "*/") ≡ false
+    → option_map (λ n. i + n) (before_close (drop i bs)) ≡ total → option_map (λ n. (i + 1) + n) (before_close (drop (i + 1) bs)) ≡ total
 close_on bs i total lt h so_far =
     let cut : drop i bs ≡ get_or bs i 0 ∷ drop (i + 1) bs = rw (add-one, drop-cons bs i 0) refl in
     let all : take (length bs - i) (drop i bs) ≡ drop i bs = take_all (length bs - i) (drop i bs) (omega (arith, length-drop i bs)) in

@@ -4,7 +4,8 @@ use Rattle.std.specs.List.{list_all, starts_with}
 use Rattle.std.specs.Option.{option_map}
 use Rattle.std.proofs.lemmas.List.{take-append-drop, length-take-le}
 use Rattle.std.proofs.lemmas.Bool.Decides.{nat_tests}
-use Rattle.mojom_lexer.specs.Pieces.{Is, IsLongest, BeginsNone, is_line_comment, has_close, stays_on_line, IsBlockCommentOf}
+use Rattle.mojom_lexer.specs.Bytes.{stays_on_line}
+use Rattle.mojom_lexer.specs.Pieces.{Is, IsLongest, BeginsNone, is_line_comment, has_close, IsBlockCommentOf}
 use Rattle.mojom_lexer.specs.Pieces.Kind.{Comment}
 use Rattle.mojom_lexer.specs.steps.Scans.{kind_at, run_len, before_close}
 use Rattle.mojom_lexer.proofs.Runs.{left, right, both, run_within, run_passes, run_most}
@@ -16,6 +17,7 @@ use Rattle.mojom_lexer.proofs.QuoteFronts.{found_later, number_in}
 abbrev at_close : List ℕ → Bool
 at_close bs = starts_with nat_eq bs (codes "*/")
 
+-- bytes that the test of std calls equal are the same
 pub same_as : (a b : ℕ) → nat_eq a b ≡ true → b ≡ a
 same_as a b e = grind (arith, nat_tests)
 
@@ -56,9 +58,13 @@ pub close_tells : (bs : List ℕ) (n : ℕ) → before_close bs ≡ Some n → C
 close_tells [] n e = absurd (cc)
 close_tells (c ∷ cs) n e = step (close_tells cs) (at_close (c ∷ cs)) refl e
   where
-    step : ((m : ℕ) → before_close cs ≡ Some m → ClosesAt cs m) → (v : Bool) → at_close (c ∷ cs) ≡ v → cond v (Some 0) (option_map suc (before_close cs)) ≡ Some n → ClosesAt (c ∷ cs) n
-    step others true f g = subst (λ (k : ℕ). ClosesAt (c ∷ cs) k) (ap number_in g) (record { room = close_room c cs f; close = close_bytes c cs f; next = refl })
-    step others false f g = let x = found_later (before_close cs) n g in subst (λ (k : ℕ). ClosesAt (c ∷ cs) k) (sym x.2) (later_close c cs x.0 f (others x.0 x.1))
+    step : ((m : ℕ) → before_close cs ≡ Some m → ClosesAt cs m)
+        → (v : Bool) → at_close (c ∷ cs) ≡ v → cond v (Some 0) (option_map suc (before_close cs)) ≡ Some n → ClosesAt (c ∷ cs) n
+    step others true f g =
+        subst (λ (k : ℕ). ClosesAt (c ∷ cs) k) (ap number_in g) (record { room = close_room c cs f; close = close_bytes c cs f; next = refl })
+    step others false f g =
+        let x = found_later (before_close cs) n g in
+        subst (λ (k : ℕ). ClosesAt (c ∷ cs) k) (sym x.2) (later_close c cs x.0 f (others x.0 x.1))
 
 either_false : (a b : Bool) → (a || b) ≡ false → (a ≡ false) × (b ≡ false)
 either_false true b e = absurd (cc)
@@ -112,14 +118,19 @@ line_most : (cs : List ℕ) (more : ℕ) → more ≤ suc (suc (length cs)) → 
 line_most cs more le (inl e) = run_most stays_on_line (47 ∷ 47 ∷ cs) more le (line_each (take more (47 ∷ 47 ∷ cs)) e)
 line_most cs more le (inr e) = absurd (line_no_block cs more e.0 e.1)
 
-pub line_longest : (bs : List ℕ) → kind_at bs ≡ Some Comment → starts_with nat_eq bs (codes "//") ≡ true → IsLongest bs (run_len stays_on_line bs) × Is Comment (take (run_len stays_on_line bs) bs)
+-- a comment to the end of its line is the longest piece
+pub line_longest : (bs : List ℕ)
+    → kind_at bs ≡ Some Comment → starts_with nat_eq bs (codes "//") ≡ true
+    → IsLongest bs (run_len stays_on_line bs) × Is Comment (take (run_len stays_on_line bs) bs)
 line_longest [] e f = absurd (cc)
 line_longest (c ∷ []) e f = let g : false ≡ true = right (nat_eq 47 c) false f in absurd (cc)
 line_longest (c ∷ d ∷ cs) e f =
     let a : c ≡ 47 = same_as 47 c (left (nat_eq 47 c) (nat_eq 47 d && true) f) in
     let b : d ≡ 47 = same_as 47 d (left (nat_eq 47 d) true (right (nat_eq 47 c) (nat_eq 47 d && true) f)) in
-    subst (λ (bs : List ℕ). IsLongest bs (run_len stays_on_line bs) × Is Comment (take (run_len stays_on_line bs) bs)) (ap (λ (x : ℕ). x ∷ 47 ∷ cs) (sym a) ∙ ap (λ (x : ℕ). c ∷ x ∷ cs) (sym b)) (
-      longest_of Comment (47 ∷ 47 ∷ cs) (run_len stays_on_line (47 ∷ 47 ∷ cs)) refl (run_within stays_on_line (47 ∷ 47 ∷ cs)) (inl (run_passes stays_on_line cs)) (line_most cs),
+    subst (λ (bs : List ℕ). IsLongest bs (run_len stays_on_line bs) × Is Comment (take (run_len stays_on_line bs) bs))
+    (ap (λ (x : ℕ). x ∷ 47 ∷ cs) (sym a) ∙ ap (λ (x : ℕ). c ∷ x ∷ cs) (sym b)) (
+      longest_of Comment (47 ∷ 47 ∷ cs) (run_len stays_on_line (47 ∷ 47 ∷ cs)) refl (run_within stays_on_line (47 ∷ 47 ∷ cs))
+          (inl (run_passes stays_on_line cs)) (line_most cs),
       inl (run_passes stays_on_line cs),
     )
 
@@ -132,7 +143,8 @@ block_no_line cs (suc (suc m)) e = absurd (cc)
 block_scan : (cs : List ℕ) (len : ℕ) (inside : List ℕ) → IsBlockCommentOf inside (take len (47 ∷ 42 ∷ cs)) → before_close cs ≡ Some (length inside)
 block_scan cs len inside h =
     let rest : List ℕ = drop len (47 ∷ 42 ∷ cs) in
-    let whole : 47 ∷ 42 ∷ cs ≡ 47 ∷ 42 ∷ (inside ++ 42 ∷ 47 ∷ []) ++ rest = sym (take-append-drop len (47 ∷ 42 ∷ cs)) ∙ ap (λ (bs : List ℕ). bs ++ rest) h.is_spelled in
+    let whole : 47 ∷ 42 ∷ cs ≡ 47 ∷ 42 ∷ (inside ++ 42 ∷ 47 ∷ []) ++ rest =
+    sym (take-append-drop len (47 ∷ 42 ∷ cs)) ∙ ap (λ (bs : List ℕ). bs ++ rest) h.is_spelled in
     let behind : cs ≡ inside ++ (42 ∷ 47 ∷ rest) = ap behind_first (ap behind_first whole) ∙ append_assoc inside (42 ∷ 47 ∷ []) rest in
     ap before_close behind ∙ close_again inside rest h.is_next
 
@@ -143,7 +155,8 @@ block_len bs len inside le h =
     let d : length (inside ++ 42 ∷ 47 ∷ []) ≡ length inside + 2 = length-append inside (42 ∷ 47 ∷ []) in
     omega arith
 
-block_most : (cs : List ℕ) (n : ℕ) → before_close cs ≡ Some n → (more : ℕ) → more ≤ suc (suc (length cs)) → Is Comment (take more (47 ∷ 42 ∷ cs)) → more ≤ n + 4
+block_most : (cs : List ℕ) (n : ℕ)
+    → before_close cs ≡ Some n → (more : ℕ) → more ≤ suc (suc (length cs)) → Is Comment (take more (47 ∷ 42 ∷ cs)) → more ≤ n + 4
 block_most cs n e more le (inl h) = absurd (block_no_line cs more h)
 block_most cs n e more le (inr h) =
     let f : n ≡ length h.0 = ap number_in (sym e ∙ block_scan cs more h.0 h.1) in
@@ -158,19 +171,23 @@ at_block (c ∷ d ∷ cs) f =
     let b : d ≡ 42 = same_as 42 d (left (nat_eq 42 d) true (right (nat_eq 47 c) (nat_eq 42 d && true) f)) in
     rw (a, b) refl
 
-pub block_longest : (bs : List ℕ) (n : ℕ) → starts_with nat_eq bs (codes "/*") ≡ true → before_close (drop 2 bs) ≡ Some n → IsLongest bs (n + 4) × Is Comment (take (n + 4) bs)
+-- a comment up to its `*/` is the longest piece
+pub block_longest : (bs : List ℕ) (n : ℕ)
+    → starts_with nat_eq bs (codes "/*") ≡ true → before_close (drop 2 bs) ≡ Some n → IsLongest bs (n + 4) × Is Comment (take (n + 4) bs)
 block_longest bs n f e = subst (λ (b : List ℕ). IsLongest b (n + 4) × Is Comment (take (n + 4) b)) (sym (at_block bs f)) (step (drop 2 bs) e)
   where
     step : (cs : List ℕ) → before_close cs ≡ Some n → IsLongest (47 ∷ 42 ∷ cs) (n + 4) × Is Comment (take (n + 4) (47 ∷ 42 ∷ cs))
     step cs g =
         let h : ClosesAt cs n = close_tells cs n g in
         let four : suc (suc (suc (suc n))) ≡ n + 4 = omega arith in
-        let block : IsBlockCommentOf (take n cs) (47 ∷ 42 ∷ take (suc (suc n)) cs) = record { is_spelled = ap (λ (b : List ℕ). 47 ∷ 42 ∷ b) h.close; is_next = h.next } in
+        let block : IsBlockCommentOf (take n cs) (47 ∷ 42 ∷ take (suc (suc n)) cs) =
+        record { is_spelled = ap (λ (b : List ℕ). 47 ∷ 42 ∷ b) h.close; is_next = h.next } in
         let is : Is Comment (take (n + 4) (47 ∷ 42 ∷ cs)) = subst (λ (k : ℕ). Is Comment (take k (47 ∷ 42 ∷ cs))) four (inr (take n cs, block)) in (
           longest_of Comment (47 ∷ 42 ∷ cs) (n + 4) refl (let r = h.room in omega arith) is (block_most cs n g),
           is,
         )
 
+-- where `/*` is never closed no piece begins
 pub block_none : (bs : List ℕ) → starts_with nat_eq bs (codes "/*") ≡ true → before_close (drop 2 bs) ≡ None → BeginsNone bs
 block_none bs f e = subst BeginsNone (sym (at_block bs f)) (none_of Comment (47 ∷ 42 ∷ drop 2 bs) refl (step (drop 2 bs) e))
   where
@@ -207,7 +224,9 @@ starts_block (c ∷ d ∷ cs) (suc (suc len)) inside e =
     first [] = 0
     first (x ∷ xs) = x
 
-pub slash_none : (bs : List ℕ) → kind_at bs ≡ Some Comment → starts_with nat_eq bs (codes "//") ≡ false → starts_with nat_eq bs (codes "/*") ≡ false → BeginsNone bs
+-- where a slash begins no comment no piece begins
+pub slash_none : (bs : List ℕ)
+    → kind_at bs ≡ Some Comment → starts_with nat_eq bs (codes "//") ≡ false → starts_with nat_eq bs (codes "/*") ≡ false → BeginsNone bs
 slash_none bs e f g = none_of Comment bs e step
   where
     step : (len : ℕ) → Is Comment (take len bs) → ⊥

@@ -4,10 +4,10 @@ use Rattle.std.specs.Prelude.{is_some}
 use Rattle.std.specs.List.{list_all}
 use Rattle.std.proofs.lemmas.Bool.Decides.{nat_tests}
 use Rattle.mojom_ast.specs.declared.token.Symbol.{Symbol}
-use Rattle.mojom_lexer.specs.Bytes.{is_blank, is_digit, is_letter, is_hex_digit, goes_on, is_run}
+use Rattle.mojom_lexer.specs.Bytes.{is_blank, is_digit, is_letter, is_hex_digit, goes_on, is_run, stays_on_line}
 use Rattle.mojom_lexer.specs.Words.{single_symbol, symbol_of, symbol_in, symbols}
 use Rattle.mojom_lexer.specs.Numbers.{is_decimal, is_hexadecimal, is_number}
-use Rattle.mojom_lexer.specs.Pieces.{Kind, Is, IsLongest, BeginsNone, is_line_comment, stays_on_line}
+use Rattle.mojom_lexer.specs.Pieces.{Kind, Is, IsLongest, BeginsNone, is_line_comment}
 use Rattle.mojom_lexer.specs.Pieces.Kind.{Blank, Comment, Word, Numeral, Quoted, Sign}
 use Rattle.mojom_lexer.specs.steps.Scans.{kind_of, kind_at}
 use Rattle.mojom_lexer.proofs.Runs.{left, right}
@@ -20,10 +20,12 @@ or_else : Kind → Option Kind → Kind
 or_else k (Some x) = x
 or_else k None = k
 
+-- kinds that are there and equal are the same
 pub same_kind : (j k : Kind) → Some j ≡ Some k → j ≡ k
 unfolding or_else
 same_kind j k e = ap (or_else j) e
 
+-- bytes that the test calls equal are the same
 pub eqb_same : (a b : ℕ) → (a == b) ≡ true → a ≡ b
 eqb_same a b e = grind (arith, nat_tests)
 
@@ -51,10 +53,13 @@ is_sign c = cond (is_blank c) false (cond (is_letter c) false (cond (is_digit c)
 
 in_table : (table : List (ℕ × Symbol)) (c : ℕ) → list_all (λ entry. is_sign entry.0) table ≡ true → is_some (symbol_in table c) ≡ true → is_sign c ≡ true
 in_table [] c all e = absurd (cc)
-in_table (entry ∷ entries) c all e = step (in_table entries c (right (is_sign entry.0) (list_all (λ entry. is_sign entry.0) entries) all)) (c == entry.0) refl e
+in_table (entry ∷ entries) c all e =
+    step (in_table entries c (right (is_sign entry.0) (list_all (λ entry. is_sign entry.0) entries) all)) (c == entry.0) refl e
   where
-    step : (is_some (symbol_in entries c) ≡ true → is_sign c ≡ true) → (v : Bool) → (c == entry.0) ≡ v → is_some (cond v (Some entry.1) (symbol_in entries c)) ≡ true → is_sign c ≡ true
-    step others true f g = subst (λ (d : ℕ). is_sign d ≡ true) (sym (eqb_same c entry.0 f)) (left (is_sign entry.0) (list_all (λ entry. is_sign entry.0) entries) all)
+    step : (is_some (symbol_in entries c) ≡ true → is_sign c ≡ true)
+        → (v : Bool) → (c == entry.0) ≡ v → is_some (cond v (Some entry.1) (symbol_in entries c)) ≡ true → is_sign c ≡ true
+    step others true f g =
+        subst (λ (d : ℕ). is_sign d ≡ true) (sym (eqb_same c entry.0 f)) (left (is_sign entry.0) (list_all (λ entry. is_sign entry.0) entries) all)
     step others false f g = others g
 
 all_signs : list_all (λ entry. is_sign entry.0) symbols ≡ true
@@ -65,7 +70,9 @@ sign_kind : (c : ℕ) → is_some (single_symbol c) ≡ true → kind_of c ≡ S
 unfolding single_symbol is_sign
 sign_kind c e = step (is_blank c) (is_letter c) (is_digit c) (c == 34) (c == 47) (is_some (single_symbol c)) (in_table symbols c all_signs e) e
   where
-    step : (b l d q s x : Bool) → cond b false (cond l false (cond d false (cond q false (cond s false true)))) ≡ true → x ≡ true → cond b (Some Blank) (cond l (Some Word) (cond d (Some Numeral) (cond q (Some Quoted) (cond s (Some Comment) (cond x (Some Sign) None))))) ≡ Some Sign
+    step : (b l d q s x : Bool)
+        → cond b false (cond l false (cond d false (cond q false (cond s false true)))) ≡ true → x ≡ true
+        → cond b (Some Blank) (cond l (Some Word) (cond d (Some Numeral) (cond q (Some Quoted) (cond s (Some Comment) (cond x (Some Sign) None))))) ≡ Some Sign
     step true l d q s x f g = absurd (cc)
     step false true d q s x f g = absurd (cc)
     step false false true q s x f g = absurd (cc)
@@ -82,7 +89,9 @@ symbol_kind : (c : ℕ) (cs : List ℕ) → is_some (symbol_of (c ∷ cs)) ≡ t
 symbol_kind c [] e = sign_kind c e
 symbol_kind c (d ∷ []) e = step (c == 61 && d == 62) refl e
   where
-    step : (v : Bool) → (c == 61 && d == 62) ≡ v → is_some (cond v (Some Rattle.mojom_ast.specs.declared.token.Symbol.TheVariants.Arrow) None) ≡ true → kind_of c ≡ Some Sign
+    step : (v : Bool)
+        → (c == 61 && d == 62) ≡ v → is_some (cond v (Some Rattle.mojom_ast.specs.declared.token.Symbol.TheVariants.Arrow) None) ≡ true
+        → kind_of c ≡ Some Sign
     step true f g = subst (λ (b : ℕ). kind_of b ≡ Some Sign) (sym (eqb_same c 61 (left (c == 61) (d == 62) f))) equals_kind
     step false f g = absurd (cc)
 symbol_kind c (d ∷ x ∷ cs) e = absurd (cc)
@@ -138,6 +147,7 @@ only_kind j k [] (suc n) e h = absurd (cc)
 only_kind j k (c ∷ cs) zero e h = absurd (none_empty j h)
 only_kind j k (c ∷ cs) (suc n) e h = subst (λ (i : Kind). Is i (c ∷ take n cs)) (same_kind j k (sym (first_tells j c (take n cs) h) ∙ e)) h
 
+-- where no kind begins no piece stands
 pub none_kind : (j : Kind) (bs : List ℕ) (n : ℕ) → kind_at bs ≡ None → Is j (take n bs) → ⊥
 none_kind j [] zero e h = none_empty j h
 none_kind j [] (suc n) e h = none_empty j h
@@ -145,13 +155,16 @@ none_kind j (c ∷ cs) zero e h = none_empty j h
 none_kind j (c ∷ cs) (suc n) e h = let f = first_tells j c (take n cs) h in absurd (cc)
 
 -- the longest of its kind is the longest piece
-pub longest_of : (k : Kind) (bs : List ℕ) (len : ℕ) → kind_at bs ≡ Some k → len ≤ length bs → Is k (take len bs) → ((more : ℕ) → more ≤ length bs → Is k (take more bs) → more ≤ len) → IsLongest bs len
+pub longest_of : (k : Kind) (bs : List ℕ) (len : ℕ)
+    → kind_at bs ≡ Some k → len ≤ length bs → Is k (take len bs) → ((more : ℕ) → more ≤ length bs → Is k (take more bs) → more ≤ len)
+    → IsLongest bs len
 longest_of k bs len e le h most = record {
   within = le;
   is = (k, h);
   longest = λ more lt within piece. let m : more ≤ len = most more within (only_kind piece.0 k bs more e piece.1) in omega arith;
 }
 
+-- where none of the kind that begins there stands, no piece does
 pub none_of : (k : Kind) (bs : List ℕ) → kind_at bs ≡ Some k → ((len : ℕ) → Is k (take len bs) → ⊥) → BeginsNone bs
 none_of k bs e none len piece = none len (only_kind piece.0 k bs len e piece.1)
 
@@ -164,7 +177,9 @@ Tested b l d q s x Numeral = d ≡ true
 Tested b l d q s x Quoted = q ≡ true
 Tested b l d q s x Sign = x ≡ true
 
-tested : (b l d q s x : Bool) (k : Kind) → cond b (Some Blank) (cond l (Some Word) (cond d (Some Numeral) (cond q (Some Quoted) (cond s (Some Comment) (cond x (Some Sign) None))))) ≡ Some k → Tested b l d q s x k
+tested : (b l d q s x : Bool) (k : Kind)
+    → cond b (Some Blank) (cond l (Some Word) (cond d (Some Numeral) (cond q (Some Quoted) (cond s (Some Comment) (cond x (Some Sign) None))))) ≡ Some k
+    → Tested b l d q s x k
 unfolding Tested
 tested true l d q s x k e = subst (λ (i : Kind). Tested true l d q s x i) (same_kind Blank k e) refl
 tested false true d q s x k e = subst (λ (i : Kind). Tested false true d q s x i) (same_kind Word k e) refl
@@ -177,26 +192,32 @@ tested false false false false false false k e = absurd (cc)
 passes_for : (c : ℕ) (k : Kind) → kind_of c ≡ Some k → Tested (is_blank c) (is_letter c) (is_digit c) (c == 34) (c == 47) (is_some (single_symbol c)) k
 passes_for c k e = tested (is_blank c) (is_letter c) (is_digit c) (c == 34) (c == 47) (is_some (single_symbol c)) k e
 
+-- what begins blank space
 pub begins_blank : (c : ℕ) → kind_of c ≡ Some Blank → is_blank c ≡ true
 unfolding Tested
 begins_blank c e = passes_for c Blank e
 
+-- what begins a word
 pub begins_word : (c : ℕ) → kind_of c ≡ Some Word → is_letter c ≡ true
 unfolding Tested
 begins_word c e = passes_for c Word e
 
+-- what begins a number
 pub begins_numeral : (c : ℕ) → kind_of c ≡ Some Numeral → is_digit c ≡ true
 unfolding Tested
 begins_numeral c e = passes_for c Numeral e
 
+-- what begins a string
 pub begins_quoted : (c : ℕ) → kind_of c ≡ Some Quoted → c ≡ 34
 unfolding Tested
 begins_quoted c e = eqb_same c 34 (passes_for c Quoted e)
 
+-- what begins a comment
 pub begins_comment : (c : ℕ) → kind_of c ≡ Some Comment → c ≡ 47
 unfolding Tested
 begins_comment c e = eqb_same c 47 (passes_for c Comment e)
 
+-- what begins a symbol
 pub begins_sign : (c : ℕ) → kind_of c ≡ Some Sign → is_some (single_symbol c) ≡ true
 unfolding Tested
 begins_sign c e = passes_for c Sign e

@@ -53,8 +53,12 @@ ReachesIn bs (suc n) at tokens = (before : ℕ) × (earlier : List Token) × Rea
 
 counted : (bs : List ℕ) (at : ℕ) (tokens : List Token) → Reaches bs at tokens → (n : ℕ) × ReachesIn bs n at tokens
 counted bs at tokens starts = (0, (refl, refl))
-counted bs at tokens (passes before len earlier r l p) = let x = counted bs before earlier r in (suc x.0, (before, earlier, x.1, record { len = len; longest = l; to_is = refl; adds = inl (p, refl) }))
-counted bs at tokens (takes before len earlier s r l h) = let x = counted bs before earlier r in (suc x.0, (before, earlier, x.1, record { len = len; longest = l; to_is = refl; adds = inr (s, h, refl) }))
+counted bs at tokens (passes before len earlier r l p) =
+    let x = counted bs before earlier r in
+    (suc x.0, (before, earlier, x.1, record { len = len; longest = l; to_is = refl; adds = inl (p, refl) }))
+counted bs at tokens (takes before len earlier s r l h) =
+    let x = counted bs before earlier r in
+    (suc x.0, (before, earlier, x.1, record { len = len; longest = l; to_is = refl; adds = inr (s, h, refl) }))
 
 step_to : (bs : List ℕ) (at b : ℕ) (ts us : List Token) (to : ℕ) (more : List Token) → at ≡ b → ts ≡ us → Step bs at ts to more → Step bs b us to more
 step_to bs at b ts us to more e f x = subst (λ (vs : List Token). Step bs b vs to more) f (subst (λ (k : ℕ). Step bs k ts to more) e x)
@@ -120,7 +124,8 @@ same_tokens bs n m us vs h k = step (compared n m)
 follows_stops : (bs : List ℕ) (at : ℕ) (error : LexError) → Follows bs at → Refuses at (drop at bs) error → ⊥
 follows_stops bs at error x h = goes_or_stops at (drop at bs) x.len error x.longest x.goes h
 
-tokens_or_stop : (bs : List ℕ) (n m at : ℕ) (us vs : List Token) (error : LexError) → ReachesIn bs n (length bs) us → ReachesIn bs m at vs → Refuses at (drop at bs) error → ⊥
+tokens_or_stop : (bs : List ℕ) (n m at : ℕ) (us vs : List Token) (error : LexError)
+    → ReachesIn bs n (length bs) us → ReachesIn bs m at vs → Refuses at (drop at bs) error → ⊥
 tokens_or_stop bs n m at us vs error h k r = step (compared n m)
   where
     step : (n < m) ⊎ ((m < n) ⊎ (n ≡ m)) → ⊥
@@ -130,7 +135,8 @@ tokens_or_stop bs n m at us vs error h k r = step (compared n m)
         let same : length bs ≡ at = (in_one bs m (length bs) at us vs (subst (λ (i : ℕ). ReachesIn bs i (length bs) us) e h) k).0 in
         none_at_end at error (subst (λ (ds : List ℕ). Refuses at ds error) (ap (λ (i : ℕ). drop i bs) (sym same) ∙ drop-length bs) r)
 
-one_stop : (bs : List ℕ) (n m a b : ℕ) (us vs : List Token) (d e : LexError) → ReachesIn bs n a us → ReachesIn bs m b vs → Refuses a (drop a bs) d → Refuses b (drop b bs) e → d ≡ e
+one_stop : (bs : List ℕ) (n m a b : ℕ) (us vs : List Token) (d e : LexError)
+    → ReachesIn bs n a us → ReachesIn bs m b vs → Refuses a (drop a bs) d → Refuses b (drop b bs) e → d ≡ e
 one_stop bs n m a b us vs d e h k r s = step (compared n m)
   where
     step : (n < m) ⊎ ((m < n) ⊎ (n ≡ m)) → d ≡ e
@@ -164,14 +170,21 @@ one_refusal bs d e h k = step (split bs d h) (split bs e k)
     step (inl x) (inl y) = x.is ∙ sym y.is
     step (inl x) (inr y) = absurd (x.no_utf8 y.utf8)
     step (inr x) (inl y) = absurd (y.no_utf8 x.utf8)
-    step (inr x) (inr y) = let a = counted bs x.at x.tokens x.reaches in let b = counted bs y.at y.tokens y.reaches in one_stop bs a.0 b.0 x.at y.at x.tokens y.tokens d e a.1 b.1 x.refuses y.refuses
+    step (inr x) (inr y) =
+        let a = counted bs x.at x.tokens x.reaches in
+        let b = counted bs y.at y.tokens y.reaches in
+        one_stop bs a.0 b.0 x.at y.at x.tokens y.tokens d e a.1 b.1 x.refuses y.refuses
 
 never_both : (bs : List ℕ) (us : List Token) (e : LexError) → AreTokens bs us → IsLexicalRefusal bs e → ⊥
 never_both bs us e h k = step (split bs e k)
   where
     step : IsNoText bs e ⊎ StopsAt bs e → ⊥
     step (inl x) = x.no_utf8 h.utf8
-    step (inr x) = let a = counted bs (length bs) us h.reaches in let b = counted bs x.at x.tokens x.reaches in tokens_or_stop bs a.0 b.0 x.at us x.tokens e a.1 b.1 x.refuses
+    step (inr x) =
+        let a = counted bs (length bs) us h.reaches in
+        let b = counted bs x.at x.tokens x.reaches in
+        tokens_or_stop bs a.0 b.0 x.at us x.tokens e a.1 b.1 x.refuses
 
+-- the law of `one_reading`
 pub one_reading : (bs : List ℕ) → OneReading bs
 one_reading bs = record { some = some_reading bs; one_list = one_list bs; one_refusal = one_refusal bs; never_both = never_both bs }

@@ -74,7 +74,9 @@ not_slash false false r e = refl
 
 parts_again : (ps : List Part) → list_all is_part ps ≡ true → parts_of false (flat_map spelled ps) ≡ ps
 parts_again [] e = refl
-parts_again (Literal c ∷ ps) e = let f : (c == 92) ≡ false = not_slash (c == 34) (c == 92) (c == 10) (left (is_part (Literal c)) (list_all is_part ps) e) in rw f (ap (λ (qs : List Part). Literal c ∷ qs) (parts_again ps (right (is_part (Literal c)) (list_all is_part ps) e)))
+parts_again (Literal c ∷ ps) e =
+    let f : (c == 92) ≡ false = not_slash (c == 34) (c == 92) (c == 10) (left (is_part (Literal c)) (list_all is_part ps) e) in
+    rw f (ap (λ (qs : List Part). Literal c ∷ qs) (parts_again ps (right (is_part (Literal c)) (list_all is_part ps) e)))
 parts_again (Escape c ∷ ps) e = ap (λ (qs : List Part). Escape c ∷ qs) (parts_again ps (right (is_part (Escape c)) (list_all is_part ps) e))
 
 pub inside_of : List ℕ → List ℕ
@@ -86,7 +88,8 @@ string_parts ps p h =
     let flat : List ℕ = flat_map spelled ps in
     let size : length (flat ++ 34 ∷ []) ≡ length flat + 1 = length-append flat (34 ∷ []) in
     let n : suc (length (flat ++ 34 ∷ [])) - 2 ≡ length flat = omega arith in
-    let inside : take (suc (length (flat ++ 34 ∷ [])) - 2) (flat ++ 34 ∷ []) ≡ flat = ap (λ (k : ℕ). take k (flat ++ 34 ∷ [])) n ∙ take-append_seam flat (34 ∷ []) in
+    let inside : take (suc (length (flat ++ 34 ∷ [])) - 2) (flat ++ 34 ∷ []) ≡ flat =
+    ap (λ (k : ℕ). take k (flat ++ 34 ∷ [])) n ∙ take-append_seam flat (34 ∷ []) in
     ap (λ (q : List ℕ). parts_of false (inside_of q)) h.is_spelled ∙ ap (parts_of false) inside ∙ parts_again ps h.are_parts
 
 text_or : List ℕ → Result (List ℕ) ℕ → List ℕ
@@ -147,7 +150,8 @@ bad_place (Ok text) = 0
 bad_place (Err at) = at
 
 pub piece_error : ℕ → List ℕ → LexError
-piece_error at p = cond (is_number p) (cond (has_leading_zero p) (LeadingZero at) (NumberTooLong at)) (BadChar (at + bad_place (text_of 1 (parts_of false (inside_of p)))))
+piece_error at p =
+    cond (is_number p) (cond (has_leading_zero p) (LeadingZero at) (NumberTooLong at)) (BadChar (at + bad_place (text_of 1 (parts_of false (inside_of p)))))
 
 pub record IsPieceError (at : ℕ) (bs : List ℕ) (error : LexError) : Type 0 where
   pub len : ℕ
@@ -210,7 +214,8 @@ begins_some (c ∷ cs) e = omega arith
 pub why : (at : ℕ) (bs : List ℕ) (error : LexError) → Refuses at bs error → IsNoneError at bs error ⊎ IsPieceError at bs error
 unfolding none_error piece_error
 why at bs (BadUtf8 place) h = absurd h
-why at bs (BadChar place) (inl h) = inl (record { some = h.0.some; none = h.0.none; is = let c = h.0.no_comment in let s = h.0.no_string in rw (c, s) (ap BadChar h.1) })
+why at bs (BadChar place) (inl h) =
+    inl (record { some = h.0.some; none = h.0.none; is = let c = h.0.no_comment in let s = h.0.no_string in rw (c, s) (ap BadChar h.1) })
 why at bs (BadChar place) (inr h) =
     let front = h.1 in
     inr (record {
@@ -221,7 +226,8 @@ why at bs (BadChar place) (inr h) =
       is = ap BadChar h.2 ∙ bad_escape_error at h.0 (take front.len bs) front.is;
     })
 why at bs (OpenComment place) h = inl (record { some = begins_some bs (inl h.0); none = h.1; is = let c = h.0 in rw c (ap OpenComment h.2) })
-why at bs (OpenString place) h = inl (record { some = begins_some bs (inr h.0); none = h.1; is = let s = h.0 in let c = comment_no_string bs h.0 in rw (c, s) (ap OpenString h.2) })
+why at bs (OpenString place) h =
+    inl (record { some = begins_some bs (inr h.0); none = h.1; is = let s = h.0 in let c = comment_no_string bs h.0 in rw (c, s) (ap OpenString h.2) })
 why at bs (LeadingZero place) h =
     let front = h.0 in
     inr (record {
@@ -275,6 +281,7 @@ goes_or_stops at bs len error l good h = step (why at bs error h)
     step (inl x) = x.none len l.is
     step (inr x) = clash x (subst (λ (n : ℕ). GoesOn (take n bs)) (one_length bs len x.len l x.longest) good)
 
+-- at the end of a file nothing is refused
 pub none_at_end : (at : ℕ) (error : LexError) → Refuses at [] error → ⊥
 none_at_end at error h = step (why at [] error h)
   where

@@ -11,11 +11,14 @@ digit_hex c e = rw e refl
 
 all_hex : (cs : List ℕ) → list_all is_digit cs ≡ true → list_all is_hex_digit cs ≡ true
 all_hex [] e = refl
-all_hex (c ∷ cs) e = both (is_hex_digit c) (list_all is_hex_digit cs) (digit_hex c (left (is_digit c) (list_all is_digit cs) e)) (all_hex cs (right (is_digit c) (list_all is_digit cs) e))
+all_hex (c ∷ cs) e =
+    both (is_hex_digit c) (list_all is_hex_digit cs) (digit_hex c (left (is_digit c) (list_all is_digit cs) e))
+    (all_hex cs (right (is_digit c) (list_all is_digit cs) e))
 
 x_no_digit : (x : ℕ) → (x == 120 || x == 88) ≡ true → is_digit x ≡ false
 x_no_digit x e = grind (arith, nat_tests)
 
+-- a hexadecimal number begins as one
 pub hex_front : (bs : List ℕ) → is_hexadecimal bs ≡ true → is_hexadecimal (take 3 bs) ≡ true
 hex_front [] e = absurd (cc)
 hex_front (c ∷ []) e = absurd (cc)
@@ -54,6 +57,7 @@ number_front bs e = step (is_hexadecimal (take 3 bs)) (is_hexadecimal bs) refl r
     step false true f g = sym (hex_front bs g) ∙ f
     step false false f g = refl
 
+-- what stands behind `0x` is digits
 pub hex_digits : (bs : List ℕ) → is_number bs ≡ true → is_hexadecimal (take 3 bs) ≡ true → list_all is_hex_digit (drop 2 bs) ≡ true
 hex_digits bs e f = step bs (number_front bs e ∙ f)
   where
@@ -71,5 +75,6 @@ decimal_of : (d h : Bool) → (d || h) ≡ true → h ≡ false → d ≡ true
 decimal_of true h e f = refl
 decimal_of false h e f = absurd (cc)
 
+-- a number without `0x` is digits
 pub decimal_digits : (bs : List ℕ) → is_number bs ≡ true → is_hexadecimal (take 3 bs) ≡ false → list_all is_hex_digit bs ≡ true
 decimal_digits bs e f = all_hex bs (run_all bs (decimal_of (is_decimal bs) (is_hexadecimal bs) e (number_front bs e ∙ f)))

@@ -38,10 +38,12 @@ pairs_and_last R ts t h p i j d lt room = step (before_or_last j (length ts) (om
     step : (j < length ts) ⊎ (j ≡ length ts) → R (get_or (ts ++ t ∷ []) i d) (get_or (ts ++ t ∷ []) j d)
     step (inl less) =
         let first : i < length ts = omega arith in
-        subst (λ (s : Token). R s (get_or (ts ++ t ∷ []) j d)) (sym (get_or-append ts (t ∷ []) d i first)) (subst (λ (s : Token). R (get_or ts i d) s) (sym (get_or-append ts (t ∷ []) d j less)) (h i j d lt less))
+        subst (λ (s : Token). R s (get_or (ts ++ t ∷ []) j d)) (sym (get_or-append ts (t ∷ []) d i first))
+        (subst (λ (s : Token). R (get_or ts i d) s) (sym (get_or-append ts (t ∷ []) d j less)) (h i j d lt less))
     step (inr e) =
         let first : i < length ts = omega arith in
-        subst (λ (s : Token). R s (get_or (ts ++ t ∷ []) j d)) (sym (get_or-append ts (t ∷ []) d i first)) (subst (λ (s : Token). R (get_or ts i d) s) (sym (last_of ts t d j e)) (p i d first))
+        subst (λ (s : Token). R s (get_or (ts ++ t ∷ []) j d)) (sym (get_or-append ts (t ∷ []) d i first))
+        (subst (λ (s : Token). R (get_or ts i d) s) (sym (last_of ts t d j e)) (p i d first))
 
 -- in order, and ending by a place
 record EndsBy (at : ℕ) (ts : List Token) : Type 0 where
@@ -49,19 +51,26 @@ record EndsBy (at : ℕ) (ts : List Token) : Type 0 where
   pub apart : AllPairs (λ token next. token.span.start + token.span.len ≤ next.span.start) ts
   pub within : All (λ token. token.span.start + token.span.len ≤ at) ts
 
-later : (at len : ℕ) (ts : List Token) → All (λ token. token.span.start + token.span.len ≤ at) ts → All (λ token. token.span.start + token.span.len ≤ at + len) ts
+later : (at len : ℕ) (ts : List Token)
+    → All (λ token. token.span.start + token.span.len ≤ at) ts → All (λ token. token.span.start + token.span.len ≤ at + len) ts
 later at len ts h k d lt = let le = h k d lt in omega arith
 
 ends_by : (bs : List ℕ) (at : ℕ) (ts : List Token) → Reaches bs at ts → EndsBy at ts
-ends_by bs at ts starts = record { some = λ k d lt. absurd (omega arith); apart = λ i j d lt room. absurd (omega arith); within = λ k d lt. absurd (omega arith) }
-ends_by bs at ts (passes before len earlier r l p) = let h = ends_by bs before earlier r in record { some = h.some; apart = h.apart; within = later before len earlier h.within }
+ends_by bs at ts starts =
+    record { some = λ k d lt. absurd (omega arith); apart = λ i j d lt room. absurd (omega arith); within = λ k d lt. absurd (omega arith) }
+ends_by bs at ts (passes before len earlier r l p) =
+    let h = ends_by bs before earlier r in
+    record { some = h.some; apart = h.apart; within = later before len earlier h.within }
 ends_by bs at ts (takes before len earlier s r l p) =
     let h = ends_by bs before earlier r in
     record {
       some = all_and_last (λ token. 0 < token.span.len) earlier (token_at s before len) h.some (longest_some (drop before bs) len l);
       apart = pairs_and_last (λ token next. token.span.start + token.span.len ≤ next.span.start) earlier (token_at s before len) h.apart h.within;
-      within = all_and_last (λ token. token.span.start + token.span.len ≤ before + len) earlier (token_at s before len) (later before len earlier h.within) (omega arith);
+      within =
+          all_and_last (λ token. token.span.start + token.span.len ≤ before + len) earlier (token_at s before len) (later before len earlier h.within)
+          (omega arith);
     }
 
+-- the law of `in_order`
 pub in_order : (bs : List ℕ) (ts : List Token) → AreTokens bs ts → InOrder bs ts
 in_order bs ts h = let e = ends_by bs (length bs) ts h.reaches in record { some = e.some; apart = e.apart; within = e.within }

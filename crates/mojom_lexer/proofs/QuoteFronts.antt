@@ -12,6 +12,7 @@ use Rattle.mojom_lexer.proofs.Runs.{left, right, both}
 use Rattle.mojom_lexer.proofs.FirstBytes.{longest_of, none_of, begins_quoted, eqb_same}
 use Rattle.mojom_lexer.proofs.Closes.{behind_first}
 
+-- the number that was found
 abbrev pub number_in : Option ℕ → ℕ
 number_in (Some x) = x
 number_in None = 0
@@ -20,6 +21,7 @@ falls : (v : Bool) → (v && false) ≡ false
 falls true = refl
 falls false = refl
 
+-- what is found one byte later
 pub found_later : (r : Option ℕ) (n : ℕ) → option_map suc r ≡ Some n → (m : ℕ) × (r ≡ Some m) × (n ≡ suc m)
 found_later (Some m) n e = (m, refl, sym (ap number_in e))
 found_later None n e = absurd (cc)
@@ -70,16 +72,27 @@ pub quote_tells : (b : Bool) (bs : List ℕ) (n : ℕ) → before_quote b bs ≡
 quote_tells b [] n e = absurd (cc)
 quote_tells b (c ∷ cs) n e = step (λ v. quote_tells v cs) b (c == 10) (c == 34) (c == 92) refl refl refl e
   where
-    next : (v : Bool) → ((m : ℕ) → before_quote v cs ≡ Some m → Closes v cs m) → option_map suc (before_quote v cs) ≡ Some n → (m : ℕ) × Closes v cs m × (n ≡ suc m)
+    next : (v : Bool)
+        → ((m : ℕ) → before_quote v cs ≡ Some m → Closes v cs m) → option_map suc (before_quote v cs) ≡ Some n → (m : ℕ) × Closes v cs m × (n ≡ suc m)
     next v others f = let g = found_later (before_quote v cs) n f in (g.0, others g.0 g.1, g.2)
 
-    step : ((v : Bool) (m : ℕ) → before_quote v cs ≡ Some m → Closes v cs m) → (v l q s : Bool) → (c == 10) ≡ l → (c == 34) ≡ q → (c == 92) ≡ s → cond l None (cond (q && not v) (Some 0) (option_map suc (before_quote (s && not v) cs))) ≡ Some n → Closes v (c ∷ cs) n
+    step : ((v : Bool) (m : ℕ) → before_quote v cs ≡ Some m → Closes v cs m)
+        → (v l q s : Bool) → (c == 10) ≡ l → (c == 34) ≡ q → (c == 92) ≡ s
+        → cond l None (cond (q && not v) (Some 0) (option_map suc (before_quote (s && not v) cs))) ≡ Some n → Closes v (c ∷ cs) n
     step others v true q s hl hq hs f = absurd (cc)
     step others false false true s hl hq hs f = subst (λ (k : ℕ). Closes false (c ∷ cs) k) (ap number_in f) (closed_now c cs hq)
-    step others true false true s hl hq hs f = let g = next (s && false) (others (s && false)) f in subst (λ (k : ℕ). Closes true (c ∷ cs) k) (sym g.2) (after_escape c cs g.0 hl (subst (λ (w : Bool). Closes w cs g.0) (falls s) g.1))
-    step others true false false s hl hq hs f = let g = next (s && false) (others (s && false)) f in subst (λ (k : ℕ). Closes true (c ∷ cs) k) (sym g.2) (after_escape c cs g.0 hl (subst (λ (w : Bool). Closes w cs g.0) (falls s) g.1))
-    step others false false false true hl hq hs f = let g = next true (others true) f in subst (λ (k : ℕ). Closes false (c ∷ cs) k) (sym g.2) (after_slash c cs g.0 hs g.1)
-    step others false false false false hl hq hs f = let g = next false (others false) f in subst (λ (k : ℕ). Closes false (c ∷ cs) k) (sym g.2) (after_plain c cs g.0 hl hq hs g.1)
+    step others true false true s hl hq hs f =
+        let g = next (s && false) (others (s && false)) f in
+        subst (λ (k : ℕ). Closes true (c ∷ cs) k) (sym g.2) (after_escape c cs g.0 hl (subst (λ (w : Bool). Closes w cs g.0) (falls s) g.1))
+    step others true false false s hl hq hs f =
+        let g = next (s && false) (others (s && false)) f in
+        subst (λ (k : ℕ). Closes true (c ∷ cs) k) (sym g.2) (after_escape c cs g.0 hl (subst (λ (w : Bool). Closes w cs g.0) (falls s) g.1))
+    step others false false false true hl hq hs f =
+        let g = next true (others true) f in
+        subst (λ (k : ℕ). Closes false (c ∷ cs) k) (sym g.2) (after_slash c cs g.0 hs g.1)
+    step others false false false false hl hq hs f =
+        let g = next false (others false) f in
+        subst (λ (k : ℕ). Closes false (c ∷ cs) k) (sym g.2) (after_plain c cs g.0 hl hq hs g.1)
 
 -- and parts before a quote are found
 not_true : (v : Bool) → not v ≡ true → v ≡ false
@@ -93,20 +106,30 @@ none_of_three false false true e = absurd (cc)
 none_of_three false false false e = (refl, refl, refl)
 
 over_plain : (c : ℕ) (cs : List ℕ) → is_part (Literal c) ≡ true → before_quote false (c ∷ cs) ≡ option_map suc (before_quote false cs)
-over_plain c cs e = let h = none_of_three (c == 34) (c == 92) (c == 10) e in let a : (c == 34) ≡ false = h.0 in let b : (c == 92) ≡ false = h.1 in let d : (c == 10) ≡ false = h.2 in rw (d, a, b) refl
+over_plain c cs e =
+    let h = none_of_three (c == 34) (c == 92) (c == 10) e in
+    let a : (c == 34) ≡ false = h.0 in
+    let b : (c == 92) ≡ false = h.1 in
+    let d : (c == 10) ≡ false = h.2 in
+    rw (d, a, b) refl
 
 over_escape : (c : ℕ) (cs : List ℕ) → is_part (Escape c) ≡ true → before_quote false (92 ∷ c ∷ cs) ≡ option_map suc (option_map suc (before_quote false cs))
 over_escape c cs e = let d : (c == 10) ≡ false = not_true (c == 10) e in rw (d, falls (c == 34), falls (c == 92)) refl
 
-pub quote_again : (parts : List Part) (rest : List ℕ) → list_all is_part parts ≡ true → before_quote false (flat_map spelled parts ++ 34 ∷ rest) ≡ Some (length (flat_map spelled parts))
+-- behind good parts the first quote closes the string
+pub quote_again : (parts : List Part) (rest : List ℕ)
+    → list_all is_part parts ≡ true → before_quote false (flat_map spelled parts ++ 34 ∷ rest) ≡ Some (length (flat_map spelled parts))
 quote_again [] rest e = refl
 quote_again (Literal c ∷ ps) rest e =
-    over_plain c (flat_map spelled ps ++ 34 ∷ rest) (left (is_part (Literal c)) (list_all is_part ps) e) ∙ ap (option_map suc) (quote_again ps rest (right (is_part (Literal c)) (list_all is_part ps) e))
+    over_plain c (flat_map spelled ps ++ 34 ∷ rest) (left (is_part (Literal c)) (list_all is_part ps) e)
+    ∙ ap (option_map suc) (quote_again ps rest (right (is_part (Literal c)) (list_all is_part ps) e))
 quote_again (Escape c ∷ ps) rest e =
-    over_escape c (flat_map spelled ps ++ 34 ∷ rest) (left (is_part (Escape c)) (list_all is_part ps) e) ∙ ap (λ (r : Option ℕ). option_map suc (option_map suc r)) (quote_again ps rest (right (is_part (Escape c)) (list_all is_part ps) e))
+    over_escape c (flat_map spelled ps ++ 34 ∷ rest) (left (is_part (Escape c)) (list_all is_part ps) e)
+    ∙ ap (λ (r : Option ℕ). option_map suc (option_map suc r)) (quote_again ps rest (right (is_part (Escape c)) (list_all is_part ps) e))
 
 -- a string at the front closes where the scan says
-string_scan : (cs : List ℕ) (len : ℕ) (parts : List Part) → IsStringOf parts (take len (34 ∷ cs)) → before_quote false cs ≡ Some (length (flat_map spelled parts))
+string_scan : (cs : List ℕ) (len : ℕ) (parts : List Part)
+    → IsStringOf parts (take len (34 ∷ cs)) → before_quote false cs ≡ Some (length (flat_map spelled parts))
 string_scan cs len parts h =
     let rest : List ℕ = drop len (34 ∷ cs) in
     let whole : 34 ∷ cs ≡ quoted parts ++ rest = sym (take-append-drop len (34 ∷ cs)) ∙ ap (λ (bs : List ℕ). bs ++ rest) h.is_spelled in
@@ -137,14 +160,18 @@ at_quote [] e = absurd (cc)
 at_quote (c ∷ cs) e = ap (λ (b : ℕ). b ∷ cs) (begins_quoted c e)
 
 -- a string whose closing quote is found is the longest piece
-pub quote_longest : (bs : List ℕ) (n : ℕ) → kind_at bs ≡ Some Quoted → before_quote false (drop 1 bs) ≡ Some n → IsLongest bs (n + 2) × IsStringOf (parts_of false (take n (drop 1 bs))) (take (n + 2) bs)
-quote_longest bs n e f = subst (λ (b : List ℕ). IsLongest b (n + 2) × IsStringOf (parts_of false (take n (drop 1 bs))) (take (n + 2) b)) (sym (at_quote bs e)) (step (drop 1 bs) f)
+pub quote_longest : (bs : List ℕ) (n : ℕ)
+    → kind_at bs ≡ Some Quoted → before_quote false (drop 1 bs) ≡ Some n
+    → IsLongest bs (n + 2) × IsStringOf (parts_of false (take n (drop 1 bs))) (take (n + 2) bs)
+quote_longest bs n e f =
+    subst (λ (b : List ℕ). IsLongest b (n + 2) × IsStringOf (parts_of false (take n (drop 1 bs))) (take (n + 2) b)) (sym (at_quote bs e)) (step (drop 1 bs) f)
   where
     step : (cs : List ℕ) → before_quote false cs ≡ Some n → IsLongest (34 ∷ cs) (n + 2) × IsStringOf (parts_of false (take n cs)) (take (n + 2) (34 ∷ cs))
     step cs g =
         let h : Closes false cs n = quote_tells false cs n g in
         let two : suc (suc n) ≡ n + 2 = omega arith in
-        let is : IsStringOf (parts_of false (take n cs)) (take (n + 2) (34 ∷ cs)) = subst (λ (k : ℕ). IsStringOf (parts_of false (take n cs)) (take k (34 ∷ cs))) two (string_front cs n h) in (
+        let is : IsStringOf (parts_of false (take n cs)) (take (n + 2) (34 ∷ cs)) =
+        subst (λ (k : ℕ). IsStringOf (parts_of false (take n cs)) (take k (34 ∷ cs))) two (string_front cs n h) in (
           longest_of Quoted (34 ∷ cs) (n + 2) refl (let r = h.room in omega arith) (parts_of false (take n cs), is) (quote_most cs n g),
           is,
         )

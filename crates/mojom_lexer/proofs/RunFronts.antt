@@ -11,6 +11,7 @@ use Rattle.mojom_lexer.proofs.Runs.{left, right, both, run_within, run_passes, r
 use Rattle.mojom_lexer.proofs.Numerals.{hex_front, prefix_x}
 use Rattle.mojom_lexer.proofs.FirstBytes.{longest_of, begins_blank, begins_word, begins_numeral}
 
+-- each byte of a run passes
 pub run_each : (p : ℕ → Bool) (bs : List ℕ) → is_run p bs ≡ true → list_all p bs ≡ true
 run_each p [] e = refl
 run_each p (c ∷ cs) e = e
@@ -19,11 +20,13 @@ run_each p (c ∷ cs) e = e
 pub front_run : (p : ℕ → Bool) (c : ℕ) (cs : List ℕ) → p c ≡ true → is_run p (take (run_len p (c ∷ cs)) (c ∷ cs)) ≡ true
 front_run p c cs e = rw e (both (p c) (list_all p (take (run_len p cs) cs)) e (run_passes p cs))
 
+-- a run of blanks is the longest piece
 pub blank_longest : (bs : List ℕ) → kind_at bs ≡ Some Blank → IsLongest bs (run_len is_blank bs) × (Is Blank (take (run_len is_blank bs) bs))
 blank_longest [] e = absurd (cc)
 blank_longest (c ∷ cs) e =
     let is : Is Blank (take (run_len is_blank (c ∷ cs)) (c ∷ cs)) = front_run is_blank c cs (begins_blank c e) in (
-      longest_of Blank (c ∷ cs) (run_len is_blank (c ∷ cs)) e (run_within is_blank (c ∷ cs)) is (λ more le h. run_most is_blank (c ∷ cs) more le (run_each is_blank (take more (c ∷ cs)) h)),
+      longest_of Blank (c ∷ cs) (run_len is_blank (c ∷ cs)) e (run_within is_blank (c ∷ cs)) is
+          (λ more le h. run_most is_blank (c ∷ cs) more le (run_each is_blank (take more (c ∷ cs)) h)),
       is,
     )
 
@@ -32,16 +35,21 @@ letter_on c e = rw e refl
 
 word_each : (bs : List ℕ) → is_word bs ≡ true → list_all goes_on bs ≡ true
 word_each [] e = refl
-word_each (c ∷ cs) e = both (goes_on c) (list_all goes_on cs) (letter_on c (left (is_letter c) (list_all goes_on cs) e)) (right (is_letter c) (list_all goes_on cs) e)
+word_each (c ∷ cs) e =
+    both (goes_on c) (list_all goes_on cs) (letter_on c (left (is_letter c) (list_all goes_on cs) e)) (right (is_letter c) (list_all goes_on cs) e)
 
 front_word : (c : ℕ) (cs : List ℕ) → is_letter c ≡ true → is_word (take (run_len goes_on (c ∷ cs)) (c ∷ cs)) ≡ true
-front_word c cs e = let g : goes_on c ≡ true = letter_on c e in rw g (both (is_letter c) (list_all goes_on (take (run_len goes_on cs) cs)) e (run_passes goes_on cs))
+front_word c cs e =
+    let g : goes_on c ≡ true = letter_on c e in
+    rw g (both (is_letter c) (list_all goes_on (take (run_len goes_on cs) cs)) e (run_passes goes_on cs))
 
+-- a letter and what passes behind it is the longest piece
 pub word_longest : (bs : List ℕ) → kind_at bs ≡ Some Word → IsLongest bs (run_len goes_on bs) × (is_word (take (run_len goes_on bs) bs) ≡ true)
 word_longest [] e = absurd (cc)
 word_longest (c ∷ cs) e =
     let is : is_word (take (run_len goes_on (c ∷ cs)) (c ∷ cs)) ≡ true = front_word c cs (begins_word c e) in (
-      longest_of Word (c ∷ cs) (run_len goes_on (c ∷ cs)) e (run_within goes_on (c ∷ cs)) is (λ more le h. run_most goes_on (c ∷ cs) more le (word_each (take more (c ∷ cs)) h)),
+      longest_of Word (c ∷ cs) (run_len goes_on (c ∷ cs)) e (run_within goes_on (c ∷ cs)) is
+          (λ more le h. run_most goes_on (c ∷ cs) more le (word_each (take more (c ∷ cs)) h)),
       is,
     )
 
@@ -68,7 +76,9 @@ module _ (c x : ℕ) (cs : List ℕ) (prefix : is_hexadecimal (take 3 (c ∷ x �
       step (d ∷ ds) e = front_run is_hex_digit d ds (left (is_hex_digit d) true e)
 
   hex_is : is_number (take (suc (suc (run_len is_hex_digit cs))) (c ∷ x ∷ cs)) ≡ true
-  hex_is = hex_number (is_decimal (c ∷ x ∷ take (run_len is_hex_digit cs) cs)) (is_hexadecimal (c ∷ x ∷ take (run_len is_hex_digit cs) cs)) (both (c == 48 && (x == 120 || x == 88)) (is_run is_hex_digit (take (run_len is_hex_digit cs) cs)) begins_so has_digits)
+  hex_is =
+      hex_number (is_decimal (c ∷ x ∷ take (run_len is_hex_digit cs) cs)) (is_hexadecimal (c ∷ x ∷ take (run_len is_hex_digit cs) cs))
+      (both (c == 48 && (x == 120 || x == 88)) (is_run is_hex_digit (take (run_len is_hex_digit cs) cs)) begins_so has_digits)
 
   hex_most : (more : ℕ) → more ≤ suc (suc (length cs)) → is_number (take more (c ∷ x ∷ cs)) ≡ true → more ≤ suc (suc (run_len is_hex_digit cs))
   hex_most zero le h = omega arith
@@ -77,7 +87,9 @@ module _ (c x : ℕ) (cs : List ℕ) (prefix : is_hexadecimal (take 3 (c ∷ x �
     where
       shorter : is_hexadecimal (c ∷ x ∷ take m cs) ≡ true → suc (suc m) ≤ suc (suc (run_len is_hex_digit cs))
       shorter e =
-          let most : m ≤ run_len is_hex_digit cs = run_most is_hex_digit cs m (omega arith) (run_each is_hex_digit (take m cs) (right (c == 48 && (x == 120 || x == 88)) (is_run is_hex_digit (take m cs)) e)) in
+          let most : m ≤ run_len is_hex_digit cs =
+          run_most is_hex_digit cs m (omega arith)
+          (run_each is_hex_digit (take m cs) (right (c == 48 && (x == 120 || x == 88)) (is_run is_hex_digit (take m cs)) e)) in
           omega arith
 
       no_digits : (is_digit c && (is_digit x && list_all is_digit (take m cs))) ≡ true → ⊥
@@ -86,7 +98,8 @@ module _ (c x : ℕ) (cs : List ℕ) (prefix : is_hexadecimal (take 3 (c ∷ x �
           let n : is_digit x ≡ false = prefix_x c x cs prefix in
           absurd (cc)
 
-      step : (v : Bool) → is_decimal (c ∷ x ∷ take m cs) ≡ v → (v || is_hexadecimal (c ∷ x ∷ take m cs)) ≡ true → suc (suc m) ≤ suc (suc (run_len is_hex_digit cs))
+      step : (v : Bool)
+          → is_decimal (c ∷ x ∷ take m cs) ≡ v → (v || is_hexadecimal (c ∷ x ∷ take m cs)) ≡ true → suc (suc m) ≤ suc (suc (run_len is_hex_digit cs))
       step true f g = absurd (no_digits f)
       step false f g = shorter g
 
@@ -135,6 +148,7 @@ number_front_of (c ∷ x ∷ cs) e true f =
       most = hex_most c x cs f;
     })
 
+-- a number is the longest piece
 pub number_longest : (bs : List ℕ) → kind_at bs ≡ Some Numeral → IsLongest bs (number_len bs) × (is_number (take (number_len bs) bs) ≡ true)
 number_longest bs e =
     let front = number_front_of bs e (is_hexadecimal (take 3 bs)) refl in

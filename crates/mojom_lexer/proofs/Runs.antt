@@ -8,18 +8,22 @@ use Rattle.mojom_lexer.specs.Bytes.{is_letter, goes_on}
 use Rattle.mojom_lexer.specs.Words.{is_word}
 use Rattle.mojom_lexer.specs.steps.Scans.{run_len}
 
+-- two truths are one
 pub both : (a b : Bool) → a ≡ true → b ≡ true → (a && b) ≡ true
 both true b e h = h
 both false b e h = absurd (cc)
 
+-- of two truths the first
 pub left : (a b : Bool) → (a && b) ≡ true → a ≡ true
 left true b e = refl
 left false b e = absurd (cc)
 
+-- of two truths the second
 pub right : (a b : Bool) → (a && b) ≡ true → b ≡ true
 right true b e = e
 right false b e = absurd (cc)
 
+-- no more pass than there are
 pub run_within : (p : ℕ → Bool) (bs : List ℕ) → run_len p bs ≤ length bs
 run_within p [] = omega arith
 run_within p (c ∷ cs) = step (p c) (run_len p cs) (run_within p cs)

@@ -28,6 +28,7 @@ arrow_kind : (cs : List ℕ) → kind_at (61 ∷ 62 ∷ cs) ≡ Some Sign
 unfolding single_symbol
 arrow_kind cs = refl
 
+-- `=>` is the longest piece where it stands
 pub arrow_longest : (bs : List ℕ) → starts_with nat_eq bs (codes "=>") ≡ true → IsLongest bs 2 × (symbol_of (take 2 bs) ≡ Some Arrow)
 arrow_longest [] e = absurd (cc)
 arrow_longest (c ∷ []) e = let g : false ≡ true = right (nat_eq 61 c) false e in absurd (cc)
@@ -51,16 +52,19 @@ one_most (c ∷ d ∷ cs) (suc (suc zero)) f le e = step (c == 61 && d == 62) re
     flip a b g = grind (arith, nat_tests)
 
     step : (v : Bool) → (c == 61 && d == 62) ≡ v → is_some (cond v (Some Arrow) None) ≡ true → 2 ≤ 1
-    step true g h = let s : (nat_eq 61 c && (nat_eq 62 d && true)) ≡ true = both (nat_eq 61 c) (nat_eq 62 d && true) (flip 61 c (left (c == 61) (d == 62) g)) (both (nat_eq 62 d) true (flip 62 d (right (c == 61) (d == 62) g)) refl) in absurd (cc)
+    step true g h =
+        let s : (nat_eq 61 c && (nat_eq 62 d && true)) ≡ true =
+        both (nat_eq 61 c) (nat_eq 62 d && true) (flip 61 c (left (c == 61) (d == 62) g))
+        (both (nat_eq 62 d) true (flip 62 d (right (c == 61) (d == 62) g)) refl) in
+        absurd (cc)
     step false g h = absurd (cc)
 one_most (c ∷ d ∷ []) (suc (suc (suc m))) f le e = absurd (omega arith)
 one_most (c ∷ d ∷ x ∷ cs) (suc (suc (suc m))) f le e = absurd (cc)
 
-pub first_byte : List ℕ → ℕ
-first_byte [] = 0
-first_byte (c ∷ cs) = c
-
-pub symbol_longest : (c : ℕ) (cs : List ℕ) (symbol : Symbol) → kind_of c ≡ Some Sign → starts_with nat_eq (c ∷ cs) (codes "=>") ≡ false → single_symbol c ≡ Some symbol → IsLongest (c ∷ cs) 1 × (symbol_of (take 1 (c ∷ cs)) ≡ Some symbol)
+-- a symbol of one byte is the longest piece where no `=>` stands
+pub symbol_longest : (c : ℕ) (cs : List ℕ) (symbol : Symbol)
+    → kind_of c ≡ Some Sign → starts_with nat_eq (c ∷ cs) (codes "=>") ≡ false → single_symbol c ≡ Some symbol
+    → IsLongest (c ∷ cs) 1 × (symbol_of (take 1 (c ∷ cs)) ≡ Some symbol)
 symbol_longest c cs symbol e f g = (longest_of Sign (c ∷ cs) 1 e (omega arith) (ap is_some g) (λ more le h. one_most (c ∷ cs) more f le h), g)
 
 pub begins_none : (bs : List ℕ) → kind_at bs ≡ None → BeginsNone bs
@@ -95,7 +99,8 @@ bad_char c cs e = record {
 }
 
 -- a slash that begins no comment
-pub bad_slash : (bs : List ℕ) → kind_at bs ≡ Some Comment → starts_with nat_eq bs (codes "//") ≡ false → starts_with nat_eq bs (codes "/*") ≡ false → IsBadChar bs
+pub bad_slash : (bs : List ℕ)
+    → kind_at bs ≡ Some Comment → starts_with nat_eq bs (codes "//") ≡ false → starts_with nat_eq bs (codes "/*") ≡ false → IsBadChar bs
 bad_slash [] e f g = absurd (cc)
 bad_slash (c ∷ cs) e f g = record {
   some = omega arith;

@@ -24,24 +24,30 @@ pub longest_some : (bs : List ℕ) (len : ℕ) → IsLongest bs len → 0 < len
 longest_some bs zero h = absurd (no_piece bs h.is)
 longest_some bs (suc len) h = omega arith
 
+-- before the first piece
 pub reaches_start : (bs : List ℕ) (items : List Token) → items ≡ [] → Reaches bs 0 items
 reaches_start bs items e = subst (λ (ts : List Token). Reaches bs 0 ts) (sym e) starts
 
 stands : (bs : List ℕ) (at : ℕ) (piece : Piece) → Stands piece (take (length bs - at) (drop at bs)) → Stands piece (drop at bs)
 stands bs at piece h = subst (λ (rest : List ℕ). Stands piece rest) (rest_of at bs) h
 
-pub piece_some : (bs : List ℕ) (at : ℕ) (piece : Piece) → Stands piece (take (length bs - at) (drop at bs)) → 0 < piece.len
-piece_some bs at piece h = longest_some (drop at bs) piece.len (stands bs at piece h).longest
-
+-- a piece ends within the file
 pub piece_room : (bs : List ℕ) (at : ℕ) (piece : Piece) → at ≤ length bs → Stands piece (take (length bs - at) (drop at bs)) → at + piece.len ≤ length bs
 piece_room bs at piece le h = let w : piece.len ≤ length (drop at bs) = (stands bs at piece h).longest.within in omega (arith, length-drop at bs)
 
-pub passes_on : (bs : List ℕ) (at : ℕ) (piece : Piece) (items new : List Token) → Reaches bs at items → Stands piece (take (length bs - at) (drop at bs)) → piece.sort ≡ None → new ≡ items → Reaches bs (at + piece.len) new
+-- a piece that is passed over, and on
+pub passes_on : (bs : List ℕ) (at : ℕ) (piece : Piece) (items new : List Token)
+    → Reaches bs at items → Stands piece (take (length bs - at) (drop at bs)) → piece.sort ≡ None → new ≡ items → Reaches bs (at + piece.len) new
 passes_on bs at piece items new r h e n =
     let s = stands bs at piece h in
-    subst (λ (ts : List Token). Reaches bs (at + piece.len) ts) (sym n) (passes at piece.len items r s.longest (subst (λ (o : Option Sort). Means o (take piece.len (drop at bs))) e s.means))
+    subst (λ (ts : List Token). Reaches bs (at + piece.len) ts) (sym n)
+    (passes at piece.len items r s.longest (subst (λ (o : Option Sort). Means o (take piece.len (drop at bs))) e s.means))
 
-pub takes_on : (bs : List ℕ) (at : ℕ) (piece : Piece) (sort : Sort) (items new : List Token) → Reaches bs at items → Stands piece (take (length bs - at) (drop at bs)) → piece.sort ≡ Some sort → new ≡ items ++ token_at sort at piece.len ∷ [] → Reaches bs (at + piece.len) new
+-- a piece that is a token, and on
+pub takes_on : (bs : List ℕ) (at : ℕ) (piece : Piece) (sort : Sort) (items new : List Token)
+    → Reaches bs at items → Stands piece (take (length bs - at) (drop at bs)) → piece.sort ≡ Some sort
+    → new ≡ items ++ token_at sort at piece.len ∷ [] → Reaches bs (at + piece.len) new
 takes_on bs at piece sort items new r h e n =
     let s = stands bs at piece h in
-    subst (λ (ts : List Token). Reaches bs (at + piece.len) ts) (sym n) (takes at piece.len items sort r s.longest (subst (λ (o : Option Sort). Means o (take piece.len (drop at bs))) e s.means))
+    subst (λ (ts : List Token). Reaches bs (at + piece.len) ts) (sym n)
+    (takes at piece.len items sort r s.longest (subst (λ (o : Option Sort). Means o (take piece.len (drop at bs))) e s.means))

@@ -15,11 +15,11 @@ use Rattle.mojom_ast.specs.declared.token.Token.{Token}
 use Rattle.mojom_lexer.specs.declared.pieces.Piece.{Piece}
 use Rattle.mojom_lexer.specs.declared.error.LexError.{LexError}
 use Rattle.mojom_lexer.specs.declared.error.LexError.TheVariants.{BadUtf8, BadChar, OpenComment, OpenString, LeadingZero, NumberTooLong, Memory}
-use Rattle.mojom_lexer.specs.Bytes.{is_blank, goes_on}
+use Rattle.mojom_lexer.specs.Bytes.{is_blank, goes_on, stays_on_line}
 use Rattle.mojom_lexer.specs.Words.{keyword_of, single_symbol}
 use Rattle.mojom_lexer.specs.Numbers.{has_leading_zero, number_value}
 use Rattle.mojom_lexer.specs.Strings.{text_of}
-use Rattle.mojom_lexer.specs.Pieces.{Kind, IsLongest, stays_on_line}
+use Rattle.mojom_lexer.specs.Pieces.{Kind, IsLongest}
 use Rattle.mojom_lexer.specs.Pieces.Kind.{Blank, Comment, Word, Numeral, Quoted, Sign}
 use Rattle.mojom_lexer.specs.Lexed.{Reaches, AreTokens, Refuses, StopsAt, IsLexicalRefusal}
 use Rattle.mojom_lexer.specs.Lexed.Reaches.{starts, passes, takes}
@@ -38,21 +38,36 @@ module _ (at c : ℕ) (cs : List ℕ) where
   word_front e = step (keyword_of (take (run_len goes_on (c ∷ cs)) (c ∷ cs))) refl
     where
       step : (k : Option keyword.Keyword) → keyword_of (take (run_len goes_on (c ∷ cs)) (c ∷ cs)) ≡ k → Fronts at (c ∷ cs)
-      step (Some k) f = inl (record { sort = Some (Keyword k); len = run_len goes_on (c ∷ cs) }, word_stands (c ∷ cs) (run_len goes_on (c ∷ cs)) (Keyword k) e refl (word_is (c ∷ cs) (run_len goes_on (c ∷ cs)) e refl, f))
-      step None f = inl (record { sort = Some (Identifier (take (run_len goes_on (c ∷ cs)) (c ∷ cs))); len = run_len goes_on (c ∷ cs) }, word_stands (c ∷ cs) (run_len goes_on (c ∷ cs)) (Identifier (take (run_len goes_on (c ∷ cs)) (c ∷ cs))) e refl (word_is (c ∷ cs) (run_len goes_on (c ∷ cs)) e refl, f, refl))
+      step (Some k) f =
+          inl (
+            record { sort = Some (Keyword k); len = run_len goes_on (c ∷ cs) },
+            word_stands (c ∷ cs) (run_len goes_on (c ∷ cs)) (Keyword k) e refl (word_is (c ∷ cs) (run_len goes_on (c ∷ cs)) e refl, f),
+          )
+      step None f =
+          inl (
+            record { sort = Some (Identifier (take (run_len goes_on (c ∷ cs)) (c ∷ cs))); len = run_len goes_on (c ∷ cs) },
+            word_stands (c ∷ cs) (run_len goes_on (c ∷ cs)) (Identifier (take (run_len goes_on (c ∷ cs)) (c ∷ cs))) e refl
+                (word_is (c ∷ cs) (run_len goes_on (c ∷ cs)) e refl, f, refl),
+          )
 
   number_front : kind_of c ≡ Some Numeral → (len : ℕ) → len ≡ number_len (c ∷ cs) → Fronts at (c ∷ cs)
   number_front e len l = step (has_leading_zero (take len (c ∷ cs))) (nat_lt (number_value (take len (c ∷ cs))) (2 ^ 64)) refl refl
     where
       step : (v w : Bool) → has_leading_zero (take len (c ∷ cs)) ≡ v → nat_lt (number_value (take len (c ∷ cs))) (2 ^ 64) ≡ w → Fronts at (c ∷ cs)
       step true w z f = inr (LeadingZero at, (leading_zero (c ∷ cs) len e l z, refl))
-      step false true z f = inl (record { sort = Some (Number (number_value (take len (c ∷ cs)))); len = len }, number_stands (c ∷ cs) len (number_value (take len (c ∷ cs))) e l z refl (grind (arith, nat_tests)))
+      step false true z f =
+          inl (
+            record { sort = Some (Number (number_value (take len (c ∷ cs)))); len = len },
+            number_stands (c ∷ cs) len (number_value (take len (c ∷ cs))) e l z refl (grind (arith, nat_tests)),
+          )
       step false false z f = inr (NumberTooLong at, (too_long (c ∷ cs) len e l z (grind (arith, nat_tests)), refl))
 
   string_front : kind_of c ≡ Some Quoted → Fronts at (c ∷ cs)
   string_front e = step (before_quote false (take (length (c ∷ cs) - 1) (drop 1 (c ∷ cs)))) refl
     where
-      text : (n : ℕ) → Some n ≡ before_quote false (take (length (c ∷ cs) - 1) (drop 1 (c ∷ cs))) → (r : Result (List ℕ) ℕ) → text_of 1 (parts_of false (take (1 + n - 1) (drop 1 (c ∷ cs)))) ≡ r → Fronts at (c ∷ cs)
+      text : (n : ℕ)
+          → Some n ≡ before_quote false (take (length (c ∷ cs) - 1) (drop 1 (c ∷ cs))) → (r : Result (List ℕ) ℕ)
+          → text_of 1 (parts_of false (take (1 + n - 1) (drop 1 (c ∷ cs)))) ≡ r → Fronts at (c ∷ cs)
       text n f (Ok t) g = inl (record { sort = Some (String t); len = n + 2 }, string_stands (c ∷ cs) t n e f g)
       text n f (Err b) g = inr (BadChar (at + b), bad_escape (c ∷ cs) at n (BadChar (at + b)) e f (b, g, refl) (λ h. absurd (cc)))
 
@@ -63,7 +78,8 @@ module _ (at c : ℕ) (cs : List ℕ) where
   comment_front : kind_of c ≡ Some Comment → Fronts at (c ∷ cs)
   comment_front e = step (starts_with nat_eq (c ∷ cs) (codes "//")) (starts_with nat_eq (c ∷ cs) (codes "/*")) refl refl
     where
-      block : starts_with nat_eq (c ∷ cs) (codes "/*") ≡ true → (r : Option ℕ) → r ≡ before_close (take (length (c ∷ cs) - 2) (drop 2 (c ∷ cs))) → Fronts at (c ∷ cs)
+      block : starts_with nat_eq (c ∷ cs) (codes "/*") ≡ true
+          → (r : Option ℕ) → r ≡ before_close (take (length (c ∷ cs) - 2) (drop 2 (c ∷ cs))) → Fronts at (c ∷ cs)
       block f (Some n) g = inl (record { sort = None; len = n + 4 }, block_stands (c ∷ cs) n f g)
       block f None g = let found = open_comment (c ∷ cs) f g in inr (OpenComment at, (found.0, found.1, refl))
 
@@ -78,7 +94,8 @@ module _ (at c : ℕ) (cs : List ℕ) where
       step : (v : Bool) (o : Option symbol.Symbol) → starts_with nat_eq (c ∷ cs) (codes "=>") ≡ v → single_symbol c ≡ o → Fronts at (c ∷ cs)
       step true o f g = inl (record { sort = Some (Symbol symbol.TheVariants.Arrow); len = 2 }, arrow_stands (c ∷ cs) f)
       step false (Some s) f g =
-          let begins : kind_of c ≡ cond (is_some (single_symbol c)) (Some Sign) None = e ∙ sym (ap (λ (o : Option symbol.Symbol). cond (is_some o) (Some Sign) None) g) in
+          let begins : kind_of c ≡ cond (is_some (single_symbol c)) (Some Sign) None =
+          e ∙ sym (ap (λ (o : Option symbol.Symbol). cond (is_some o) (Some Sign) None) g) in
           inl (record { sort = Some (Symbol s); len = 1 }, symbol_stands (c ∷ cs) s begins f (sym g))
       step false None f g = let b = begins_sign c e in let n : is_some (single_symbol c) ≡ false = ap is_some g in absurd (cc)
 
@@ -104,7 +121,9 @@ stop bs (LeadingZero place) h = h
 stop bs (NumberTooLong place) h = h
 stop bs Memory h = h
 
-on_from : (bs : List ℕ) (at : ℕ) (tokens : List Token) → Reaches bs at tokens → (sort : Option Sort) (len : ℕ) → IsLongest (drop at bs) len → Means sort (take len (drop at bs)) → (more : List Token) × Reaches bs (at + len) more
+on_from : (bs : List ℕ) (at : ℕ) (tokens : List Token)
+    → Reaches bs at tokens → (sort : Option Sort) (len : ℕ) → IsLongest (drop at bs) len → Means sort (take len (drop at bs))
+    → (more : List Token) × Reaches bs (at + len) more
 on_from bs at tokens r None len l m = (tokens, passes at len tokens r l m)
 on_from bs at tokens r (Some sort) len l m = (tokens ++ token_at sort at len ∷ [], takes at len tokens sort r l m)
 
@@ -131,10 +150,12 @@ read_on (suc fuel) bs at tokens u le f r = step (λ to more le f r. read_on fuel
         others (at + x.0.len) next.0 room (omega arith) next.1
     piece others (inr x) = inr (x.0, stop bs x.0 (record { utf8 = u; at = at; tokens = tokens; reaches = r; refuses = x.1 }))
 
-    step : ((to : ℕ) (more : List Token) → to ≤ length bs → length bs - to ≤ fuel → Reaches bs to more → Reading bs) → (rest : List ℕ) → drop at bs ≡ rest → Reading bs
+    step : ((to : ℕ) (more : List Token) → to ≤ length bs → length bs - to ≤ fuel → Reaches bs to more → Reading bs)
+        → (rest : List ℕ) → drop at bs ≡ rest → Reading bs
     step others [] e = inl (tokens, ends bs at tokens u le e r)
     step others (c ∷ cs) e = piece others (subst (λ (rest : List ℕ). Fronts at rest) (sym e) (front_of at c cs (kind_of c) refl))
 
+-- each file has tokens or a refusal
 pub some_reading : (bs : List ℕ) → Reading bs
 some_reading bs = step (is_utf8 bs) refl
   where

@@ -6,7 +6,7 @@ use Rattle.mojom_ast.specs.declared.token.Sort.{Sort}
 use Rattle.mojom_ast.specs.declared.token.Sort.TheVariants.{Identifier, Keyword, Number, String, Symbol}
 use Rattle.mojom_ast.specs.declared.token.Token.{Token}
 use Rattle.mojom_lexer.specs.declared.error.LexError.{LexError}
-use Rattle.mojom_lexer.specs.declared.error.LexError.TheVariants.{BadUtf8, BadChar, OpenComment, OpenString, LeadingZero, NumberTooLong, Memory}
+use Rattle.mojom_lexer.specs.declared.error.LexError.TheVariants.{BadUtf8, BadChar, OpenComment, OpenString, LeadingZero, NumberTooLong}
 use Rattle.mojom_lexer.specs.Words.{is_word, keyword_of, symbol_of}
 use Rattle.mojom_lexer.specs.Numbers.{is_number, has_leading_zero, number_value}
 use Rattle.mojom_lexer.specs.Strings.{Part, IsStringOf, text_of}
@@ -35,8 +35,15 @@ SpellsSort (Symbol symbol) bytes = symbol_of bytes ≡ Some symbol
 -- from the file's start, piece by piece, each the longest at its place, to a place: the tokens among them
 pub data Reaches (bytes : List ℕ) : ℕ → List Token → Type 0 where
   starts : Reaches bytes 0 []
-  passes : (at len : ℕ) (tokens : List Token) → Reaches bytes at tokens → IsLongest (drop at bytes) len → IsPassedOver (take len (drop at bytes)) → Reaches bytes (at + len) tokens
-  takes : (at len : ℕ) (tokens : List Token) (sort : Sort) → Reaches bytes at tokens → IsLongest (drop at bytes) len → SpellsSort sort (take len (drop at bytes))
+  passes : (at len : ℕ) (tokens : List Token)
+      → Reaches bytes at tokens
+      → IsLongest (drop at bytes) len
+      → IsPassedOver (take len (drop at bytes))
+      → Reaches bytes (at + len) tokens
+  takes : (at len : ℕ) (tokens : List Token) (sort : Sort)
+      → Reaches bytes at tokens
+      → IsLongest (drop at bytes) len
+      → SpellsSort sort (take len (drop at bytes))
       → Reaches bytes (at + len) (tokens ++ record { sort = sort; span = record { start = at; len = len } } ∷ [])
 
 -- the bytes are these tokens
@@ -79,13 +86,13 @@ pub record IsBadChar (bytes : List ℕ) : Type 0 where
 
 -- why the bytes from a place on can't go on: no piece begins, or the longest is no token
 abbrev pub Refuses : ℕ → List ℕ → LexError → Type 0
-Refuses at bytes (BadUtf8 place) = ⊥
-Refuses at bytes (BadChar place) = (IsBadChar bytes × (place ≡ at)) ⊎ ((behind : ℕ) × HasFront (HasBadEscape behind) bytes × (place ≡ at + behind))
+Refuses at bytes (BadChar place) =
+    (IsBadChar bytes × (place ≡ at)) ⊎ ((behind : ℕ) × HasFront (HasBadEscape behind) bytes × (place ≡ at + behind))
 Refuses at bytes (OpenComment place) = (begins_comment bytes ≡ true) × BeginsNone bytes × (place ≡ at)
 Refuses at bytes (OpenString place) = (begins_string bytes ≡ true) × BeginsNone bytes × (place ≡ at)
 Refuses at bytes (LeadingZero place) = HasFront HasLeadingZero bytes × (place ≡ at)
 Refuses at bytes (NumberTooLong place) = HasFront IsTooLong bytes × (place ≡ at)
-Refuses at bytes Memory = ⊥
+Refuses at bytes _ = ⊥
 
 -- behind good pieces stands one that can't go on
 pub record StopsAt (bytes : List ℕ) (error : LexError) : Type 0 where

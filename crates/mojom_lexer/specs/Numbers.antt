@@ -1,6 +1,6 @@
 -- Numbers and their values.
-use Rattle.std.specs.Prelude.{ℕ, ◌+◌, ◌-◌, ◌*◌, ◌==◌, ◌&&◌, ◌||◌, nat_le, if◌then◌else◌, Bool, false, List, [], ◌∷◌, drop}
-use Rattle.mojom_lexer.specs.Bytes.{is_digit, is_hex_digit, is_run}
+use Rattle.std.specs.Prelude.{ℕ, ◌+◌, ◌-◌, ◌*◌, ◌==◌, ◌&&◌, ◌||◌, if◌then◌else◌, Bool, false, List, [], ◌∷◌, drop, codes}
+use Rattle.mojom_lexer.specs.Bytes.{byte_of, is_between, is_digit, is_hex_digit, is_run}
 
 -- digits
 abbrev pub is_decimal : List ℕ → Bool
@@ -10,7 +10,7 @@ is_decimal bytes = is_run is_digit bytes
 abbrev pub is_hexadecimal : List ℕ → Bool
 is_hexadecimal [] = false
 is_hexadecimal (c ∷ []) = false
-is_hexadecimal (c ∷ x ∷ cs) = c == 48 && (x == 120 || x == 88) && is_run is_hex_digit cs
+is_hexadecimal (c ∷ x ∷ cs) = c == byte_of (codes "0") && (x == byte_of (codes "x") || x == byte_of (codes "X")) && is_run is_hex_digit cs
 
 -- a number, of either form
 abbrev pub is_number : List ℕ → Bool
@@ -20,11 +20,14 @@ is_number bytes = is_decimal bytes || is_hexadecimal bytes
 abbrev pub has_leading_zero : List ℕ → Bool
 has_leading_zero [] = false
 has_leading_zero (c ∷ []) = false
-has_leading_zero (c ∷ d ∷ cs) = c == 48 && is_digit d
+has_leading_zero (c ∷ d ∷ cs) = c == byte_of (codes "0") && is_digit d
 
--- the value of a digit: 0 to 9, A to F, a to f
+-- the value of a digit: of 0 to 9, of A to F and of a to f
 abbrev pub digit_value : ℕ → ℕ
-digit_value c = if nat_le c 57 then c - 48 else (if nat_le c 70 then c - 55 else c - 87)
+digit_value c =
+    if is_digit c then c - byte_of (codes "0")
+    else (if is_between (codes "A") (codes "F") c then 10 + (c - byte_of (codes "A"))
+    else 10 + (c - byte_of (codes "a")))
 
 -- the value of digits in a base, behind digits of the value `high`
 abbrev pub value_from : ℕ → ℕ → List ℕ → ℕ

@@ -1,20 +1,16 @@
 -- The pieces of a file: blank space, comments and tokens, each by its spelling, and the longest of them.
-use Rattle.std.specs.Prelude.{ℕ, ◌≡◌, ◌<◌, ◌≤◌, ◌==◌, ◌&&◌, ◌||◌, ◌⊎◌, not, Bool, true, false, List, [], ◌∷◌, ◌++◌, length, take, codes, is_some, nat_eq}
+use Rattle.std.specs.Prelude.{ℕ, ◌≡◌, ◌<◌, ◌≤◌, ◌==◌, ◌&&◌, ◌||◌, ◌⊎◌, Bool, true, false, List, [], ◌∷◌, ◌++◌, length, take, codes, is_some, nat_eq}
 use Rattle.std.specs.List.{list_all, starts_with}
-use Rattle.mojom_lexer.specs.Bytes.{is_blank, is_run}
+use Rattle.mojom_lexer.specs.Bytes.{slash, asterisk, is_blank, stays_on_line, is_run}
 use Rattle.mojom_lexer.specs.Words.{is_word, symbol_of}
 use Rattle.mojom_lexer.specs.Numbers.{is_number}
 use Rattle.mojom_lexer.specs.Strings.{Part, IsStringOf}
-
--- a line ends at LF alone
-abbrev pub stays_on_line : ℕ → Bool
-stays_on_line c = not (c == 10)
 
 -- `//` and what follows on its line
 abbrev pub is_line_comment : List ℕ → Bool
 is_line_comment [] = false
 is_line_comment (c ∷ []) = false
-is_line_comment (c ∷ d ∷ cs) = c == 47 && d == 47 && list_all stays_on_line cs
+is_line_comment (c ∷ d ∷ cs) = c == slash && d == slash && list_all stays_on_line cs
 
 -- `*/` stands somewhere in the bytes
 abbrev pub has_close : List ℕ → Bool
@@ -23,8 +19,8 @@ has_close (c ∷ cs) = starts_with nat_eq (c ∷ cs) (codes "*/") || has_close c
 
 -- `/*` and all up to the next `*/`
 pub record IsBlockCommentOf (inside bytes : List ℕ) : Type 0 where
-  pub is_spelled : bytes ≡ 47 ∷ 42 ∷ (inside ++ 42 ∷ 47 ∷ [])
-  pub is_next : has_close (inside ++ 42 ∷ []) ≡ false
+  pub is_spelled : bytes ≡ slash ∷ asterisk ∷ (inside ++ asterisk ∷ slash ∷ [])
+  pub is_next : has_close (inside ++ asterisk ∷ []) ≡ false
 
 -- what stands at a place of a file: blank space, a comment, a word, a number, a string or a symbol
 pub data Kind : Type 0 where

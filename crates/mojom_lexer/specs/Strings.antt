@@ -1,6 +1,7 @@
 -- Strings: how they are spelled, and what they stand for.
-use Rattle.std.specs.Prelude.{ℕ, ◌≡◌, ◌+◌, ◌==◌, ◌||◌, not, if◌then◌else◌, Bool, true, List, [], ◌∷◌, ◌++◌, length, Option, Some, None, Result, Ok, Err}
+use Rattle.std.specs.Prelude.{ℕ, ◌≡◌, ◌+◌, ◌==◌, ◌||◌, not, if◌then◌else◌, Bool, true, List, [], ◌∷◌, ◌++◌, length, Option, Some, None, Result, Ok, Err, codes}
 use Rattle.std.specs.List.{list_all, flat_map}
+use Rattle.mojom_lexer.specs.Bytes.{byte_of, tab, line_feed, quote, backslash}
 
 -- a part of a string: a byte that stands for itself, or a backslash and a byte
 pub data Part : Type 0 where
@@ -10,16 +11,16 @@ pub data Part : Type 0 where
 -- the bytes of a part
 abbrev pub spelled : Part → List ℕ
 spelled (Literal c) = c ∷ []
-spelled (Escape c) = 92 ∷ c ∷ []
+spelled (Escape c) = backslash ∷ c ∷ []
 
 -- a quote, a backslash and LF do not stand for themselves; a backslash does not stand before LF
 abbrev pub is_part : Part → Bool
-is_part (Literal c) = not (c == 34 || c == 92 || c == 10)
-is_part (Escape c) = not (c == 10)
+is_part (Literal c) = not (c == quote || c == backslash || c == line_feed)
+is_part (Escape c) = not (c == line_feed)
 
 -- a quote, the parts, and a quote
 abbrev pub quoted : List Part → List ℕ
-quoted parts = 34 ∷ (flat_map spelled parts ++ 34 ∷ [])
+quoted parts = quote ∷ (flat_map spelled parts ++ quote ∷ [])
 
 -- the bytes are a string of these parts
 pub record IsStringOf (parts : List Part) (bytes : List ℕ) : Type 0 where
@@ -28,7 +29,12 @@ pub record IsStringOf (parts : List Part) (bytes : List ℕ) : Type 0 where
 
 -- the four escapes: `\"`, `\\`, `\n` and `\t`
 abbrev pub escaped : ℕ → Option ℕ
-escaped c = if c == 34 then Some 34 else (if c == 92 then Some 92 else (if c == 110 then Some 10 else (if c == 116 then Some 9 else None)))
+escaped c =
+    if c == quote then Some quote
+    else (if c == backslash then Some backslash
+    else (if c == byte_of (codes "n") then Some line_feed
+    else (if c == byte_of (codes "t") then Some tab
+    else None)))
 
 -- the byte that a part stands for, if it stands for any
 abbrev pub meaning : Part → Option ℕ

@@ -1,6 +1,7 @@
 //! The lexer of Mojom: the tokens of a file, or where and why it has none.
 #![tactic(auto)]
 
+mod bytes;
 mod comments;
 mod error;
 mod lexer;

@@ -2,42 +2,11 @@
 
 ghost use Rattle.std.specs.Prelude.{◌≡◌, ◌≤◌, ◌<◌, ◌^◌, true, IfSome, IfNone, take};
 ghost use Rattle.std.specs.List.{list_all};
-ghost use Rattle.mojom_lexer.specs.Bytes.{is_digit, is_hex_digit};
+ghost use Rattle.mojom_lexer.specs.Bytes.{is_hex_digit};
 ghost use Rattle.mojom_lexer.specs.Numbers.{is_number, has_leading_zero, number_value, is_hexadecimal, digit_value, value_from};
-ghost use Rattle.mojom_lexer.specs.steps.Scans.{run_len, number_len};
+ghost use Rattle.mojom_lexer.specs.steps.Scans.{number_len};
 
-use crate::words::is_digit;
-
-/// Whether the byte is a hexadecimal digit.
-fn is_hex_digit(byte: u8) -> bool
-    ensures { result ≡ is_hex_digit byte }
-{
-    is_digit(byte) || (b'a' <= byte && byte <= b'f') || (b'A' <= byte && byte <= b'F')
-}
-
-/// How many decimal digits stand at the front.
-fn digits_len(bytes: &[u8]) -> usize
-    ensures { result ≡ run_len is_digit bytes.now }
-{
-    for (len, byte) in bytes.iter().enumerate() {
-        if !is_digit(*byte) {
-            return len;
-        }
-    }
-    bytes.len()
-}
-
-/// How many hexadecimal digits stand at the front.
-fn hex_digits_len(bytes: &[u8]) -> usize
-    ensures { result ≡ run_len is_hex_digit bytes.now }
-{
-    for (len, byte) in bytes.iter().enumerate() {
-        if !is_hex_digit(*byte) {
-            return len;
-        }
-    }
-    bytes.len()
-}
+use crate::bytes::{is_digit, is_hex_digit, run_len};
 
 /// Whether `0x` or `0X` and a hexadecimal digit stand at the front.
 fn begins_hexadecimal(bytes: &[u8]) -> bool
@@ -55,9 +24,9 @@ pub fn number_len(bytes: &[u8]) -> usize
     ensures { result ≡ number_len bytes.now }
 {
     if begins_hexadecimal(bytes) {
-        return 2 + hex_digits_len(&bytes[2..]);
+        return 2 + run_len(&bytes[2..], is_hex_digit);
     }
-    digits_len(bytes)
+    run_len(bytes, is_digit)
 }
 
 /// Whether a 0 and another digit stand at the front.
@@ -75,13 +44,13 @@ fn digit_value(digit: u8) -> u8
 {
     match digit {
         b'0'..=b'9' => digit - b'0',
-        b'A'..=b'F' => digit - b'A' + 10,
-        _ => digit - b'a' + 10,
+        b'A'..=b'F' => 10 + (digit - b'A'),
+        _ => 10 + (digit - b'a'),
     }
 }
 
 /// The value of the digits in the base; none exactly where it is 2 ^ 64 or more.
-#[tactic(auto, using(crate::proofs::Values::step_at, crate::proofs::Values::large_at, crate::proofs::Values::large_times, crate::proofs::Values::digit_at, crate::proofs::Values::end_at))]
+#[tactic(auto, using(crate::proofs::Values::step_at, crate::proofs::Values::large_at, crate::proofs::Values::large_times, crate::proofs::Values::digit_at))]
 fn value_in(base: u8, digits: &[u8]) -> Option<u64>
     requires base { 0 < base }
     requires digits { list_all is_hex_digit digits.now ≡ true }

@@ -7,11 +7,12 @@ ghost use Rattle.mojom_lexer.specs.Pieces.Kind.{Blank, Comment, Word, Numeral, Q
 ghost use Rattle.mojom_lexer.specs.Lexed.{Refuses, SpellsSort};
 ghost use Rattle.mojom_lexer.specs.steps.Scans.{kind_at, Stands, BeginsSign};
 
-use crate::comments::{before_close, line_len};
+use crate::bytes::{goes_on, is_blank, is_digit, is_letter, run_len, stays_on_line};
+use crate::comments::before_close;
 use crate::error::LexError;
 use crate::numbers::{has_leading_zero, number_len, number_value};
 use crate::strings::{before_quote, text};
-use crate::words::{as_text, blank_len, is_blank, is_digit, is_letter, keyword, symbol, word_len};
+use crate::words::{as_text, keyword, symbol};
 use mj_base::Text;
 use mojom_ast::{Sort, Symbol};
 use std::alloc::{AllocError, Global};
@@ -56,7 +57,7 @@ fn blank(bytes: &[u8]) -> Piece
 {
     Piece {
         sort: None,
-        len: blank_len(bytes),
+        len: run_len(bytes, is_blank),
     }
 }
 
@@ -67,7 +68,7 @@ fn word(alloc: Global, bytes: &[u8]) -> Result<Piece, LexError>
     ensures ok { IfOk result (λ piece. Stands piece bytes.now) }
     ensures refused { IfErr result (λ error. error ≡ Memory) }
 {
-    let len = word_len(bytes);
+    let len = run_len(bytes, goes_on);
     let sort = word_sort(alloc, &bytes[..len])?;
     Ok(Piece {
         sort: Some(sort),
@@ -135,7 +136,7 @@ fn comment(at: u64, bytes: &[u8]) -> Result<Piece, LexError>
     if bytes.starts_with(b"//") {
         return Ok(Piece {
             sort: None,
-            len: line_len(bytes),
+            len: run_len(bytes, stays_on_line),
         });
     }
     if !bytes.starts_with(b"/*") {

@@ -7,55 +7,53 @@ use std::test::Fail;
 
 #[test]
 fn refusals_and_their_places(rt: HostRuntime) -> Result<(), Fail> {
-    let rows: [(&str, LexError); 22] = [
-        ("01", LexError::LeadingZero(0)),
-        ("a # b", LexError::BadChar(2)),
-        ("\"a\\q\"", LexError::BadChar(2)),
-        ("/* x", LexError::OpenComment(0)),
-        ("\"ab", LexError::OpenString(0)),
-        ("18446744073709551616", LexError::NumberTooLong(0)),
+    use LexError::{BadChar, BadUtf8, LeadingZero, NumberTooLong, OpenComment, OpenString};
+    let rows: [(&[u8], LexError); 24] = [
+        (b"01", LeadingZero(0)),
+        (b"a # b", BadChar(2)),
+        (b"\"a\\q\"", BadChar(2)),
+        (b"/* x", OpenComment(0)),
+        (b"\"ab", OpenString(0)),
+        (b"18446744073709551616", NumberTooLong(0)),
         // of several the first by place
-        ("\"a\\q", LexError::OpenString(0)),
-        ("\"\\q\\z\" #", LexError::BadChar(1)),
-        ("x\n\"a\\\n\"", LexError::OpenString(2)),
-        ("\"a\\", LexError::OpenString(0)),
-        ("/*/", LexError::OpenComment(0)),
-        ("/**/ /", LexError::BadChar(5)),
-        ("0x10000000000000000", LexError::NumberTooLong(0)),
-        ("  00x1", LexError::LeadingZero(2)),
-        ("\u{feff}module a;", LexError::BadChar(0)),
-        ("a é", LexError::BadChar(2)),
-        ("// é\n\"é\\é\"", LexError::BadChar(9)),
+        (b"\"a\\q", OpenString(0)),
+        (b"\"\\q\\z\" #", BadChar(1)),
+        (b"x\n\"a\\\n\"", OpenString(2)),
+        (b"\"a\\", OpenString(0)),
+        (b"/*/", OpenComment(0)),
+        (b"/**/ /", BadChar(5)),
+        (b"0x10000000000000000", NumberTooLong(0)),
+        (b"  00x1", LeadingZero(2)),
+        // outside ASCII: a byte order mark, a letter, and a letter behind a backslash
+        (b"\xef\xbb\xbfmodule a;", BadChar(0)),
+        (b"a \xc3\xa9", BadChar(2)),
+        (b"// \xc3\xa9\n\"\xc3\xa9\\\xc3\xa9\"", BadChar(9)),
         // files of the field
         (
-            "module a;\nimport \"f0.mojom\";\nimport \"f1.mojom;\n",
-            LexError::OpenString(36),
+            b"module a;\nimport \"f0.mojom\";\nimport \"f1.mojom;\n",
+            OpenString(36),
         ),
         (
-            "struct 18446744073709551616S1 { int64 f2@1 ",
-            LexError::NumberTooLong(7),
+            b"struct 18446744073709551616S1 { int64 f2@1 ",
+            NumberTooLong(7),
         ),
-        ("import \"f0", LexError::OpenString(7)),
+        (b"import \"f0", OpenString(7)),
         (
-            "module a;\nimport \"f0.mojom\";\n.mojom\";\n",
-            LexError::OpenString(35),
+            b"module a;\nimport \"f0.mojom\";\n.mojom\";\n",
+            OpenString(35),
         ),
         (
-            "module a.b.c;\n[Stable] struct S1 {  };\n[Stable] st/ruct S2 { array<int64> f3; };",
-            LexError::BadChar(50),
+            b"module a.b.c;\n[Stable] struct S1 {  };\n[Stable] st/ruct S2 { array<int64> f3; };",
+            BadChar(50),
         ),
+        // no UTF-8
+        (b"modul\x80e # x", BadUtf8(5)),
+        (b"# \"\xc3", BadUtf8(3)),
     ];
     for (file, error) in &rows {
-        match lex(rt.alloc(), file.as_bytes()) {
-            Ok(_) => assert!(rt; false, "{file}"),
-            Err(found) => assert_eq!(rt; found, *error, "{file}"),
-        }
-    }
-    let not_utf8: [(&[u8], u64); 2] = [(b"modul\x80e # x", 5), (b"# \"\xc3", 3)];
-    for (file, place) in &not_utf8 {
         match lex(rt.alloc(), file) {
-            Ok(_) => assert!(rt; false),
-            Err(found) => assert_eq!(rt; found, LexError::BadUtf8(*place)),
+            Ok(_) => assert!(rt; false, "{error:?}"),
+            Err(found) => assert_eq!(rt; found, *error),
         }
     }
     Ok(())

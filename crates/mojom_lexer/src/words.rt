@@ -1,63 +1,9 @@
-//! Words, symbols and blank space.
+//! Words and symbols.
 
 ghost use Rattle.std.specs.Prelude.{◌≡◌, true, map};
-ghost use Rattle.mojom_lexer.specs.Bytes.{is_blank, is_digit, is_letter, goes_on};
 ghost use Rattle.mojom_lexer.specs.Words.{is_word, keyword_of, keyword_in, single_symbol};
-ghost use Rattle.mojom_lexer.specs.steps.Scans.{run_len};
 
 use mojom_ast::{Keyword, Symbol};
-
-/// Whether the byte parts tokens: a space, a tab, CR or LF.
-pub fn is_blank(byte: u8) -> bool
-    ensures { result ≡ is_blank byte }
-{
-    byte == b' ' || byte == b'\t' || byte == b'\r' || byte == b'\n'
-}
-
-/// Whether the byte is a decimal digit.
-pub fn is_digit(byte: u8) -> bool
-    ensures { result ≡ is_digit byte }
-{
-    b'0' <= byte && byte <= b'9'
-}
-
-/// Whether the byte may begin a word.
-pub fn is_letter(byte: u8) -> bool
-    ensures { result ≡ is_letter byte }
-{
-    (b'a' <= byte && byte <= b'z') || (b'A' <= byte && byte <= b'Z') || byte == b'_'
-}
-
-/// Whether the byte may stand in a word.
-fn goes_on(byte: u8) -> bool
-    ensures { result ≡ goes_on byte }
-{
-    is_letter(byte) || is_digit(byte)
-}
-
-/// How many blanks stand at the front.
-pub fn blank_len(bytes: &[u8]) -> usize
-    ensures { result ≡ run_len is_blank bytes.now }
-{
-    for (len, byte) in bytes.iter().enumerate() {
-        if !is_blank(*byte) {
-            return len;
-        }
-    }
-    bytes.len()
-}
-
-/// How many bytes at the front may stand in a word.
-pub fn word_len(bytes: &[u8]) -> usize
-    ensures { result ≡ run_len goes_on bytes.now }
-{
-    for (len, byte) in bytes.iter().enumerate() {
-        if !goes_on(*byte) {
-            return len;
-        }
-    }
-    bytes.len()
-}
 
 /// The word as a text: its bytes are ASCII.
 pub fn as_text(word: &[u8]) -> &str

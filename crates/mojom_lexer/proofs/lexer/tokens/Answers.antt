@@ -11,7 +11,12 @@ pub loop-at-preserved : goal.loop-at-preserved
 loop-at-preserved c = record {
   within = piece_room c.args.bytes.now c.loop-at.at c.in_ok-sort.field-0 c.loop-at.invariant.within c.in_ok-sort.ensures.ok;
   reaches = elim c.match-sort.branch [
-    | in-Some+in_ok-push w ↦ takes_on c.args.bytes.now c.loop-at.at c.in_ok-sort.field-0 w.in-Some.sort c.loop-at.tokens.items c.match-sort.tokens.items c.loop-at.invariant.reaches c.in_ok-sort.ensures.ok w.in-Some.is (ap (λ (v : Vec Token Global). v.items) w.tokens-is ∙ w.in_ok-push.ensures.items)
-    | in_default w ↦ passes_on c.args.bytes.now c.loop-at.at c.in_ok-sort.field-0 c.loop-at.tokens.items c.match-sort.tokens.items c.loop-at.invariant.reaches c.in_ok-sort.ensures.ok w.in_default.is (ap (λ (v : Vec Token Global). v.items) w.tokens-is)
+    | in-Some+in_ok-push w ↦
+        takes_on c.args.bytes.now c.loop-at.at c.in_ok-sort.field-0 w.in-Some.sort c.loop-at.tokens.items c.match-sort.tokens.items
+        c.loop-at.invariant.reaches c.in_ok-sort.ensures.ok w.in-Some.is
+        (ap (λ (v : Vec Token Global). v.items) w.tokens-is ∙ w.in_ok-push.ensures.items)
+    | in_default w ↦
+        passes_on c.args.bytes.now c.loop-at.at c.in_ok-sort.field-0 c.loop-at.tokens.items c.match-sort.tokens.items c.loop-at.invariant.reaches
+        c.in_ok-sort.ensures.ok w.in_default.is (ap (λ (v : Vec Token Global). v.items) w.tokens-is)
   ];
 }
