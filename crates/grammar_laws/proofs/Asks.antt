@@ -9,6 +9,7 @@ pub data Ask : Type 0 where
   Beginning : Ask
   TooDeep : Ask
 
+-- the question on a list that an asking is
 abbrev pub mode_of : Ask → Mode
 mode_of Spelled = Whole
 mode_of Sure = Whole

@@ -1,5 +1,5 @@
 pub mod Asks
-pub mod Tells
+pub mod Shows
 pub mod Opens
 pub mod Finds
 pub mod Lists
@@ -9,10 +9,9 @@ pub mod Definitions
 pub mod Statements
 pub mod Plain
 pub mod Same
-pub mod Shortens
+pub mod Carries
+pub mod CarriesFiles
 pub mod Fronts
-pub mod Sinks
 pub mod Depths
-pub mod Lifts
 pub mod Raised
 pub mod Unique

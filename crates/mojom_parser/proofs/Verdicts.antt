@@ -1,6 +1,7 @@
 -- What the reading of a file says of its tokens.
 use Rattle.std.proofs.Common.{◌≡◌, List, [], ◌++◌, length, Ok, ◌⊎◌, inl, inr, refl, sym, ap, ◌∙◌, subst, arith}
 use Rattle.std.proofs.lemmas.List.{append-nil}
+use Rattle.mj_base.specs.declared.limits.TheConstants.{MAX_NESTED_TYPES}
 use Rattle.mojom_ast.specs.declared.token.Token.{Token}
 use Rattle.mojom_ast.specs.declared.file.File.{File}
 use Rattle.mojom_ast.specs.Lang.{Whole, Begun, Deep, Read}
@@ -8,39 +9,51 @@ use Rattle.mojom_ast.specs.Grammar.{file}
 use Rattle.mojom_ast.specs.Parsed.{Spells, Begins, EndsTooDeep}
 use Rattle.grammar_laws.specs.steps.Factored.{factored}
 use Rattle.grammar_laws.proofs.Asks.{Spelled, Beginning, TooDeep}
-use Rattle.grammar_laws.proofs.Tells.{Told}
+use Rattle.grammar_laws.proofs.Shows.{Shown}
 use Rattle.grammar_laws.proofs.Finds.{Passes, Outcome}
 use Rattle.grammar_laws.proofs.Statements.{good_factored}
 use Rattle.grammar_laws.proofs.Same.{to_factored, from_factored}
 
-pub told : (ts : List Token) (r : Read File) → (factored 32).read ts ≡ r → Told (factored 32) ts r
-told ts r e = subst (λ (x : Read File). Told (factored 32) ts x) e ((good_factored 32 32).tells ts)
+-- what a reading shows of the tokens
+pub shown : (ts : List Token) (r : Read File) → (factored MAX_NESTED_TYPES).read ts ≡ r → Shown (factored MAX_NESTED_TYPES) ts r
+shown ts r e = subst (λ (x : Read File). Shown (factored MAX_NESTED_TYPES) ts x) e ((good_factored MAX_NESTED_TYPES MAX_NESTED_TYPES).shows ts)
 
-pub found : (ts : List Token) (f : File) → (factored 32).read ts ≡ Ok (f, []) → Spells f ts
+-- what is read to the end is spelled
+pub found : (ts : List Token) (f : File) → (factored MAX_NESTED_TYPES).read ts ≡ Ok (f, []) → Spells f ts
 found ts f e =
-    let t = told ts (Ok (f, [])) e in
-    let h : (file 32).followed Whole (λ g rest. (rest ≡ []) × (g ≡ f)) (t.0 ++ []) = from_factored 32 Whole (λ g rest. (rest ≡ []) × (g ≡ f)) (t.0 ++ []) (t.2 Whole (λ g rest. (rest ≡ []) × (g ≡ f)) [] (refl, refl)) in
-    (32, subst (λ (l : List Token). (file 32).followed Whole (λ g rest. (rest ≡ []) × (g ≡ f)) l) (sym t.1) h)
+    let t = shown ts (Ok (f, [])) e in
+    let h : (file MAX_NESTED_TYPES).followed Whole (λ g rest. (rest ≡ []) × (g ≡ f)) (t.0 ++ []) = from_factored MAX_NESTED_TYPES Whole
+    (λ g rest. (rest ≡ []) × (g ≡ f)) (t.0 ++ []) (t.2 Whole (λ g rest. (rest ≡ []) × (g ≡ f)) [] (refl, refl)) in
+    (MAX_NESTED_TYPES, subst (λ (l : List Token). (file MAX_NESTED_TYPES).followed Whole (λ g rest. (rest ≡ []) × (g ≡ f)) l) (sym t.1) h)
 
-pub whole : (ts : List Token) (tree : File) → Spells tree ts → ((factored 32).read ts ≡ Ok (tree, [])) ⊎ Passes Spelled [] ((factored 32).read ts)
+-- what is spelled is read to the end, or reading stops at a type too deep
+pub whole : (ts : List Token) (tree : File) → Spells tree ts → ((factored MAX_NESTED_TYPES).read ts ≡ Ok (tree, [])) ⊎ Passes Spelled []
+    ((factored MAX_NESTED_TYPES).read ts)
 whole ts tree s =
-    let o : Outcome Spelled (λ g rest. (rest ≡ []) × (g ≡ tree)) [] ((factored 32).read (ts ++ [])) = (good_factored s.0 32).finds (length (ts ++ [])) Spelled tt (λ g rest. (rest ≡ []) × (g ≡ tree)) (λ x t us k. absurd (cc)) ts [] (omega arith) refl (to_factored s.0 Whole (λ g rest. (rest ≡ []) × (g ≡ tree)) ts s.1) in
+    let o : Outcome Spelled (λ g rest. (rest ≡ []) × (g ≡ tree)) [] ((factored MAX_NESTED_TYPES).read (ts ++ [])) = (good_factored s.0 MAX_NESTED_TYPES).finds
+    (length (ts ++ [])) Spelled tt (λ g rest. (rest ≡ []) × (g ≡ tree)) (λ x t us k. absurd (cc)) ts [] (omega arith) refl
+    (to_factored s.0 Whole (λ g rest. (rest ≡ []) × (g ≡ tree)) ts s.1) in
     let same : ts ++ [] ≡ ts = append-nil ts in
-    elim (subst (λ (l : List Token). Outcome Spelled (λ g rest. (rest ≡ []) × (g ≡ tree)) [] ((factored 32).read l)) same o) [
+    elim (subst (λ (l : List Token). Outcome Spelled (λ g rest. (rest ≡ []) × (g ≡ tree)) [] ((factored MAX_NESTED_TYPES).read l)) same o) [
       | inl r ↦ inl (r.3 ∙ ap (λ (q : List Token). Ok (r.0, q ++ [])) r.2.0 ∙ ap (λ (f : File). Ok (f, [])) r.2.1)
       | inr p ↦ inr p
     ]
 
-pub begun : (p u : List Token) → Begins p → ((x : File) × ((factored 32).read (p ++ u) ≡ Ok (x, u))) ⊎ Passes Beginning u ((factored 32).read (p ++ u))
+-- a beginning is read, or reading passes it
+pub begun : (p u : List Token) → Begins p → ((x : File) × ((factored MAX_NESTED_TYPES).read (p ++ u) ≡ Ok (x, u))) ⊎ Passes Beginning u
+    ((factored MAX_NESTED_TYPES).read (p ++ u))
 begun p u b =
-    elim ((good_factored b.0 32).finds (length (p ++ u)) Beginning tt (λ g rest. rest ≡ []) (λ x t us k. absurd (cc)) p u (omega arith) tt (to_factored b.0 Begun (λ g rest. rest ≡ []) p b.1)) [
+    elim ((good_factored b.0 MAX_NESTED_TYPES).finds (length (p ++ u)) Beginning tt (λ g rest. rest ≡ []) (λ x t us k. absurd (cc)) p u (omega arith) tt
+    (to_factored b.0 Begun (λ g rest. rest ≡ []) p b.1)) [
       | inl r ↦ inl (r.0, r.3 ∙ ap (λ (q : List Token). Ok (r.0, q ++ u)) r.2)
       | inr s ↦ inr s
     ]
 
-pub too_deep : (p u : List Token) → EndsTooDeep p → Passes TooDeep u ((factored 32).read (p ++ u))
+-- what ends too deep is not read past
+pub too_deep : (p u : List Token) → EndsTooDeep p → Passes TooDeep u ((factored MAX_NESTED_TYPES).read (p ++ u))
 too_deep p u d =
-    elim ((good_factored 32 32).finds (length (p ++ u)) TooDeep refl (λ g rest. ⊥) (λ x t us k. absurd k) p u (omega arith) (λ x k. k) (to_factored 32 Deep (λ g rest. ⊥) p d)) [
+    elim ((good_factored MAX_NESTED_TYPES MAX_NESTED_TYPES).finds (length (p ++ u)) TooDeep refl (λ g rest. ⊥) (λ x t us k. absurd k) p u (omega arith)
+    (λ x k. k) (to_factored MAX_NESTED_TYPES Deep (λ g rest. ⊥) p d)) [
       | inl r ↦ absurd r.2
       | inr s ↦ s
     ]

@@ -1,6 +1,5 @@
 //! Attributes.
 
-ghost use Rattle.std.specs.Prelude.{◌≡◌};
 ghost use Rattle.mojom_ast.specs.Lang.{list};
 ghost use Rattle.mojom_ast.specs.Grammar.{attribute, attributes};
 ghost use Rattle.mojom_parser.specs.steps.Reading.{Gives};
@@ -44,7 +43,10 @@ fn attribute_list(alloc: Global, tokens: &[Token]) -> Result<(Vec<Attribute>, &[
 
 /// The attributes that stand next, none where no bracket opens.
 #[tactic(auto, unfolding(mojom_ast::specs::Grammar::attributes, mojom_ast::specs::Grammar::bracketed))]
-pub fn attributes(alloc: Global, tokens: &[Token]) -> Result<(Items<Attribute>, &[Token]), ReadError>
+pub fn attributes(
+    alloc: Global,
+    tokens: &[Token],
+) -> Result<(Items<Attribute>, &[Token]), ReadError>
     ensures { Gives (λ x. (x.0, x.1.now)) result (attributes.read tokens.now) }
 {
     if !is_symbol(tokens, Symbol::OpenBracket) {

@@ -5,13 +5,13 @@ ghost use Rattle.mojom_ast.specs.Lang.{front_in, list};
 ghost use Rattle.mojom_ast.specs.Grammar.{const_of, enumerator, enum_of};
 ghost use Rattle.mojom_parser.specs.steps.Reading.{Gives};
 
-use mj_base::limits::MAX_NESTED_TYPES;
 use crate::attributes::attributes;
 use crate::error::ReadError;
 use crate::tokens::{identifier, is_identifier, is_symbol, keyword, symbol};
-use crate::types::{type_of};
+use crate::types::type_of;
 use crate::values::{assigned, value};
 use mj_base::Items;
+use mj_base::limits::MAX_NESTED_TYPES;
 use mojom_ast::{Const, Enum, Enumerator, Keyword, Symbol, Token};
 use std::alloc::Global;
 
@@ -55,7 +55,10 @@ fn begins_enumerator(tokens: &[Token]) -> bool
 }
 
 /// Enumerators with commas between them, and maybe one after the last.
-fn enumerator_list(alloc: Global, tokens: &[Token]) -> Result<(Vec<Enumerator>, &[Token]), ReadError>
+fn enumerator_list(
+    alloc: Global,
+    tokens: &[Token],
+) -> Result<(Vec<Enumerator>, &[Token]), ReadError>
     ensures { Gives (λ x. (x.0.items, x.1.now)) result ((list enumerator).read tokens.now) }
 {
     let mut enumerators = Vec::new(alloc);

@@ -1,13 +1,11 @@
 //! Files.
 
-ghost use Rattle.std.specs.Prelude.{◌≡◌, ◌∷◌};
-ghost use Rattle.mojom_ast.specs.Trees.{make_definition};
-ghost use Rattle.mojom_ast.specs.Lang.{as_value, front_in, times, ◌▹◌};
+ghost use Rattle.std.specs.Prelude.{◌≡◌};
+ghost use Rattle.mojom_ast.specs.Lang.{front_in, times};
 ghost use Rattle.mojom_ast.specs.Grammar.{definition_item, definition, module_name, import_path};
-ghost use Rattle.grammar_laws.specs.steps.Factored.{OtherLine, opened_by, definition_starts, statement_starts, file_starts, definition_line, import_line, module_line, statement, statements, factored};
-ghost use Rattle.mojom_parser.specs.steps.Reading.{Gives, with_front, with_imports};
+ghost use Rattle.grammar_laws.specs.steps.Factored.{definition_starts, statement_starts, file_starts, definition_line, import_line, module_line, statement, factored};
+ghost use Rattle.mojom_parser.specs.steps.Reading.{Gives, with_front, with_imports, definitions_with, lines, file_with, file_without};
 
-use mj_base::limits::MAX_NESTED_TYPES;
 use crate::attributes::attributes;
 use crate::constants::{const_of, enum_of};
 use crate::error::ReadError;
@@ -16,6 +14,7 @@ use crate::structs::{struct_of, union_of};
 use crate::tokens::{is_keyword, is_symbol, keyword, string, symbol};
 use crate::values::name;
 use mj_base::Items;
+use mj_base::limits::MAX_NESTED_TYPES;
 use mojom_ast::{
     Attribute, Definition, DefinitionItem, File, Import, Keyword, ModuleStatement, Name,
     StringLiteral, Symbol, Token,
@@ -122,7 +121,7 @@ fn definitions(
     attributes: Items<Attribute>,
     tokens: &[Token],
 ) -> Result<(Vec<Definition>, &[Token]), ReadError>
-    ensures { Gives (λ x. (x.0.items, x.1.now)) result ((as_value (λ x. make_definition (attributes, x.0) ∷ x.1) (definition_item MAX_NESTED_TYPES ▹ times limit (definition MAX_NESTED_TYPES))).read tokens.now) }
+    ensures { Gives (λ x. (x.0.items, x.1.now)) result ((definitions_with attributes limit).read tokens.now) }
 {
     let (item, rest) = definition_item(alloc, tokens)?;
     let mut definitions = Vec::new(alloc);
@@ -159,7 +158,7 @@ fn statements(
     imports: Vec<Import>,
     tokens: &[Token],
 ) -> Result<(Vec<Import>, Vec<Definition>, &[Token]), ReadError>
-    ensures { Gives (λ x. ((x.0.items, x.1.items), x.2.now)) result (with_imports imports.items ((statements limit limit MAX_NESTED_TYPES).read tokens.now)) }
+    ensures { Gives (λ x. ((x.0.items, x.1.items), x.2.now)) result (with_imports imports.items ((lines limit).read tokens.now)) }
 {
     let mut imports = imports;
     let mut rest = tokens;
@@ -186,7 +185,7 @@ fn with_module(
     attributes: Items<Attribute>,
     tokens: &[Token],
 ) -> Result<(File, &[Token]), ReadError>
-    ensures { Gives (λ x. (x.0, x.1.now)) result ((as_value (λ s. opened_by attributes s) (module_line (statements limit limit MAX_NESTED_TYPES))).read tokens.now) }
+    ensures { Gives (λ x. (x.0, x.1.now)) result ((file_with attributes (module_line (lines limit))).read tokens.now) }
 {
     let (name, rest) = module_name(alloc, tokens)?;
     let (imports, definitions, rest) = statements(alloc, limit, Vec::new(alloc), rest)?;
@@ -207,7 +206,7 @@ fn only_definitions(
     attributes: Items<Attribute>,
     tokens: &[Token],
 ) -> Result<(File, &[Token]), ReadError>
-    ensures { Gives (λ x. (x.0, x.1.now)) result ((as_value (λ s. opened_by attributes (OtherLine s)) (definition_line limit MAX_NESTED_TYPES)).read tokens.now) }
+    ensures { Gives (λ x. (x.0, x.1.now)) result ((file_without attributes (definition_line limit MAX_NESTED_TYPES)).read tokens.now) }
 {
     let (definitions, rest) = definitions(alloc, limit, attributes, tokens)?;
     Ok((
@@ -227,7 +226,7 @@ fn from_import(
     attributes: Items<Attribute>,
     tokens: &[Token],
 ) -> Result<(File, &[Token]), ReadError>
-    ensures { Gives (λ x. (x.0, x.1.now)) result ((as_value (λ s. opened_by attributes (OtherLine s)) (import_line (statements limit limit MAX_NESTED_TYPES))).read tokens.now) }
+    ensures { Gives (λ x. (x.0, x.1.now)) result ((file_without attributes (import_line (lines limit))).read tokens.now) }
 {
     let (path, rest) = import_path(alloc, tokens)?;
     let mut imports = Vec::new(alloc);
@@ -252,7 +251,7 @@ fn without_module(
     attributes: Items<Attribute>,
     tokens: &[Token],
 ) -> Result<(File, &[Token]), ReadError>
-    ensures { Gives (λ x. (x.0, x.1.now)) result ((as_value (λ s. opened_by attributes (OtherLine s)) (statement (statements limit limit MAX_NESTED_TYPES) limit MAX_NESTED_TYPES)).read tokens.now) }
+    ensures { Gives (λ x. (x.0, x.1.now)) result ((file_without attributes (statement (lines limit) limit MAX_NESTED_TYPES)).read tokens.now) }
 {
     if begins_item(tokens) {
         return only_definitions(alloc, limit, attributes, tokens);

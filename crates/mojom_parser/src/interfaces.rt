@@ -1,11 +1,10 @@
 //! Interfaces.
 
 ghost use Rattle.std.specs.Prelude.{◌≡◌};
-ghost use Rattle.mojom_ast.specs.Lang.{as_value, front_in, joined, many, maybe, ◌▹◌};
+ghost use Rattle.mojom_ast.specs.Lang.{front_in, many, maybe};
 ghost use Rattle.mojom_ast.specs.Grammar.{parameter, next_parameter, parameters, response, method, interface_item, interface_member, interface_of};
-ghost use Rattle.mojom_parser.specs.steps.Reading.{Gives, with_front};
+ghost use Rattle.mojom_parser.specs.steps.Reading.{Gives, with_front, parameter_list};
 
-use mj_base::limits::MAX_NESTED_TYPES;
 use crate::attributes::attributes;
 use crate::constants::{const_of, enum_of};
 use crate::error::ReadError;
@@ -13,6 +12,7 @@ use crate::tokens::{identifier, is_identifier, is_keyword, is_symbol, keyword, s
 use crate::types::{begins_type, type_of};
 use crate::values::ordinal;
 use mj_base::Items;
+use mj_base::limits::MAX_NESTED_TYPES;
 use mojom_ast::{
     Interface, InterfaceItem, InterfaceMember, Keyword, Method, Parameter, Symbol, Token,
 };
@@ -77,7 +77,7 @@ fn begins_parameter(tokens: &[Token]) -> bool
 
 /// What stands between the parentheses of a parameter list.
 fn parameter_list(alloc: Global, tokens: &[Token]) -> Result<(Vec<Parameter>, &[Token]), ReadError>
-    ensures { Gives (λ x. (x.0.items, x.1.now)) result ((as_value joined (maybe (parameter MAX_NESTED_TYPES ▹ many (next_parameter MAX_NESTED_TYPES)))).read tokens.now) }
+    ensures { Gives (λ x. (x.0.items, x.1.now)) result (parameter_list.read tokens.now) }
 {
     let mut parameters = Vec::new(alloc);
     if !begins_parameter(tokens) {
@@ -101,7 +101,10 @@ fn parameters(alloc: Global, tokens: &[Token]) -> Result<(Items<Parameter>, &[To
 
 /// `=>` and a parameter list, where they stand.
 #[tactic(auto, unfolding(mojom_ast::specs::Grammar::response))]
-fn response(alloc: Global, tokens: &[Token]) -> Result<(Option<Items<Parameter>>, &[Token]), ReadError>
+fn response(
+    alloc: Global,
+    tokens: &[Token],
+) -> Result<(Option<Items<Parameter>>, &[Token]), ReadError>
     ensures { Gives (λ x. (x.0, x.1.now)) result ((maybe (response MAX_NESTED_TYPES)).read tokens.now) }
 {
     if !is_symbol(tokens, Symbol::Arrow) {
@@ -150,7 +153,10 @@ fn interface_item(alloc: Global, tokens: &[Token]) -> Result<(InterfaceItem, &[T
 }
 
 #[tactic(auto, unfolding(mojom_ast::specs::Grammar::interface_member))]
-fn interface_member(alloc: Global, tokens: &[Token]) -> Result<(InterfaceMember, &[Token]), ReadError>
+fn interface_member(
+    alloc: Global,
+    tokens: &[Token],
+) -> Result<(InterfaceMember, &[Token]), ReadError>
     ensures { Gives (λ x. (x.0, x.1.now)) result ((interface_member MAX_NESTED_TYPES).read tokens.now) }
 {
     let (attributes, rest) = attributes(alloc, tokens)?;

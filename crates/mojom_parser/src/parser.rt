@@ -7,9 +7,9 @@ ghost use Rattle.grammar_laws.specs.steps.Factored.{factored};
 ghost use Rattle.mojom_parser.specs.Parsed.{Answers, AnswersAt, AnswersDeep, Blames};
 ghost use Rattle.mojom_parser.specs.steps.Verdict.{verdict, Agrees};
 
-use mj_base::limits::MAX_NESTED_TYPES;
 use crate::error::{ParseError, ReadError};
 use crate::file::file;
+use mj_base::limits::MAX_NESTED_TYPES;
 use mojom_ast::{Fault, File, Token};
 use std::alloc::Global;
 
@@ -36,7 +36,9 @@ fn judge(alloc: Global, tokens: &[Token]) -> Result<File, ParseError>
         Err(ReadError::Fault(Fault::Unexpected(left))) => {
             Err(ParseError::Unexpected(place(tokens, left)))
         }
-        Err(ReadError::Fault(Fault::TooNested(left))) => Err(ParseError::TooNested(place(tokens, left))),
+        Err(ReadError::Fault(Fault::TooNested(left))) => Err(ParseError::TooNested(place(
+            tokens, left,
+        ))),
         Err(ReadError::Memory) => Err(ParseError::Memory),
     }
 }

@@ -5,7 +5,6 @@ ghost use Rattle.mojom_ast.specs.Lang.{front_in, many};
 ghost use Rattle.mojom_ast.specs.Grammar.{field, struct_item, struct_member, struct_of, union_field, union_of};
 ghost use Rattle.mojom_parser.specs.steps.Reading.{Gives};
 
-use mj_base::limits::MAX_NESTED_TYPES;
 use crate::attributes::attributes;
 use crate::constants::{const_of, enum_of};
 use crate::error::ReadError;
@@ -13,6 +12,7 @@ use crate::tokens::{identifier, is_keyword, is_symbol, keyword, symbol};
 use crate::types::{begins_type, type_of};
 use crate::values::{assigned, ordinal};
 use mj_base::Items;
+use mj_base::limits::MAX_NESTED_TYPES;
 use mojom_ast::{
     Field, Keyword, Struct, StructItem, StructMember, Symbol, Token, Union, UnionField,
 };
@@ -75,7 +75,10 @@ fn begins_struct_member(tokens: &[Token]) -> bool
         || begins_type(tokens)
 }
 
-fn struct_members(alloc: Global, tokens: &[Token]) -> Result<(Vec<StructMember>, &[Token]), ReadError>
+fn struct_members(
+    alloc: Global,
+    tokens: &[Token],
+) -> Result<(Vec<StructMember>, &[Token]), ReadError>
     ensures { Gives (λ x. (x.0.items, x.1.now)) result ((many (struct_member MAX_NESTED_TYPES)).read tokens.now) }
 {
     let mut members = Vec::new(alloc);

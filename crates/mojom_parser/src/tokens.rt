@@ -1,11 +1,11 @@
 //! One token.
 
-ghost use Rattle.std.specs.Prelude.{◌≡◌, ◌∷◌, [], IfOk, MatchOption, true, false};
+ghost use Rattle.std.specs.Prelude.{◌≡◌, ◌∷◌, [], IfOk, MatchOption, false};
+ghost use Rattle.mojom_ast.specs.declared.classes.TheConstants.{NUMBER, STRING};
 ghost use Rattle.mojom_ast.specs.Classes.{keyword_class, symbol_class, identifiers, class};
 ghost use Rattle.mojom_ast.specs.Lang.{has, front_in, tok, keyword, symbol};
-ghost use Rattle.mojom_ast.specs.Trees.{text_in};
 ghost use Rattle.mojom_ast.specs.Grammar.{identifier, number, string};
-ghost use Rattle.mojom_parser.specs.steps.Reading.{Gives, identifier_at};
+ghost use Rattle.mojom_parser.specs.steps.Reading.{Gives, IsTextOf, identifier_at};
 
 use crate::error::ReadError;
 use mj_base::{Span, Text};
@@ -90,7 +90,7 @@ fn copied(alloc: Global, text: &Text) -> Result<Text, AllocError>
 /// The text of an identifier.
 #[tactic(auto, using(mojom_ast::proofs::ClassFacts::identifier_is, mojom_ast::proofs::ClassFacts::keyword_no_identifier, mojom_ast::proofs::ClassFacts::symbol_no_identifier))]
 fn text_of(token: &Token) -> Option<&Text>
-    ensures { MatchOption result (has identifiers (class token.now) ≡ false) (λ text. (has identifiers (class token.now) ≡ true) × (text.now ≡ text_in token.now.sort)) }
+    ensures { MatchOption result (has identifiers (class token.now) ≡ false) (λ text. IsTextOf token.now text.now) }
 {
     match &token.sort {
         Sort::Identifier(text) => Some(text),
@@ -144,7 +144,7 @@ pub fn number(tokens: &[Token]) -> Result<(Number, &[Token]), ReadError>
 /// Whether the next token is a number.
 #[tactic(auto, using(mojom_ast::proofs::ClassFacts::identifier_no_number, mojom_ast::proofs::ClassFacts::keyword_no_number, mojom_ast::proofs::ClassFacts::symbol_no_number))]
 pub fn is_number(tokens: &[Token]) -> bool
-    ensures { result ≡ front_in (classes.NUMBER ∷ []) tokens.now }
+    ensures { result ≡ front_in (NUMBER ∷ []) tokens.now }
 {
     match tokens {
         [token, ..] => match &token.sort {
@@ -158,7 +158,7 @@ pub fn is_number(tokens: &[Token]) -> bool
 /// Whether the next token is a string.
 #[tactic(auto, using(mojom_ast::proofs::ClassFacts::identifier_no_string, mojom_ast::proofs::ClassFacts::keyword_no_string, mojom_ast::proofs::ClassFacts::symbol_no_string))]
 pub fn is_string(tokens: &[Token]) -> bool
-    ensures { result ≡ front_in (classes.STRING ∷ []) tokens.now }
+    ensures { result ≡ front_in (STRING ∷ []) tokens.now }
 {
     match tokens {
         [token, ..] => match &token.sort {

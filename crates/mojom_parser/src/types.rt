@@ -1,18 +1,18 @@
 //! Types.
 
-ghost use Rattle.std.specs.Prelude.{◌≡◌, Bool, is_some};
+ghost use Rattle.std.specs.Prelude.{◌≡◌, is_some};
 ghost use Rattle.mojom_ast.specs.TypeTrees.{TypeTree, base_view, type_view};
 ghost use Rattle.mojom_ast.specs.Lang.{as_value, maybe, symbol, deep, front_in};
 ghost use Rattle.mojom_ast.specs.Grammar.{handle_sort, sort_given, handle, pending_sort, pending, count, array, map_of, base, type_starts, type_within};
 ghost use Rattle.mojom_ast.specs.declared.token.Symbol.TheVariants.{Question};
 ghost use Rattle.mojom_parser.specs.steps.Reading.{Gives, Fails};
 
-use mj_base::limits::MAX_NESTED_TYPES;
 use crate::error::ReadError;
 use crate::tokens::{
     expect, is_identifier, is_keyword, is_next, is_symbol, keyword, number, symbol,
 };
 use crate::values::name;
+use mj_base::limits::MAX_NESTED_TYPES;
 use mojom_ast::{
     BaseNode, Fault, HandleSort, Keyword, Number, PendingSort, Symbol, Token, Type, TypeNode,
     classes,

@@ -1,6 +1,6 @@
 //! Names and values.
 
-ghost use Rattle.std.specs.Prelude.{◌≡◌, ◌∷◌, []};
+ghost use Rattle.std.specs.Prelude.{◌≡◌};
 ghost use Rattle.mojom_ast.specs.Lang.{front_in, maybe, many, symbol, ◌▹◌};
 ghost use Rattle.mojom_ast.specs.Grammar.{dotted, name, number, ordinal, boolean, signed, value, assigned};
 ghost use Rattle.mojom_parser.specs.steps.Reading.{Gives, with_front};

@@ -1,4 +1,4 @@
--- The rule of a file put another way: the attributes come first, and the token behind them tells what they belong to.
+-- The rule of a file put another way: the attributes come first, and the token behind them decides what they belong to.
 -- It spells and begins the same lists with the same trees (proofs/Same); by it a file is read.
 use Rattle.std.specs.Prelude.{ℕ, zero, suc, List, [], ◌∷◌, Option, Some, None, true}
 use Rattle.mojom_ast.specs.declared.classes.TheConstants.{MODULE, IMPORT, STRUCT, UNION, ENUM, INTERFACE, CONST, OPEN_BRACKET}

@@ -1,4 +1,5 @@
 use Rattle.std.proofs.Common.{Result, Ok, Err, IfOk, IfErr, length, List}
+use Rattle.mj_base.specs.declared.limits.TheConstants.{MAX_NESTED_TYPES}
 use Rattle.mojom_ast.specs.declared.file.File.{File}
 use Rattle.mojom_ast.specs.declared.token.Token.{Token}
 use Rattle.mojom_ast.specs.Parsed.{Spells}
@@ -9,11 +10,11 @@ use Rattle.mojom_parser.specs.steps.Verdict.{verdict, Agrees}
 use Rattle.mojom_parser.proofs.Places.{is_spelled, is_blamed, is_answered, is_exact, is_end, is_too_deep}
 use Rattle.mojom_parser.proofs.parser.parse.Goals as goal
 
-ok_of : (ts : List Token) (a : Result File ParseError) → Agrees a (verdict (length ts) ((factored 32).read ts)) → IfOk a (λ f. Spells f ts)
+ok_of : (ts : List Token) (a : Result File ParseError) → Agrees a (verdict (length ts) ((factored MAX_NESTED_TYPES).read ts)) → IfOk a (λ f. Spells f ts)
 ok_of ts (Ok f) g = is_spelled ts f g
 ok_of ts (Err e) g = tt
 
-fault_of : (ts : List Token) (a : Result File ParseError) → Agrees a (verdict (length ts) ((factored 32).read ts)) → IfErr a (λ e. Blames e ts)
+fault_of : (ts : List Token) (a : Result File ParseError) → Agrees a (verdict (length ts) ((factored MAX_NESTED_TYPES).read ts)) → IfErr a (λ e. Blames e ts)
 fault_of ts (Ok f) g = tt
 fault_of ts (Err e) g = is_blamed ts e g
 
