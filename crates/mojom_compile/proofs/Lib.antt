@@ -1,3 +1,4 @@
 pub mod Small
 pub mod Readings
 pub mod Whole
+pub mod NarrowRows

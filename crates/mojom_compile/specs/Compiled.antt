@@ -1,46 +1,43 @@
 -- Which bytes have which tree and which schema, and which refusal.
-use Rattle.std.specs.Prelude.{ℕ, ◌≡◌, ◌+◌, ◌<◌, ◌⊎◌, List, length, take, Some, None, slice_get, Ok, Err}
+use Rattle.std.specs.Prelude.{ℕ, ◌≡◌, ◌^◌, ◌≤◌, ◌⊎◌, List, length, Some, None, slice_get, Ok, Err}
 use Rattle.mj_schema.specs.declared.schema.Schema.{Schema}
 use Rattle.mojom_ast.specs.declared.token.Token.{Token}
-use Rattle.mojom_ast.specs.declared.file.File as trees
-use Rattle.mojom_ast.specs.Parsed.{Spells, EndsTooDeep}
+use Rattle.mojom_ast.specs.declared.file.File.{File}
+use Rattle.mojom_ast.specs.Parsed.{Spells}
 use Rattle.mojom_lexer.specs.declared.error.LexError.{LexError}
 use Rattle.mojom_lexer.specs.declared.error.LexError.TheVariants as lex
 use Rattle.mojom_lexer.specs.Lexed.{AreTokens, IsLexicalRefusal}
 use Rattle.mojom_parser.specs.declared.error.ParseError.{ParseError}
 use Rattle.mojom_parser.specs.declared.error.ParseError.TheVariants as parse
-use Rattle.mojom_parser.specs.Parsed.{Blames}
-use Rattle.mojom_compile.specs.declared.tree.File.{File}
+use Rattle.mojom_parser.specs.Parsed.{IsShallow, IsFault}
+use Rattle.mojom_compile.specs.declared.narrow_file.NarrowFile.{NarrowFile}
 use Rattle.mojom_compile.specs.declared.error.Cause.{Cause}
 use Rattle.mojom_compile.specs.declared.error.Cause.TheVariants as causes
 use Rattle.mojom_compile.specs.declared.error.FileRefusal.{FileRefusal}
 use Rattle.mojom_compile.specs.declared.error.CompileError.{CompileError}
 use Rattle.mojom_compile.specs.declared.error.CompileError.TheVariants.{Refused, Memory}
-use Rattle.mojom_compile.specs.Plain.{plain_file}
+use Rattle.mojom_compile.specs.Narrow.{narrow_file}
 use Rattle.mojom_compile.specs.Rows.{IsSchema}
 
--- no type stands inside 32 others
-abbrev pub IsShallow : List Token → Type 0
-IsShallow tokens = (at : ℕ) → at < length tokens → EndsTooDeep (take (at + 1) tokens) → ⊥
-
 -- the bytes are tokens that spell the tree
-pub record IsParsed (bytes : List ℕ) (tree : trees.File) : Type 0 where
+pub record IsParsed (bytes : List ℕ) (tree : File) : Type 0 where
   pub tokens : List Token
   pub are : AreTokens bytes tokens
   pub shallow : IsShallow tokens
   pub spelled : Spells tree tokens
 
--- the bytes spell a tree of today's form, and the schema is that file's
-pub record IsSchemaFor (bytes : List ℕ) (schema : Schema) (file : File) : Type 0 where
-  pub tree : trees.File
+-- the bytes spell a tree of the narrow form, and the schema is that file's
+pub record IsSchemaFor (bytes : List ℕ) (schema : Schema) (file : NarrowFile) : Type 0 where
+  pub tree : File
   pub parsed : IsParsed bytes tree
-  pub plain : plain_file tree ≡ Ok file
+  pub narrow : narrow_file tree ≡ Ok file
   pub tables : IsSchema file schema
 
 -- the bytes are a file of the form, and this is its schema
 abbrev pub IsSchemaOf : List ℕ → Schema → Type 0
-IsSchemaOf bytes schema = (file : File) × IsSchemaFor bytes schema file
+IsSchemaOf bytes schema = (file : NarrowFile) × IsSchemaFor bytes schema file
 
+-- the refusal of what stands at a place, by a cause that names it
 abbrev pub at_its_place : ℕ → (ℕ → Cause) → CompileError
 at_its_place at cause = Refused (record { at = at; cause = cause at })
 
@@ -64,12 +61,6 @@ grammatical bytes tokens (parse.Unexpected at) = Refused (record { at = place_of
 grammatical bytes tokens (parse.TooNested at) = Refused (record { at = place_of_token bytes tokens at; cause = causes.TooNested at })
 grammatical bytes tokens parse.Memory = Memory
 
--- the one place of what the grammar refuses: types that nest too deep come before all else
-abbrev pub IsFault : List Token → ParseError → Type 0
-IsFault tokens (parse.Unexpected at) = Blames (parse.Unexpected at) tokens × IsShallow tokens
-IsFault tokens (parse.TooNested at) = Blames (parse.TooNested at) tokens × ((other : ℕ) → other < length tokens → EndsTooDeep (take (other + 1) tokens) → other ≡ at)
-IsFault tokens parse.Memory = ⊥
-
 -- the bytes are no tokens
 pub record IsNoText (bytes : List ℕ) (refusal : FileRefusal) : Type 0 where
   pub error : LexError
@@ -88,11 +79,11 @@ pub record IsNoFile (bytes : List ℕ) (refusal : FileRefusal) : Type 0 where
 abbrev pub IsUnread : List ℕ → FileRefusal → Type 0
 IsUnread bytes refusal = IsNoText bytes refusal ⊎ IsNoFile bytes refusal
 
--- the tree has something beyond today's form
+-- the tree has something beyond the narrow form
 pub record IsBeyond (bytes : List ℕ) (refusal : FileRefusal) : Type 0 where
-  pub tree : trees.File
+  pub tree : File
   pub parsed : IsParsed bytes tree
-  pub beyond : plain_file tree ≡ Err refusal.at
+  pub beyond : narrow_file tree ≡ Err refusal.at
   pub cause : refusal.cause ≡ causes.Unsupported
 
 -- the bytes are refused
@@ -104,14 +95,24 @@ abbrev pub IsFor : (FileRefusal → Type 0) → CompileError → Type 0
 IsFor Such (Refused refusal) = Such refusal
 IsFor Such Memory = Unit {0}
 
--- bytes have one tree or one refusal, and never both
+-- bytes have just one tree or just one refusal, and never both
 pub record OneTree (bytes : List ℕ) : Type 0 where
-  pub one_tree : (tree other : trees.File) → IsParsed bytes tree → IsParsed bytes other → tree ≡ other
+  pub some : ((tree : File) × IsParsed bytes tree) ⊎ ((refusal : FileRefusal) × IsUnread bytes refusal)
+  pub one_tree : (tree other : File) → IsParsed bytes tree → IsParsed bytes other → tree ≡ other
   pub one_refusal : (refusal other : FileRefusal) → IsUnread bytes refusal → IsUnread bytes other → refusal ≡ other
-  pub never_both : (tree : trees.File) (refusal : FileRefusal) → IsParsed bytes tree → IsUnread bytes refusal → ⊥
+  pub never_both : (tree : File) (refusal : FileRefusal) → IsParsed bytes tree → IsUnread bytes refusal → ⊥
 
--- bytes have one schema or one refusal, and never both
+-- the bytes are a file of the narrow form with more interfaces than the numbers of a schema are
+pub record HasTooMany (bytes : List ℕ) : Type 0 where
+  pub tree : File
+  pub file : NarrowFile
+  pub parsed : IsParsed bytes tree
+  pub narrow : narrow_file tree ≡ Ok file
+  pub many : 2 ^ 32 ≤ length file.interfaces
+
+-- bytes have just one schema or just one refusal, and never both, but for more interfaces than a schema can have
 pub record OneSchema (bytes : List ℕ) : Type 0 where
+  pub some : ((schema : Schema) × IsSchemaOf bytes schema) ⊎ (((refusal : FileRefusal) × IsRefusedFile bytes refusal) ⊎ HasTooMany bytes)
   pub one_schema : (schema other : Schema) → IsSchemaOf bytes schema → IsSchemaOf bytes other → schema ≡ other
   pub one_refusal : (refusal other : FileRefusal) → IsRefusedFile bytes refusal → IsRefusedFile bytes other → refusal ≡ other
   pub never_both : (schema : Schema) (refusal : FileRefusal) → IsSchemaOf bytes schema → IsRefusedFile bytes refusal → ⊥

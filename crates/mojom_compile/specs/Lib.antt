@@ -1,5 +1,5 @@
-pub mod Sound
-pub mod Plain
+pub mod NarrowRefusals
+pub mod Narrow
 pub mod Causes
 pub mod Rows
 pub mod Compiled

@@ -4,7 +4,7 @@ ghost use Rattle.std.specs.Prelude.{◌≡◌, ℕ, List, IfOk, IfErr};
 ghost use Rattle.mojom_compile.specs.Compiled.{IsParsed, IsSchemaOf, IsUnread, IsRefusedFile, IsFor, OneTree, OneSchema, lexical, grammatical, place_of_token};
 
 use crate::error::{Cause, CompileError, FileRefusal};
-use crate::plain::plain_file;
+use crate::narrow::narrow_file;
 use crate::rows::schema;
 use mj_schema::Schema;
 use mojom_ast::{File, Token};
@@ -73,13 +73,13 @@ pub fn read(alloc: Global, bytes: &[u8]) -> Result<File, CompileError>
 }
 
 /// The schema of a file, or why it has none: lexical refusals come before those of the grammar, and
-/// these before what is beyond the form that is compiled today.
+/// these before what is beyond the narrow form.
 pub fn compile(alloc: Global, bytes: &[u8]) -> Result<Schema, CompileError>
     ensures ok { IfOk result (λ schema. IsSchemaOf bytes.now schema) }
     ensures refused { IfErr result (IsFor (IsRefusedFile bytes.now)) }
 {
     let tree = read(alloc, bytes)?;
-    let file = plain_file(alloc, &tree)?;
+    let file = narrow_file(alloc, &tree)?;
     Ok(schema(alloc, &file)?)
 }
 

@@ -5,6 +5,7 @@ ghost use Rattle.mojom_compile.specs.declared.error.CompileError.TheVariants.{Me
 
 use std::alloc::{AllocError, AllocFailed};
 use std::fmt;
+use thiserror::Error;
 
 /// Why a file is refused. The numbers of lexical causes are places in bytes from 0, those of
 /// `Unexpected` and `TooNested` numbers of tokens from 0.
@@ -26,7 +27,7 @@ pub enum Cause {
     Unexpected(u64),
     /// The first token of a type that stands inside 32 others.
     TooNested(u64),
-    /// An import or a definition that has anything beyond the form that is compiled today.
+    /// An import or a definition that has anything beyond the narrow form.
     Unsupported,
 }
 
@@ -52,16 +53,19 @@ impl fmt::Display for Cause {
 }
 
 /// The refusal of a file: the place in bytes from 0 of what is refused, and why it is.
-#[derive(Clone, Copy, Debug, PartialEq, Eq)]
+#[derive(Clone, Copy, Debug, PartialEq, Eq, Error)]
+#[error("{cause} at byte {at}")]
 pub struct FileRefusal {
     pub at: u64,
     pub cause: Cause,
 }
 
 /// Why a file wasn't compiled: it is refused, or memory ran out.
-#[derive(Clone, Copy, Debug, PartialEq, Eq)]
+#[derive(Clone, Copy, Debug, PartialEq, Eq, Error)]
 pub enum CompileError {
+    #[error(transparent)]
     Refused(FileRefusal),
+    #[error("out of memory")]
     Memory,
 }
 
@@ -69,7 +73,7 @@ impl CompileError {
     ghost use Rattle.mojom_compile.specs.declared.error.CompileError.TheVariants.{Refused};
     ghost use Rattle.mojom_compile.specs.declared.error.Cause.TheVariants.{Unsupported};
 
-    /// The refusal of what stands at this place and is beyond today's form.
+    /// The refusal of what stands at this place and is beyond the narrow form.
     pub fn unsupported(at: u64) -> CompileError
         ensures { result ≡ Refused (record { at = at; cause = Unsupported }) }
     {

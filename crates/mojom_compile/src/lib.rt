@@ -1,13 +1,13 @@
-//! Mojom files to their trees and, where they are of a narrow form (a module statement and interfaces
+//! Mojom files to their trees and, where they are of the narrow form (a module statement and interfaces
 //! whose parameters are `uint32`), to their schemas.
 #![tactic(auto)]
 
 mod compiler;
 mod error;
-mod plain;
-mod refusals;
+mod narrow;
+mod narrow_file;
+mod narrow_refusals;
 mod rows;
-mod tree;
 
 pub use compiler::{compile, one_schema, one_tree, read};
 pub use error::{Cause, CompileError, FileRefusal};

@@ -1,4 +1,4 @@
-//! From the tree to the tables of the schema.
+//! From what a file of the narrow form says to the tables of the schema.
 
 ghost use Rattle.std.specs.Prelude.{◌≡◌, ◌≤◌, ◌<◌, ◌+◌, ◌^◌, ◌++◌, IfOk, IsTrue, OnOk, length, map};
 ghost use Rattle.std.specs.List.{AllByRecursion, flat_map, list_all};
@@ -7,8 +7,8 @@ ghost use Rattle.mj_schema.specs.Narrow.{is_narrow};
 ghost use Rattle.mojom_compile.specs.steps.Few.{IsFewMethod, AreFew};
 ghost use Rattle.mojom_compile.specs.Rows.{dotted, within, request_struct, structs_in, methods_from, IsSchema};
 
+use crate::narrow_file::{NarrowFile, NarrowMethod};
 use mj_base::limits::{MAX_METHODS, MAX_PARAMETERS};
-use crate::tree::{File, Method};
 use mj_base::{Items, Text};
 use mj_schema::{InterfaceRow, MethodRow, Schema, StructRow};
 use std::alloc::{AllocError, Global};
@@ -39,7 +39,11 @@ fn dotted(alloc: Global, ids: &[Text]) -> Result<Text, AllocError>
 }
 
 /// The struct of a method's parameters, in the interface of this full name.
-fn request_struct(alloc: Global, interface: &str, method: &Method) -> Result<StructRow, AllocError>
+fn request_struct(
+    alloc: Global,
+    interface: &str,
+    method: &NarrowMethod,
+) -> Result<StructRow, AllocError>
     requires { length method.now.parameters ≤ MAX_PARAMETERS }
     ensures draft { IfOk result (λ row. draft_of row ≡ request_struct interface.now method.now) }
     ensures laid_out { IfOk result IsLaidOut }
@@ -55,7 +59,7 @@ fn add_structs(
     alloc: Global,
     structs: &mut Vec<StructRow>,
     interface: &str,
-    methods: &[Method],
+    methods: &[NarrowMethod],
 ) -> Result<(), AllocError>
     requires few { AllByRecursion IsFewMethod methods.now }
     requires laid_out { AllByRecursion IsLaidOut structs.old.items }
@@ -72,7 +76,11 @@ fn add_structs(
 }
 
 /// The rows of an interface's methods, whose structs begin at this number.
-fn methods(alloc: Global, methods: &[Method], first: u32) -> Result<Vec<MethodRow>, AllocError>
+fn methods(
+    alloc: Global,
+    methods: &[NarrowMethod],
+    first: u32,
+) -> Result<Vec<MethodRow>, AllocError>
     requires few { length methods.now ≤ MAX_METHODS }
     requires fits { first + length methods.now < 2 ^ 32 }
     ensures { IfOk result (λ rows. rows.items ≡ methods_from 0 first methods.now) }
@@ -101,7 +109,7 @@ fn next_number(rows: usize, more: usize) -> Result<u32, AllocError>
 }
 
 /// The schema of a file.
-pub fn schema(alloc: Global, file: &File) -> Result<Schema, AllocError>
+pub fn schema(alloc: Global, file: &NarrowFile) -> Result<Schema, AllocError>
     requires { AreFew file.now.interfaces }
     ensures { IfOk result (IsSchema file.now) }
 {

@@ -1,5 +1,6 @@
 -- The texts of definitions and files are the tokens that they show.
 use Rattle.std.proofs.Common.{ℕ, ◌+◌, List, [], ◌∷◌, ◌++◌, Option, Some, None, refl, sym, append_assoc, codes}
+use Rattle.std.specs.List.{join_by}
 use Rattle.mojom_ast.specs.declared.token.Sort.TheVariants as sorts
 use Rattle.mojom_ast.specs.declared.token.Symbol.TheVariants.{Comma}
 use Rattle.mojom_ast.specs.declared.definitions.Definition.{Definition}
@@ -25,7 +26,6 @@ use Rattle.mojom_ast.specs.declared.file.File.{File}
 use Rattle.mojom_ast.specs.declared.file.ModuleStatement.{ModuleStatement}
 use Rattle.mojom_ast.specs.declared.file.Import.{Import}
 use Rattle.mojom_lexer.specs.Bytes.{goes_on}
-use Rattle.mojom_print.specs.Words.{parted_by}
 use Rattle.mojom_print.specs.Definitions.{const_text, enumerator_text, enum_text, field_text, struct_item_text, struct_member_text, struct_text, union_field_text, union_text}
 use Rattle.mojom_print.specs.Interfaces.{parameter_text, parameters_text, response_text, method_text, interface_item_text, interface_member_text, interface_text}
 use Rattle.mojom_print.specs.FileText.{module_text, import_text, definition_item_text, definition_text, file_text}
@@ -40,17 +40,24 @@ use Rattle.mojom_print.proofs.ValueTexts.{name_tells, value_tells, ordinal_tells
 
 const_tells : (depth : ℕ) (c : Const) → Tells none none (const_text depth c) (const_sorts c)
 unfolding const_text const_sorts
-const_tells depth c = indent_tells depth then (const_blank then declared_then c.kind c.name _ (equals_blanks refl then (fresh (value_tells c.value) then end_line refl)))
+const_tells depth c =
+    indent_tells depth then (const_blank then declared_then c.kind c.name _ (equals_blanks refl then (fresh (value_tells c.value) then end_line refl)))
 
 enumerator_tells : (depth : ℕ) (e : Enumerator) → Tells none none (enumerator_text depth e) (enumerator_sorts e ++ comma)
 unfolding enumerator_text enumerator_sorts
 enumerator_tells depth e =
-    tells_sorts (attributes_sorts e.attributes ++ (identifier_sorts e.name ++ (option_sorts assigned_sorts e.value ++ comma))) ((attributes_sorts e.attributes ++ (identifier_sorts e.name ++ option_sorts assigned_sorts e.value)) ++ comma) (sym (append_assoc (attributes_sorts e.attributes) (identifier_sorts e.name ++ option_sorts assigned_sorts e.value) comma))
+    tells_sorts (attributes_sorts e.attributes ++ (identifier_sorts e.name ++ (option_sorts assigned_sorts e.value ++ comma)))
+    ((attributes_sorts e.attributes ++ (identifier_sorts e.name ++ option_sorts assigned_sorts e.value)) ++ comma)
+    (sym (append_assoc (attributes_sorts e.attributes) (identifier_sorts e.name ++ option_sorts assigned_sorts e.value) comma))
     (attribute_line_tells depth e.attributes then (indent_tells depth then (identifier_tells e.name.text then (assigned_tells e.value then comma_line refl))))
 
 enum_tells : (depth : ℕ) (e : Enum) → Tells none none (enum_text depth e) (enum_sorts e)
 unfolding enum_text enum_sorts
-enum_tells depth e = indent_tells depth then (enum_blank then (identifier_tells e.name.text then (open_block refl then (each (enumerator_text (depth + 1)) (λ x. enumerator_sorts x ++ comma) (enumerator_tells (depth + 1)) e.enumerators then (indent_tells depth then close_block refl)))))
+enum_tells depth e =
+    indent_tells depth then (enum_blank then
+    (identifier_tells e.name.text then
+    (open_block refl then (each (enumerator_text (depth + 1)) (λ x. enumerator_sorts x ++ comma) (enumerator_tells (depth + 1)) e.enumerators then
+    (indent_tells depth then close_block refl)))))
 
 two_blanks : Tells none none (codes "  ") []
 two_blanks = blanks 32 (32 ∷ []) refl refl
@@ -69,7 +76,9 @@ struct_member_tells x = attribute_line_tells 1 x.attributes then struct_item_tel
 
 struct_tells : (x : Struct) → Tells none none (struct_text x) (struct_sorts x)
 unfolding struct_text struct_sorts
-struct_tells x = struct_blank then (identifier_tells x.name.text then (open_block refl then (each struct_member_text struct_member_sorts struct_member_tells x.members then close_block refl)))
+struct_tells x =
+    struct_blank then (identifier_tells x.name.text then
+    (open_block refl then (each struct_member_text struct_member_sorts struct_member_tells x.members then close_block refl)))
 
 union_field_tells : (f : UnionField) → Tells none none (union_field_text f) (union_field_sorts f)
 unfolding union_field_text union_field_sorts
@@ -77,13 +86,15 @@ union_field_tells f = attribute_line_tells 1 f.attributes then (two_blanks then 
 
 union_tells : (x : Union) → Tells none none (union_text x) (union_sorts x)
 unfolding union_text union_sorts
-union_tells x = union_blank then (identifier_tells x.name.text then (open_block refl then (each union_field_text union_field_sorts union_field_tells x.fields then close_block refl)))
+union_tells x =
+    union_blank then (identifier_tells x.name.text then
+    (open_block refl then (each union_field_text union_field_sorts union_field_tells x.fields then close_block refl)))
 
 parameter_tells : (p : Parameter) → Tells none goes_on (parameter_text p) (parameter_sorts p)
 unfolding parameter_text parameter_sorts
 parameter_tells p = attributes_before_tells p.attributes then declared_then p.kind p.name _ (ordinal_tells p.ordinal)
 
-parameter_list_tells : (ps : List Parameter) → Tells none goes_on (parted_by (codes ", ") parameter_text ps) (between parameter_sorts ps)
+parameter_list_tells : (ps : List Parameter) → Tells none goes_on (join_by parameter_text (codes ", ") ps) (between parameter_sorts ps)
 parameter_list_tells [] = fresh nothing
 parameter_list_tells (x ∷ xs) = with_marks goes_on (codes ", ") (sorts.Symbol Comma) parameter_text parameter_sorts (comma_blank refl) parameter_tells x xs
 
@@ -97,7 +108,9 @@ response_tells (Some ps) = arrow_blanks refl then fresh (parameters_tell ps)
 
 method_tells : (m : Method) → Tells none none (method_text m) (method_sorts m)
 unfolding method_text method_sorts
-method_tells m = two_blanks then (identifier_tells m.name.text then (ordinal_tells m.ordinal then (parameters_tell m.request then (response_tells m.response then end_line refl))))
+method_tells m =
+    two_blanks then (identifier_tells m.name.text then
+    (ordinal_tells m.ordinal then (parameters_tell m.request then (response_tells m.response then end_line refl))))
 
 interface_item_tells : (x : InterfaceItem) → Tells none none (interface_item_text x) (interface_item_sorts x)
 interface_item_tells (interface_items.Const x) = const_tells 1 x
@@ -109,7 +122,9 @@ interface_member_tells x = attribute_line_tells 1 x.attributes then interface_it
 
 interface_tells : (x : Interface) → Tells none none (interface_text x) (interface_sorts x)
 unfolding interface_text interface_sorts
-interface_tells x = interface_blank then (identifier_tells x.name.text then (open_block refl then (each interface_member_text interface_member_sorts interface_member_tells x.members then close_block refl)))
+interface_tells x =
+    interface_blank then (identifier_tells x.name.text then
+    (open_block refl then (each interface_member_text interface_member_sorts interface_member_tells x.members then close_block refl)))
 
 definition_item_tells : (x : DefinitionItem) → Tells none none (definition_item_text x) (definition_item_sorts x)
 definition_item_tells (items.Struct x) = struct_tells x
@@ -132,4 +147,6 @@ import_tells i = attribute_line_tells 0 i.attributes then (import_blank then (st
 -- the text of a file is the tokens that its tree shows
 pub file_tells : (f : File) → Tells none none (file_text f) (file_sorts f)
 unfolding file_text file_sorts
-file_tells f = module_tells f.module_statement then (each import_text import_sorts import_tells f.imports then each definition_text definition_sorts definition_tells f.definitions)
+file_tells f =
+    module_tells f.module_statement then
+    (each import_text import_sorts import_tells f.imports then each definition_text definition_sorts definition_tells f.definitions)

@@ -59,9 +59,13 @@ text_is text word e = ap (λ (l : List ℕ). Some (sorts.Identifier l)) (sym ((b
 
 identifier_agrees : (text : List ℕ) → Agrees (sorts.Identifier text) (sort_at (identifier_class text))
 unfolding identifier_class sort_at sort_in fixed
-identifier_agrees text = of (bytes_eq text (codes "message_pipe")) (bytes_eq text (codes "data_pipe_consumer")) (bytes_eq text (codes "data_pipe_producer")) (bytes_eq text (codes "shared_buffer")) (bytes_eq text (codes "platform")) refl refl refl refl refl
+identifier_agrees text =
+    of (bytes_eq text (codes "message_pipe")) (bytes_eq text (codes "data_pipe_consumer")) (bytes_eq text (codes "data_pipe_producer"))
+    (bytes_eq text (codes "shared_buffer")) (bytes_eq text (codes "platform")) refl refl refl refl refl
   where
-    of : (a b c d e : Bool) → bytes_eq text (codes "message_pipe") ≡ a → bytes_eq text (codes "data_pipe_consumer") ≡ b → bytes_eq text (codes "data_pipe_producer") ≡ c → bytes_eq text (codes "shared_buffer") ≡ d → bytes_eq text (codes "platform") ≡ e → Agrees (sorts.Identifier text) (sort_at (cond a 36 (cond b 37 (cond c 38 (cond d 39 (cond e 40 0))))))
+    of : (a b c d e : Bool) → bytes_eq text (codes "message_pipe") ≡ a → bytes_eq text (codes "data_pipe_consumer") ≡ b
+        → bytes_eq text (codes "data_pipe_producer") ≡ c → bytes_eq text (codes "shared_buffer") ≡ d → bytes_eq text (codes "platform") ≡ e
+        → Agrees (sorts.Identifier text) (sort_at (cond a 36 (cond b 37 (cond c 38 (cond d 39 (cond e 40 0))))))
     of true b c d e ea eb ec ed ee = inl (text_is text (codes "message_pipe") ea)
     of false true c d e ea eb ec ed ee = inl (text_is text (codes "data_pipe_consumer") eb)
     of false false true d e ea eb ec ed ee = inl (text_is text (codes "data_pipe_producer") ec)
@@ -77,6 +81,7 @@ agrees (sorts.String bytes) = inr refl
 agrees (sorts.Keyword k) = inl (keyword_agrees k)
 agrees (sorts.Symbol s) = inl (symbol_agrees s)
 
+-- for rules of one class: a token of it
 pub has_one : (c d : ℕ) → has (c ∷ []) d ≡ true → d ≡ c
 has_one c d h = of (nat_eq d c) refl h
   where
@@ -95,9 +100,11 @@ fixed_sort c s t at h = of (agrees s)
     of (inl e) = let f : Some s ≡ Some t = sym e ∙ there in cc
     of (inr e) = let f : ◌≡◌ {A = Option Sort} None (Some t) = sym e ∙ there in absurd (cc)
 
+-- for `prints_keyword`
 pub keyword_sort : (k : Keyword) (s : Sort) → has (keyword_class k ∷ []) (class_of s) ≡ true → s ≡ sorts.Keyword k
 keyword_sort k s h = fixed_sort (keyword_class k) s (sorts.Keyword k) (keyword_agrees k) h
 
+-- for `prints_symbol`
 pub symbol_sort : (k : Symbol) (s : Sort) → has (symbol_class k ∷ []) (class_of s) ≡ true → s ≡ sorts.Symbol k
 symbol_sort k s h = fixed_sort (symbol_class k) s (sorts.Symbol k) (symbol_agrees k) h
 
@@ -106,18 +113,22 @@ pub message_pipe : sort_at 36 ≡ Some (sorts.Identifier (codes "message_pipe"))
 unfolding sort_at sort_in fixed
 message_pipe = refl
 
+-- for the sorts of handles
 pub data_pipe_consumer : sort_at 37 ≡ Some (sorts.Identifier (codes "data_pipe_consumer"))
 unfolding sort_at sort_in fixed
 data_pipe_consumer = refl
 
+-- for the sorts of handles
 pub data_pipe_producer : sort_at 38 ≡ Some (sorts.Identifier (codes "data_pipe_producer"))
 unfolding sort_at sort_in fixed
 data_pipe_producer = refl
 
+-- for the sorts of handles
 pub shared_buffer : sort_at 39 ≡ Some (sorts.Identifier (codes "shared_buffer"))
 unfolding sort_at sort_in fixed
 shared_buffer = refl
 
+-- for the sorts of handles
 pub platform : sort_at 40 ≡ Some (sorts.Identifier (codes "platform"))
 unfolding sort_at sort_in fixed
 platform = refl
@@ -130,6 +141,7 @@ identifier_sort (sorts.String bytes) h = absurd (cc)
 identifier_sort (sorts.Keyword k) h = let e = keyword_no_identifier k in absurd (cc)
 identifier_sort (sorts.Symbol k) h = let e = symbol_no_identifier k in absurd (cc)
 
+-- for `prints_number`
 pub number_sort : (s : Sort) → has (1 ∷ []) (class_of s) ≡ true → s ≡ sorts.Number (number_in s)
 number_sort (sorts.Identifier text) h = let e = identifier_no_number text in absurd (cc)
 number_sort (sorts.Number n) h = refl
@@ -137,6 +149,7 @@ number_sort (sorts.String bytes) h = absurd (cc)
 number_sort (sorts.Keyword k) h = let e = keyword_no_number k in absurd (cc)
 number_sort (sorts.Symbol k) h = let e = symbol_no_number k in absurd (cc)
 
+-- for `prints_string`
 pub string_sort : (s : Sort) → has (2 ∷ []) (class_of s) ≡ true → s ≡ sorts.String (bytes_in s)
 string_sort (sorts.Identifier text) h = let e = identifier_no_string text in absurd (cc)
 string_sort (sorts.Number n) h = absurd (cc)

@@ -7,5 +7,6 @@ indent_next : (n : ℕ) → indent (suc n) ≡ indent n ++ codes "  "
 indent_next zero = refl
 indent_next (suc n) = ap (λ (l : List ℕ). codes "  " ++ l) (indent_next n)
 
+-- for `push_indent`: one depth more
 pub indent_more : (n : ℕ) → indent (n + 1) ≡ indent n ++ codes "  "
 indent_more n = rw add-one (indent_next n)

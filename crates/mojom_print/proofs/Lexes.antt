@@ -19,7 +19,8 @@ stops p [] = true
 stops p (c ∷ cs) = not (p c)
 
 -- a run that what follows stops is the longest
-pub run_stops : (p : ℕ → Bool) (xs rest : List ℕ) → stops p rest ≡ true → (more : ℕ) → more ≤ length (xs ++ rest) → list_all p (take more (xs ++ rest)) ≡ true → more ≤ length xs
+pub run_stops : (p : ℕ → Bool) (xs rest : List ℕ) → stops p rest ≡ true → (more : ℕ) → more ≤ length (xs ++ rest)
+    → list_all p (take more (xs ++ rest)) ≡ true → more ≤ length xs
 run_stops p xs rest s zero le h = omega arith
 run_stops p [] [] s (suc m) le h = absurd (omega arith)
 run_stops p [] (c ∷ cs) s (suc m) le h = let a : p c ≡ true = left (p c) (list_all p (take m cs)) h in absurd (of (p c) a s)
@@ -27,7 +28,8 @@ run_stops p [] (c ∷ cs) s (suc m) le h = let a : p c ≡ true = left (p c) (li
     of : (v : Bool) → v ≡ true → not v ≡ true → ⊥
     of true e f = absurd (cc)
     of false e f = absurd (cc)
-run_stops p (x ∷ xs) rest s (suc m) le h = let r : m ≤ length xs = run_stops p xs rest s m (omega arith) (right (p x) (list_all p (take m (xs ++ rest))) h) in omega arith
+run_stops p (x ∷ xs) rest s (suc m) le h =
+    let r : m ≤ length xs = run_stops p xs rest s m (omega arith) (right (p x) (list_all p (take m (xs ++ rest))) h) in omega arith
 
 -- the bytes are blanks and these tokens
 pub data Lexes : List ℕ → List Sort → Type 0 where
@@ -45,6 +47,7 @@ pub record Tells (p q : ℕ → Bool) (text : List ℕ) (sorts : List Sort) : Ty
 abbrev pub none : ℕ → Bool
 none c = false
 
+-- where anything may follow, what follows stops
 pub stops_none : (rest : List ℕ) → stops none rest ≡ true
 stops_none [] = refl
 stops_none (c ∷ cs) = refl
@@ -59,16 +62,21 @@ lexical_right (x ∷ xs) ys h = lexical_right xs ys h.1
 
 infixr 20 ◌then◌
 pub ◌then◌ : {p q r : ℕ → Bool} {xs ys : List ℕ} {ss ts : List Sort} → Tells p q xs ss → Tells q r ys ts → Tells p r (xs ++ ys) (ss ++ ts)
-◌then◌ {p = p} {q = q} {r = r} {xs = xs} {ys = ys} {ss = ss} {ts = ts} a b = record { parts = parts; told = told; utf8 = λ h. IsUtf8-append xs ys (a.utf8 (lexical_left ss ts h)) (b.utf8 (lexical_right ss ts h)) }
+◌then◌ {p = p} {q = q} {r = r} {xs = xs} {ys = ys} {ss = ss} {ts = ts} a b =
+    record { parts = parts; told = told; utf8 = λ h. IsUtf8-append xs ys (a.utf8 (lexical_left ss ts h)) (b.utf8 (lexical_right ss ts h)) }
   where
     parts : AllLexical (ss ++ ts) → (rest : List ℕ) → stops r rest ≡ true → stops p ((xs ++ ys) ++ rest) ≡ true
-    parts h rest s = subst (λ (bs : List ℕ). stops p bs ≡ true) (sym (append_assoc xs ys rest)) (a.parts (lexical_left ss ts h) (ys ++ rest) (b.parts (lexical_right ss ts h) rest s))
+    parts h rest s =
+        subst (λ (bs : List ℕ). stops p bs ≡ true) (sym (append_assoc xs ys rest))
+        (a.parts (lexical_left ss ts h) (ys ++ rest) (b.parts (lexical_right ss ts h) rest s))
 
     told : AllLexical (ss ++ ts) → (rest : List ℕ) (more : List Sort) → stops r rest ≡ true → Lexes rest more → Lexes ((xs ++ ys) ++ rest) ((ss ++ ts) ++ more)
     told h rest more s l =
         let k : AllLexical ts = lexical_right ss ts h in
-        let front : Lexes (xs ++ (ys ++ rest)) (ss ++ (ts ++ more)) = a.told (lexical_left ss ts h) (ys ++ rest) (ts ++ more) (b.parts k rest s) (b.told k rest more s l) in
-        subst (λ (bs : List ℕ). Lexes bs ((ss ++ ts) ++ more)) (sym (append_assoc xs ys rest)) (subst (λ (us : List Sort). Lexes (xs ++ (ys ++ rest)) us) (sym (append_assoc ss ts more)) front)
+        let front : Lexes (xs ++ (ys ++ rest)) (ss ++ (ts ++ more)) =
+        a.told (lexical_left ss ts h) (ys ++ rest) (ts ++ more) (b.parts k rest s) (b.told k rest more s l) in
+        subst (λ (bs : List ℕ). Lexes bs ((ss ++ ts) ++ more)) (sym (append_assoc xs ys rest))
+        (subst (λ (us : List Sort). Lexes (xs ++ (ys ++ rest)) us) (sym (append_assoc ss ts more)) front)
 
 -- sorts put together otherwise
 pub tells_sorts : {p q : ℕ → Bool} {text : List ℕ} (ss ts : List Sort) → ss ≡ ts → Tells p q text ss → Tells p q text ts
@@ -83,7 +91,8 @@ pub closed : {p q : ℕ → Bool} {text : List ℕ} {ss : List Sort} → Tells p
 closed a = record { parts = λ h rest s. a.parts h rest (stops_none rest); told = λ h rest more s l. a.told h rest more (stops_none rest) l; utf8 = a.utf8 }
 
 -- before less
-pub before : {p q r : ℕ → Bool} {text : List ℕ} {ss : List Sort} → ((rest : List ℕ) → stops r rest ≡ true → stops q rest ≡ true) → Tells p q text ss → Tells p r text ss
+pub before : {p q r : ℕ → Bool} {text : List ℕ} {ss : List Sort} → ((rest : List ℕ) → stops r rest ≡ true → stops q rest ≡ true) → Tells p q text ss
+    → Tells p r text ss
 before less a = record { parts = λ h rest s. a.parts h rest (less rest s); told = λ h rest more s l. a.told h rest more (less rest s) l; utf8 = a.utf8 }
 
 -- nothing
@@ -93,7 +102,8 @@ nothing {q = q} = record { parts = λ h rest s. s; told = λ h rest more s l. l;
 -- blanks
 blanks_lex : (bs rest : List ℕ) (more : List Sort) → list_all is_blank bs ≡ true → Lexes rest more → Lexes (bs ++ rest) more
 blanks_lex [] rest more h l = l
-blanks_lex (c ∷ cs) rest more h l = blank c (cs ++ rest) more (left (is_blank c) (list_all is_blank cs) h) (blanks_lex cs rest more (right (is_blank c) (list_all is_blank cs) h) l)
+blanks_lex (c ∷ cs) rest more h l =
+    blank c (cs ++ rest) more (left (is_blank c) (list_all is_blank cs) h) (blanks_lex cs rest more (right (is_blank c) (list_all is_blank cs) h) l)
 
 blank_ascii : (c : ℕ) → is_blank c ≡ true → c < 128
 blank_ascii c e = grind (arith, nat_tests)
@@ -103,23 +113,33 @@ blanks_ascii [] e i = lit< tt
 blanks_ascii (c ∷ cs) e zero = blank_ascii c (left (is_blank c) (list_all is_blank cs) e)
 blanks_ascii (c ∷ cs) e (suc i) = blanks_ascii cs (right (is_blank c) (list_all is_blank cs) e) i
 
+-- for texts that begin with blanks
 pub blanks : {p : ℕ → Bool} (c : ℕ) (cs : List ℕ) → list_all is_blank (c ∷ cs) ≡ true → not (p c) ≡ true → Tells p none (c ∷ cs) []
-blanks c cs h f = record { parts = λ g rest s. f; told = λ g rest more s l. blanks_lex (c ∷ cs) rest more h l; utf8 = λ g. IsUtf8-from_ascii (c ∷ cs) (blanks_ascii (c ∷ cs) h) }
+blanks c cs h f =
+    record {
+      parts = λ g rest s. f;
+      told = λ g rest more s l. blanks_lex (c ∷ cs) rest more h l;
+      utf8 = λ g. IsUtf8-from_ascii (c ∷ cs) (blanks_ascii (c ∷ cs) h);
+    }
 
 -- one token
-pub one : {p : ℕ → Bool} (q : ℕ → Bool) (c : ℕ) (cs : List ℕ) (s : Sort) → SpellsSort s (c ∷ cs) → (AllLexical (s ∷ []) → IsUtf8 (c ∷ cs)) → not (p c) ≡ true → ((rest : List ℕ) → stops q rest ≡ true → IsLongest ((c ∷ cs) ++ rest) (length (c ∷ cs))) → Tells p q (c ∷ cs) (s ∷ [])
+pub one : {p : ℕ → Bool} (q : ℕ → Bool) (c : ℕ) (cs : List ℕ) (s : Sort) → SpellsSort s (c ∷ cs) → (AllLexical (s ∷ []) → IsUtf8 (c ∷ cs))
+    → not (p c) ≡ true → ((rest : List ℕ) → stops q rest ≡ true → IsLongest ((c ∷ cs) ++ rest) (length (c ∷ cs))) → Tells p q (c ∷ cs) (s ∷ [])
 one q c cs s h u f longest = record { parts = λ g rest e. f; told = λ g rest more e l. token (c ∷ cs) rest s more h (longest rest e) l; utf8 = u }
 
 -- lists of texts which anything may follow
-pub each : {A : Type 0} (text : A → List ℕ) (sorts : A → List Sort) → ((x : A) → Tells none none (text x) (sorts x)) → (xs : List A) → Tells none none (flat_map text xs) (flat_map sorts xs)
+pub each : {A : Type 0} (text : A → List ℕ) (sorts : A → List Sort) → ((x : A) → Tells none none (text x) (sorts x)) → (xs : List A)
+    → Tells none none (flat_map text xs) (flat_map sorts xs)
 each text sorts tells [] = nothing
 each text sorts tells (x ∷ xs) = tells x then each text sorts tells xs
 
 -- texts with a sign between them
-module _ {A : Type 0} (p : ℕ → Bool) (mark : List ℕ) (sign : Sort) (text : A → List ℕ) (sorts : A → List Sort) (marked : Tells p none mark (sign ∷ [])) (tells : (x : A) → Tells none p (text x) (sorts x)) where
+module _ {A : Type 0} (p : ℕ → Bool) (mark : List ℕ) (sign : Sort) (text : A → List ℕ) (sorts : A → List Sort)
+    (marked : Tells p none mark (sign ∷ [])) (tells : (x : A) → Tells none p (text x) (sorts x)) where
   led_by : (xs : List A) → Tells p p (flat_map (λ x. mark ++ text x) xs) (flat_map (λ x. (sign ∷ []) ++ sorts x) xs)
   led_by [] = nothing
   led_by (x ∷ xs) = (marked then tells x) then led_by xs
 
+  -- for names and lists: texts with a sign between each two
   pub with_marks : (x : A) (xs : List A) → Tells none p (text x ++ flat_map (λ y. mark ++ text y) xs) (sorts x ++ flat_map (λ y. (sign ∷ []) ++ sorts y) xs)
   with_marks x xs = tells x then led_by xs

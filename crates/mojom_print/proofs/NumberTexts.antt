@@ -28,11 +28,16 @@ digit_is : (n : ℕ) → n < 10 → is_digit (48 + n) ≡ true
 digit_is n h = grind (arith, nat_tests)
 
 digit_worth : (n : ℕ) → n < 10 → digit_value (48 + n) ≡ n
-digit_worth n h = let e : nat_le (48 + n) 57 ≡ true = grind (arith, nat_tests) in rw e (omega arith)
+digit_worth n h =
+    let least : nat_le 48 (48 + n) ≡ true = grind (arith, nat_tests) in
+    let most : nat_le (48 + n) 57 ≡ true = grind (arith, nat_tests) in
+    simp (least, most) (omega arith)
 
 all_more : (ds : List ℕ) (d : ℕ) → list_all is_digit ds ≡ true → is_digit d ≡ true → list_all is_digit (ds ++ d ∷ []) ≡ true
 all_more [] d h e = both (is_digit d) true e refl
-all_more (c ∷ cs) d h e = both (is_digit c) (list_all is_digit (cs ++ d ∷ [])) (left (is_digit c) (list_all is_digit cs) h) (all_more cs d (right (is_digit c) (list_all is_digit cs) h) e)
+all_more (c ∷ cs) d h e =
+    both (is_digit c) (list_all is_digit (cs ++ d ∷ [])) (left (is_digit c) (list_all is_digit cs) h)
+    (all_more cs d (right (is_digit c) (list_all is_digit cs) h) e)
 
 value_more : (v : ℕ) (ds : List ℕ) (d : ℕ) → value_from 10 v (ds ++ d ∷ []) ≡ value_from 10 v ds * 10 + digit_value d
 value_more v [] d = refl
@@ -82,15 +87,18 @@ clash : (v : Bool) → v ≡ true → not v ≡ true → ⊥
 clash true e f = absurd (cc)
 clash false e f = absurd (cc)
 
-no_hex : (c : ℕ) (cs rest : List ℕ) → list_all is_digit (c ∷ cs) ≡ true → stops goes_on rest ≡ true → (more : ℕ) → is_hexadecimal (take more ((c ∷ cs) ++ rest)) ≡ true → ⊥
+no_hex : (c : ℕ) (cs rest : List ℕ) → list_all is_digit (c ∷ cs) ≡ true → stops goes_on rest ≡ true → (more : ℕ)
+    → is_hexadecimal (take more ((c ∷ cs) ++ rest)) ≡ true → ⊥
 no_hex c cs rest h s zero e = absurd (cc)
 no_hex c cs rest h s (suc zero) e = absurd (cc)
 no_hex c [] [] h s (suc (suc m)) e = absurd (cc)
 no_hex c [] (r ∷ rs) h s (suc (suc m)) e =
-    let x : (r == 120 || r == 88) ≡ true = right (c == 48) (r == 120 || r == 88) (left (c == 48 && (r == 120 || r == 88)) (is_run is_hex_digit (take m rs)) e) in
+    let x : (r == 120 || r == 88) ≡ true =
+    right (c == 48) (r == 120 || r == 88) (left (c == 48 && (r == 120 || r == 88)) (is_run is_hex_digit (take m rs)) e) in
     clash (goes_on r) (x_letter r x) s
 no_hex c (d ∷ ds) rest h s (suc (suc m)) e =
-    let x : (d == 120 || d == 88) ≡ true = right (c == 48) (d == 120 || d == 88) (left (c == 48 && (d == 120 || d == 88)) (is_run is_hex_digit (take m (ds ++ rest))) e) in
+    let x : (d == 120 || d == 88) ≡ true =
+    right (c == 48) (d == 120 || d == 88) (left (c == 48 && (d == 120 || d == 88)) (is_run is_hex_digit (take m (ds ++ rest))) e) in
     let f : is_digit d ≡ false = x_no_digit d x in
     let g : is_digit d ≡ true = left (is_digit d) (list_all is_digit ds) (right (is_digit c) (list_all is_digit (d ∷ ds)) h) in
     absurd (cc)
@@ -124,7 +132,8 @@ is_number_of c cs h = rw h refl
 
 -- digits before what goes on no word
 digits_longest : (c : ℕ) (cs rest : List ℕ) → list_all is_digit (c ∷ cs) ≡ true → stops goes_on rest ≡ true → IsLongest ((c ∷ cs) ++ rest) (length (c ∷ cs))
-digits_longest c cs rest h s = longest_of Numeral ((c ∷ cs) ++ rest) (length (c ∷ cs)) (first_tells Numeral c cs (is_number_of c cs h)) (whole_front (c ∷ cs) rest)
+digits_longest c cs rest h s =
+    longest_of Numeral ((c ∷ cs) ++ rest) (length (c ∷ cs)) (first_tells Numeral c cs (is_number_of c cs h)) (whole_front (c ∷ cs) rest)
     (subst (λ (bs : List ℕ). is_number bs ≡ true) (sym (take-append_seam (c ∷ cs) rest)) (is_number_of c cs h)) most
   where
     most : (more : ℕ) → more ≤ length ((c ∷ cs) ++ rest) → is_number (take more ((c ∷ cs) ++ rest)) ≡ true → more ≤ length (c ∷ cs)
@@ -140,7 +149,8 @@ decimal_number n small (c ∷ cs) d lead some =
     let no : is_hexadecimal (c ∷ cs) ≡ false = digits_no_hex (c ∷ cs) d.digits in
     record { number = is_number_of c cs d.digits; leads = lead; worth = rw no d.worth; fits = small }
 
-digits_told : (n : ℕ) (ds : List ℕ) → list_all is_digit ds ≡ true → IsNumber n ds → (rest : List ℕ) (more : List Sort) → stops goes_on rest ≡ true → Lexes rest more → Lexes (ds ++ rest) (sorts.Number n ∷ more)
+digits_told : (n : ℕ) (ds : List ℕ) → list_all is_digit ds ≡ true → IsNumber n ds → (rest : List ℕ) (more : List Sort) → stops goes_on rest ≡ true
+    → Lexes rest more → Lexes (ds ++ rest) (sorts.Number n ∷ more)
 digits_told n [] d is rest more s l = let e = is.number in absurd (cc)
 digits_told n (c ∷ cs) d is rest more s l = token (c ∷ cs) rest (sorts.Number n) more is (digits_longest c cs rest d s) l
 
@@ -159,19 +169,24 @@ either : (a b : Bool) → not (a || b) ≡ true → (not a ≡ true) × (not b �
 either true b e = absurd (cc)
 either false b e = (refl, e)
 
+-- for `before`: what stops behind a value stops behind a word
 pub value_on : (rest : List ℕ) → stops after_value rest ≡ true → stops goes_on rest ≡ true
 value_on [] s = refl
 value_on (c ∷ cs) s = (either (goes_on c) (greater c) s).0
 
+-- for `before`: what stops behind a value is no `>`
 pub value_greater : (rest : List ℕ) → stops after_value rest ≡ true → stops greater rest ≡ true
 value_greater [] s = refl
 value_greater (c ∷ cs) s = (either (goes_on c) (greater c) s).1
 
-pub number_told : (n : ℕ) → n < 2 ^ 64 → (rest : List ℕ) (more : List Sort) → stops goes_on rest ≡ true → Lexes rest more → Lexes (decimal n ++ rest) (sorts.Number n ∷ more)
+-- for `number_tells`: the digits are a number
+pub number_told : (n : ℕ) → n < 2 ^ 64 → (rest : List ℕ) (more : List Sort) → stops goes_on rest ≡ true → Lexes rest more
+    → Lexes (decimal n ++ rest) (sorts.Number n ∷ more)
 number_told n small rest more s l =
     let d : IsDecimalOf n (decimal n) = decimal_is n small in
     digits_told n (decimal n) d.digits (decimal_number n small (decimal n) d (no_lead n small) (decimal_nonempty n small)) rest more s l
 
+-- for the texts that have a number
 pub number_tells : (n : ℕ) → Tells none goes_on (decimal n) (sorts.Number n ∷ [])
 number_tells n = record {
   parts = λ h rest s. stops_none (decimal n ++ rest);
@@ -179,6 +194,7 @@ number_tells n = record {
   utf8 = λ h. IsUtf8-from_ascii (decimal n) (IsAscii-decimal n h.0.spelled.fits);
 }
 
+-- for the text of a value
 pub number_value_tells : (n : ℕ) → Tells greater after_value (decimal n) (sorts.Number n ∷ [])
 number_value_tells n = record {
   parts = λ h rest s. digits_part (decimal n) rest (decimal_is n h.0.spelled.fits).digits (value_greater rest s);

@@ -1,7 +1,7 @@
 -- A text says nothing of places.
 use Rattle.std.proofs.Common.{◌≡◌, ℕ, ◌+◌, List, [], ◌∷◌, ◌++◌, Option, Some, None, refl, sym, ◌∙◌, ap, codes}
 use Rattle.std.specs.Prelude.{map}
-use Rattle.std.specs.List.{flat_map}
+use Rattle.std.specs.List.{flat_map, join_by}
 use Rattle.std.specs.Option.{option_map}
 use Rattle.mojom_ast.specs.declared.names.Number.{Number}
 use Rattle.mojom_ast.specs.declared.names.Name.{Name}
@@ -30,22 +30,26 @@ use Rattle.mojom_ast.specs.declared.definitions.Const.{Const}
 use Rattle.mojom_ast.specs.declared.file.File.{File}
 use Rattle.mojom_ast.specs.declared.file.ModuleStatement.{ModuleStatement}
 use Rattle.mojom_ast.specs.declared.file.Import.{Import}
-use Rattle.mojom_ast.specs.TypeTrees.{BaseTree, TypeTree, Named, ArrayOf, MapOf, HandleOf, PendingOf}
-use Rattle.mojom_print.specs.Words.{parted_by, name_text, value_text, ordinal_text, assigned_text, indent}
+use Rattle.mojom_ast.specs.TypeTrees.{BaseTree, Named, ArrayOf, MapOf, HandleOf, PendingOf}
+use Rattle.mojom_print.specs.Words.{name_text, value_text, ordinal_text, assigned_text, indent}
 use Rattle.mojom_print.specs.Attributes.{given_text, attribute_text, bracketed_text, attribute_line, attributes_before}
-use Rattle.mojom_print.specs.Types.{count_text, base_text, type_text}
+use Rattle.mojom_print.specs.Types.{count_text, base_text}
 use Rattle.mojom_print.specs.Definitions.{const_text, enumerator_text, enum_text, field_text, struct_item_text, struct_member_text, struct_text, union_field_text, union_text}
 use Rattle.mojom_print.specs.Interfaces.{parameter_text, parameters_text, response_text, method_text, interface_item_text, interface_member_text, interface_text}
 use Rattle.mojom_print.specs.FileText.{module_text, import_text, definition_item_text, definition_text, file_text}
-use Rattle.mojom_print.specs.Unplaced.{identifier_unplaced, number_unplaced, name_unplaced, value_unplaced, attribute_unplaced, base_unplaced, type_unplaced, const_unplaced, enumerator_unplaced, enum_unplaced, field_unplaced, struct_item_unplaced, struct_member_unplaced, struct_unplaced, union_field_unplaced, union_unplaced, parameter_unplaced, method_unplaced, interface_item_unplaced, interface_member_unplaced, interface_unplaced, definition_item_unplaced, definition_unplaced, module_unplaced, import_unplaced, unplaced}
+use Rattle.mojom_print.specs.Unplaced.{identifier_unplaced, number_unplaced, name_unplaced, value_unplaced, attribute_unplaced, base_unplaced, const_unplaced, enumerator_unplaced, enum_unplaced, field_unplaced, struct_item_unplaced, struct_member_unplaced, struct_unplaced, union_field_unplaced, union_unplaced, parameter_unplaced, method_unplaced, interface_item_unplaced, interface_member_unplaced, interface_unplaced, definition_item_unplaced, definition_unplaced, module_unplaced, import_unplaced, unplaced}
 
 each_same : {A : Type 0} (text : A → List ℕ) (off : A → A) → ((x : A) → text (off x) ≡ text x) → (xs : List A) → flat_map text (map off xs) ≡ flat_map text xs
 each_same text off same [] = refl
-each_same text off same (x ∷ xs) = ap (λ (l : List ℕ). l ++ flat_map text (map off xs)) (same x) ∙ ap (λ (l : List ℕ). text x ++ l) (each_same text off same xs)
+each_same text off same (x ∷ xs) =
+    ap (λ (l : List ℕ). l ++ flat_map text (map off xs)) (same x) ∙ ap (λ (l : List ℕ). text x ++ l) (each_same text off same xs)
 
-parted_same : {A : Type 0} (mark : List ℕ) (text : A → List ℕ) (off : A → A) → ((x : A) → text (off x) ≡ text x) → (xs : List A) → parted_by mark text (map off xs) ≡ parted_by mark text xs
+parted_same : {A : Type 0} (mark : List ℕ) (text : A → List ℕ) (off : A → A) → ((x : A) → text (off x) ≡ text x) → (xs : List A)
+    → join_by text mark (map off xs) ≡ join_by text mark xs
 parted_same mark text off same [] = refl
-parted_same mark text off same (x ∷ xs) = ap (λ (l : List ℕ). l ++ flat_map (λ y. mark ++ text y) (map off xs)) (same x) ∙ ap (λ (l : List ℕ). text x ++ l) (each_same (λ y. mark ++ text y) off (λ y. ap (λ (l : List ℕ). mark ++ l) (same y)) xs)
+parted_same mark text off same (x ∷ xs) =
+    ap (λ (l : List ℕ). l ++ flat_map (λ y. mark ++ text y) (map off xs)) (same x)
+    ∙ ap (λ (l : List ℕ). text x ++ l) (each_same (λ y. mark ++ text y) off (λ y. ap (λ (l : List ℕ). mark ++ l) (same y)) xs)
 
 name_same : (x : Name) → name_text (name_unplaced x) ≡ name_text x
 unfolding name_text
@@ -179,7 +183,9 @@ import_same x = let a = line_same 0 x.attributes in cc
 
 file_same : (x : File) → file_text (unplaced x) ≡ file_text x
 unfolding file_text unplaced
-file_same x = let a = module_same x.module_statement in let b = each_same import_text import_unplaced import_same x.imports in let d = each_same definition_text definition_unplaced definition_same x.definitions in cc
+file_same x =
+    let a = module_same x.module_statement in let b = each_same import_text import_unplaced import_same x.imports in
+    let d = each_same definition_text definition_unplaced definition_same x.definitions in cc
 
 -- trees that differ in places alone have one text
 pub same_text : (tree other : File) → unplaced other ≡ unplaced tree → file_text other ≡ file_text tree

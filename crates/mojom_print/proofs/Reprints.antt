@@ -22,7 +22,8 @@ use Rattle.mojom_print.proofs.Retold.{comma_lexical, tokens_lexical, HasTokens, 
 file_lexes : (tree : File) → AllLexical (file_sorts tree) → Lexes (file_text tree) (file_sorts tree)
 file_lexes tree good =
     let l : Lexes (file_text tree ++ []) (file_sorts tree ++ []) = (file_tells tree).told good [] [] refl ends in
-    subst (λ (bs : List ℕ). Lexes bs (file_sorts tree)) (append-nil (file_text tree)) (subst (λ (ss : List Sort). Lexes (file_text tree ++ []) ss) (append-nil (file_sorts tree)) l)
+    subst (λ (bs : List ℕ). Lexes bs (file_sorts tree)) (append-nil (file_text tree))
+    (subst (λ (ss : List Sort). Lexes (file_text tree ++ []) ss) (append-nil (file_sorts tree)) l)
 
 file_tokens : (tree : File) → AllLexical (file_sorts tree) → HasTokens (file_text tree) (file_sorts tree)
 file_tokens tree good = has_tokens (file_text tree) (file_sorts tree) ((file_tells tree).utf8 good) (file_lexes tree good)
@@ -43,6 +44,7 @@ shown_again n tree good shows =
       same = f.same;
     }
 
+-- for the law of this name
 pub spelled_again : (bytes : List ℕ) (tokens : List Token) (tree : File) (n : ℕ) → AreTokens bytes tokens → SpellsWithin n tree tokens → SpelledAgain n tree
 spelled_again bytes tokens tree n are spells =
     let K : File → List Token → Type 0 = λ f rest. (rest ≡ []) × (f ≡ tree) in

@@ -25,6 +25,7 @@ use Rattle.mojom_print.proofs.Lexes.{stops, run_stops, Lexes, ends, blank, token
 use Rattle.mojom_print.proofs.WordTexts.{whole_front}
 use Rattle.mojom_print.proofs.Utf8Parts.{text_utf8, quoted_utf8}
 
+-- for `prints_file`: a comma has bytes
 pub comma_lexical : AllLexical comma
 unfolding single_symbol
 comma_lexical = (record { bytes = 44 ∷ []; spelled = refl; text = tt }, tt)
@@ -33,9 +34,11 @@ comma_lexical = (record { bytes = 44 ∷ []; spelled = refl; text = tt }, tt)
 string_text : (bytes : List ℕ) (at len : ℕ) (ps : List Part) → IsUtf8 bytes → take len (drop at bytes) ≡ quoted ps → IsUtf8 (flat_map spelled ps)
 string_text bytes at len ps h e =
     let rest : List ℕ = drop len (drop at bytes) in
-    let whole : take at bytes ++ (take len (drop at bytes) ++ rest) ≡ bytes = ap (λ (l : List ℕ). take at bytes ++ l) (take-append-drop len (drop at bytes)) ∙ take-append-drop at bytes in
+    let whole : take at bytes ++ (take len (drop at bytes) ++ rest) ≡ bytes =
+    ap (λ (l : List ℕ). take at bytes ++ l) (take-append-drop len (drop at bytes)) ∙ take-append-drop at bytes in
     let parts : take at bytes ++ (quoted ps ++ rest) ≡ bytes = ap (λ (l : List ℕ). take at bytes ++ (l ++ rest)) (sym e) ∙ whole in
-    let inside : quoted ps ++ rest ≡ 34 ∷ (flat_map spelled ps ++ 34 ∷ rest) = ap (λ (l : List ℕ). 34 ∷ l) (append_assoc (flat_map spelled ps) (34 ∷ []) rest) in
+    let inside : quoted ps ++ rest ≡ 34 ∷ (flat_map spelled ps ++ 34 ∷ rest) =
+    ap (λ (l : List ℕ). 34 ∷ l) (append_assoc (flat_map spelled ps) (34 ∷ []) rest) in
     quoted_utf8 (take at bytes) (flat_map spelled ps) rest (subst IsUtf8 (sym parts ∙ ap (λ (l : List ℕ). take at bytes ++ l) inside) h)
 
 piece_text : (bytes : List ℕ) (at len : ℕ) (s : Sort) → IsUtf8 bytes → SpellsSort s (take len (drop at bytes)) → IsText s
@@ -51,8 +54,10 @@ reached_lexical bytes at all h starts = tt
 reached_lexical bytes at all h (passes before len tokens r longest over) = reached_lexical bytes before tokens h r
 reached_lexical bytes at all h (takes before len earlier s r longest is) =
     subst AllLexical (sym (map-append sort_of earlier (token_at s before len ∷ [])))
-    (lexical_both (map sort_of earlier) (s ∷ []) (reached_lexical bytes before earlier h r) (record { bytes = take len (drop before bytes); spelled = is; text = piece_text bytes before len s h is }, tt))
+    (lexical_both (map sort_of earlier) (s ∷ []) (reached_lexical bytes before earlier h r)
+    (record { bytes = take len (drop before bytes); spelled = is; text = piece_text bytes before len s h is }, tt))
 
+-- for `spelled_again`: the sorts of a file's tokens have bytes
 pub tokens_lexical : (bytes : List ℕ) (tokens : List Token) → AreTokens bytes tokens → AllLexical (map sort_of tokens)
 tokens_lexical bytes tokens a = reached_lexical bytes (length bytes) tokens a.utf8 a.reaches
 
@@ -63,12 +68,14 @@ blank_longest c cs rest h s = longest_of Blank ((c ∷ cs) ++ rest) (length (c �
     (λ more le e. run_stops is_blank (c ∷ cs) rest s more le (run_each is_blank (take more ((c ∷ cs) ++ rest)) e))
 
 -- the blanks before a place are passed over
-passed : (bytes : List ℕ) (at : ℕ) (tokens : List Token) (bs rest : List ℕ) → Reaches bytes at tokens → drop at bytes ≡ bs ++ rest → list_all is_blank bs ≡ true → stops is_blank rest ≡ true → Reaches bytes (at + length bs) tokens
+passed : (bytes : List ℕ) (at : ℕ) (tokens : List Token) (bs rest : List ℕ) → Reaches bytes at tokens → drop at bytes ≡ bs ++ rest
+    → list_all is_blank bs ≡ true → stops is_blank rest ≡ true → Reaches bytes (at + length bs) tokens
 passed bytes at tokens [] rest r e h s = let n : at ≡ at + 0 = omega arith in subst (λ (k : ℕ). Reaches bytes k tokens) n r
 passed bytes at tokens (c ∷ cs) rest r e h s =
     passes at (length (c ∷ cs)) tokens r
     (subst (λ (bs : List ℕ). IsLongest bs (length (c ∷ cs))) (sym e) (blank_longest c cs rest h s))
-    (inl (subst (λ (bs : List ℕ). is_run is_blank (take (length (c ∷ cs)) bs) ≡ true) (sym e) (subst (λ (bs : List ℕ). is_run is_blank bs ≡ true) (sym (take-append_seam (c ∷ cs) rest)) h)))
+    (inl (subst (λ (bs : List ℕ). is_run is_blank (take (length (c ∷ cs)) bs) ≡ true) (sym e)
+    (subst (λ (bs : List ℕ). is_run is_blank bs ≡ true) (sym (take-append_seam (c ∷ cs) rest)) h)))
 
 -- a token is no blank space
 record IsSolid (p : List ℕ) : Type 0 where
@@ -100,7 +107,9 @@ record Again (bytes : List ℕ) (tokens : List Token) (ss : List Sort) : Type 0 
 
 blanks_more : (xs : List ℕ) (c : ℕ) → list_all is_blank xs ≡ true → is_blank c ≡ true → list_all is_blank (xs ++ c ∷ []) ≡ true
 blanks_more [] c h e = both (is_blank c) true e refl
-blanks_more (x ∷ xs) c h e = both (is_blank x) (list_all is_blank (xs ++ c ∷ [])) (left (is_blank x) (list_all is_blank xs) h) (blanks_more xs c (right (is_blank x) (list_all is_blank xs) h) e)
+blanks_more (x ∷ xs) c h e =
+    both (is_blank x) (list_all is_blank (xs ++ c ∷ [])) (left (is_blank x) (list_all is_blank xs) h)
+    (blanks_more xs c (right (is_blank x) (list_all is_blank xs) h) e)
 
 -- a place further on
 further : (bytes : List ℕ) (at : ℕ) (xs rest : List ℕ) → drop at bytes ≡ xs ++ rest → drop (at + length xs) bytes ≡ rest
@@ -115,7 +124,8 @@ record Taken (bytes : List ℕ) (at : ℕ) (tokens : List Token) (s : Sort) (cs 
   pub rest : drop to bytes ≡ cs
   pub count : to + length cs ≡ length bytes
 
-taken : (bytes : List ℕ) (at : ℕ) (tokens : List Token) (bs p cs : List ℕ) (s : Sort) → Reaches bytes at tokens → drop at bytes ≡ bs ++ (p ++ cs) → at + length (bs ++ (p ++ cs)) ≡ length bytes → list_all is_blank bs ≡ true → SpellsSort s p → IsLongest (p ++ cs) (length p) → Taken bytes at tokens s cs
+taken : (bytes : List ℕ) (at : ℕ) (tokens : List Token) (bs p cs : List ℕ) (s : Sort) → Reaches bytes at tokens → drop at bytes ≡ bs ++ (p ++ cs)
+    → at + length (bs ++ (p ++ cs)) ≡ length bytes → list_all is_blank bs ≡ true → SpellsSort s p → IsLongest (p ++ cs) (length p) → Taken bytes at tokens s cs
 taken bytes at tokens bs p cs s r e n h is longest =
     let place : ℕ = at + length bs in
     let there : drop place bytes ≡ p ++ cs = further bytes at bs (p ++ cs) e in
@@ -133,24 +143,29 @@ taken bytes at tokens bs p cs s r e n h is longest =
       count = omega arith;
     }
 
-put : (bytes : List ℕ) (at : ℕ) (tokens : List Token) (s : Sort) (cs : List ℕ) (us : List Sort) (t : Taken bytes at tokens s cs) → Again bytes (tokens ++ t.one ∷ []) us → Again bytes tokens (s ∷ us)
+put : (bytes : List ℕ) (at : ℕ) (tokens : List Token) (s : Sort) (cs : List ℕ) (us : List Sort) (t : Taken bytes at tokens s cs)
+    → Again bytes (tokens ++ t.one ∷ []) us → Again bytes tokens (s ∷ us)
 put bytes at tokens s cs us t a = record {
   more = t.one ∷ a.more;
   reaches = subst (λ (ts : List Token). Reaches bytes (length bytes) ts) (append_assoc tokens (t.one ∷ []) a.more) a.reaches;
   sorts = ap (λ (x : Sort). x ∷ map sort_of a.more) t.sort ∙ ap (λ (l : List Sort). s ∷ l) a.sorts;
 }
 
-at_end : (bytes : List ℕ) (at : ℕ) (tokens : List Token) (bs : List ℕ) → Reaches bytes at tokens → drop at bytes ≡ bs ++ [] → at + length (bs ++ []) ≡ length bytes → list_all is_blank bs ≡ true → Again bytes tokens []
+at_end : (bytes : List ℕ) (at : ℕ) (tokens : List Token) (bs : List ℕ) → Reaches bytes at tokens → drop at bytes ≡ bs ++ []
+    → at + length (bs ++ []) ≡ length bytes → list_all is_blank bs ≡ true → Again bytes tokens []
 at_end bytes at tokens bs r e n h =
     let m : length (bs ++ []) ≡ length bs = ap length (append-nil bs) in
     let k : at + length bs ≡ length bytes = omega arith in
     record {
       more = [];
-      reaches = subst (λ (ts : List Token). Reaches bytes (length bytes) ts) (sym (append-nil tokens)) (subst (λ (i : ℕ). Reaches bytes i tokens) k (passed bytes at tokens bs [] r e h refl));
+      reaches =
+          subst (λ (ts : List Token). Reaches bytes (length bytes) ts) (sym (append-nil tokens))
+          (subst (λ (i : ℕ). Reaches bytes i tokens) k (passed bytes at tokens bs [] r e h refl));
       sorts = refl;
     }
 
-again : (bytes rest : List ℕ) (ss : List Sort) → Lexes rest ss → (at : ℕ) (tokens : List Token) (bs : List ℕ) → Reaches bytes at tokens → drop at bytes ≡ bs ++ rest → at + length (bs ++ rest) ≡ length bytes → list_all is_blank bs ≡ true → Again bytes tokens ss
+again : (bytes rest : List ℕ) (ss : List Sort) → Lexes rest ss → (at : ℕ) (tokens : List Token) (bs : List ℕ) → Reaches bytes at tokens
+    → drop at bytes ≡ bs ++ rest → at + length (bs ++ rest) ≡ length bytes → list_all is_blank bs ≡ true → Again bytes tokens ss
 again bytes rest ss ends at tokens bs r e n h = at_end bytes at tokens bs r e n h
 again bytes rest ss (blank c cs us b l) at tokens bs r e n h =
     let f : (bs ++ c ∷ []) ++ cs ≡ bs ++ c ∷ cs = append_assoc bs (c ∷ []) cs in
@@ -165,6 +180,7 @@ pub record HasTokens (bytes : List ℕ) (ss : List Sort) : Type 0 where
   pub are : AreTokens bytes tokens
   pub sorts : map sort_of tokens ≡ ss
 
+-- for `spelled_again`: a text has the tokens that it tells
 pub has_tokens : (bytes : List ℕ) (ss : List Sort) → IsUtf8 bytes → Lexes bytes ss → HasTokens bytes ss
 has_tokens bytes ss u l =
     let a : Again bytes [] ss = again bytes bytes ss l 0 [] [] starts refl (omega arith) refl in

@@ -25,7 +25,8 @@ part_by false false false false x = Literal x
 part_for : ℕ → Part
 part_for x = part_by (x == 34) (x == 92) (x == 10) (x == 9) x
 
-spelled_by : (a b c d : Bool) (x : ℕ) → spelled (part_by a b c d x) ≡ cond a (92 ∷ 34 ∷ []) (cond b (92 ∷ 92 ∷ []) (cond c (92 ∷ 110 ∷ []) (cond d (92 ∷ 116 ∷ []) (x ∷ []))))
+spelled_by : (a b c d : Bool) (x : ℕ) → spelled (part_by a b c d x) ≡ cond a (92 ∷ 34 ∷ [])
+    (cond b (92 ∷ 92 ∷ []) (cond c (92 ∷ 110 ∷ []) (cond d (92 ∷ 116 ∷ []) (x ∷ []))))
 unfolding part_by
 spelled_by true b c d x = refl
 spelled_by false true c d x = refl
@@ -61,6 +62,7 @@ meaning_for : (x : ℕ) → meaning (part_for x) ≡ Some x
 unfolding part_for
 meaning_for x = meaning_by (x == 34) (x == 92) (x == 10) (x == 9) x refl refl refl refl
 
+-- the parts that spell the bytes
 pub parts_for : List ℕ → List Part
 parts_for bytes = map part_for bytes
 
@@ -77,7 +79,9 @@ flat_is (x ∷ xs) = ap (λ (l : List ℕ). l ++ flat_map spelled (map part_for 
 text_is : (at : ℕ) (bytes : List ℕ) → text_of at (parts_for bytes) ≡ Ok bytes
 unfolding parts_for
 text_is at [] = refl
-text_is at (x ∷ xs) = ap (λ (o : Option ℕ). then_text at o (text_of (at + length (spelled (part_for x))) (map part_for xs))) (meaning_for x) ∙ ap (λ (r : Result (List ℕ) ℕ). then_text at (Some x) r) (text_is (at + length (spelled (part_for x))) xs)
+text_is at (x ∷ xs) =
+    ap (λ (o : Option ℕ). then_text at o (text_of (at + length (spelled (part_for x))) (map part_for xs))) (meaning_for x)
+    ∙ ap (λ (r : Result (List ℕ) ℕ). then_text at (Some x) r) (text_is (at + length (spelled (part_for x))) xs)
 
 string_is : (bytes : List ℕ) → IsStringOf (parts_for bytes) (34 ∷ (flat_map string_byte bytes ++ 34 ∷ []))
 string_is bytes = record { are_parts = all_good bytes; is_spelled = ap (λ (l : List ℕ). 34 ∷ (l ++ 34 ∷ [])) (sym (flat_is bytes)) }
@@ -87,13 +91,18 @@ closes bytes rest =
     ap (before_quote false) (append_assoc (flat_map string_byte bytes) (34 ∷ []) rest)
     ∙ subst (λ (l : List ℕ). before_quote false (l ++ 34 ∷ rest) ≡ Some (length l)) (flat_is bytes) (quote_again (parts_for bytes) rest (all_good bytes))
 
-string_longest : (bytes rest : List ℕ) → IsLongest ((34 ∷ (flat_map string_byte bytes ++ 34 ∷ [])) ++ rest) (length (34 ∷ (flat_map string_byte bytes ++ 34 ∷ [])))
+string_longest : (bytes rest : List ℕ)
+    → IsLongest ((34 ∷ (flat_map string_byte bytes ++ 34 ∷ [])) ++ rest) (length (34 ∷ (flat_map string_byte bytes ++ 34 ∷ [])))
 string_longest bytes rest =
     let n : ℕ = length (flat_map string_byte bytes) in
     let m : length (flat_map string_byte bytes ++ 34 ∷ []) ≡ n + 1 = length-append (flat_map string_byte bytes) (34 ∷ []) in
     let e : n + 2 ≡ suc (length (flat_map string_byte bytes ++ 34 ∷ [])) = omega arith in
-    subst (λ (k : ℕ). IsLongest ((34 ∷ (flat_map string_byte bytes ++ 34 ∷ [])) ++ rest) k) e (quote_longest ((34 ∷ (flat_map string_byte bytes ++ 34 ∷ [])) ++ rest) n refl (closes bytes rest)).0
+    subst (λ (k : ℕ). IsLongest ((34 ∷ (flat_map string_byte bytes ++ 34 ∷ [])) ++ rest) k) e
+    (quote_longest ((34 ∷ (flat_map string_byte bytes ++ 34 ∷ [])) ++ rest) n refl (closes bytes rest)).0
 
+-- for the texts that have a string
 pub string_tells : {p : ℕ → Bool} (bytes : List ℕ) → not (p 34) ≡ true → Tells p none (string_text bytes) (sorts.String bytes ∷ [])
 unfolding string_text
-string_tells bytes f = one none 34 (flat_map string_byte bytes ++ 34 ∷ []) (sorts.String bytes) (parts_for bytes, string_is bytes, text_is 1 bytes) (λ g. string_utf8 bytes g.0.text) f (λ rest s. string_longest bytes rest)
+string_tells bytes f =
+    one none 34 (flat_map string_byte bytes ++ 34 ∷ []) (sorts.String bytes) (parts_for bytes, string_is bytes, text_is 1 bytes)
+    (λ g. string_utf8 bytes g.0.text) f (λ rest s. string_longest bytes rest)

@@ -23,7 +23,8 @@ use Rattle.mojom_print.proofs.Sorts.{sign, handle_sort_sorts, sort_given_sorts, 
 use Rattle.mojom_print.proofs.ValueRules.{prints_number, prints_name}
 
 prints_word : (c : ℕ) (x : HandleSort) → sort_at c ≡ Some (sorts.Identifier (handle_sort_text x)) → Prints (tok (c ∷ [])) token_off (λ t. handle_sort_sorts x)
-prints_word c x at = prints_tok (c ∷ []) (λ t. handle_sort_sorts x) (λ t h. ap (λ (s : Sort). s ∷ []) (fixed_sort c t.sort (sorts.Identifier (handle_sort_text x)) at h))
+prints_word c x at =
+    prints_tok (c ∷ []) (λ t. handle_sort_sorts x) (λ t h. ap (λ (s : Sort). s ∷ []) (fixed_sort c t.sort (sorts.Identifier (handle_sort_text x)) at h))
 
 prints_handle_sort : Prints handle_sort (λ x. x) handle_sort_sorts
 unfolding handle_sort
@@ -36,7 +37,8 @@ prints_handle_sort =
 
 prints_sort_given : Prints sort_given (λ x. x) sort_given_sorts
 unfolding sort_given
-prints_sort_given = prints_value inner (λ x. x) sort_given_sorts (λ v. refl) (λ v. refl) (prints_symbol Less then prints_handle_sort then prints_symbol Greater)
+prints_sort_given =
+    prints_value inner (λ x. x) sort_given_sorts (λ v. refl) (λ v. refl) (prints_symbol Less then prints_handle_sort then prints_symbol Greater)
 
 option_same : (o : Option HandleSort) → HandleOf o ≡ HandleOf (option_map (λ x. x) o)
 option_same None = refl
@@ -44,7 +46,9 @@ option_same (Some x) = refl
 
 prints_handle : Prints handle base_unplaced base_sorts
 unfolding handle
-prints_handle = prints_value (λ x. HandleOf x.1) base_unplaced base_sorts (λ v. option_same v.1) (λ v. refl) (prints_keyword keywords.Handle then prints_maybe prints_sort_given)
+prints_handle =
+    prints_value (λ x. HandleOf x.1) base_unplaced base_sorts (λ v. option_same v.1) (λ v. refl)
+    (prints_keyword keywords.Handle then prints_maybe prints_sort_given)
 
 prints_pending_sort : Prints pending_sort (λ x. x) pending_sort_sorts
 unfolding pending_sort
@@ -56,7 +60,9 @@ prints_pending_sort =
 
 prints_pending : Prints pending base_unplaced base_sorts
 unfolding pending
-prints_pending = prints_value make_pending base_unplaced base_sorts (λ v. refl) (λ v. refl) (prints_pending_sort then prints_symbol Less then prints_name then prints_symbol Greater)
+prints_pending =
+    prints_value make_pending base_unplaced base_sorts (λ v. refl) (λ v. refl)
+    (prints_pending_sort then prints_symbol Less then prints_name then prints_symbol Greater)
 
 prints_count : Prints count number_unplaced count_sorts
 unfolding count
@@ -65,20 +71,27 @@ prints_count = prints_value behind number_unplaced count_sorts (λ v. refl) (λ 
 module _ (inside : Lang TypeTree) (prints_inside : Prints inside type_unplaced type_sorts) where
   prints_array : Prints (array inside) base_unplaced base_sorts
   unfolding array
-  prints_array = prints_value make_array base_unplaced base_sorts (λ v. refl) (λ v. refl) (prints_keyword keywords.Array then prints_symbol Less then prints_inside then prints_maybe prints_count then prints_symbol Greater)
+  prints_array =
+      prints_value make_array base_unplaced base_sorts (λ v. refl) (λ v. refl)
+      (prints_keyword keywords.Array then prints_symbol Less then prints_inside then prints_maybe prints_count then prints_symbol Greater)
 
   prints_map : Prints (map_of inside) base_unplaced base_sorts
   unfolding map_of
-  prints_map = prints_value make_map base_unplaced base_sorts (λ v. refl) (λ v. refl) (prints_keyword keywords.Map then prints_symbol Less then prints_inside then prints_symbol Comma then prints_inside then prints_symbol Greater)
+  prints_map =
+      prints_value make_map base_unplaced base_sorts (λ v. refl) (λ v. refl)
+      (prints_keyword keywords.Map then prints_symbol Less then prints_inside then prints_symbol Comma then prints_inside then prints_symbol Greater)
 
   prints_base : Prints (base inside) base_unplaced base_sorts
   unfolding base
-  prints_base = prints_array or_else prints_map or_else prints_handle or_else prints_pending or_else prints_value Named base_unplaced base_sorts (λ v. refl) (λ v. refl) prints_name
+  prints_base =
+      prints_array or_else prints_map or_else prints_handle or_else prints_pending or_else prints_value Named base_unplaced base_sorts (λ v. refl)
+      (λ v. refl) prints_name
 
 type_off : (v : BaseTree × Option Token) → type_unplaced (make_type v) ≡ make_type (both_off base_unplaced (option_map token_off) v)
 type_off v = of v.1
   where
-    of : (o : Option Token) → ◌≡◌ {A = TypeTree} (record { base = base_unplaced v.0; nullable = is_some o }) (record { base = base_unplaced v.0; nullable = is_some (option_map token_off o) })
+    of : (o : Option Token) → ◌≡◌ {A = TypeTree} (record { base = base_unplaced v.0; nullable = is_some o })
+        (record { base = base_unplaced v.0; nullable = is_some (option_map token_off o) })
     of None = refl
     of (Some t) = refl
 
@@ -96,9 +109,18 @@ labelled_printed {A = A} {one = one} {o = o} {s = s} cs a = record { printed = o
     found x ts rest g = record { value = g.value; left = g.left; same = g.same; sorts = g.sorts; follows = g.follows }
 
     wide : (K : A → List Token → Type 0) → Printed one o s K → Printed (labelled cs one) o s K
-    wide K g = record { value = g.value; left = g.left; next = g.next; all = g.all; good = g.good; shows = record { shown = λ ts rest e. found g.value ts rest (g.shows.shown ts rest e) } }
+    wide K g =
+        record {
+          value = g.value;
+          left = g.left;
+          next = g.next;
+          all = g.all;
+          good = g.good;
+          shows = record { shown = λ ts rest e. found g.value ts rest (g.shows.shown ts rest e) };
+        }
 
-    of : (K : A → List Token → Type 0) (ts : List Token) → AllLexical (map sort_of ts) → (labelled cs one).followed Whole K ts → Printed (labelled cs one) o s K
+    of : (K : A → List Token → Type 0) (ts : List Token) → AllLexical (map sort_of ts) → (labelled cs one).followed Whole K ts
+        → Printed (labelled cs one) o s K
     of K ts all h = wide K (a.printed K ts all h)
 
 deep_printed : {A : Type 0} {o : A → A} {s : A → List Sort} (cs : List ℕ) → Prints (deep cs) o s
@@ -111,7 +133,10 @@ deep_printed {A = A} {o = o} {s = s} cs = record { printed = of }
 prints_type_at : (n : ℕ) → Prints (type_at n) type_unplaced type_sorts
 unfolding type_at
 prints_type_at zero = deep_printed type_starts
-prints_type_at (suc n) = prints_value make_type type_unplaced type_sorts type_off type_shown (prints_base (labelled type_starts (type_at n)) (labelled_printed type_starts (prints_type_at n)) then prints_maybe (prints_symbol Question))
+prints_type_at (suc n) =
+    prints_value make_type type_unplaced type_sorts type_off type_shown
+    (prints_base (labelled type_starts (type_at n)) (labelled_printed type_starts (prints_type_at n)) then prints_maybe (prints_symbol Question))
 
+-- for the rules that have a type
 pub prints_type : (n : ℕ) → Prints (type_within n) type_unplaced type_sorts
 prints_type n = labelled_printed type_starts (prints_type_at n)

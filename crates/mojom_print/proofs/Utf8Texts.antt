@@ -27,19 +27,50 @@ over : (n k : ℕ) → 128 ≤ k → high (k + n) ≡ true
 unfolding high
 over n k h = grind (arith, nat_tests)
 
+-- for `string_utf8`: bytes of a character behind ASCII
 pub encode_high : (c : ℕ) → nat_lt c 128 ≡ false → HighBytes c
 unfolding encode
 encode_high c low = of (nat_lt c 128) (nat_lt c 2048) (nat_lt c 65536) low refl
   where
-    of : (a b d : Bool) → a ≡ false → encode c ≡ cond a (c ∷ []) (cond b ((192 + c / 64) ∷ (128 + c % 64) ∷ []) (cond d ((224 + c / 4096) ∷ (128 + c / 64 % 64) ∷ (128 + c % 64) ∷ []) ((240 + c / 262144) ∷ (128 + c / 4096 % 64) ∷ (128 + c / 64 % 64) ∷ (128 + c % 64) ∷ []))) → HighBytes c
+    of : (a b d : Bool) → a ≡ false → encode c
+        ≡ cond a (c ∷ []) (cond b ((192 + c / 64) ∷ (128 + c % 64) ∷ [])
+        (cond d ((224 + c / 4096) ∷ (128 + c / 64 % 64) ∷ (128 + c % 64) ∷ [])
+        ((240 + c / 262144) ∷ (128 + c / 4096 % 64) ∷ (128 + c / 64 % 64) ∷ (128 + c % 64) ∷ []))) → HighBytes c
     of true b d e f = absurd (cc)
-    of false true d e f = record { first = 192 + c / 64; more = (128 + c % 64) ∷ []; is = f; first_high = over (c / 64) 192 (omega arith); more_high = both (high (128 + c % 64)) true (over (c % 64) 128 (omega arith)) refl }
-    of false false true e f = record { first = 224 + c / 4096; more = (128 + c / 64 % 64) ∷ (128 + c % 64) ∷ []; is = f; first_high = over (c / 4096) 224 (omega arith); more_high = both (high (128 + c / 64 % 64)) (high (128 + c % 64) && true) (over (c / 64 % 64) 128 (omega arith)) (both (high (128 + c % 64)) true (over (c % 64) 128 (omega arith)) refl) }
-    of false false false e f = record { first = 240 + c / 262144; more = (128 + c / 4096 % 64) ∷ (128 + c / 64 % 64) ∷ (128 + c % 64) ∷ []; is = f; first_high = over (c / 262144) 240 (omega arith); more_high = both (high (128 + c / 4096 % 64)) (high (128 + c / 64 % 64) && (high (128 + c % 64) && true)) (over (c / 4096 % 64) 128 (omega arith)) (both (high (128 + c / 64 % 64)) (high (128 + c % 64) && true) (over (c / 64 % 64) 128 (omega arith)) (both (high (128 + c % 64)) true (over (c % 64) 128 (omega arith)) refl)) }
+    of false true d e f =
+        record {
+          first = 192 + c / 64;
+          more = (128 + c % 64) ∷ [];
+          is = f;
+          first_high = over (c / 64) 192 (omega arith);
+          more_high = both (high (128 + c % 64)) true (over (c % 64) 128 (omega arith)) refl;
+        }
+    of false false true e f =
+        record {
+          first = 224 + c / 4096;
+          more = (128 + c / 64 % 64) ∷ (128 + c % 64) ∷ [];
+          is = f;
+          first_high = over (c / 4096) 224 (omega arith);
+          more_high = both (high (128 + c / 64 % 64)) (high (128 + c % 64) && true) (over (c / 64 % 64) 128 (omega arith))
+              (both (high (128 + c % 64)) true (over (c % 64) 128 (omega arith)) refl);
+        }
+    of false false false e f =
+        record {
+          first = 240 + c / 262144;
+          more = (128 + c / 4096 % 64) ∷ (128 + c / 64 % 64) ∷ (128 + c % 64) ∷ [];
+          is = f;
+          first_high = over (c / 262144) 240 (omega arith);
+          more_high =
+              both (high (128 + c / 4096 % 64)) (high (128 + c / 64 % 64) && (high (128 + c % 64) && true)) (over (c / 4096 % 64) 128 (omega arith))
+              (both (high (128 + c / 64 % 64)) (high (128 + c % 64) && true) (over (c / 64 % 64) 128 (omega arith))
+              (both (high (128 + c % 64)) true (over (c % 64) 128 (omega arith)) refl));
+        }
 
+-- for `string_utf8`: each is 128 or more
 pub high_bytes : (c : ℕ) (h : HighBytes c) → list_all high (encode c) ≡ true
 high_bytes c h = subst (λ (bs : List ℕ). list_all high bs ≡ true) (sym h.is) (both (high h.first) (list_all high h.more) h.first_high h.more_high)
 
+-- for `string_utf8`: a character
 pub one_char : (c : ℕ) → scalar c ≡ true → IsUtf8 (encode c)
 one_char c h = (c ∷ [], (both (scalar c) true h refl, append-nil (encode c)))
 
@@ -55,13 +86,16 @@ high_plain b h =
 
 all_plain : (bs : List ℕ) → list_all high bs ≡ true → flat_map string_byte bs ≡ bs
 all_plain [] h = refl
-all_plain (b ∷ bs) h = ap (λ (l : List ℕ). l ++ flat_map string_byte bs) (high_plain b (left (high b) (list_all high bs) h)) ∙ ap (λ (l : List ℕ). b ∷ l) (all_plain bs (right (high b) (list_all high bs) h))
+all_plain (b ∷ bs) h =
+    ap (λ (l : List ℕ). l ++ flat_map string_byte bs) (high_plain b (left (high b) (list_all high bs) h))
+    ∙ ap (λ (l : List ℕ). b ∷ l) (all_plain bs (right (high b) (list_all high bs) h))
 
 two_ascii : (a b : ℕ) → a < 128 → b < 128 → IsAscii (a ∷ b ∷ [])
 two_ascii a b h k zero = h
 two_ascii a b h k (suc zero) = k
 two_ascii a b h k (suc (suc i)) = lit< tt
 
+-- for `string_utf8`: a byte of ASCII
 pub one_ascii : (a : ℕ) → a < 128 → IsAscii (a ∷ [])
 one_ascii a h zero = h
 one_ascii a h (suc i) = lit< tt
@@ -89,7 +123,10 @@ char_utf8 c h = of (nat_lt c 128) refl
 
 chars_utf8 : (cs : List ℕ) → scalars cs ≡ true → IsUtf8 (flat_map string_byte (encodes cs))
 chars_utf8 [] h = IsUtf8-nil
-chars_utf8 (c ∷ cs) h = subst IsUtf8 (sym (flat_map-append string_byte (encode c) (encodes cs))) (IsUtf8-append (flat_map string_byte (encode c)) (flat_map string_byte (encodes cs)) (char_utf8 c (left (scalar c) (scalars cs) h)) (chars_utf8 cs (right (scalar c) (scalars cs) h)))
+chars_utf8 (c ∷ cs) h =
+    subst IsUtf8 (sym (flat_map-append string_byte (encode c) (encodes cs)))
+    (IsUtf8-append (flat_map string_byte (encode c)) (flat_map string_byte (encodes cs)) (char_utf8 c (left (scalar c) (scalars cs) h))
+    (chars_utf8 cs (right (scalar c) (scalars cs) h)))
 
 quote_utf8 : IsUtf8 (34 ∷ [])
 quote_utf8 = IsUtf8-from_ascii (34 ∷ []) (one_ascii 34 (lit< tt))

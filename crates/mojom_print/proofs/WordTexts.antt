@@ -27,9 +27,11 @@ whole_front xs rest = let e = length-append xs rest in omega arith
 letter_on : (c : ℕ) → is_letter c ≡ true → goes_on c ≡ true
 letter_on c e = rw e refl
 
+-- for words: each byte goes on
 pub word_each : (bs : List ℕ) → is_word bs ≡ true → list_all goes_on bs ≡ true
 word_each [] e = refl
-word_each (c ∷ cs) e = both (goes_on c) (list_all goes_on cs) (letter_on c (left (is_letter c) (list_all goes_on cs) e)) (right (is_letter c) (list_all goes_on cs) e)
+word_each (c ∷ cs) e =
+    both (goes_on c) (list_all goes_on cs) (letter_on c (left (is_letter c) (list_all goes_on cs) e)) (right (is_letter c) (list_all goes_on cs) e)
 
 -- a word before what goes on no word
 pub word_longest : (c : ℕ) (cs rest : List ℕ) → is_word (c ∷ cs) ≡ true → stops goes_on rest ≡ true → IsLongest ((c ∷ cs) ++ rest) (length (c ∷ cs))
@@ -38,19 +40,25 @@ word_longest c cs rest e s =
     (subst (λ (bs : List ℕ). is_word bs ≡ true) (sym (take-append_seam (c ∷ cs) rest)) e)
     (λ more le h. run_stops goes_on (c ∷ cs) rest s more le (word_each (take more ((c ∷ cs) ++ rest)) h))
 
+-- for the texts that have a word
 pub word_tells : (c : ℕ) (cs : List ℕ) (s : Sort) → is_word (c ∷ cs) ≡ true → SpellsSort s (c ∷ cs) → Tells none goes_on (c ∷ cs) (s ∷ [])
 word_tells c cs s w h = one goes_on c cs s h (λ g. word_utf8 (c ∷ cs) w) refl (λ rest e. word_longest c cs rest w e)
 
 -- an identifier
 pub of_identifier : (text bytes : List ℕ) → SpellsSort (sorts.Identifier text) bytes → (is_word text ≡ true) × SpellsSort (sorts.Identifier text) text
 of_identifier text bytes h =
-    let e : bytes ≡ text = sym h.2 in
-    (subst (λ (bs : List ℕ). is_word bs ≡ true) e h.0, (subst (λ (bs : List ℕ). is_word bs ≡ true) e h.0, subst (λ (bs : List ℕ). keyword_of bs ≡ None) e h.1, refl))
+    let e : bytes ≡ text = sym h.2 in (
+      subst (λ (bs : List ℕ). is_word bs ≡ true) e h.0,
+      (subst (λ (bs : List ℕ). is_word bs ≡ true) e h.0, subst (λ (bs : List ℕ). keyword_of bs ≡ None) e h.1, refl),
+    )
 
-identifier_told : (text : List ℕ) → (is_word text ≡ true) → SpellsSort (sorts.Identifier text) text → (rest : List ℕ) (more : List Sort) → stops goes_on rest ≡ true → Lexes rest more → Lexes (text ++ rest) (sorts.Identifier text ∷ more)
+identifier_told : (text : List ℕ) → (is_word text ≡ true) → SpellsSort (sorts.Identifier text) text → (rest : List ℕ) (more : List Sort)
+    → stops goes_on rest ≡ true → Lexes rest more → Lexes (text ++ rest) (sorts.Identifier text ∷ more)
 identifier_told [] w h rest more s l = absurd (cc)
-identifier_told (c ∷ cs) w h rest more s l = (word_tells c cs (sorts.Identifier (c ∷ cs)) w h).told (record { bytes = c ∷ cs; spelled = h; text = tt }, tt) rest more s l
+identifier_told (c ∷ cs) w h rest more s l =
+    (word_tells c cs (sorts.Identifier (c ∷ cs)) w h).told (record { bytes = c ∷ cs; spelled = h; text = tt }, tt) rest more s l
 
+-- for the texts that have an identifier
 pub identifier_tells : (text : List ℕ) → Tells none goes_on text (sorts.Identifier text ∷ [])
 identifier_tells text = record {
   parts = λ h rest s. stops_none (text ++ rest);
@@ -70,7 +78,9 @@ ascii_byte c h = IsUtf8-from_ascii (c ∷ []) of
     of zero = h
     of (suc i) = lit< tt
 
-pub symbol_tells : {p : ℕ → Bool} (c : ℕ) (s : symbol.Symbol) → single_symbol c ≡ Some s → kind_of c ≡ Some Sign → nat_eq 61 c ≡ false → c < 128 → not (p c) ≡ true → Tells p none (c ∷ []) (sorts.Symbol s ∷ [])
+-- for the texts that have a symbol
+pub symbol_tells : {p : ℕ → Bool} (c : ℕ) (s : symbol.Symbol) → single_symbol c ≡ Some s → kind_of c ≡ Some Sign → nat_eq 61 c ≡ false → c < 128
+    → not (p c) ≡ true → Tells p none (c ∷ []) (sorts.Symbol s ∷ [])
 symbol_tells c s is k e low f = one none c [] (sorts.Symbol s) is (λ g. ascii_byte c low) f (λ rest t. (symbol_longest c rest s k (not_arrow c rest e) is).0)
 
 -- `=` before what isn't `>`
@@ -93,9 +103,14 @@ equals_is : single_symbol 61 ≡ Some symbol.TheVariants.Equals
 unfolding single_symbol
 equals_is = refl
 
+-- for the texts that have `=`, which `=>` also begins with
 pub equals_tells : {p : ℕ → Bool} → not (p 61) ≡ true → Tells p greater (codes "=") (sorts.Symbol symbol.TheVariants.Equals ∷ [])
-equals_tells f = one greater 61 [] (sorts.Symbol symbol.TheVariants.Equals) equals_is (λ g. ascii_byte 61 (lit< tt)) f (λ rest t. (symbol_longest 61 rest symbol.TheVariants.Equals equals_kind (no_arrow rest t) equals_is).0)
+equals_tells f =
+    one greater 61 [] (sorts.Symbol symbol.TheVariants.Equals) equals_is (λ g. ascii_byte 61 (lit< tt)) f
+    (λ rest t. (symbol_longest 61 rest symbol.TheVariants.Equals equals_kind (no_arrow rest t) equals_is).0)
 
 -- `=>`
 pub arrow_tells : {p : ℕ → Bool} → not (p 61) ≡ true → Tells p none (codes "=>") (sorts.Symbol symbol.TheVariants.Arrow ∷ [])
-arrow_tells f = one none 61 (62 ∷ []) (sorts.Symbol symbol.TheVariants.Arrow) refl (λ g. IsUtf8-append (61 ∷ []) (62 ∷ []) (ascii_byte 61 (lit< tt)) (ascii_byte 62 (lit< tt))) f (λ rest t. (arrow_longest (61 ∷ 62 ∷ rest) refl).0)
+arrow_tells f =
+    one none 61 (62 ∷ []) (sorts.Symbol symbol.TheVariants.Arrow) refl
+    (λ g. IsUtf8-append (61 ∷ []) (62 ∷ []) (ascii_byte 61 (lit< tt)) (ascii_byte 62 (lit< tt))) f (λ rest t. (arrow_longest (61 ∷ 62 ∷ rest) refl).0)

@@ -1,8 +1,9 @@
 -- The text of attributes.
 use Rattle.std.specs.Prelude.{ℕ, List, [], ◌∷◌, ◌++◌, codes, Option, Some, None}
+use Rattle.std.specs.List.{join_by}
 use Rattle.mojom_ast.specs.declared.names.Value.{Value}
 use Rattle.mojom_ast.specs.declared.attributes.Attribute.{Attribute}
-use Rattle.mojom_print.specs.Words.{parted_by, value_text, indent}
+use Rattle.mojom_print.specs.Words.{value_text, indent}
 
 -- =1, where the attribute has a value
 abbrev pub given_text : Option Value → List ℕ
@@ -15,7 +16,7 @@ attribute_text a = a.name.text ++ given_text a.value
 
 -- [A, B=1]
 unfoldable pub bracketed_text : List Attribute → List ℕ
-bracketed_text attributes = codes "[" ++ (parted_by (codes ", ") attribute_text attributes ++ codes "]")
+bracketed_text attributes = codes "[" ++ (join_by attribute_text (codes ", ") attributes ++ codes "]")
 
 -- attributes on a line of their own; none have no line
 abbrev pub attribute_line : ℕ → List Attribute → List ℕ

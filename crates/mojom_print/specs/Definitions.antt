@@ -25,17 +25,21 @@ enumerator_text depth e = attribute_line depth e.attributes ++ (indent depth ++ 
 
 -- enum E { and its enumerators, two blanks further in, and };
 unfoldable pub enum_text : ℕ → Enum → List ℕ
-enum_text depth e = indent depth ++ (codes "enum " ++ (e.name.text ++ (codes " {\n" ++ (flat_map (enumerator_text (depth + 1)) e.enumerators ++ (indent depth ++ codes "};\n")))))
+enum_text depth e =
+    indent depth
+    ++ (codes "enum " ++ (e.name.text ++ (codes " {\n" ++ (flat_map (enumerator_text (depth + 1)) e.enumerators ++ (indent depth ++ codes "};\n")))))
 
 -- T name@n = v;
 unfoldable pub field_text : Field → List ℕ
 field_text f = codes "  " ++ (declared_text f.kind f.name ++ (ordinal_text f.ordinal ++ (assigned_text f.default ++ codes ";\n")))
 
+-- a constant, an enum or a field of a struct
 abbrev pub struct_item_text : StructItem → List ℕ
 struct_item_text (items.Const c) = const_text 1 c
 struct_item_text (items.Enum e) = enum_text 1 e
 struct_item_text (items.Field f) = field_text f
 
+-- a member of a struct, behind its attributes
 abbrev pub struct_member_text : StructMember → List ℕ
 struct_member_text m = attribute_line 1 m.attributes ++ struct_item_text m.item
 

@@ -22,6 +22,7 @@ module_text (Some m) = attribute_line 0 m.attributes ++ (codes "module " ++ (nam
 unfoldable pub import_text : Import → List ℕ
 import_text i = attribute_line 0 i.attributes ++ (codes "import " ++ (string_text i.path.bytes ++ codes ";\n"))
 
+-- a struct, a union, an enum, an interface or a constant
 abbrev pub definition_item_text : DefinitionItem → List ℕ
 definition_item_text (items.Struct s) = struct_text s
 definition_item_text (items.Union u) = union_text u
@@ -29,6 +30,7 @@ definition_item_text (items.Enum e) = enum_text 0 e
 definition_item_text (items.Interface i) = interface_text i
 definition_item_text (items.Const c) = const_text 0 c
 
+-- a definition, behind its attributes
 abbrev pub definition_text : Definition → List ℕ
 definition_text d = attribute_line 0 d.attributes ++ definition_item_text d.item
 

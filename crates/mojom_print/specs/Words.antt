@@ -1,32 +1,35 @@
--- The text of names, strings, numbers and values.
+-- The text of names, strings, numbers and values, as the Mojom IDL reference writes them.
 use Rattle.std.specs.Prelude.{ℕ, zero, suc, Bool, true, false, List, [], ◌∷◌, ◌++◌, ◌==◌, if◌then◌else◌, codes, decimal, Option, Some, None}
-use Rattle.std.specs.List.{flat_map}
+use Rattle.std.specs.List.{flat_map, join_by}
 use Rattle.mojom_ast.specs.declared.names.Name.{Name}
 use Rattle.mojom_ast.specs.declared.names.Number.{Number}
 use Rattle.mojom_ast.specs.declared.names.Value.{Value}
 use Rattle.mojom_ast.specs.declared.names.Value.TheVariants as values
-
--- the first text, and each other one behind what parts them
-abbrev pub parted_by : {A : Type 0} → List ℕ → (A → List ℕ) → List A → List ℕ
-parted_by sign text [] = []
-parted_by sign text (x ∷ xs) = text x ++ flat_map (λ y. sign ++ text y) xs
+use Rattle.mojom_lexer.specs.Bytes.{quote, backslash, line_feed, tab}
 
 -- a.b.c
 unfoldable pub name_text : Name → List ℕ
-name_text name = parted_by (codes ".") (λ part. part.text) name.parts
+name_text name = join_by (λ part. part.text) (codes ".") name.parts
 
--- a byte of a string: a quote, a backslash, LF and a tab by their escapes, each other one as it is
+-- a byte of a string: a quote, a backslash, a line feed and a tab by their escapes, each other one as it is
 unfoldable pub string_byte : ℕ → List ℕ
-string_byte c = if c == 34 then codes "\\\"" else (if c == 92 then codes "\\\\" else (if c == 10 then codes "\\n" else (if c == 9 then codes "\\t" else c ∷ [])))
+string_byte c =
+    if c == quote then codes "\\\"" else (
+    if c == backslash then codes "\\\\" else (
+    if c == line_feed then codes "\\n" else (
+    if c == tab then codes "\\t" else
+    c ∷ [])))
 
 -- the bytes between quotes
 unfoldable pub string_text : List ℕ → List ℕ
 string_text bytes = codes "\"" ++ (flat_map string_byte bytes ++ codes "\"")
 
+-- -, where a number has it; a plus is dropped
 abbrev pub sign_text : Bool → List ℕ
 sign_text true = codes "-"
 sign_text false = []
 
+-- true or false
 abbrev pub truth_text : Bool → List ℕ
 truth_text true = codes "true"
 truth_text false = codes "false"

@@ -1,7 +1,7 @@
 //! Attributes.
 
 ghost use Rattle.std.specs.Prelude.{◌≡◌, ◌++◌, codes, OnOk};
-ghost use Rattle.mojom_print.specs.Words.{parted_by};
+ghost use Rattle.std.specs.List.{join_by};
 ghost use Rattle.mojom_print.specs.Attributes.{attribute_text, bracketed_text, attribute_line, attributes_before};
 
 use crate::words::{push_indent, push_text, push_value};
@@ -22,7 +22,7 @@ fn push_attribute(out: &mut Vec<u8>, attribute: &Attribute) -> Result<(), AllocE
 
 /// Writes attributes, with commas between them.
 fn push_attributes(out: &mut Vec<u8>, attributes: &[Attribute]) -> Result<(), AllocError>
-    ensures { OnOk result (out.new.items ≡ out.old.items ++ parted_by (codes ", ") attribute_text attributes.now) }
+    ensures { OnOk result (out.new.items ≡ out.old.items ++ join_by attribute_text (codes ", ") attributes.now) }
 {
     if let [first, rest @ ..] = attributes {
         push_attribute(out, first)?;

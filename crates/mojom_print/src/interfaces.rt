@@ -1,8 +1,7 @@
 //! Interfaces.
 
 ghost use Rattle.std.specs.Prelude.{◌≡◌, ◌++◌, codes, OnOk};
-ghost use Rattle.std.specs.List.{flat_map};
-ghost use Rattle.mojom_print.specs.Words.{parted_by};
+ghost use Rattle.std.specs.List.{flat_map, join_by};
 ghost use Rattle.mojom_print.specs.Interfaces.{parameter_text, parameters_text, response_text, method_text, interface_member_text, interface_text};
 
 use crate::attributes::{push_attribute_line, push_attributes_before};
@@ -25,7 +24,7 @@ fn push_parameter(out: &mut Vec<u8>, parameter: &Parameter) -> Result<(), AllocE
 
 /// Writes parameters, with commas between them.
 fn push_parameter_list(out: &mut Vec<u8>, parameters: &[Parameter]) -> Result<(), AllocError>
-    ensures { OnOk result (out.new.items ≡ out.old.items ++ parted_by (codes ", ") parameter_text parameters.now) }
+    ensures { OnOk result (out.new.items ≡ out.old.items ++ join_by parameter_text (codes ", ") parameters.now) }
 {
     if let [first, rest @ ..] = parameters {
         push_parameter(out, first)?;

@@ -5,4 +5,5 @@ use Rattle.mojom_print.specs.Attributes.{attribute_text}
 use Rattle.mojom_print.proofs.attributes.push_attributes.Given as goal
 
 abbrev pub invariant-loop-attribute : goal.invariant-loop-attribute
-invariant-loop-attribute l = l.out.items ≡ l.initial.out.items ++ flat_map (λ attribute. codes ", " ++ attribute_text attribute) (take l.attribute-index l.rest)
+invariant-loop-attribute l =
+    l.out.items ≡ l.initial.out.items ++ flat_map (λ attribute. codes ", " ++ attribute_text attribute) (take l.attribute-index l.rest)
