@@ -23,10 +23,13 @@ more_taken (Some a) None c xs ys first second = absurd first
 more_taken (Some a) (Some b) None xs ys first second = absurd second
 more_taken (Some a) (Some b) (Some c) xs ys first second = first ∙ (ap (λ zs. xs ++ zs) second ∙ sym (append_assoc xs ys c))
 
+-- before the first read
 pub read_none : (limit : ℕ) (old : List ℕ) (known : Option (List ℕ)) → ReadSoFar limit limit old old known known
 read_none limit old known = record { got = []; whole = sym (append-nil old); room = omega arith; taken = none_taken known }
 
-pub read_more : (limit left n : ℕ) (old new : List ℕ) (a b c : Option (List ℕ)) (piece : List ℕ) → ReadSoFar limit left old new a b → Consumes b c piece → length piece ≡ n → n ≤ left → ReadSoFar limit (left - n) old (new ++ piece) a c
+-- a piece more that has room
+pub read_more : (limit left n : ℕ) (old new : List ℕ) (a b c : Option (List ℕ)) (piece : List ℕ) → ReadSoFar limit left old new a b
+    → Consumes b c piece → length piece ≡ n → n ≤ left → ReadSoFar limit (left - n) old (new ++ piece) a c
 read_more limit left n old new a b c piece before taken long few = record {
   got = before.got ++ piece;
   whole = rw before.whole (append_assoc old before.got piece);
@@ -34,6 +37,7 @@ read_more limit left n old new a b c piece before taken long few = record {
   taken = more_taken a b c before.got piece before.taken taken;
 }
 
+-- what stood there before stays in front
 pub starts : (limit left : ℕ) (old new : List ℕ) (a b : Option (List ℕ)) → ReadSoFar limit left old new a b → StartsWith new old
 starts limit left old new a b r = rw r.whole (front old r.got)
   where
@@ -45,6 +49,7 @@ starts limit left old new a b r = rw r.whole (front old r.got)
         take_zero (y ∷ ys) = refl
     front (x ∷ xs) ys = ap (λ zs. x ∷ zs) (front xs ys)
 
+-- no more than the limit is appended
 pub is_short : (limit left : ℕ) (old new : List ℕ) (a b : Option (List ℕ)) → ReadSoFar limit left old new a b → length new ≤ length old + limit
 is_short limit left old new a b r = omega (arith, ap length r.whole, length-append old r.got, r.room)
 
@@ -58,7 +63,8 @@ read_whole limit left old new (Some a) (Some b) r end = (omega (arith, ap length
     all = r.taken ∙ (ap (λ ys. r.got ++ ys) end ∙ append-nil r.got)
 
 -- more than the room was read
-pub read_longer : (limit left n : ℕ) (old new : List ℕ) (a b c : Option (List ℕ)) (piece : List ℕ) → ReadSoFar limit left old new a b → Consumes b c piece → length piece ≡ n → left < n → ReadUpTo a Longer limit old new
+pub read_longer : (limit left n : ℕ) (old new : List ℕ) (a b c : Option (List ℕ)) (piece : List ℕ) → ReadSoFar limit left old new a b
+    → Consumes b c piece → length piece ≡ n → left < n → ReadUpTo a Longer limit old new
 read_longer limit left n old new None b c piece r taken long more = tt
 read_longer limit left n old new (Some a) None c piece r taken long more = absurd r.taken
 read_longer limit left n old new (Some a) (Some b) None piece r taken long more = absurd taken
@@ -66,13 +72,15 @@ read_longer limit left n old new (Some a) (Some b) (Some c) piece r taken long m
     omega (arith, ap length r.taken, length-append r.got b, ap length taken, length-append piece c, r.room)
 
 -- a piece that fits the room and one byte more is no more than the limit and one byte
-pub takes_few : (limit left n : ℕ) (old new : List ℕ) (a b c : Option (List ℕ)) (piece : List ℕ) → ReadSoFar limit left old new a b → Consumes b c piece → length piece ≡ n → n ≤ left + 1 → TakesAtMost (limit + 1) a c
+pub takes_few : (limit left n : ℕ) (old new : List ℕ) (a b c : Option (List ℕ)) (piece : List ℕ) → ReadSoFar limit left old new a b
+    → Consumes b c piece → length piece ≡ n → n ≤ left + 1 → TakesAtMost (limit + 1) a c
 takes_few limit left n old new a b c piece r taken long few = record {
   bytes = r.got ++ piece;
   taken = more_taken a b c r.got piece r.taken taken;
   few = omega (arith, length-append r.got piece, r.room);
 }
 
+-- what was read so far is no more than the limit and one byte
 pub takes_so_far : (limit left : ℕ) (old new : List ℕ) (a b : Option (List ℕ)) → ReadSoFar limit left old new a b → TakesAtMost (limit + 1) a b
 takes_so_far limit left old new a b r = record { bytes = r.got; taken = r.taken; few = omega (arith, r.room) }
 

@@ -41,14 +41,15 @@ pub enum FilesError {
 }
 
 /// Why nothing was written.
-#[derive(Clone, Copy, Debug, PartialEq, Eq)]
+#[derive(Clone, Copy, Debug, PartialEq, Eq, Error)]
 pub enum SinkError {
+    #[error("nothing can be written")]
     Failed,
 }
 
 /// Files by their names, which no call changes.
 pub trait Files {
-    // the files, where they are told, and the counts of faults
+    // the files, where it says what it holds, and the counts of faults
     ghost state: { Self → FilesState };
 
     /// Appends the bytes of the file to `into` if there are at most `limit`, and else answers
@@ -66,7 +67,7 @@ pub trait Files {
         into: &mut Vec<u8>,
     ) -> Result<Fetched, FilesError>
         ensures on { FilesGoOn (state self.old) (state self.new) }
-        ensures fetched { IfOk result (λ fetched. FetchedFrom (state self.old).told fetched name.now limit into.old.items into.new.items) }
+        ensures fetched { IfOk result (λ fetched. FetchedFrom (state self.old).held fetched name.now limit into.old.items into.new.items) }
         ensures failed { IfErr result (λ error. FailedFrom error name.now (state self.old) (state self.new)) }
 
         // Whatever the answer, `into` begins with what it held, and has at most `limit` bytes more.
@@ -76,7 +77,7 @@ pub trait Files {
 
 /// Takes a text in pieces.
 pub trait Sink {
-    // the text written, where it is told, and the count of faults
+    // the text written, where it says what it holds, and the count of faults
     ghost state: { Self → SinkState };
 
     /// Takes a front of the piece, and says how many bytes that is.

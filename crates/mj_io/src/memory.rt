@@ -1,10 +1,10 @@
 //! Files in memory, with a list of calls that are to fail.
 
-ghost use Rattle.std.specs.Prelude.{◌≡◌, ◌≤◌, ◌+◌, map, length, IfOk, IfErr};
+ghost use Rattle.std.specs.Prelude.{◌≡◌, ◌≤◌, ◌+◌, ◌⊎◌, ◌↔◌, map, length, IfOk, IfErr, Some, Err};
 ghost use Rattle.std.specs.Io.{StartsWith};
 ghost use Rattle.std.specs.Option.{option_map};
-ghost use Rattle.mj_io.specs.Outside.{find_file, FetchedOf};
-ghost use Rattle.mj_io.specs.Told.{named};
+ghost use Rattle.mj_io.specs.Outside.{find_file, FetchedOf, FetchedFrom, FailedFrom, FilesGoOn};
+ghost use Rattle.mj_io.specs.InMemory.{named, after_call, IsToFail, IsAbsent};
 
 use crate::{Fetched, Files, FilesError};
 use std::alloc::Global;
@@ -23,28 +23,29 @@ pub struct MemoryFiles {
     failing: Vec<u64>,
     calls: u64,
     faults: u64,
-    there: u64,
+    faults_on_present: u64,
 }
 
 impl MemoryFiles {
-    ghost use Rattle.mj_io.specs.Told.{memory_state};
+    ghost use Rattle.mj_io.specs.InMemory.{memory_state, plan_of_files};
 
     /// The files, and the numbers of the calls of `fetch`, counted from 0, that are to fail.
     pub fn new(files: Vec<NamedFile>, failing: Vec<u64>) -> MemoryFiles
-        ensures { memory_state result ≡ record { told = Some (map named files.items); faults = 0; there = 0 } }
+        ensures state { memory_state result ≡ record { held = Some (map named files.items); faults = 0; faults_on_present = 0 } }
+        ensures plan { plan_of_files result ≡ record { calls = 0; failing = failing.items } }
     {
         MemoryFiles {
             files,
             failing,
             calls: 0,
             faults: 0,
-            there: 0,
+            faults_on_present: 0,
         }
     }
 }
 
 impl Files for MemoryFiles {
-    ghost use Rattle.mj_io.specs.Told.{memory_state};
+    ghost use Rattle.mj_io.specs.InMemory.{memory_state, plan_of_files, files_of};
 
     ghost state = { memory_state };
 
@@ -54,7 +55,17 @@ impl Files for MemoryFiles {
         name: &str,
         limit: u64,
         into: &mut Vec<u8>,
-    ) -> Result<Fetched, FilesError> {
+    ) -> Result<Fetched, FilesError>
+        ensures on { FilesGoOn (memory_state self.old) (memory_state self.new) }
+        ensures fetched { IfOk result (λ fetched. FetchedFrom (memory_state self.old).held fetched name.now limit into.old.items into.new.items) }
+        ensures failed { IfErr result (λ error. FailedFrom error name.now (memory_state self.old) (memory_state self.new)) }
+        ensures kept { StartsWith into.new.items into.old.items }
+        ensures short { length into.new.items ≤ length into.old.items + limit }
+
+        // A fetch fails exactly where its number is in the list or the name isn't there.
+        ensures plan { plan_of_files self.new ≡ after_call (plan_of_files self.old) }
+        ensures fails { (result ≡ Err FilesError.Failed) ↔ (IsToFail (plan_of_files self.old) ⊎ IsAbsent (files_of self.old) name.now) }
+    {
         let fails = self.failing.contains(&self.calls);
         self.calls = self.calls.saturating_add(1);
         match find(self.files.as_slice(), name) {
@@ -64,7 +75,7 @@ impl Files for MemoryFiles {
             }
             Some(_) if fails => {
                 self.faults = self.faults.saturating_add(1);
-                self.there = self.there.saturating_add(1);
+                self.faults_on_present = self.faults_on_present.saturating_add(1);
                 Err(FilesError::Failed)
             }
             Some(bytes) => copy(bytes, limit, into),

@@ -1,4 +1,4 @@
-//! Real files. They tell nothing but their faults.
+//! Real files. They say nothing of what they hold, and count their faults.
 
 ghost use Rattle.std.specs.Prelude.{◌≡◌, ◌+◌, ◌≤◌, length, None, IfOk};
 ghost use Rattle.std.specs.Io.{StartsWith};
@@ -29,7 +29,7 @@ impl<'r, R: std::rt::Files> RealFiles<'r, R> {
 }
 
 impl<R: std::rt::Files> Files for RealFiles<'_, R> {
-    ghost state = { λ s. record { told = None; faults = s.faults; there = s.faults } };
+    ghost state = { λ s. record { held = None; faults = s.faults; faults_on_present = s.faults } };
 
     fn fetch(
         &mut self,

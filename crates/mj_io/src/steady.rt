@@ -1,7 +1,9 @@
 //! Files in memory that never fail but for a missing name.
 
-ghost use Rattle.std.specs.Prelude.{◌≡◌, map};
-ghost use Rattle.mj_io.specs.Told.{named};
+ghost use Rattle.std.specs.Prelude.{◌≡◌, ◌≤◌, ◌+◌, ◌↔◌, map, length, IfOk, IfErr, Some, Err};
+ghost use Rattle.std.specs.Io.{StartsWith};
+ghost use Rattle.mj_io.specs.Outside.{FetchedFrom, FailedFrom, FilesGoOn};
+ghost use Rattle.mj_io.specs.InMemory.{named, IsAbsent};
 
 use crate::memory::{copy, find};
 use crate::{Fetched, Files, FilesError, NamedFile};
@@ -16,18 +18,18 @@ pub struct SteadyFiles {
 }
 
 impl SteadyFiles {
-    ghost use Rattle.mj_io.specs.Told.{steady_state};
+    ghost use Rattle.mj_io.specs.InMemory.{steady_state};
 
     /// The files.
     pub fn new(files: Vec<NamedFile>) -> SteadyFiles
-        ensures { steady_state result ≡ record { told = Some (map named files.items); faults = 0; there = 0 } }
+        ensures { steady_state result ≡ record { held = Some (map named files.items); faults = 0; faults_on_present = 0 } }
     {
         SteadyFiles { files, faults: 0 }
     }
 }
 
 impl Files for SteadyFiles {
-    ghost use Rattle.mj_io.specs.Told.{steady_state};
+    ghost use Rattle.mj_io.specs.InMemory.{steady_state, steady_files_of};
 
     ghost state = { steady_state };
 
@@ -37,7 +39,16 @@ impl Files for SteadyFiles {
         name: &str,
         limit: u64,
         into: &mut Vec<u8>,
-    ) -> Result<Fetched, FilesError> {
+    ) -> Result<Fetched, FilesError>
+        ensures on { FilesGoOn (steady_state self.old) (steady_state self.new) }
+        ensures fetched { IfOk result (λ fetched. FetchedFrom (steady_state self.old).held fetched name.now limit into.old.items into.new.items) }
+        ensures failed { IfErr result (λ error. FailedFrom error name.now (steady_state self.old) (steady_state self.new)) }
+        ensures kept { StartsWith into.new.items into.old.items }
+        ensures short { length into.new.items ≤ length into.old.items + limit }
+
+        // A fetch fails exactly where the name isn't there.
+        ensures fails { (result ≡ Err FilesError.Failed) ↔ IsAbsent (steady_files_of self.old) name.now }
+    {
         match find(self.files.as_slice(), name) {
             None => {
                 self.faults = self.faults.saturating_add(1);

@@ -1,5 +1,5 @@
-//! Sinks over the writers of std, as standard output and standard error. They tell nothing but
-//! their faults.
+//! Sinks over the writers of std, as standard output and standard error. They say nothing of
+//! what they hold, and count their faults.
 
 ghost use Rattle.std.specs.Prelude.{◌≡◌, None};
 
@@ -23,7 +23,7 @@ impl<W: Write + Drop> WriterSink<W> {
 }
 
 impl<W: Write + Drop> Sink for WriterSink<W> {
-    ghost state = { λ s. record { told = None; faults = s.faults } };
+    ghost state = { λ s. record { held = None; faults = s.faults } };
 
     fn write(&mut self, piece: &[u8]) -> Result<usize, SinkError> {
         match self.writer.write(piece) {
