@@ -11,5 +11,6 @@ pub mod Parts
 pub mod Splits
 pub mod WordLines
 pub mod Whole
+pub mod OneScript
 pub mod NameBytes
 pub mod TextLines

@@ -40,7 +40,8 @@ module _ (schema : Schema) (texts : List (List (List ℕ))) where
   after = drop (joins_in_front texts) texts
 
   -- a script's joins, and the lines behind them
-  parts_of : (s : Script) → IsSoundScript schema s → (codes "seqs" ∷ codes "1" ∷ []) ∷ texts ≡ script_lines schema s → ArePipes schema joins after s.pipes (map (line_words schema s.pipes) s.lines)
+  pub parts_of : (s : Script) → IsSoundScript schema s → (codes "seqs" ∷ codes "1" ∷ []) ∷ texts ≡ script_lines schema s
+      → ArePipes schema joins after s.pipes (map (line_words schema s.pipes) s.lines)
   parts_of s is e =
       let body : List (List (List ℕ)) = flat_map (bind_lines schema) s.pipes ++ map (line_words schema s.pipes) s.lines in
       let whole : texts ≡ map join_words s.pipes ++ body = cc in

@@ -10,7 +10,7 @@ use Rattle.call_script.specs.declared.script.Line.TheVariants.{Call, Take}
 use Rattle.call_script.specs.declared.script.Script.{Script}
 use Rattle.call_script.specs.Pieces.{word_lines}
 use Rattle.call_script.specs.Spelling.{join_words, bind_lines, line_words, script_lines, lines_text, is_plain, IsScriptOf}
-use Rattle.call_script.specs.Reading.{SpellsShort}
+use Rattle.call_script.specs.Reading.{IsSoundScript, SpellsShort}
 use Rattle.call_script.proofs.WordLines.{spelled, read_back, plain}
 
 -- at least two words
@@ -21,7 +21,8 @@ two_joins : (ps : List Pipe) (others : List (List (List ℕ))) → AllByRecursio
 two_joins [] others h = h
 two_joins (p ∷ ps) others h = (omega arith, two_joins ps others h)
 
-two_binds : (schema : Schema) (ps : List Pipe) (others : List (List (List ℕ))) → AllByRecursion HasTwo others → AllByRecursion HasTwo (flat_map (bind_lines schema) ps ++ others)
+two_binds : (schema : Schema) (ps : List Pipe) (others : List (List (List ℕ))) → AllByRecursion HasTwo others
+    → AllByRecursion HasTwo (flat_map (bind_lines schema) ps ++ others)
 two_binds schema [] others h = h
 two_binds schema (p ∷ ps) others h = (omega arith, (omega arith, two_binds schema ps others h))
 
@@ -36,6 +37,18 @@ two_each schema s = (omega arith, two_joins s.pipes _ (two_binds schema s.pipes 
 -- there is a first line
 pub some_lines : (schema : Schema) (s : Script) → 0 < length (script_lines schema s)
 some_lines schema s = omega arith
+
+-- the lines of a script's bytes are the script's lines
+pub words_of : (schema : Schema) (bytes : List ℕ) (s : Script) → IsScriptOf schema bytes s → word_lines bytes ≡ script_lines schema s
+words_of schema bytes s is =
+    let back = read_back (script_lines schema s) (some_lines schema s) (two_each schema s) is.0.plain in
+    read is.1 back.0 back.1
+  where
+    read : ((bytes ≡ lines_text (script_lines schema s)) ⊎ (bytes ≡ lines_text (script_lines schema s) ++ 10 ∷ []))
+        → word_lines (lines_text (script_lines schema s)) ≡ script_lines schema s
+        → word_lines (lines_text (script_lines schema s) ++ 10 ∷ []) ≡ script_lines schema s → word_lines bytes ≡ script_lines schema s
+    read (inl e) one two = ap word_lines e ∙ one
+    read (inr e) one two = ap word_lines e ∙ two
 
 module _ (schema : Schema) (bytes : List ℕ) (texts : List (List (List ℕ))) (lines : word_lines bytes ≡ texts) where
   pub script_of : (s : Script) → SpellsShort schema texts (Some s) → IsScriptOf schema bytes s
@@ -54,11 +67,5 @@ module _ (schema : Schema) (bytes : List ℕ) (texts : List (List (List ℕ))) (
 
   pub no_script_of : SpellsShort schema texts None → (s : Script) → IsScriptOf schema bytes s → ⊥
   no_script_of none s is =
-      let back = read_back (script_lines schema s) (some_lines schema s) (two_each schema s) is.0.plain in
-      let same : word_lines bytes ≡ script_lines schema s = read is.1 back.0 back.1 in
-      none s (record { some = is.0.some; pipes = is.0.pipes; distinct = is.0.distinct; lines = is.0.lines }) is.0.few (sym lines ∙ same)
-    where
-      read : ((bytes ≡ lines_text (script_lines schema s)) ⊎ (bytes ≡ lines_text (script_lines schema s) ++ 10 ∷ [])) → word_lines (lines_text (script_lines schema s)) ≡ script_lines schema s
-          → word_lines (lines_text (script_lines schema s) ++ 10 ∷ []) ≡ script_lines schema s → word_lines bytes ≡ script_lines schema s
-      read (inl e) one two = ap word_lines e ∙ one
-      read (inr e) one two = ap word_lines e ∙ two
+      let sound : IsSoundScript schema s = record { some = is.0.some; pipes = is.0.pipes; distinct = is.0.distinct; lines = is.0.lines } in
+      none s sound is.0.few (sym lines ∙ words_of schema bytes s is)

@@ -1,7 +1,7 @@
 -- How a script is spelled: lines that each end with LF, which the last may lack, and words parted by one blank.
 use Rattle.std.specs.Prelude.{ℕ, ◌≡◌, ◌<◌, ◌≤◌, ◌^◌, ◌++◌, ◌⊎◌, Bool, true, false, ◌&&◌, ◌||◌, ◌==◌, nat_le, not, List, [], ◌∷◌, All, length, map, slice_get, codes, decimal, Option, Some, option_and_then, unwrap_or, find}
 use Rattle.std.specs.Option.{option_map}
-use Rattle.std.specs.List.{flat_map, list_all, list_any, AllByRecursion}
+use Rattle.std.specs.List.{flat_map, list_all, AllByRecursion}
 use Rattle.std.specs.Str.{bytes_eq}
 use Rattle.mj_base.specs.Texts.{are_distinct}
 use Rattle.mj_base.specs.declared.limits.TheConstants.{MAX_SCRIPT_LINES}

@@ -2,6 +2,7 @@
 #![tactic(auto)]
 
 mod history_text;
+mod laws;
 mod lines;
 mod methods;
 mod pipes;
@@ -13,5 +14,6 @@ mod split;
 mod words;
 
 pub use history_text::render;
+pub use laws::one_script;
 pub use read::{ScriptError, read_script};
 pub use script::{Line, Pipe, PipeEnd, Script};

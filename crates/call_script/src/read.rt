@@ -9,11 +9,11 @@ ghost use Rattle.call_script.specs.Spelling.{IsScriptOf, names_of};
 ghost use Rattle.mj_base.specs.Texts.{are_distinct};
 ghost use Rattle.call_script.specs.Reading.{SpellsScript, SpellsShort, begins_join, joins_in_front};
 
-use mj_base::limits::MAX_SCRIPT_LINES;
 use crate::lines::read_lines;
 use crate::pipes::read_pipes;
 use crate::script::{Pipe, Script};
 use crate::split::{Words, word_lines};
+use mj_base::limits::MAX_SCRIPT_LINES;
 use mj_base::{Items, are_distinct};
 use mj_schema::Schema;
 use std::alloc::{AllocError, Global};
