@@ -1,31 +1,39 @@
--- Where all is there and nothing failed, all was done, but for want of memory.
-use Rattle.std.proofs.Common.{◌≡◌, ℕ, List, Some, None, refl, subst, inl, inr}
-use Rattle.std.specs.Prelude.{Option, ◌⊎◌}
+-- Which status comes where nothing failed.
+use Rattle.std.proofs.Common.{◌≡◌, ℕ, List, Some, None, refl, sym, ap, ◌++◌, subst, inl, inr}
+use Rattle.std.specs.Prelude.{Option, ◌⊎◌, codes}
 use Rattle.mj_io.specs.Outside.{Named, Rose}
-use Rattle.mojo_tool.specs.Work.{Work, WrongWords, Missing, TooLong, Refuses, Unreadable, AskedFor, Command, command_of, IsWork}
-use Rattle.mojo_tool.specs.Answers.{Seen, Answers, asked_by, ReadFailed, refused_work}
-use Rattle.mojo_tool.specs.Complete.{CanBeDone, CanBeServed, IsDoable, IsDoneOrShort, IsComplete}
-use Rattle.mojo_tool.proofs.OnlyDoable.{only_doable}
+use Rattle.mojo_tool.specs.Work.{Work, WrongWords, Missing, TooLong, Refuses, Unreadable, Runs, Prints, AskedFor, Command, Run, Print, command_of, IsWork}
+use Rattle.mojo_tool.specs.Answers.{Seen, Answers, asked_by, IsRightText, ReadFailed, WroteOrFailed, refused_work}
+use Rattle.mojo_tool.specs.Lines.{refusal_text, error_line, read_text}
+use Rattle.mojo_tool.specs.Complete.{CanBeDone, CanBeServed, IsAsked, IsDoable, IsDoneOrShort, IsRefusedOrShort, IsUnreadOrShort, IsComplete}
+use Rattle.mojo_tool.proofs.OneWork.{one_work}
 use Rattle.mojo_tool.specs.declared.refusal.ToolRefusal.{ToolRefusal}
 use Rattle.mojo_tool.specs.declared.refusal.ToolRefusal.TheVariants as refusals
 use Rattle.mojo_tool.specs.declared.status.Status.{Status}
 use Rattle.mojo_tool.specs.declared.status.Status.TheVariants.{Done, Refused, WrongUse, ReadFault, WriteFault, NoMemory}
 
--- over files that tell, what is asked for is asked of them
-asked_of : (told : Option (List Named)) (files : List Named) (ask : List Named → Work → Type 0) (work : Work) → told ≡ Some files → AskedFor told ask work → ask files work
-asked_of told files ask work t asked = subst (λ (o : Option (List Named)). AskedFor o ask work) t asked
+-- over files that say what they hold, what is asked for is asked of them
+asked_of : (held : Option (List Named)) (files : List Named) (ask : List Named → Work → Type 0) (work : Work) → held ≡ Some files
+    → AskedFor held ask work → ask files work
+asked_of held files ask work t asked = subst (λ (o : Option (List Named)). AskedFor o ask work) t asked
 
-not_refused : (s : Seen) (can : CanBeDone s) (refusal : ToolRefusal) → AskedFor s.files_before.told (asked_by s) (refused_work refusal) → ⊥
-not_refused s can (refusals.Unsupported name) asked = can.readable name.now (asked_of s.files_before.told can.files (asked_by s) (Unreadable name.now) can.told asked)
-not_refused s can (refusals.FileTooLong name) asked = can.short name.now (asked_of s.files_before.told can.files (asked_by s) (TooLong name.now) can.told asked)
-not_refused s can (refusals.Refused name refusal) asked = can.compiled name.now refusal (asked_of s.files_before.told can.files (asked_by s) (Refuses name.now refusal) can.told asked)
+not_refused : (s : Seen) (can : CanBeDone s) (refusal : ToolRefusal) → AskedFor s.files_before.held (asked_by s) (refused_work refusal) → ⊥
+not_refused s can (refusals.Unsupported name) asked =
+    can.readable name.now (asked_of s.files_before.held can.files (asked_by s) (Unreadable name.now) can.held asked)
+not_refused s can (refusals.FileTooLong name) asked =
+    can.short name.now (asked_of s.files_before.held can.files (asked_by s) (TooLong name.now) can.held asked)
+not_refused s can (refusals.Refused name refusal) asked =
+    can.compiled name.now refusal (asked_of s.files_before.held can.files (asked_by s) (Refuses name.now refusal) can.held asked)
 
-not_missing : (s : Seen) (can : CanBeDone s) (name : List ℕ) → ReadFailed s.files_before.told (asked_by s) name s.files_before.there s.files.there → ⊥
-not_missing s can name failed = go (subst (λ (o : Option (List Named)). ReadFailed o (asked_by s) name s.files_before.there s.files.there) can.told failed)
+-- a fetch that failed, though no file that is there did, is of a name that isn't there
+missed : (s : Seen) (files : List Named) (name : List ℕ) → s.files_before.held ≡ Some files → ¬ Rose s.files_before.faults_on_present s.files.faults_on_present
+    → ReadFailed s.files_before.held (asked_by s) name s.files_before.faults_on_present s.files.faults_on_present → asked_by s files (Missing name)
+missed s files name held steady failed =
+    go (subst (λ (o : Option (List Named)). ReadFailed o (asked_by s) name s.files_before.faults_on_present s.files.faults_on_present) held failed)
   where
-    go : asked_by s can.files (Missing name) ⊎ Rose s.files_before.there s.files.there → ⊥
-    go (inl asked) = can.present name asked
-    go (inr rose) = can.steady rose
+    go : asked_by s files (Missing name) ⊎ Rose s.files_before.faults_on_present s.files.faults_on_present → asked_by s files (Missing name)
+    go (inl asked) = asked
+    go (inr rose) = absurd (steady rose)
 
 no_words : (words : Option Command) (files : List Named) → words ≡ None → IsWork words files WrongWords
 no_words None files e = refl
@@ -35,26 +43,114 @@ is_done : (s : Seen) (status : Status) → Answers s status → CanBeDone s → 
 is_done s Done a can = inl refl
 is_done s Refused a can = absurd (not_refused s can a.refusal a.asked)
 is_done s WrongUse a can = absurd (can.words (no_words (command_of s.words) can.files a.wrong))
-is_done s ReadFault a can = absurd (not_missing s can a.name a.failed)
+is_done s ReadFault a can = absurd (can.present a.name (missed s can.files a.name can.held can.steady a.failed))
 is_done s WriteFault a can = absurd (can.written a.rose)
 is_done s NoMemory a can = inr refl
+
+-- a text that is right is that of a run or a tree that is asked for
+text_work : (command : Option Command) (held : Option (List Named)) (files : List Named) (ask : List Named → Work → Type 0) (text : List ℕ) → held ≡ Some files
+    → IsRightText command held ask text → (work : Work) × IsDoable work × ask files work
+text_work None held files ask text e right = absurd right
+text_work (Some (Run words)) held files ask text e right =
+    (Runs right.schema right.script, tt, asked_of held files ask (Runs right.schema right.script) e right.asked)
+text_work (Some (Print file)) held files ask text e right = (Prints right.tree, tt, asked_of held files ask (Prints right.tree) e right.asked)
+
+-- equal refusals have one line
+same_text : (a b : ToolRefusal) → refused_work a ≡ refused_work b → refusal_text a ≡ refusal_text b
+same_text (refusals.Unsupported n) (refusals.Unsupported m) e = let f : n.now ≡ m.now = cc in ap (λ (name : List ℕ). codes "Unsupported " ++ name) f
+same_text (refusals.Unsupported n) (refusals.FileTooLong m) e = absurd cc
+same_text (refusals.Unsupported n) (refusals.Refused m r) e = absurd cc
+same_text (refusals.FileTooLong n) (refusals.Unsupported m) e = absurd cc
+same_text (refusals.FileTooLong n) (refusals.FileTooLong m) e = let f : n.now ≡ m.now = cc in ap (λ (name : List ℕ). codes "FileTooLong " ++ name) f
+same_text (refusals.FileTooLong n) (refusals.Refused m r) e = absurd cc
+same_text (refusals.Refused n q) (refusals.Unsupported m) e = absurd cc
+same_text (refusals.Refused n q) (refusals.FileTooLong m) e = absurd cc
+same_text (refusals.Refused n q) (refusals.Refused m r) e = let f : n.now ≡ m.now = cc in let g : q ≡ r = cc in rw (f, g) refl
+
+-- a refusal is none of the other works
+not_doable : (refusal : ToolRefusal) → IsDoable (refused_work refusal) → ⊥
+not_doable (refusals.Unsupported name) doable = doable
+not_doable (refusals.FileTooLong name) doable = doable
+not_doable (refusals.Refused name refusal) doable = doable
+
+not_missing : (refusal : ToolRefusal) (name : List ℕ) → Missing name ≡ refused_work refusal → ⊥
+not_missing (refusals.Unsupported other) name e = absurd cc
+not_missing (refusals.FileTooLong other) name e = absurd cc
+not_missing (refusals.Refused other refusal) name e = absurd cc
+
+not_wrong : (refusal : ToolRefusal) → WrongWords ≡ refused_work refusal → ⊥
+not_wrong (refusals.Unsupported other) e = absurd cc
+not_wrong (refusals.FileTooLong other) e = absurd cc
+not_wrong (refusals.Refused other refusal) e = absurd cc
+
+module _ (s : Seen) (work : Work) (is : IsAsked s work) where
+  -- whatever else is asked for is that work
+  one : (other : Work) → asked_by s is.files other → other ≡ work
+  one other asked = one_work (command_of s.words) is.files other work asked is.asked
+
+  asked_here : (other : Work) → AskedFor s.files_before.held (asked_by s) other → other ≡ work
+  asked_here other asked = one other (asked_of s.files_before.held is.files (asked_by s) other is.held asked)
+
+  -- a work that has a text is a run or a tree
+  has_text : (text : List ℕ) → IsRightText (command_of s.words) s.files_before.held (asked_by s) text → IsDoable work
+  has_text text right =
+      let t = text_work (command_of s.words) s.files_before.held is.files (asked_by s) text is.held right in
+      subst IsDoable (one t.0 t.2) t.1
+
+  wrong_words : command_of s.words ≡ None → WrongWords ≡ work
+  wrong_words e = one WrongWords (no_words (command_of s.words) is.files e)
+
+  unfetched : (name : List ℕ) → ReadFailed s.files_before.held (asked_by s) name s.files_before.faults_on_present s.files.faults_on_present
+      → Missing name ≡ work
+  unfetched name failed = one (Missing name) (missed s is.files name is.held is.steady failed)
+
+-- where a refusal is asked for, it is answered
+is_refused : (s : Seen) (status : Status) → Answers s status → (refusal : ToolRefusal) → IsAsked s (refused_work refusal) → IsRefusedOrShort s status refusal
+is_refused s Done a refusal is = absurd (not_doable refusal (has_text s (refused_work refusal) is a.text a.right))
+is_refused s Refused a refusal is = inl (record {
+  ended = refl;
+  wrote = subst (λ (text : List ℕ). WroteOrFailed s.err_before s.err (error_line text))
+      (same_text a.refusal refusal (asked_here s (refused_work refusal) is (refused_work a.refusal) a.asked)) a.wrote;
+})
+is_refused s WrongUse a refusal is = absurd (not_wrong refusal (wrong_words s (refused_work refusal) is a.wrong))
+is_refused s ReadFault a refusal is = absurd (not_missing refusal a.name (unfetched s (refused_work refusal) is a.name a.failed))
+is_refused s WriteFault a refusal is = absurd (not_doable refusal (has_text s (refused_work refusal) is a.text a.right))
+is_refused s NoMemory a refusal is = inr refl
+
+-- where a name isn't there, it is answered
+is_unread : (s : Seen) (status : Status) → Answers s status → (name : List ℕ) → IsAsked s (Missing name) → IsUnreadOrShort s status name
+is_unread s Done a name is = absurd (has_text s (Missing name) is a.text a.right)
+is_unread s Refused a name is = absurd (not_missing a.refusal name (sym (asked_here s (Missing name) is (refused_work a.refusal) a.asked)))
+is_unread s WrongUse a name is = let e : WrongWords ≡ Missing name = wrong_words s (Missing name) is a.wrong in absurd cc
+is_unread s ReadFault a name is =
+    let e : Missing a.name ≡ Missing name = unfetched s (Missing name) is a.name a.failed in
+    let f : a.name ≡ name = cc in
+    inl (record { ended = refl; wrote = subst (λ (n : List ℕ). WroteOrFailed s.err_before s.err (error_line (read_text n))) f a.wrote })
+is_unread s WriteFault a name is = absurd (has_text s (Missing name) is a.text a.right)
+is_unread s NoMemory a name is = inr refl
 
 -- where a run or a text is asked for, nothing is refused or missing
 can_be_done : (s : Seen) → CanBeServed s → CanBeDone s
 can_be_done s can = record {
-  files = can.files;
-  told = can.told;
+  files = can.asked.files;
+  held = can.asked.held;
   words = only WrongWords;
   present = λ name. only (Missing name);
   short = λ name. only (TooLong name);
   compiled = λ name refusal. only (Refuses name refusal);
   readable = λ name. only (Unreadable name);
-  steady = can.steady;
+  steady = can.asked.steady;
   written = can.written;
 }
   where
-    only : (w : Work) → asked_by s can.files w → IsDoable w
-    only = only_doable (command_of s.words) can.files can.work can.doable can.asked
+    only : (w : Work) → asked_by s can.asked.files w → IsDoable w
+    only w asked = subst IsDoable (sym (one s can.work can.asked w asked)) can.doable
 
+-- each answer is complete
 pub completes : (s : Seen) (status : Status) → Answers s status → IsComplete s status
-completes s status a = (is_done s status a, λ can. is_done s status a (can_be_done s can))
+completes s status a = record {
+  done = is_done s status a;
+  served = λ can. is_done s status a (can_be_done s can);
+  refused = is_refused s status a;
+  missing = is_unread s status a;
+}

@@ -10,6 +10,7 @@ use Rattle.bind_model.proofs.TightCalls.{are_tight}
 use Rattle.bind_model.proofs.Said.{as_said, are_good}
 use Rattle.mojo_tool.specs.Answers.{KeepsLaws}
 
+-- what a legal history of allowed events keeps
 pub keeps_laws : (schema : Schema) (seqs : ℕ) (past : List Event) → legal schema seqs past → AllAllowed schema past → KeepsLaws schema past
 keeps_laws schema seqs past is allowed = record {
   in_order = legal_in_order schema seqs past is;

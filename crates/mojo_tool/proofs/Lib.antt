@@ -1,5 +1,5 @@
 pub mod Asking
-pub mod OnlyDoable
+pub mod OneWork
 pub mod Completes
 pub mod Reporting
 pub mod Narrows

@@ -11,5 +11,6 @@ narrow_rows : (rows : List StructRow) → AllByRecursion IsLaidOut rows → AllB
 narrow_rows [] all = tt
 narrow_rows (row ∷ rows) all = (all.0.few, narrow_rows rows all.1)
 
+-- every schema's structs have so few fields
 pub narrow_schema : (schema : Schema) → IsNarrow schema
 narrow_schema schema = narrow_rows schema.structs schema.laid_out

@@ -10,13 +10,14 @@ use Rattle.mojom_print.specs.FileText.{file_text}
 use Rattle.call_script.specs.declared.script.Script.{Script}
 use Rattle.call_script.specs.Text.{output}
 use Rattle.script_run.specs.OfScript.{OfScript}
-use Rattle.mojo_tool.specs.Work.{Work, Missing, TooLong, Refuses, Unreadable, Runs, Prints, Command, Run, Print, command_of, NamesFile, IsWork, AskedFor}
+use Rattle.mojo_tool.specs.Work.{Work, Missing, TooLong, Refuses, Unreadable, Runs, Prints, Command, Run, Print, command_of, ComesTo, IsWork, AskedFor}
 use Rattle.mojo_tool.specs.Lines.{refusal_text, error_line, read_text}
 use Rattle.mojo_tool.specs.declared.refusal.ToolRefusal.{ToolRefusal}
 use Rattle.mojo_tool.specs.declared.refusal.ToolRefusal.TheVariants as refusals
 use Rattle.mojo_tool.specs.declared.status.Status.{Status}
 use Rattle.mojo_tool.specs.declared.status.Status.TheVariants.{Done, Refused, WrongUse, ReadFault, WriteFault, NoMemory}
 
+-- the exit status of the program
 abbrev pub code_of : Status → ℕ
 code_of Done = 0
 code_of Refused = 1
@@ -61,23 +62,23 @@ pub record IsTextOf (schema : Schema) (script : Script) (text : List ℕ) : Type
   pub whole : text ≡ output schema 1 history
 
 -- the text is that of a run that is asked for
-pub record IsRunText (told : Option (List Named)) (ask : List Named → Work → Type 0) (text : List ℕ) : Type 0 where
+pub record IsRunText (held : Option (List Named)) (ask : List Named → Work → Type 0) (text : List ℕ) : Type 0 where
   pub schema : Schema
   pub script : Script
-  pub asked : AskedFor told ask (Runs schema script)
+  pub asked : AskedFor held ask (Runs schema script)
   pub text_of : IsTextOf schema script text
 
 -- the text is the canonical one of a tree that is asked for
-pub record IsPrintText (told : Option (List Named)) (ask : List Named → Work → Type 0) (text : List ℕ) : Type 0 where
+pub record IsPrintText (held : Option (List Named)) (ask : List Named → Work → Type 0) (text : List ℕ) : Type 0 where
   pub tree : File
-  pub asked : AskedFor told ask (Prints tree)
+  pub asked : AskedFor held ask (Prints tree)
   pub text_of : text ≡ file_text tree
 
 -- the text is one that the words and the files ask for
 abbrev pub IsRightText : Option Command → Option (List Named) → (List Named → Work → Type 0) → List ℕ → Type 0
-IsRightText None told ask text = ⊥
-IsRightText (Some (Run words)) told ask text = IsRunText told ask text
-IsRightText (Some (Print file)) told ask text = IsPrintText told ask text
+IsRightText None held ask text = ⊥
+IsRightText (Some (Run words)) held ask text = IsRunText held ask text
+IsRightText (Some (Print file)) held ask text = IsPrintText held ask text
 
 -- the work that a refusal is the answer to
 abbrev pub refused_work : ToolRefusal → Work
@@ -100,45 +101,50 @@ abbrev pub ReadFailed : Option (List Named) → (List Named → Work → Type 0)
 ReadFailed None ask name before now = Unit {0}
 ReadFailed (Some files) ask name before now = ask files (Missing name) ⊎ Rose before now
 
--- all was done, and the whole text written
+-- all was done, and the whole text written; nothing is said on standard error
 pub record IsDone (s : Seen) : Type 0 where
   pub text : List ℕ
   pub wrote : Wrote s.out_before s.out text
-  pub right : IsRightText (command_of s.words) s.files_before.told (asked_by s) text
+  pub right : IsRightText (command_of s.words) s.files_before.held (asked_by s) text
+  pub silent : s.err ≡ s.err_before
 
 -- the first refusal that the files give, of a file that the words name, with its line
 pub record IsRefused (s : Seen) : Type 0 where
   pub refusal : ToolRefusal
-  pub named : NamesFile (command_of s.words) (refused_name refusal)
+  pub reached : ComesTo (command_of s.words) s.files_before.held (refused_name refusal)
   pub quiet : s.out ≡ s.out_before
-  pub asked : AskedFor s.files_before.told (asked_by s) (refused_work refusal)
+  pub asked : AskedFor s.files_before.held (asked_by s) (refused_work refusal)
   pub wrote : WroteOrFailed s.err_before s.err (error_line (refusal_text refusal))
 
--- the words are no command
+-- the words are no command, and no file is fetched
 pub record IsWrongUse (s : Seen) : Type 0 where
   pub quiet : s.out ≡ s.out_before
+  pub unread : s.files ≡ s.files_before
   pub wrong : command_of s.words ≡ None
 
--- a file that the words name could not be fetched
+-- a file that the words name, and that a call comes to, could not be fetched
 pub record IsReadFault (s : Seen) : Type 0 where
   pub name : List ℕ
-  pub named : NamesFile (command_of s.words) name
+  pub reached : ComesTo (command_of s.words) s.files_before.held name
   pub quiet : s.out ≡ s.out_before
   pub rose : Rose s.files_before.faults s.files.faults
-  pub failed : ReadFailed s.files_before.told (asked_by s) name s.files_before.there s.files.there
+  pub failed : ReadFailed s.files_before.held (asked_by s) name s.files_before.faults_on_present s.files.faults_on_present
   pub wrote : WroteOrFailed s.err_before s.err (error_line (read_text name))
 
--- a front of the text was written, and the sink failed
+-- a front of the text was written, and the sink failed; nothing is said on standard error
 pub record IsWriteFault (s : Seen) : Type 0 where
   pub text : List ℕ
   pub part : WroteSome s.out_before s.out text
   pub rose : Rose s.out_before.faults s.out.faults
-  pub right : IsRightText (command_of s.words) s.files_before.told (asked_by s) text
+  pub right : IsRightText (command_of s.words) s.files_before.held (asked_by s) text
+  pub silent : s.err ≡ s.err_before
 
--- want of memory is the one free answer
+-- want of memory is the one free answer, and nothing is written
 pub record IsNoMemory (s : Seen) : Type 0 where
   pub quiet : s.out ≡ s.out_before
+  pub silent : s.err ≡ s.err_before
 
+-- what is promised with each status
 abbrev pub Answers : Seen → Status → Type 0
 Answers s Done = IsDone s
 Answers s Refused = IsRefused s

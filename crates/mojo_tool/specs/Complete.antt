@@ -1,23 +1,25 @@
--- Where all is there, nothing is refused and nothing failed, all was done, but for want of memory.
+-- Which status comes where nothing failed: want of memory is the only other one.
 use Rattle.std.specs.Prelude.{ℕ, ◌≡◌, List, Some, ◌⊎◌}
 use Rattle.mj_io.specs.Outside.{Named, Rose}
-use Rattle.mojo_tool.specs.Answers.{Seen, asked_by}
+use Rattle.mojo_tool.specs.Answers.{Seen, asked_by, refused_work, WroteOrFailed}
+use Rattle.mojo_tool.specs.Lines.{refusal_text, error_line, read_text}
 use Rattle.mojom_compile.specs.declared.error.FileRefusal.{FileRefusal}
 use Rattle.mojo_tool.specs.Work.{Work, WrongWords, Missing, TooLong, Refuses, Unreadable, Runs, Prints}
+use Rattle.mojo_tool.specs.declared.refusal.ToolRefusal.{ToolRefusal}
 use Rattle.mojo_tool.specs.declared.status.Status.{Status}
-use Rattle.mojo_tool.specs.declared.status.Status.TheVariants.{Done, NoMemory}
+use Rattle.mojo_tool.specs.declared.status.Status.TheVariants.{Done, Refused, ReadFault, NoMemory}
 
--- the words are a command, the files tell that each name to be fetched is there and that nothing in them is refused,
+-- the words are a command, the files say that each name to be fetched is there and that nothing in them is refused,
 -- and neither the files that are there nor standard output failed
 pub record CanBeDone (s : Seen) : Type 0 where
   pub files : List Named
-  pub told : s.files_before.told ≡ Some files
+  pub held : s.files_before.held ≡ Some files
   pub words : ¬ asked_by s files WrongWords
   pub present : (name : List ℕ) → ¬ asked_by s files (Missing name)
   pub short : (name : List ℕ) → ¬ asked_by s files (TooLong name)
   pub compiled : (name : List ℕ) (refusal : FileRefusal) → ¬ asked_by s files (Refuses name refusal)
   pub readable : (name : List ℕ) → ¬ asked_by s files (Unreadable name)
-  pub steady : ¬ Rose s.files_before.there s.files.there
+  pub steady : ¬ Rose s.files_before.faults_on_present s.files.faults_on_present
   pub written : ¬ Rose s.out_before.faults s.out.faults
 
 -- a run or a text
@@ -26,18 +28,40 @@ IsDoable (Runs schema script) = Unit {0}
 IsDoable (Prints tree) = Unit {0}
 IsDoable _ = ⊥
 
+-- the words ask for this work over files that say what they hold, and no file that is there failed
+pub record IsAsked (s : Seen) (work : Work) : Type 0 where
+  pub files : List Named
+  pub held : s.files_before.held ≡ Some files
+  pub asked : asked_by s files work
+  pub steady : ¬ Rose s.files_before.faults_on_present s.files.faults_on_present
+
 -- a run of a script or the text of a tree is asked for, and neither the files that are there nor standard output failed
 pub record CanBeServed (s : Seen) : Type 0 where
-  pub files : List Named
-  pub told : s.files_before.told ≡ Some files
   pub work : Work
   pub doable : IsDoable work
-  pub asked : asked_by s files work
-  pub steady : ¬ Rose s.files_before.there s.files.there
+  pub asked : IsAsked s work
   pub written : ¬ Rose s.out_before.faults s.out.faults
 
+-- all was done
 abbrev pub IsDoneOrShort : Status → Type 0
 IsDoneOrShort status = (status ≡ Done) ⊎ (status ≡ NoMemory)
 
-abbrev pub IsComplete : Seen → Status → Type 0
-IsComplete s status = (CanBeDone s → IsDoneOrShort status) × (CanBeServed s → IsDoneOrShort status)
+-- the status is this one, and the line went to standard error, or a front of it where that failed
+pub record EndsWith (s : Seen) (status wanted : Status) (text : List ℕ) : Type 0 where
+  pub ended : status ≡ wanted
+  pub wrote : WroteOrFailed s.err_before s.err (error_line text)
+
+-- this very refusal was answered
+abbrev pub IsRefusedOrShort : Seen → Status → ToolRefusal → Type 0
+IsRefusedOrShort s status refusal = EndsWith s status Refused (refusal_text refusal) ⊎ (status ≡ NoMemory)
+
+-- this very name was answered as one that could not be read
+abbrev pub IsUnreadOrShort : Seen → Status → List ℕ → Type 0
+IsUnreadOrShort s status name = EndsWith s status ReadFault (read_text name) ⊎ (status ≡ NoMemory)
+
+-- what can be done is done, what is refused is refused so, and a name that isn't there is answered so, but for want of memory
+pub record IsComplete (s : Seen) (status : Status) : Type 0 where
+  pub done : CanBeDone s → IsDoneOrShort status
+  pub served : CanBeServed s → IsDoneOrShort status
+  pub refused : (refusal : ToolRefusal) → IsAsked s (refused_work refusal) → IsRefusedOrShort s status refusal
+  pub missing : (name : List ℕ) → IsAsked s (Missing name) → IsUnreadOrShort s status name

@@ -10,8 +10,13 @@ refusal_text (Unsupported name) = codes "Unsupported " ++ name.now
 refusal_text (FileTooLong name) = codes "FileTooLong " ++ name.now
 refusal_text (Refused name refusal) = name.now ++ (codes ":" ++ (decimal refusal.at ++ (codes ": " ++ cause_text refusal.cause)))
 
+-- the byte that ends a line
+abbrev pub line_feed : ℕ
+line_feed = 10
+
+-- a line on standard error
 abbrev pub error_line : List ℕ → List ℕ
-error_line text = codes "error: " ++ (text ++ 10 ∷ [])
+error_line text = codes "error: " ++ (text ++ line_feed ∷ [])
 
 -- a file that could not be read
 abbrev pub read_text : List ℕ → List ℕ

@@ -20,17 +20,28 @@ pub data Command : Type 0 where
   Run : RunWords → Command
   Print : (file : List ℕ) → Command
 
+-- `PROGRAM run --script SCRIPT FILE` or `PROGRAM print FILE`
 abbrev pub command_of : List (List ℕ) → Option Command
 command_of (program ∷ command ∷ flag ∷ script ∷ file ∷ []) =
     if bytes_eq command (codes "run") && bytes_eq flag (codes "--script") then Some (Run (record { script = script; file = file })) else None
 command_of (program ∷ command ∷ file ∷ []) = if bytes_eq command (codes "print") then Some (Print file) else None
 command_of words = None
 
--- the words name this file
-abbrev pub NamesFile : Option Command → List ℕ → Type 0
-NamesFile None name = ⊥
-NamesFile (Some (Run words)) name = (name ≡ words.file) ⊎ (name ≡ words.script)
-NamesFile (Some (Print file)) name = name ≡ file
+-- the file is there, no longer than a file may be, and has a schema
+abbrev pub HasSchema : Option (List ℕ) → Type 0
+HasSchema None = ⊥
+HasSchema (Some bytes) = (length bytes ≤ MAX_FILE_BYTES) × ((schema : Schema) × IsSchemaOf bytes schema)
+
+-- the file of this name has a schema, over files that say what they hold
+abbrev pub HasSchemaAt : Option (List Named) → List ℕ → Type 0
+HasSchemaAt None name = Unit {0}
+HasSchemaAt (Some files) name = HasSchema (find_file files name)
+
+-- the words name this file, and a call comes to it: to the script only where the Mojom file has a schema
+abbrev pub ComesTo : Option Command → Option (List Named) → List ℕ → Type 0
+ComesTo None held name = ⊥
+ComesTo (Some (Run words)) held name = (name ≡ words.file) ⊎ ((name ≡ words.script) × HasSchemaAt held words.file)
+ComesTo (Some (Print file)) held name = name ≡ file
 
 -- what is asked for
 pub data Work : Type 0 where
@@ -38,11 +49,11 @@ pub data Work : Type 0 where
   WrongWords : Work
   -- a file to be fetched isn't there
   Missing : (name : List ℕ) → Work
-  -- a file to be fetched has more than 1,048,576 bytes
+  -- a file to be fetched has more than MAX_FILE_BYTES bytes
   TooLong : (name : List ℕ) → Work
   -- a Mojom file is refused
   Refuses : (name : List ℕ) → (refusal : FileRefusal) → Work
-  -- a script isn't of the form that is read
+  -- a script isn't of the narrow form that is read
   Unreadable : (name : List ℕ) → Work
   -- the text of this tree
   Prints : (tree : File) → Work
@@ -54,37 +65,47 @@ abbrev pub Leads : List ℕ → (List ℕ → Work → Type 0) → Option (List 
 Leads name next None work = work ≡ Missing name
 Leads name next (Some bytes) work = ((MAX_FILE_BYTES < length bytes) × (work ≡ TooLong name)) ⊎ ((length bytes ≤ MAX_FILE_BYTES) × next bytes work)
 
+-- what a fetch of this name leads on to
 abbrev pub Fetching : List Named → List ℕ → (List ℕ → Work → Type 0) → Work → Type 0
 Fetching files name next work = Leads name next (find_file files name) work
 
 -- the bytes have a schema, which leads on, or are refused
 abbrev pub Compiling : List ℕ → (Schema → Work → Type 0) → List ℕ → Work → Type 0
-Compiling name next bytes work = ((schema : Schema) × IsSchemaOf bytes schema × next schema work) ⊎ ((refusal : FileRefusal) × IsRefusedFile bytes refusal × (work ≡ Refuses name refusal))
+Compiling name next bytes work =
+    ((schema : Schema) × IsSchemaOf bytes schema × next schema work)
+    ⊎ ((refusal : FileRefusal) × IsRefusedFile bytes refusal × (work ≡ Refuses name refusal))
 
 -- the bytes have a tree, which is printed, or are refused
 abbrev pub Parsing : List ℕ → List ℕ → Work → Type 0
-Parsing name bytes work = ((tree : File) × IsParsed bytes tree × (work ≡ Prints tree)) ⊎ ((refusal : FileRefusal) × IsUnread bytes refusal × (work ≡ Refuses name refusal))
+Parsing name bytes work =
+    ((tree : File) × IsParsed bytes tree × (work ≡ Prints tree))
+    ⊎ ((refusal : FileRefusal) × IsUnread bytes refusal × (work ≡ Refuses name refusal))
 
 -- the bytes are a script, which is run, or none
 abbrev pub Reading : List ℕ → Schema → List ℕ → Work → Type 0
-Reading name schema bytes work = ((script : Script) × IsScriptOf schema bytes script × (work ≡ Runs schema script)) ⊎ (((script : Script) → IsScriptOf schema bytes script → ⊥) × (work ≡ Unreadable name))
+Reading name schema bytes work =
+    ((script : Script) × IsScriptOf schema bytes script × (work ≡ Runs schema script))
+    ⊎ (((script : Script) → IsScriptOf schema bytes script → ⊥) × (work ≡ Unreadable name))
 
 -- the script's file comes after the Mojom file
 abbrev pub Scripting : List Named → List ℕ → Schema → Work → Type 0
 Scripting files name schema work = Fetching files name (Reading name schema) work
 
+-- the Mojom file comes first
 abbrev pub Running : List Named → RunWords → Work → Type 0
 Running files words work = Fetching files words.file (Compiling words.file (Scripting files words.script)) work
 
+-- the Mojom file alone
 abbrev pub Printing : List Named → List ℕ → Work → Type 0
 Printing files name work = Fetching files name (Parsing name) work
 
+-- the work that a command asks for over these files
 abbrev pub IsWork : Option Command → List Named → Work → Type 0
 IsWork None files work = work ≡ WrongWords
 IsWork (Some (Run words)) files work = Running files words work
 IsWork (Some (Print file)) files work = Printing files file work
 
--- over files that tell what they hold, this is what is asked for
+-- over files that say what they hold, this is what is asked for
 abbrev pub AskedFor : Option (List Named) → (List Named → Work → Type 0) → Work → Type 0
 AskedFor None ask work = Unit {0}
 AskedFor (Some files) ask work = ask files work

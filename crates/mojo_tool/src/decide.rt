@@ -9,16 +9,16 @@ ghost use Rattle.mojom_print.specs.FileText.{file_text};
 ghost use Rattle.call_script.specs.declared.script.Script.{Script};
 ghost use Rattle.call_script.specs.Spelling.{IsScript, IsScriptOf};
 ghost use Rattle.script_run.specs.Narrow.{IsNarrow};
-ghost use Rattle.mojo_tool.specs.Work.{NamesFile, IsWork, Run, Print, Scripting, Running, Printing};
-ghost use Rattle.mojo_tool.specs.steps.Names.{asked_of};
+ghost use Rattle.mojo_tool.specs.Work.{ComesTo, IsWork, Run, Print, Scripting, Running, Printing};
+ghost use Rattle.mojo_tool.specs.steps.Names.{asked_of, run_words};
 ghost use Rattle.mojo_tool.specs.Answers.{IsTextOf, IsRunText, IsPrintText, IsRightText};
 ghost use Rattle.mojo_tool.specs.steps.Stops.{Stops, IsOf, HasBytes, NotFetched, NotCompiled, NoScript};
 
-use mj_base::limits::MAX_FILE_BYTES;
 use crate::refusal::ToolRefusal;
 use crate::words::Command;
 use call_script::{Script, ScriptError};
 use mj_base::Items;
+use mj_base::limits::MAX_FILE_BYTES;
 use mj_io::{Fetched, Files, FilesError};
 use mj_schema::Schema;
 use mojom_ast::File;
@@ -38,7 +38,7 @@ pub enum Stop<'a> {
 /// The bytes of the file of that name.
 fn fetch<'a, F: Files>(alloc: Global, files: &mut F, name: &'a str) -> Result<Vec<u8>, Stop<'a>>
     ensures on { FilesGoOn (F.state files.old) (F.state files.new) }
-    ensures bytes { IfOk result (λ bytes. HasBytes (F.state files.old).told name.now bytes.items) }
+    ensures bytes { IfOk result (λ bytes. HasBytes (F.state files.old).held name.now bytes.items) }
     ensures short { IfOk result (λ bytes. length bytes.items ≤ MAX_FILE_BYTES) }
     ensures stop { IfErr result (λ stop. NotFetched (F.state files.old) (F.state files.new) name.now stop) }
     ensures named { IfErr result (IsOf (λ named. named ≡ name.now)) }
@@ -134,7 +134,7 @@ fn decide_script<'a, F: Files>(
 ) -> Result<Items<u8>, Stop<'a>>
     requires { IsNarrow schema }
     ensures on { FilesGoOn (F.state files.old) (F.state files.new) }
-    ensures text { IfOk result (λ text. IsRunText (F.state files.old).told (λ files work. Scripting files name.now schema work) text) }
+    ensures text { IfOk result (λ text. IsRunText (F.state files.old).held (λ files work. Scripting files name.now schema work) text) }
     ensures stop { IfErr result (λ stop. Stops (F.state files.old) (F.state files.new) (λ files work. Scripting files name.now schema work) stop) }
     ensures named { IfErr result (IsOf (λ named. named ≡ name.now)) }
 {
@@ -155,9 +155,10 @@ fn decide_run<'a, F: Files>(
     files: &mut F,
 ) -> Result<Items<u8>, Stop<'a>>
     ensures on { FilesGoOn (F.state files.old) (F.state files.new) }
-    ensures text { IfOk result (λ text. IsRunText (F.state files.old).told (λ files work. Running files (record { script = script.now; file = file.now }) work) text) }
-    ensures stop { IfErr result (λ stop. Stops (F.state files.old) (F.state files.new) (λ files work. Running files (record { script = script.now; file = file.now }) work) stop) }
-    ensures named { IfErr result (IsOf (NamesFile (Some (Run (record { script = script.now; file = file.now }))))) }
+    ensures text { IfOk result (λ text. IsRunText (F.state files.old).held (λ files work. Running files (run_words script.now file.now) work) text) }
+    ensures stop { IfErr result (λ stop. Stops (F.state files.old) (F.state files.new)
+        (λ files work. Running files (run_words script.now file.now) work) stop) }
+    ensures reached { IfErr result (IsOf (ComesTo (Some (Run (run_words script.now file.now))) (F.state files.old).held)) }
 {
     match fetch(alloc, files, file) {
         Err(stop) => Err(stop),
@@ -186,9 +187,9 @@ fn decide_print<'a, F: Files>(
     files: &mut F,
 ) -> Result<Items<u8>, Stop<'a>>
     ensures on { FilesGoOn (F.state files.old) (F.state files.new) }
-    ensures text { IfOk result (λ text. IsPrintText (F.state files.old).told (λ files work. Printing files name.now work) text) }
+    ensures text { IfOk result (λ text. IsPrintText (F.state files.old).held (λ files work. Printing files name.now work) text) }
     ensures stop { IfErr result (λ stop. Stops (F.state files.old) (F.state files.new) (λ files work. Printing files name.now work) stop) }
-    ensures named { IfErr result (IsOf (NamesFile (Some (Print name.now)))) }
+    ensures reached { IfErr result (IsOf (ComesTo (Some (Print name.now)) (F.state files.old).held)) }
 {
     match fetch(alloc, files, name) {
         Err(stop) => Err(stop),
@@ -206,9 +207,9 @@ pub fn decide<'a, F: Files>(
     files: &mut F,
 ) -> Result<Items<u8>, Stop<'a>>
     ensures on { FilesGoOn (F.state files.old) (F.state files.new) }
-    ensures text { IfOk result (λ text. IsRightText (Some (asked_of command.entry)) (F.state files.old).told (λ files work. IsWork (Some (asked_of command.entry)) files work) text) }
-    ensures stop { IfErr result (λ stop. Stops (F.state files.old) (F.state files.new) (λ files work. IsWork (Some (asked_of command.entry)) files work) stop) }
-    ensures named { IfErr result (IsOf (NamesFile (Some (asked_of command.entry)))) }
+    ensures text { IfOk result (λ text. IsRightText (Some (asked_of command.entry)) (F.state files.old).held (IsWork (Some (asked_of command.entry))) text) }
+    ensures stop { IfErr result (λ stop. Stops (F.state files.old) (F.state files.new) (IsWork (Some (asked_of command.entry))) stop) }
+    ensures reached { IfErr result (IsOf (ComesTo (Some (asked_of command.entry)) (F.state files.old).held)) }
 {
     match command {
         Command::Run { script, file } => decide_run(alloc, script, file, files),

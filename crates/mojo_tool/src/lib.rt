@@ -11,4 +11,4 @@ mod words;
 
 pub use refusal::ToolRefusal;
 pub use status::Status;
-pub use top::{complete, mojo_alone, mojo_main, prints_again};
+pub use top::{complete, mojo_alone, mojo_main, one_work, prints_again};

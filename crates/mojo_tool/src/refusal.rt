@@ -6,9 +6,9 @@ use std::fmt;
 /// Why a file is refused, with its name as it was given.
 #[derive(Clone, Copy)]
 pub enum ToolRefusal<'a> {
-    /// The script isn't of the form that is read today.
+    /// The script isn't of the narrow form that is read.
     Unsupported(&'a str),
-    /// The file has more than 1,048,576 bytes.
+    /// The file has more than `MAX_FILE_BYTES` bytes.
     FileTooLong(&'a str),
     /// The Mojom file is refused at a place.
     Refused(&'a str, FileRefusal),

@@ -25,6 +25,9 @@ left e0.1
 done 5
 ";
 
+/// The usage by the name `./mojo`, up to where the name comes again.
+const USAGE_IN_PART: &str = "usage: ./mojo run --script SCRIPT FILE\n       ";
+
 /// A file by its name and its text.
 fn named(alloc: Global, name: &str, text: &str) -> Result<NamedFile, AllocError> {
     Ok(NamedFile {
@@ -107,13 +110,14 @@ fn each_write_fails_once(rt: HostRuntime) -> Result<(), Fail> {
 #[test]
 fn wrong_words_show_the_usage_even_where_it_is_lost(rt: HostRuntime) -> Result<(), Fail> {
     let alloc = rt.alloc();
-    let words: Vec<String> = Vec::new(alloc);
+    let mut words = Vec::new(alloc);
+    words.push(String::from_str(alloc, "./mojo")?)?;
     let mut files = files(alloc, Vec::new(alloc))?;
     let mut out = MemorySink::new(alloc, 100, Vec::new(alloc));
-    let mut err = MemorySink::new(alloc, 7, vec![in alloc; 1]?);
+    let mut err = MemorySink::new(alloc, 100, vec![in alloc; 3]?);
     let status = mojo_alone(alloc, words.as_slice(), &mut files, &mut out, &mut err);
     assert_eq!(rt; status, Some(2));
     assert!(rt; out.text().is_empty());
-    assert_eq!(rt; err.text(), b"usage: ".as_slice());
+    assert_eq!(rt; err.text(), USAGE_IN_PART.as_bytes());
     Ok(())
 }

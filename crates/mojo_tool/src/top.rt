@@ -1,7 +1,7 @@
 //! The top call.
 
 ghost use Rattle.std.specs.Prelude.{◌≡◌, ℕ, List, map, string_bytes, Some, None, IfOk};
-ghost use Rattle.mj_io.specs.Outside.{SinkState};
+ghost use Rattle.mj_io.specs.Outside.{Named, SinkState};
 ghost use Rattle.mojom_ast.specs.declared.file.File.{File};
 ghost use Rattle.mojom_compile.specs.Compiled.{IsParsed};
 ghost use Rattle.mojom_print.specs.FileText.{file_text};
@@ -9,7 +9,7 @@ ghost use Rattle.mojo_tool.specs.Answers.{Answers, Seen, code_of, WroteOrFailed}
 ghost use Rattle.mojo_tool.specs.Complete.{IsComplete};
 ghost use Rattle.mojo_tool.specs.steps.Reports.{Printed, Reported};
 ghost use Rattle.mojo_tool.specs.Lines.{refusal_text, error_line, read_text};
-ghost use Rattle.mojo_tool.specs.Work.{command_of};
+ghost use Rattle.mojo_tool.specs.Work.{Work, IsWork, command_of};
 ghost use Rattle.mojo_tool.specs.declared.status.Status.{Status};
 
 use crate::decide::{Stop, decide};
@@ -21,13 +21,15 @@ use std::alloc::{AllocError, Global};
 use std::sync::Wait;
 use std::thread::Threads;
 
-/// How the program is used.
-const USAGE: &str = "usage: mojo_tool run --script SCRIPT FILE
-       mojo_tool print FILE
+/// How a run is asked for, behind the program's name.
+const USAGE_OF_RUN: &str = " run --script SCRIPT FILE\n       ";
+
+/// How a print is asked for, behind the program's name, and the rest of the usage.
+const USAGE_OF_PRINT: &str = " print FILE
 
 run reads the Mojom file FILE and the script of calls SCRIPT, runs the script, and prints the
 history of its calls to standard output. print prints the canonical text of the Mojom file
-FILE.
+FILE, without its comments.
 
 Exit status: 0 all was done; 1 a file is refused; 2 the words are not these; 3 a file could
 not be read; 4 standard output failed; 5 want of memory.
@@ -39,6 +41,20 @@ fn complain<E: Sink>(err: &mut E, text: &[u8])
 {
     if write_all(err, text).is_err() {
         // The text is lost.
+    }
+}
+
+/// Writes how the program is used, by the name that the words begin with, or by `mojo_tool` where
+/// there are no words. Ends with the first fault, which changes nothing else.
+fn say_usage<E: Sink>(err: &mut E, words: &[String]) {
+    let name = match words {
+        [] => "mojo_tool",
+        [name, ..] => name.as_str(),
+    };
+    for piece in ["usage: ", name, USAGE_OF_RUN, name, USAGE_OF_PRINT] {
+        if write_all(err, piece.as_bytes()).is_err() {
+            return;
+        }
     }
 }
 
@@ -110,7 +126,7 @@ fn alone<F: Files, O: Sink, E: Sink>(
 {
     match read_words(words) {
         None => {
-            complain(err, USAGE.as_bytes());
+            say_usage(err, words);
             Status::WrongUse
         }
         Some(command) => match decide(alloc, command, files) {
@@ -121,11 +137,13 @@ fn alone<F: Files, O: Sink, E: Sink>(
 }
 
 /// The program for all words but a run with threads, for which it answers none and does nothing.
-/// No words are read as one today.
+/// No words are read as one.
 ///
 /// The words begin with the program's name. The status is 0 where all was done, and else: 1 the
-/// first refusal that the files give, with its line on `err`; 2 the words are no command; 3 a file
-/// could not be read; 4 `out` failed, and has a front of the text; 5 want of memory.
+/// first refusal that the files give, with its line on `err`; 2 the words are no command, and `err`
+/// has how the program is used, a text that only tests look at; 3 a file could not be read, with its
+/// line on `err`; 4 `out` failed, and has a front of the text; 5 want of memory. At 0, 4 and 5 nothing
+/// is written to `err`, and at 2 no file is fetched.
 pub fn mojo_alone<F: Files, O: Sink, E: Sink>(
     alloc: Global,
     words: &[String],
@@ -150,7 +168,7 @@ pub fn mojo_alone<F: Files, O: Sink, E: Sink>(
 /// The whole program: what `mojo_alone` does, and runs with threads.
 ///
 /// `words` begin with the program's name. `gate` stands round the steps of workers, which no words
-/// ask for today.
+/// ask for.
 pub fn mojo_main<R: Wait + Threads + Sync, F: Files, O: Sink, E: Sink, G: Gate + Sync>(
     _rt: &R,
     alloc: Global,
@@ -178,10 +196,18 @@ pub fn mojo_main<R: Wait + Threads + Sync, F: Files, O: Sink, E: Sink, G: Gate +
     }
 }
 
-/// A law of the answers: where the files tell that all is there and nothing is refused, or that a run
-/// is asked for, and nothing failed, the status is 0, or 5 for want of memory.
+/// A law of the answers. Where the files say what they hold and no fault was counted on a file that
+/// is there: a run or a text that is asked for is done (0), if `out` didn't fail; a refusal that is
+/// asked for is answered by its own line (1), and a name that isn't there by its own (3), whatever
+/// befell `err`. The only other status is 5, for want of memory.
 pub fn complete()
     ensures { (s : Seen) (status : Status) → Answers s status → IsComplete s status }
+{}
+
+/// A law of the words: over the same files they ask for one work at most.
+pub fn one_work()
+    ensures { (words : List (List ℕ)) (files : List Named) (work other : Work) → IsWork (command_of words) files work
+        → IsWork (command_of words) files other → work ≡ other }
 {}
 
 /// A law of printed texts: where a printed text has a tree, that tree's text is the same text, so that

@@ -17,15 +17,13 @@ Printed before now text WrongUse = ⊥
 Printed before now text ReadFault = ⊥
 Printed before now text NoMemory = ⊥
 
--- the line was written with its status, unless there was no memory for the line
-abbrev pub Said : SinkState → SinkState → List ℕ → Status → Status → Type 0
-Said before now line wanted status = ((status ≡ wanted) × WroteOrFailed before now line)
-
+-- the line was written with its status, or nothing was, where there was no memory for the line
 abbrev pub SaidUnless : SinkState → SinkState → List ℕ → Status → Status → Type 0
-SaidUnless before now line wanted NoMemory = Unit {0}
+SaidUnless before now line wanted NoMemory = now ≡ before
 SaidUnless before now line wanted status = (status ≡ wanted) × WroteOrFailed before now line
 
+-- why there is no text was said
 abbrev pub Reported : Stop → SinkState → SinkState → Status → Type 0
 Reported (stop.Refused refusal) before now status = SaidUnless before now (error_line (refusal_text refusal)) Refused status
 Reported (stop.ReadFault name) before now status = SaidUnless before now (error_line (read_text name.now)) ReadFault status
-Reported stop.NoMemory before now status = status ≡ NoMemory
+Reported stop.NoMemory before now status = (status ≡ NoMemory) × (now ≡ before)

@@ -11,34 +11,35 @@ use Rattle.mojo_tool.specs.Answers.{ReadFailed, refused_work, refused_name}
 use Rattle.mojo_tool.specs.declared.decide.Stop.{Stop}
 use Rattle.mojo_tool.specs.declared.decide.Stop.TheVariants.{Refused, ReadFault, NoMemory}
 
--- these are the bytes of that name, over files that tell
+-- these are the bytes of that name, over files that say what they hold
 abbrev pub HasBytes : Option (List Named) → List ℕ → List ℕ → Type 0
 HasBytes None name bytes = Unit {0}
 HasBytes (Some files) name bytes = find_file files name ≡ Some bytes
 
--- the name has more bytes than a file may have, over files that tell
+-- the name has more bytes than a file may have, over files that say what they hold
 abbrev pub IsLonger : Option (List Named) → List ℕ → Type 0
 IsLonger None name = Unit {0}
 IsLonger (Some files) name = (bytes : List ℕ) × (find_file files name ≡ Some bytes) × (MAX_FILE_BYTES < length bytes)
 
--- the name isn't there, or a fault on a name that is there was counted, over files that tell
+-- the name isn't there, or a fault on a name that is there was counted, over files that say what they hold
 abbrev pub IsLost : Option (List Named) → List ℕ → ℕ → ℕ → Type 0
 IsLost None name before now = Unit {0}
 IsLost (Some files) name before now = (find_file files name ≡ None) ⊎ Rose before now
 
 -- why a file was not fetched
 abbrev pub NotFetched : FilesState → FilesState → List ℕ → Stop → Type 0
-NotFetched before now name (Refused refusal) = IsLonger before.told name × (refused_work refusal ≡ TooLong name)
-NotFetched before now name (ReadFault other) = (other.now ≡ name) × Rose before.faults now.faults × IsLost before.told name before.there now.there
+NotFetched before now name (Refused refusal) = IsLonger before.held name × (refused_work refusal ≡ TooLong name)
+NotFetched before now name (ReadFault other) =
+    (other.now ≡ name) × Rose before.faults now.faults × IsLost before.held name before.faults_on_present now.faults_on_present
 NotFetched before now name NoMemory = Unit {0}
 
 pub record FaultOfFiles (before now : FilesState) (ask : List Named → Work → Type 0) (name : List ℕ) : Type 0 where
   pub rose : Rose before.faults now.faults
-  pub failed : ReadFailed before.told ask name before.there now.there
+  pub failed : ReadFailed before.held ask name before.faults_on_present now.faults_on_present
 
 -- no text, though this is asked for
 abbrev pub Stops : FilesState → FilesState → (List Named → Work → Type 0) → Stop → Type 0
-Stops before now ask (Refused refusal) = AskedFor before.told ask (refused_work refusal)
+Stops before now ask (Refused refusal) = AskedFor before.held ask (refused_work refusal)
 Stops before now ask (ReadFault name) = FaultOfFiles before now ask name.now
 Stops before now ask NoMemory = Unit {0}
 

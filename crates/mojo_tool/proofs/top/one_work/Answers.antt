@@ -1,0 +1,6 @@
+use Rattle.mojo_tool.specs.Work.{command_of}
+use Rattle.mojo_tool.proofs.OneWork.{one_work}
+use Rattle.mojo_tool.proofs.top.one_work.Goals as goal
+
+pub returns : goal.returns
+returns c = λ words files work other. one_work (command_of words) files work other
