@@ -7,7 +7,7 @@ use std::io::Print;
 use std::sync::Wait;
 use std::thread::Threads;
 
-/// The status that says that the words are faulty. The text of the usage is free.
+/// The status that says that the words are faulty. What is said of them is free.
 const WRONG_USE: u8 = 2;
 
 /// The most bytes that a sink takes at once, so that a long text goes in several writes.

@@ -3,6 +3,7 @@ use Rattle.std.proofs.Common.{◌≡◌, ◌≤◌, ℕ, List, length, refl, sym
 use Rattle.std.specs.Prelude.{Option, Result, Ok, Err, IfOk, IfErr}
 use Rattle.mj_base.specs.declared.limits.TheConstants.{MAX_FILE_BYTES}
 use Rattle.mj_io.specs.Outside.{Named, FilesState, FilesGoOn}
+use Rattle.command_line.specs.Asked.{RunWords, Run}
 use Rattle.mj_schema.specs.declared.schema.Schema.{Schema}
 use Rattle.mojom_ast.specs.declared.file.File.{File}
 use Rattle.mojom_compile.specs.declared.error.FileRefusal.{FileRefusal}
@@ -10,7 +11,7 @@ use Rattle.mojom_compile.specs.Compiled.{IsParsed, IsSchemaOf, IsUnread, IsRefus
 use Rattle.mojom_print.specs.FileText.{file_text}
 use Rattle.call_script.specs.declared.script.Script.{Script}
 use Rattle.call_script.specs.Spelling.{IsScriptOf}
-use Rattle.mojo_tool.specs.Work.{Work, Missing, TooLong, Refuses, Unreadable, Runs, Prints, RunWords, Fetching, Leads, Compiling, Parsing, Reading, Scripting, Running, Printing, AskedFor, Run, HasSchema, HasSchemaAt, ComesTo}
+use Rattle.mojo_tool.specs.Work.{Work, Missing, TooLong, Refuses, Unreadable, Runs, Prints, Fetching, Leads, Compiling, Parsing, Reading, Scripting, Running, Printing, AskedFor, HasSchema, HasSchemaAt, ComesTo}
 use Rattle.mojo_tool.specs.Answers.{ReadFailed, refused_work, IsTextOf, IsRunText, IsPrintText}
 use Rattle.mojo_tool.specs.steps.Stops.{Stops, IsOf, HasBytes, IsLonger, IsLost, NotFetched, NotCompiled, NoScript}
 use Rattle.mojo_tool.specs.declared.decide.Stop.{Stop}

@@ -2,7 +2,8 @@
 use Rattle.std.proofs.Common.{◌≡◌, ℕ, List, Some, None, refl, sym, ap, ◌++◌, subst, inl, inr}
 use Rattle.std.specs.Prelude.{Option, ◌⊎◌, codes}
 use Rattle.mj_io.specs.Outside.{Named, Rose}
-use Rattle.mojo_tool.specs.Work.{Work, WrongWords, Missing, TooLong, Refuses, Unreadable, Runs, Prints, AskedFor, Command, Run, Print, command_of, IsWork}
+use Rattle.command_line.specs.Asked.{Command, Run, Print, command_of}
+use Rattle.mojo_tool.specs.Work.{Work, WrongWords, Missing, TooLong, Refuses, Unreadable, Runs, Prints, AskedFor, IsWork}
 use Rattle.mojo_tool.specs.Answers.{Seen, Answers, asked_by, IsRightText, ReadFailed, WroteOrFailed, refused_work}
 use Rattle.mojo_tool.specs.Lines.{refusal_text, error_line, read_text}
 use Rattle.mojo_tool.specs.Complete.{CanBeDone, CanBeServed, IsAsked, IsDoable, IsDoneOrShort, IsRefusedOrShort, IsUnreadOrShort, IsComplete}

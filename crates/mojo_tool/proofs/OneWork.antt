@@ -6,7 +6,8 @@ use Rattle.mj_schema.specs.declared.schema.Schema.{Schema}
 use Rattle.mojom_compile.proofs.Readings.{one_tree}
 use Rattle.mojom_compile.proofs.Whole.{one_schema}
 use Rattle.call_script.proofs.OneScript.{one_script}
-use Rattle.mojo_tool.specs.Work.{Work, Refuses, Prints, Runs, RunWords, Command, Run, Print, Leads, Compiling, Parsing, Reading, Scripting, IsWork}
+use Rattle.command_line.specs.Asked.{RunWords, Command, Run, Print}
+use Rattle.mojo_tool.specs.Work.{Work, Refuses, Prints, Runs, Leads, Compiling, Parsing, Reading, Scripting, IsWork}
 
 leads : (name : List ℕ) (next : List ℕ → Work → Type 0) (found : Option (List ℕ)) (w v : Work) → ((bytes : List ℕ) → next bytes w → next bytes v → w ≡ v)
     → Leads name next found w → Leads name next found v → w ≡ v

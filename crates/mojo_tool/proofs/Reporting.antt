@@ -2,7 +2,8 @@
 use Rattle.std.proofs.Common.{◌≡◌, ℕ, List, Some, refl, subst}
 use Rattle.std.specs.Prelude.{Option}
 use Rattle.mj_io.specs.Outside.{FilesState, SinkState}
-use Rattle.mojo_tool.specs.Work.{Command, command_of, ComesTo, IsWork}
+use Rattle.command_line.specs.Asked.{Command, command_of}
+use Rattle.mojo_tool.specs.Work.{ComesTo, IsWork}
 use Rattle.mojo_tool.specs.Answers.{Seen, Answers, IsRightText}
 use Rattle.mojo_tool.specs.steps.Stops.{Stops, IsOf}
 use Rattle.mojo_tool.specs.steps.Reports.{Printed, Reported}

@@ -1,6 +1,7 @@
 -- What each status says of the words, the files and the sinks, before the call and after it.
 use Rattle.std.specs.Prelude.{ℕ, ◌≡◌, List, reverse, Option, Some, None, ◌⊎◌}
 use Rattle.mj_io.specs.Outside.{Named, FilesState, SinkState, Rose, Wrote, WroteSome}
+use Rattle.command_line.specs.Asked.{Command, Run, Print, command_of}
 use Rattle.mj_schema.specs.declared.schema.Schema.{Schema}
 use Rattle.bind_model.specs.declared.event.Event.{Event}
 use Rattle.bind_model.specs.Machine.{Legal}
@@ -10,7 +11,7 @@ use Rattle.mojom_print.specs.FileText.{file_text}
 use Rattle.call_script.specs.declared.script.Script.{Script}
 use Rattle.call_script.specs.Text.{output}
 use Rattle.script_run.specs.OfScript.{OfScript}
-use Rattle.mojo_tool.specs.Work.{Work, Missing, TooLong, Refuses, Unreadable, Runs, Prints, Command, Run, Print, command_of, ComesTo, IsWork, AskedFor}
+use Rattle.mojo_tool.specs.Work.{Work, Missing, TooLong, Refuses, Unreadable, Runs, Prints, ComesTo, IsWork, AskedFor}
 use Rattle.mojo_tool.specs.Lines.{refusal_text, error_line, read_text}
 use Rattle.mojo_tool.specs.declared.refusal.ToolRefusal.{ToolRefusal}
 use Rattle.mojo_tool.specs.declared.refusal.ToolRefusal.TheVariants as refusals
@@ -116,7 +117,7 @@ pub record IsRefused (s : Seen) : Type 0 where
   pub asked : AskedFor s.files_before.held (asked_by s) (refused_work refusal)
   pub wrote : WroteOrFailed s.err_before s.err (error_line (refusal_text refusal))
 
--- the words are no command, and no file is fetched
+-- the words are no command, or ask for help, and no file is fetched
 pub record IsWrongUse (s : Seen) : Type 0 where
   pub quiet : s.out ≡ s.out_before
   pub unread : s.files ≡ s.files_before

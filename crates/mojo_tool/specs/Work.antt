@@ -1,31 +1,14 @@
--- What the words and the files ask for, in the order in which a call finds it out: the words, the Mojom file, the script, the run.
-use Rattle.std.specs.Prelude.{ℕ, ◌≡◌, ◌≤◌, ◌<◌, ◌&&◌, List, [], ◌∷◌, length, codes, if◌then◌else◌, Option, Some, None, ◌⊎◌}
-use Rattle.std.specs.Str.{bytes_eq}
+-- What the command and the files ask for, in the order in which a call finds it out: the words, the Mojom file, the script, the run.
+use Rattle.std.specs.Prelude.{ℕ, ◌≡◌, ◌≤◌, ◌<◌, List, length, Option, Some, None, ◌⊎◌}
 use Rattle.mj_base.specs.declared.limits.TheConstants.{MAX_FILE_BYTES}
 use Rattle.mj_io.specs.Outside.{Named, find_file}
+use Rattle.command_line.specs.Asked.{Command, RunWords, Run, Print}
 use Rattle.mj_schema.specs.declared.schema.Schema.{Schema}
 use Rattle.mojom_ast.specs.declared.file.File.{File}
 use Rattle.mojom_compile.specs.declared.error.FileRefusal.{FileRefusal}
 use Rattle.mojom_compile.specs.Compiled.{IsParsed, IsSchemaOf, IsUnread, IsRefusedFile}
 use Rattle.call_script.specs.declared.script.Script.{Script}
 use Rattle.call_script.specs.Spelling.{IsScriptOf}
-
--- the names in `run --script SCRIPT FILE`
-pub record RunWords : Type 0 where
-  pub script : List ℕ
-  pub file : List ℕ
-
--- what the words ask for: a run, or the text of a file, `print FILE`
-pub data Command : Type 0 where
-  Run : RunWords → Command
-  Print : (file : List ℕ) → Command
-
--- `PROGRAM run --script SCRIPT FILE` or `PROGRAM print FILE`
-abbrev pub command_of : List (List ℕ) → Option Command
-command_of (program ∷ command ∷ flag ∷ script ∷ file ∷ []) =
-    if bytes_eq command (codes "run") && bytes_eq flag (codes "--script") then Some (Run (record { script = script; file = file })) else None
-command_of (program ∷ command ∷ file ∷ []) = if bytes_eq command (codes "print") then Some (Print file) else None
-command_of words = None
 
 -- the file is there, no longer than a file may be, and has a schema
 abbrev pub HasSchema : Option (List ℕ) → Type 0
@@ -45,7 +28,7 @@ ComesTo (Some (Print file)) held name = name ≡ file
 
 -- what is asked for
 pub data Work : Type 0 where
-  -- nothing: the words are no command
+  -- nothing: the words are no command, or ask for help
   WrongWords : Work
   -- a file to be fetched isn't there
   Missing : (name : List ℕ) → Work

@@ -9,14 +9,14 @@ ghost use Rattle.mojom_print.specs.FileText.{file_text};
 ghost use Rattle.call_script.specs.declared.script.Script.{Script};
 ghost use Rattle.call_script.specs.Spelling.{IsScript, IsScriptOf};
 ghost use Rattle.script_run.specs.Narrow.{IsNarrow};
-ghost use Rattle.mojo_tool.specs.Work.{ComesTo, IsWork, Run, Print, Scripting, Running, Printing};
-ghost use Rattle.mojo_tool.specs.steps.Names.{asked_of, run_words};
+ghost use Rattle.command_line.specs.Asked.{Run, Print, asked_of, run_words};
+ghost use Rattle.mojo_tool.specs.Work.{ComesTo, IsWork, Scripting, Running, Printing};
 ghost use Rattle.mojo_tool.specs.Answers.{IsTextOf, IsRunText, IsPrintText, IsRightText};
 ghost use Rattle.mojo_tool.specs.steps.Stops.{Stops, IsOf, HasBytes, NotFetched, NotCompiled, NoScript};
 
 use crate::refusal::ToolRefusal;
-use crate::words::Command;
 use call_script::{Script, ScriptError};
+use command_line::Command;
 use mj_base::Items;
 use mj_base::limits::MAX_FILE_BYTES;
 use mj_io::{Fetched, Files, FilesError};

@@ -7,7 +7,6 @@ mod status;
 #[cfg(test)]
 mod tests;
 mod top;
-mod words;
 
 pub use refusal::ToolRefusal;
 pub use status::Status;

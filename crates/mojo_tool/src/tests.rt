@@ -25,8 +25,20 @@ left e0.1
 done 5
 ";
 
-/// The usage by the name `./mojo`, up to where the name comes again.
-const USAGE_IN_PART: &str = "usage: ./mojo run --script SCRIPT FILE\n       ";
+/// What is said of words without a command, by the name that they begin with.
+const NO_COMMAND: &str = "error: 'mojo' requires a subcommand but one was not provided
+  [subcommands: run, print, help]
+
+Usage: mojo <COMMAND>
+
+For more information, try '--help'.
+";
+
+/// Its first 100 bytes.
+const NO_COMMAND_IN_PART: &str = "error: 'mojo' requires a subcommand but one was not provided
+  [subcommands: run, print, help]
+
+Usag";
 
 /// A file by its name and its text.
 fn named(alloc: Global, name: &str, text: &str) -> Result<NamedFile, AllocError> {
@@ -108,16 +120,18 @@ fn each_write_fails_once(rt: HostRuntime) -> Result<(), Fail> {
 }
 
 #[test]
-fn wrong_words_show_the_usage_even_where_it_is_lost(rt: HostRuntime) -> Result<(), Fail> {
+fn a_wrong_use_is_said_even_where_it_is_lost(rt: HostRuntime) -> Result<(), Fail> {
     let alloc = rt.alloc();
     let mut words = Vec::new(alloc);
     words.push(String::from_str(alloc, "./mojo")?)?;
-    let mut files = files(alloc, Vec::new(alloc))?;
-    let mut out = MemorySink::new(alloc, 100, Vec::new(alloc));
-    let mut err = MemorySink::new(alloc, 100, vec![in alloc; 3]?);
-    let status = mojo_alone(alloc, words.as_slice(), &mut files, &mut out, &mut err);
-    assert_eq!(rt; status, Some(2));
-    assert!(rt; out.text().is_empty());
-    assert_eq!(rt; err.text(), USAGE_IN_PART.as_bytes());
+    for (calls, said) in [(9, NO_COMMAND), (1, NO_COMMAND_IN_PART)] {
+        let mut files = files(alloc, Vec::new(alloc))?;
+        let mut out = MemorySink::new(alloc, 100, Vec::new(alloc));
+        let mut err = MemorySink::new(alloc, 100, vec![in alloc; calls]?);
+        let status = mojo_alone(alloc, words.as_slice(), &mut files, &mut out, &mut err);
+        assert_eq!(rt; status, Some(2));
+        assert!(rt; out.text().is_empty());
+        assert_eq!(rt; err.text(), said.as_bytes());
+    }
     Ok(())
 }

@@ -1,6 +1,7 @@
 //! The top call.
 
-ghost use Rattle.std.specs.Prelude.{◌≡◌, ℕ, List, map, string_bytes, Some, None, IfOk};
+ghost use Rattle.std.specs.Prelude.{◌≡◌, ◌⊎◌, ℕ, List, map, string_bytes, Some, None, IfOk};
+ghost use Rattle.command_line.specs.Asked.{command_of};
 ghost use Rattle.mj_io.specs.Outside.{Named, SinkState};
 ghost use Rattle.mojom_ast.specs.declared.file.File.{File};
 ghost use Rattle.mojom_compile.specs.Compiled.{IsParsed};
@@ -9,31 +10,17 @@ ghost use Rattle.mojo_tool.specs.Answers.{Answers, Seen, code_of, WroteOrFailed}
 ghost use Rattle.mojo_tool.specs.Complete.{IsComplete};
 ghost use Rattle.mojo_tool.specs.steps.Reports.{Printed, Reported};
 ghost use Rattle.mojo_tool.specs.Lines.{refusal_text, error_line, read_text};
-ghost use Rattle.mojo_tool.specs.Work.{Work, IsWork, command_of};
+ghost use Rattle.mojo_tool.specs.Work.{Work, IsWork};
 ghost use Rattle.mojo_tool.specs.declared.status.Status.{Status};
 
 use crate::decide::{Stop, decide};
 use crate::refusal::ToolRefusal;
 use crate::status::Status;
-use crate::words::read_words;
+use command_line::{WordsError, read_words};
 use mj_io::{Files, Gate, Sink, write_all};
 use std::alloc::{AllocError, Global};
 use std::sync::Wait;
 use std::thread::Threads;
-
-/// How a run is asked for, behind the program's name.
-const USAGE_OF_RUN: &str = " run --script SCRIPT FILE\n       ";
-
-/// How a print is asked for, behind the program's name, and the rest of the usage.
-const USAGE_OF_PRINT: &str = " print FILE
-
-run reads the Mojom file FILE and the script of calls SCRIPT, runs the script, and prints the
-history of its calls to standard output. print prints the canonical text of the Mojom file
-FILE, without its comments.
-
-Exit status: 0 all was done; 1 a file is refused; 2 the words are not these; 3 a file could
-not be read; 4 standard output failed; 5 want of memory.
-";
 
 /// Writes a text to standard error. A fault of it changes nothing.
 fn complain<E: Sink>(err: &mut E, text: &[u8])
@@ -41,20 +28,6 @@ fn complain<E: Sink>(err: &mut E, text: &[u8])
 {
     if write_all(err, text).is_err() {
         // The text is lost.
-    }
-}
-
-/// Writes how the program is used, by the name that the words begin with, or by `mojo_tool` where
-/// there are no words. Ends with the first fault, which changes nothing else.
-fn say_usage<E: Sink>(err: &mut E, words: &[String]) {
-    let name = match words {
-        [] => "mojo_tool",
-        [name, ..] => name.as_str(),
-    };
-    for piece in ["usage: ", name, USAGE_OF_RUN, name, USAGE_OF_PRINT] {
-        if write_all(err, piece.as_bytes()).is_err() {
-            return;
-        }
     }
 }
 
@@ -113,7 +86,7 @@ fn alone<F: Files, O: Sink, E: Sink>(
     out: &mut O,
     err: &mut E,
 ) -> Status
-    ensures wrong_use { command_of (map string_bytes words.now) ≡ None → result ≡ Status.WrongUse }
+    ensures wrong_use { command_of (map string_bytes words.now) ≡ None → (result ≡ Status.WrongUse) ⊎ (result ≡ Status.NoMemory) }
     ensures answers { Answers (record {
       words = map string_bytes words.now;
       files_before = F.state files.old;
@@ -124,15 +97,16 @@ fn alone<F: Files, O: Sink, E: Sink>(
       err = E.state err.new;
     }) result }
 {
-    match read_words(words) {
-        None => {
-            say_usage(err, words);
-            Status::WrongUse
-        }
-        Some(command) => match decide(alloc, command, files) {
+    match read_words(alloc, words) {
+        Ok(command) => match decide(alloc, command, files) {
             Ok(text) => print(out, text.as_slice()),
             Err(stop) => report(alloc, err, stop),
         },
+        Err(WordsError::WrongUse(text)) => {
+            complain(err, text.as_bytes());
+            Status::WrongUse
+        }
+        Err(WordsError::Memory) => Status::NoMemory,
     }
 }
 
@@ -140,10 +114,10 @@ fn alone<F: Files, O: Sink, E: Sink>(
 /// No words are read as one.
 ///
 /// The words begin with the program's name. The status is 0 where all was done, and else: 1 the
-/// first refusal that the files give, with its line on `err`; 2 the words are no command, and `err`
-/// has how the program is used, a text that only tests look at; 3 a file could not be read, with its
-/// line on `err`; 4 `out` failed, and has a front of the text; 5 want of memory. At 0, 4 and 5 nothing
-/// is written to `err`, and at 2 no file is fetched.
+/// first refusal that the files give, with its line on `err`; 2 the words are no command, or ask for
+/// help, and `err` has what is wrong or the help, a text that only tests look at; 3 a file could not
+/// be read, with its line on `err`; 4 `out` failed, and has a front of the text; 5 want of memory. At
+/// 0, 4 and 5 nothing is written to `err`, and at 2 no file is fetched.
 pub fn mojo_alone<F: Files, O: Sink, E: Sink>(
     alloc: Global,
     words: &[String],
@@ -151,7 +125,7 @@ pub fn mojo_alone<F: Files, O: Sink, E: Sink>(
     out: &mut O,
     err: &mut E,
 ) -> Option<u8>
-    ensures wrong_use { command_of (map string_bytes words.now) ≡ None → result ≡ Some 2 }
+    ensures wrong_use { command_of (map string_bytes words.now) ≡ None → (result ≡ Some 2) ⊎ (result ≡ Some 5) }
     ensures answers { (status : Status) × (result ≡ Some (code_of status)) × Answers (record {
       words = map string_bytes words.now;
       files_before = F.state files.old;
@@ -178,7 +152,7 @@ pub fn mojo_main<R: Wait + Threads + Sync, F: Files, O: Sink, E: Sink, G: Gate +
     err: &mut E,
     _gate: &G,
 ) -> u8
-    ensures wrong_use { command_of (map string_bytes words.now) ≡ None → result ≡ 2 }
+    ensures wrong_use { command_of (map string_bytes words.now) ≡ None → (result ≡ 2) ⊎ (result ≡ 5) }
     ensures answers { (status : Status) × (result ≡ code_of status) × Answers (record {
       words = map string_bytes words.now;
       files_before = F.state files.old;

@@ -1,5 +1,5 @@
 use Rattle.std.proofs.Common.{subst, List, ℕ}
-use Rattle.mojo_tool.specs.steps.Names.{run_words}
+use Rattle.command_line.specs.Asked.{run_words}
 use Rattle.mojo_tool.specs.steps.Stops.{NotCompiled}
 use Rattle.mojom_compile.specs.Compiled.{IsRefusedFile}
 use Rattle.mojo_tool.proofs.Asking.{ok_goes, err_goes, no_schema, later, right_text, comes_to_script}

@@ -1,4 +1,4 @@
-use Rattle.mojo_tool.specs.Work.{command_of}
+use Rattle.command_line.specs.Asked.{command_of}
 use Rattle.mojo_tool.proofs.OneWork.{one_work}
 use Rattle.mojo_tool.proofs.top.one_work.Goals as goal
 

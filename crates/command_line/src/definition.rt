@@ -1,0 +1,70 @@
+//! The commands, as `clap` reads them.
+
+ghost use Rattle.std.specs.Prelude.{◌≡◌, IfOk, false};
+ghost use Rattle.clap.specs.Words.{app_of, rule_of};
+ghost use Rattle.clap.specs.declared.builder.command.Command.TheViews.{out-Command};
+ghost use Rattle.command_line.specs.Definition.{option, one_file, run, print, tool};
+
+use clap::{Arg, ArgAction, Command};
+use std::alloc::{AllocError, Global};
+
+/// What the exit statuses of the program say, for its help.
+const STATUSES: &str =
+    "Exit status: 0 all was done; 1 a file is refused; 2 the words are no command, or ask for help;
+3 a file could not be read; 4 standard output failed; 5 want of memory.";
+
+/// An option that stands once, with its value.
+fn option_arg<'a>(alloc: Global, name: &'a str, help: &'a str) -> Arg<'a>
+    ensures rule { rule_of result ≡ option name.entry.now }
+    ensures local { result.global ≡ false }
+{
+    Arg::new(alloc, name)
+        .long(name)
+        .required(true)
+        .action(ArgAction::Set)
+        .help(help)
+}
+
+/// One file.
+fn file_arg<'a>(alloc: Global, help: &'a str) -> Arg<'a>
+    ensures rule { rule_of result ≡ one_file }
+    ensures local { result.global ≡ false }
+{
+    Arg::new(alloc, "FILE")
+        .required(true)
+        .action(ArgAction::Set)
+        .help(help)
+}
+
+/// `run --script SCRIPT FILE`.
+fn run_command<'a>(alloc: Global) -> Result<Command<'a>, AllocError>
+    ensures app { IfOk result (λ command. app_of command ≡ run) }
+    ensures local { IfOk result (λ command. (out-Command command).has_globals ≡ false) }
+{
+    Command::new(alloc, "run")
+        .about("Runs a script of calls over a Mojom file, and prints its history")
+        .arg(option_arg(alloc, "script", "The script of calls"))?
+        .arg(file_arg(alloc, "The Mojom file"))
+}
+
+/// `print FILE`.
+fn print_command<'a>(alloc: Global) -> Result<Command<'a>, AllocError>
+    ensures app { IfOk result (λ command. app_of command ≡ print) }
+    ensures local { IfOk result (λ command. (out-Command command).has_globals ≡ false) }
+{
+    Command::new(alloc, "print")
+        .about("Prints the canonical text of a Mojom file, without its comments")
+        .arg(file_arg(alloc, "The Mojom file"))
+}
+
+/// The whole command line.
+pub fn tool_command<'a>(alloc: Global) -> Result<Command<'a>, AllocError>
+    ensures app { IfOk result (λ command. app_of command ≡ tool) }
+{
+    Command::new(alloc, "mojo")
+        .about("Reads Mojom files")
+        .after_help(STATUSES)
+        .subcommand_required(true)
+        .subcommand(run_command(alloc)?)?
+        .subcommand(print_command(alloc)?)
+}

@@ -1,0 +1,13 @@
+//! What the words of the command line ask for.
+#![tactic(auto)]
+
+mod asked;
+mod definition;
+mod law;
+mod read;
+#[cfg(test)]
+mod tests;
+
+pub use asked::{Command, WordsError};
+pub use law::taken_words_have_a_command;
+pub use read::read_words;
