@@ -12,6 +12,3 @@ mod words;
 
 pub use error::LexError;
 pub use lexer::{in_order, lex, one_reading};
-
-#[cfg(test)]
-mod tests;

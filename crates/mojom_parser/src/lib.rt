@@ -23,6 +23,3 @@ pub use parser::parse;
 pub fn one_answer()
     ensures { (tokens : List Token) → OneAnswer tokens }
 {}
-
-#[cfg(test)]
-mod tests;

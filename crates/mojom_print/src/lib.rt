@@ -10,6 +10,3 @@ mod types;
 mod words;
 
 pub use file::spell;
-
-#[cfg(test)]
-mod tests;

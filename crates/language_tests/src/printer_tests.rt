@@ -1,12 +1,12 @@
 //! Files built by hand, and their text.
 
-use crate::spell;
 use mj_base::{Items, Span, Text};
 use mojom_ast::{
     Attribute, BaseNode, Const, Definition, DefinitionItem, Field, File, Identifier,
     ModuleStatement, Name, Number, StringLiteral, Struct, StructItem, StructMember, Type, TypeNode,
     Value,
 };
+use mojom_print::spell;
 use std::alloc::{AllocError, Global};
 use std::test::Fail;
 

@@ -1,10 +1,10 @@
 //! Files that are read, and places of refusals. The tokens are written as words with one blank between two.
 
-use super::*;
 use mj_base::{Items, Span, Text};
 use mojom_ast::{
     BaseNode, DefinitionItem, HandleSort, Keyword, Sort, StructItem, Symbol, Token, Type, Value,
 };
+use mojom_parser::{ParseError, parse};
 use std::alloc::{AllocError, Global};
 use std::test::Fail;
 

@@ -1,7 +1,7 @@
 //! Worked files: refusals with their places, and a file with a token of every sort.
 
-use crate::{LexError, lex};
 use mojom_ast::{Sort, Token};
+use mojom_lexer::{LexError, lex};
 use std::alloc::{AllocError, Global};
 use std::test::Fail;
 
