@@ -4,7 +4,7 @@ ghost use Rattle.std.specs.Prelude.{◌≡◌, ◌≤◌, IfOk, length};
 
 use field_packing::pack;
 use mj_base::limits::MAX_FIELDS;
-use mj_schema::{HandleSort, Kind, Width};
+use mj_schema::{HandleSort, Kind, KindNode, Width};
 use std::alloc::{AllocError, Global};
 use std::io;
 use std::io::Print;
@@ -13,32 +13,32 @@ use std::time::CpuClock;
 /// How often each list is packed.
 const ROUNDS: u32 = 1000;
 
-fn integer(width: Width) -> Kind {
-    Kind::Int {
+fn integer(width: Width) -> KindNode {
+    KindNode::Int {
         width,
         signed: true,
     }
 }
 
 /// The kinds in turn: small fields between large ones, so that holes are left and filled.
-fn kind(place: usize) -> Kind {
+fn kind(place: usize) -> KindNode {
     let nullable = false;
     match place % 12 {
-        0 | 3 | 7 => Kind::Bool,
+        0 | 3 | 7 => KindNode::Bool,
         1 | 10 => integer(Width::Bits8),
-        2 => Kind::Remote {
+        2 => KindNode::Remote {
             interface: 0,
             nullable,
         },
         4 => integer(Width::Bits64),
         5 => integer(Width::Bits16),
-        6 => Kind::Union {
+        6 => KindNode::Union {
             number: 0,
             nullable,
         },
         8 => integer(Width::Bits32),
-        9 => Kind::Text { nullable },
-        _ => Kind::Handle {
+        9 => KindNode::Text { nullable },
+        _ => KindNode::Handle {
             sort: HandleSort::Any,
             nullable,
         },
@@ -50,7 +50,7 @@ fn kinds(alloc: Global, count: usize) -> Result<Vec<Kind>, AllocError>
 {
     let mut kinds = Vec::new(alloc);
     for place in 0..count {
-        kinds.push(kind(place))?;
+        kinds.push(Kind::new(kind(place)))?;
     }
     Ok(kinds)
 }

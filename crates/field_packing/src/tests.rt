@@ -2,25 +2,25 @@
 
 use super::*;
 use mj_base::Text;
-use mj_schema::{DraftField, Kind, Width};
+use mj_schema::{DraftField, Kind, KindNode, Width};
 use std::test::Fail;
 
 fn integer(width: Width) -> Kind {
-    Kind::Int {
+    Kind::new(KindNode::Int {
         width,
         signed: true,
-    }
+    })
 }
 
 #[test]
 fn bools_share_bytes_and_holes_are_filled(rt: HostRuntime) -> Result<(), Fail> {
     let kinds = [
-        Kind::Bool,
+        Kind::new(KindNode::Bool),
         integer(Width::Bits16),
-        Kind::Bool,
+        Kind::new(KindNode::Bool),
         integer(Width::Bits8),
         integer(Width::Bits64),
-        Kind::Bool,
+        Kind::new(KindNode::Bool),
     ];
     let places = pack(rt.alloc(), &kinds)?;
     let wanted = [(0, 0), (2, 0), (0, 1), (1, 0), (8, 0), (0, 2)];
@@ -34,7 +34,7 @@ fn a_declared_bool_has_the_first_bit(rt: HostRuntime) -> Result<(), Fail> {
     let alloc = rt.alloc();
     let flag = DraftField {
         name: Text::from_str(alloc, "flag")?,
-        kind: Kind::Bool,
+        kind: Kind::new(KindNode::Bool),
         min_version: 0,
     };
     let places = pack_fields(alloc, &[flag])?;

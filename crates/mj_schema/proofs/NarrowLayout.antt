@@ -4,8 +4,8 @@ use Rattle.std.specs.Prelude.{◌==◌, ◌&&◌, nat_le, max, map}
 use Rattle.std.specs.List.{list_all}
 use Rattle.std.proofs.lemmas.Bool.{and_parts, le-leb}
 use Rattle.std.proofs.lemmas.Bool.Decides.{Decides-eqb}
-use Rattle.mj_schema.specs.declared.kind.Kind.{Kind}
-use Rattle.mj_schema.specs.declared.kind.Kind.TheVariants as kinds
+use Rattle.mj_schema.specs.KindTrees.{KindTree}
+use Rattle.mj_schema.specs.KindTrees as kinds
 use Rattle.mj_schema.specs.declared.kind.Width.TheVariants.{Bits8, Bits16, Bits32, Bits64}
 use Rattle.mj_schema.specs.declared.rows.FieldRow.{FieldRow}
 use Rattle.mj_schema.specs.declared.rows.Place.{Place}
@@ -16,23 +16,23 @@ use Rattle.mj_schema.specs.Layout.{Slot, is_free, address_of, IsLeastPlace, AreP
 use Rattle.mj_schema.specs.Versions.{end_of, greatest, fields_up_to, versions_behind}
 use Rattle.mj_schema.proofs.Apart.{free_cons, cons_free}
 
-narrow_room : (kind : Kind) → is_narrow_kind kind ≡ true → (size_of kind ≡ 32) × (alignment_of kind ≡ 32)
-narrow_room kinds.Bool e = absurd cc
-narrow_room (kinds.Int Bits8 signed) e = absurd cc
-narrow_room (kinds.Int Bits16 signed) e = absurd cc
-narrow_room (kinds.Int Bits32 signed) e = (refl, refl)
-narrow_room (kinds.Int Bits64 signed) e = absurd cc
-narrow_room (kinds.Enum number) e = absurd cc
-narrow_room (kinds.Text nullable) e = absurd cc
-narrow_room (kinds.Handle sort nullable) e = absurd cc
-narrow_room (kinds.Array' p of count nullable) e = absurd cc
-narrow_room (kinds.Map' p key q value nullable) e = absurd cc
-narrow_room (kinds.Struct number nullable) e = absurd cc
-narrow_room (kinds.Union number nullable) e = absurd cc
-narrow_room (kinds.Remote interface nullable) e = absurd cc
-narrow_room (kinds.Receiver interface nullable) e = absurd cc
-narrow_room (kinds.AssociatedRemote interface nullable) e = absurd cc
-narrow_room (kinds.AssociatedReceiver interface nullable) e = absurd cc
+narrow_room : (kind : KindTree) → is_narrow_kind kind ≡ true → (size_of kind ≡ 32) × (alignment_of kind ≡ 32)
+narrow_room kinds.BoolKind e = absurd cc
+narrow_room (kinds.IntKind Bits8 signed) e = absurd cc
+narrow_room (kinds.IntKind Bits16 signed) e = absurd cc
+narrow_room (kinds.IntKind Bits32 signed) e = (refl, refl)
+narrow_room (kinds.IntKind Bits64 signed) e = absurd cc
+narrow_room (kinds.EnumKind number) e = absurd cc
+narrow_room (kinds.TextKind nullable) e = absurd cc
+narrow_room (kinds.HandleKind sort nullable) e = absurd cc
+narrow_room (kinds.ArrayKind of count nullable) e = absurd cc
+narrow_room (kinds.MapKind key value nullable) e = absurd cc
+narrow_room (kinds.StructKind number nullable) e = absurd cc
+narrow_room (kinds.UnionKind number nullable) e = absurd cc
+narrow_room (kinds.RemoteKind interface nullable) e = absurd cc
+narrow_room (kinds.ReceiverKind interface nullable) e = absurd cc
+narrow_room (kinds.AssociatedRemoteKind interface nullable) e = absurd cc
+narrow_room (kinds.AssociatedReceiverKind interface nullable) e = absurd cc
 
 -- the slots of k fields
 abbrev word : ℕ → Slot
@@ -53,7 +53,8 @@ behind_free (suc k) q h =
     let le = behind_free k q parts.1 in
     elim parts.0 [ inl before ↦ omega arith | inr behind ↦ omega arith ]
 
-next_address : (k : ℕ) (kind : Kind) (place : Place) → is_narrow_kind kind ≡ true → IsLeastPlace (words k) kind place → (place.offset ≡ 4 * k) × (place.bit ≡ 0)
+next_address : (k : ℕ) (kind : KindTree) (place : Place) → is_narrow_kind kind ≡ true → IsLeastPlace (words k) kind place
+    → (place.offset ≡ 4 * k) × (place.bit ≡ 0)
 next_address k kind place is h =
     let room = narrow_room kind is in
     let at = address_of place in

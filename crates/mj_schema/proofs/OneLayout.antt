@@ -3,7 +3,7 @@ use Rattle.std.proofs.Common.{◌≡◌, ℕ, ◌+◌, ◌≤◌, true, List, []
 use Rattle.std.specs.Prelude.{◌==◌, map}
 use Rattle.std.proofs.lemmas.Bool.{and_parts}
 use Rattle.std.proofs.lemmas.Bool.Decides.{Decides-eqb}
-use Rattle.mj_schema.specs.declared.kind.Kind.{Kind}
+use Rattle.mj_schema.specs.KindTrees.{KindTree}
 use Rattle.mj_schema.specs.declared.rows.DraftField.{DraftField}
 use Rattle.mj_schema.specs.declared.rows.FieldRow.{FieldRow}
 use Rattle.mj_schema.specs.declared.rows.Place.{Place}
@@ -13,7 +13,7 @@ use Rattle.mj_schema.specs.Layout.{Slot, slot_at, address_of, IsLeastPlace, AreP
 use Rattle.mj_schema.specs.Versions.{version_rows}
 
 -- there is one least place
-pub same_address : (taken : List Slot) (kind : Kind) (one two : Place) → IsLeastPlace taken kind one → IsLeastPlace taken kind two
+pub same_address : (taken : List Slot) (kind : KindTree) (one two : Place) → IsLeastPlace taken kind one → IsLeastPlace taken kind two
     → address_of one ≡ address_of two
 same_address taken kind one two a b =
     let le : address_of one ≤ address_of two = a.least (address_of two) b.aligned b.free in
@@ -21,7 +21,7 @@ same_address taken kind one two a b =
     omega arith
 
 -- so there is one place: for `one_packing` and `same_fields`
-pub same_place : (taken : List Slot) (kind : Kind) (one two : Place) → IsLeastPlace taken kind one → IsLeastPlace taken kind two
+pub same_place : (taken : List Slot) (kind : KindTree) (one two : Place) → IsLeastPlace taken kind one → IsLeastPlace taken kind two
     → (one.offset ≡ two.offset) × (one.bit ≡ two.bit)
 same_place taken kind one two a b =
     let e = same_address taken kind one two a b in
@@ -33,7 +33,7 @@ place_is : (o o' b b' : ℕ) → o ≡ o' → b ≡ b' → ◌≡◌ {A = Place}
 place_is o o' b b' p q = cc
 
 -- fields of some kinds have their places in one way: for the law `one_packing`
-pub one_packing : (taken : List Slot) (kinds : List Kind) (ps qs : List Place) → ArePacked taken kinds ps → ArePacked taken kinds qs → ps ≡ qs
+pub one_packing : (taken : List Slot) (kinds : List KindTree) (ps qs : List Place) → ArePacked taken kinds ps → ArePacked taken kinds qs → ps ≡ qs
 one_packing taken [] [] [] h g = refl
 one_packing taken [] [] (q ∷ qs) h g = absurd g
 one_packing taken [] (p ∷ ps) qs h g = absurd h
@@ -46,12 +46,12 @@ one_packing taken (k ∷ ks) (p ∷ ps) (q ∷ qs) h g =
     let later : ps ≡ qs = one_packing (slot_at k (address_of p) ∷ taken) ks ps qs h.1 rest in
     ap (λ (x : Place). x ∷ ps) e ∙ ap (λ (xs : List Place). q ∷ xs) later
 
-field_is : (n n' : List ℕ) (i i' : ℕ) (k k' : Kind) (o o' b b' v v' : ℕ) → n ≡ n' → i ≡ i' → k ≡ k' → o ≡ o' → b ≡ b' → v ≡ v'
+field_is : (n n' : List ℕ) (i i' : ℕ) (k k' : KindTree) (o o' b b' v v' : ℕ) → n ≡ n' → i ≡ i' → k ≡ k' → o ≡ o' → b ≡ b' → v ≡ v'
     → ◌≡◌ {A = FieldRow} (record { name = n; ordinal = i; kind = k; offset = o; bit = b; min_version = v })
     (record { name = n'; ordinal = i'; kind = k'; offset = o'; bit = b'; min_version = v' })
 field_is n n' i i' k k' o o' b b' v v' p q r s t u = cc
 
-draft_parts : (n n' : List ℕ) (k k' : Kind) (v v' : ℕ) → ◌≡◌ {A = DraftField} (record { name = n; kind = k; min_version = v })
+draft_parts : (n n' : List ℕ) (k k' : KindTree) (v v' : ℕ) → ◌≡◌ {A = DraftField} (record { name = n; kind = k; min_version = v })
     (record { name = n'; kind = k'; min_version = v' }) → (n ≡ n') × (k ≡ k') × (v ≡ v')
 draft_parts n n' k k' v v' e = (ap (λ (d : DraftField). d.name) e, ap (λ (d : DraftField). d.kind) e, ap (λ (d : DraftField). d.min_version) e)
 
@@ -69,7 +69,7 @@ same_fields i taken (x ∷ fs) (y ∷ gs) e n m h g =
     let number = and_parts (x.ordinal == i) (are_numbered (i + 1) fs) n in
     let number' = and_parts (y.ordinal == i) (are_numbered (i + 1) gs) m in
     let ordinals : x.ordinal ≡ y.ordinal = (Decides-eqb x.ordinal i).0 number.0 ∙ sym ((Decides-eqb y.ordinal i).0 number'.0) in
-    let here : IsLeastPlace taken x.kind (place_of y) = subst (λ (k : Kind). IsLeastPlace taken k (place_of y)) (sym parts.1) g.0 in
+    let here : IsLeastPlace taken x.kind (place_of y) = subst (λ (k : KindTree). IsLeastPlace taken k (place_of y)) (sym parts.1) g.0 in
     let same = same_place taken x.kind (place_of x) (place_of y) h.0 here in
     let is : x ≡ y = field_is x.name y.name x.ordinal y.ordinal x.kind y.kind x.offset y.offset x.bit y.bit x.min_version y.min_version parts.0
     ordinals parts.1 same.0 same.1 parts.2 in

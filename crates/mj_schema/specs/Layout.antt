@@ -3,8 +3,7 @@
 use Rattle.std.specs.Prelude.{ℕ, ◌+◌, ◌*◌, ◌%◌, ◌≡◌, ◌<◌, ◌≤◌, Bool, true, ◌||◌, ◌&&◌, ◌==◌, nat_le, IsTrue, List, [], ◌∷◌, length, map}
 use Rattle.std.specs.List.{list_all}
 use Rattle.mj_base.specs.declared.limits.TheConstants.{MAX_FIELDS}
-use Rattle.mj_base.specs.Bytes.{rounded8}
-use Rattle.mj_schema.specs.declared.kind.Kind.{Kind}
+use Rattle.mj_schema.specs.KindTrees.{KindTree}
 use Rattle.mj_schema.specs.declared.rows.DraftField.{DraftField}
 use Rattle.mj_schema.specs.declared.rows.DraftStruct.{DraftStruct}
 use Rattle.mj_schema.specs.declared.rows.FieldRow.{FieldRow}
@@ -31,25 +30,25 @@ abbrev pub address_of : Place → ℕ
 address_of place = 8 * place.offset + place.bit
 
 -- the bits of a field of this kind at a bit address
-abbrev pub slot_at : Kind → ℕ → Slot
+abbrev pub slot_at : KindTree → ℕ → Slot
 slot_at kind address = record { start = address; size = size_of kind }
 
 -- the least bit address that is a multiple of the kind's alignment and has its bits free
-pub record IsLeastPlace (taken : List Slot) (kind : Kind) (place : Place) : Type 0 where
+pub record IsLeastPlace (taken : List Slot) (kind : KindTree) (place : Place) : Type 0 where
   pub bit : place.bit < 8
   pub aligned : address_of place % alignment_of kind ≡ 0
   pub free : IsTrue (is_free taken (slot_at kind (address_of place)))
   pub least : (other : ℕ) → other % alignment_of kind ≡ 0 → IsTrue (is_free taken (slot_at kind other)) → address_of place ≤ other
 
 -- each field in order lies at its least place, where what stands before it is taken
-abbrev pub ArePacked : List Slot → List Kind → List Place → Type 0
+abbrev pub ArePacked : List Slot → List KindTree → List Place → Type 0
 ArePacked taken [] [] = Unit {0}
 ArePacked taken [] (place ∷ places) = ⊥
 ArePacked taken (kind ∷ kinds) [] = ⊥
 ArePacked taken (kind ∷ kinds) (place ∷ places) = IsLeastPlace taken kind place × ArePacked (slot_at kind (address_of place) ∷ taken) kinds places
 
 -- what a field holds
-abbrev pub kind_of : FieldRow → Kind
+abbrev pub kind_of : FieldRow → KindTree
 kind_of field = field.kind
 
 -- where a field lies

@@ -1,3 +1,4 @@
+pub mod KindTrees
 pub mod Sizes
 pub mod Versions
 pub mod Layout

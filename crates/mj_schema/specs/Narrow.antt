@@ -3,19 +3,19 @@ use Rattle.std.specs.Prelude.{ℕ, suc, ◌+◌, ◌*◌, ◌≡◌, ◌&&◌, �
 use Rattle.std.specs.List.{list_all}
 use Rattle.mj_base.specs.Bytes.{rounded8}
 use Rattle.mj_schema.specs.declared.kind.Width.TheVariants.{Bits32}
-use Rattle.mj_schema.specs.declared.kind.Kind.{Kind}
-use Rattle.mj_schema.specs.declared.kind.Kind.TheVariants as kinds
+use Rattle.mj_schema.specs.KindTrees.{KindTree}
+use Rattle.mj_schema.specs.KindTrees as kinds
 use Rattle.mj_schema.specs.declared.rows.DraftField.{DraftField}
 use Rattle.mj_schema.specs.declared.rows.FieldRow.{FieldRow}
 use Rattle.mj_schema.specs.declared.rows.StructRow.{StructRow}
 
 -- the one narrow kind, `uint32`
-abbrev pub narrow_kind : Kind
-narrow_kind = kinds.Int Bits32 false
+abbrev pub narrow_kind : KindTree
+narrow_kind = kinds.IntKind Bits32 false
 
 -- whether a kind is the narrow one
-abbrev pub is_narrow_kind : Kind → Bool
-is_narrow_kind (kinds.Int Bits32 false) = true
+abbrev pub is_narrow_kind : KindTree → Bool
+is_narrow_kind (kinds.IntKind Bits32 false) = true
 is_narrow_kind _ = false
 
 -- the narrow field of this name as it is declared

@@ -7,7 +7,7 @@ pub mod laws;
 mod rows;
 mod schema;
 
-pub use kind::{HandleSort, Kind, Width};
+pub use kind::{HandleSort, Kind, KindNode, Width};
 pub use rows::{
     DraftField, DraftStruct, EnumRow, FieldRow, InterfaceRow, MemberRow, MethodRow, Place,
     StructRow, UnionFieldRow, UnionRow, VersionRow,

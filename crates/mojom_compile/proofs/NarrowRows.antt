@@ -6,8 +6,8 @@ use Rattle.std.proofs.lemmas.Bool.Decides.{Decides-eqb}
 use Rattle.std.proofs.lemmas.List.{map-append}
 use Rattle.std.proofs.lemmas.List.Folds.{list_all-append}
 use Rattle.mj_schema.specs.declared.schema.Schema.{Schema}
-use Rattle.mj_schema.specs.declared.kind.Kind.{Kind}
-use Rattle.mj_schema.specs.declared.kind.Kind.TheVariants as kinds
+use Rattle.mj_schema.specs.KindTrees.{KindTree}
+use Rattle.mj_schema.specs.KindTrees as kinds
 use Rattle.mj_schema.specs.declared.kind.Width.TheVariants.{Bits32}
 use Rattle.mj_schema.specs.declared.rows.VersionRow.{VersionRow}
 use Rattle.mj_schema.specs.declared.rows.DraftField.{DraftField}
@@ -45,8 +45,8 @@ behind_free (suc k) q h =
     elim parts.0 [ inl before ↦ omega arith | inr behind ↦ omega arith ]
 
 -- the one kind of the narrow form
-abbrev uint32 : Kind
-uint32 = kinds.Int Bits32 false
+abbrev uint32 : KindTree
+uint32 = kinds.IntKind Bits32 false
 
 -- the fields of these names, each behind those before it, where k stand before
 abbrev field_row : ℕ → List ℕ → FieldRow

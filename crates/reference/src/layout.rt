@@ -1,29 +1,29 @@
 //! The layout of structs, computed literally: each place by trying all bit addresses in turn.
 
-use mj_schema::{DraftField, Kind, Place, VersionRow, Width};
+use mj_schema::{DraftField, Kind, KindNode, Place, VersionRow, Width};
 use std::alloc::{AllocError, Global};
 
 /// How many bits a field takes, and what its bit address is a multiple of.
 fn room(kind: &Kind) -> (usize, usize) {
-    match kind {
-        Kind::Bool => (1, 1),
-        Kind::Int { width, .. } => match width {
+    match kind.node() {
+        KindNode::Bool => (1, 1),
+        KindNode::Int { width, .. } => match width {
             Width::Bits8 => (8, 8),
             Width::Bits16 => (16, 16),
             Width::Bits32 => (32, 32),
             Width::Bits64 => (64, 64),
         },
-        Kind::Enum { .. } => (32, 32),
-        Kind::Text { .. } => (64, 64),
-        Kind::Array { .. } => (64, 64),
-        Kind::Map { .. } => (64, 64),
-        Kind::Struct { .. } => (64, 64),
-        Kind::Handle { .. } => (32, 32),
-        Kind::Receiver { .. } => (32, 32),
-        Kind::AssociatedReceiver { .. } => (32, 32),
-        Kind::Remote { .. } => (64, 32),
-        Kind::AssociatedRemote { .. } => (64, 32),
-        Kind::Union { .. } => (128, 64),
+        KindNode::Enum { .. } => (32, 32),
+        KindNode::Text { .. } => (64, 64),
+        KindNode::Array { .. } => (64, 64),
+        KindNode::Map { .. } => (64, 64),
+        KindNode::Struct { .. } => (64, 64),
+        KindNode::Handle { .. } => (32, 32),
+        KindNode::Receiver { .. } => (32, 32),
+        KindNode::AssociatedReceiver { .. } => (32, 32),
+        KindNode::Remote { .. } => (64, 32),
+        KindNode::AssociatedRemote { .. } => (64, 32),
+        KindNode::Union { .. } => (128, 64),
     }
 }
 

@@ -4,7 +4,7 @@ use Rattle.std.specs.Prelude.{map}
 use Rattle.std.proofs.lemmas.Bool.{and_from}
 use Rattle.std.proofs.lemmas.Bool.Decides.{Decides-eqb}
 use Rattle.mj_base.specs.declared.limits.TheConstants.{MAX_FIELDS}
-use Rattle.mj_schema.specs.declared.kind.Kind.{Kind}
+use Rattle.mj_schema.specs.KindTrees.{KindTree}
 use Rattle.mj_schema.specs.declared.rows.DraftField.{DraftField}
 use Rattle.mj_schema.specs.declared.rows.DraftStruct.{DraftStruct}
 use Rattle.mj_schema.specs.declared.rows.FieldRow.{FieldRow}
@@ -15,7 +15,7 @@ use Rattle.mj_schema.specs.Versions.{version_rows}
 use Rattle.version_tables.proofs.Growing.{length-field_rows}
 
 -- as many places as kinds: for `lay_out`
-pub packed_length : (taken : List Slot) (ks : List Kind) (ps : List Place) → ArePacked taken ks ps → length ps ≡ length ks
+pub packed_length : (taken : List Slot) (ks : List KindTree) (ps : List Place) → ArePacked taken ks ps → length ps ≡ length ks
 packed_length taken [] [] h = refl
 packed_length taken [] (p ∷ ps) h = absurd h
 packed_length taken (k ∷ ks) [] h = absurd h
@@ -40,7 +40,7 @@ kept k (f ∷ fs) [] same = absurd (omega arith)
 kept k (f ∷ fs) (p ∷ ps) same =
     let rest = kept (k + 1) fs ps (omega arith) in
     record {
-      kinds = ap (λ (ks : List Kind). f.kind ∷ ks) rest.kinds;
+      kinds = ap (λ (ks : List KindTree). f.kind ∷ ks) rest.kinds;
       places = ap (λ (qs : List Place). p ∷ qs) rest.places;
       versions = ap (λ (vs : List ℕ). f.min_version ∷ vs) rest.versions;
       drafts = ap (λ (gs : List DraftField). f ∷ gs) rest.drafts;

@@ -3,15 +3,15 @@ use Rattle.std.specs.Prelude.{List, [], ◌∷◌}
 use Rattle.std.proofs.Props.{props}
 use Rattle.std.specs.Coded.{×_prop, Unit-prop}
 use Rattle.std.specs.List.{AllByRecursion, AllByRecursion-prop}
-use Rattle.mj_schema.specs.declared.kind.Kind.{Kind}
+use Rattle.mj_schema.specs.KindTrees.{KindTree}
 use Rattle.mj_schema.specs.declared.rows.Place.{Place}
 use Rattle.mj_schema.specs.declared.rows.StructRow.{StructRow}
 use Rattle.mj_schema.specs.Layout.{Slot, slot_at, address_of, IsLeastPlace, ArePacked, IsLaidOut}
 
-least-prop : (taken : List Slot) (kind : Kind) (place : Place) → IsProp (IsLeastPlace taken kind place)
+least-prop : (taken : List Slot) (kind : KindTree) (place : Place) → IsProp (IsLeastPlace taken kind place)
 least-prop taken kind place = hlevel props
 
-packed-prop : (taken : List Slot) (kinds : List Kind) (places : List Place) → IsProp (ArePacked taken kinds places)
+packed-prop : (taken : List Slot) (kinds : List KindTree) (places : List Place) → IsProp (ArePacked taken kinds places)
 packed-prop taken [] [] = Unit-prop
 packed-prop taken [] (place ∷ places) = hlevel props
 packed-prop taken (kind ∷ kinds) [] = hlevel props

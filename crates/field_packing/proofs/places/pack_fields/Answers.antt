@@ -1,7 +1,7 @@
 use Rattle.std.proofs.Common.{◌≡◌, ◌+◌, ◌^◌, ◌<◌, ◌∷◌, [], ◌++◌, map, take, ap, sym, ◌∙◌, arith}
 use Rattle.std.proofs.lemmas.List.{take_more, map_push}
 use Rattle.std.proofs.lemmas.List.Elements.{All-nil, All-cons, All-append}
-use Rattle.mj_schema.specs.declared.kind.Kind.{Kind}
+use Rattle.mj_schema.specs.KindTrees.{KindTree}
 use Rattle.mj_schema.specs.declared.rows.DraftField.{DraftField}
 use Rattle.mj_schema.specs.declared.rows.Place.{Place}
 use Rattle.field_packing.proofs.Packed.{grown, holes_below}
@@ -15,7 +15,7 @@ loop-field-preserved c =
     let i = c.loop-field.field-index in
     let xs = c.args.fields.now in
     let x = c.field-item.result in
-    let kind_of : DraftField → Kind = λ field. field.kind in
+    let kind_of : DraftField → KindTree = λ field. field.kind in
     let place = c.in_ok-place.field-0 in
     let taken : take (i + 1) xs ≡ take i xs ++ x ∷ [] = take_more xs i x c.loop-field-test.true ∙ ap (λ y. take i xs ++ y ∷ []) (sym c.field-item.is) in
     let kinds : map kind_of (take (i + 1) xs) ≡ map kind_of (take i xs) ++ x.kind ∷ [] = ap (map kind_of) taken ∙ map_push kind_of (take i xs) x in

@@ -1,6 +1,6 @@
 use Rattle.std.proofs.Common.{◌≡◌, length, map, sym, ap, ◌∙◌, List, []}
 use Rattle.std.proofs.lemmas.List.{length-map}
-use Rattle.mj_schema.specs.declared.kind.Kind.{Kind}
+use Rattle.mj_schema.specs.KindTrees.{KindTree}
 use Rattle.mj_schema.specs.declared.rows.DraftField.{DraftField}
 use Rattle.mj_schema.specs.declared.rows.Place.{Place}
 use Rattle.mj_schema.specs.Layout.{ArePacked, field_rows}
@@ -8,7 +8,7 @@ use Rattle.mj_schema.specs.Versions.{version_rows}
 use Rattle.version_tables.proofs.LaidOut.{packed_length, laid_out}
 use Rattle.version_tables.proofs.structs.lay_out.Goals as goal
 
-abbrev kind_in : DraftField → Kind
+abbrev kind_in : DraftField → KindTree
 kind_in field = field.kind
 
 -- as many places as fields
