@@ -1,6 +1,5 @@
 -- What a list of tokens is answered.
-use Rattle.std.specs.Prelude.{◌≡◌, ℕ, ◌+◌, ◌-◌, ◌<◌, ◌≤◌, List, length, take, Result, Ok, Err}
-use Rattle.mojom_ast.specs.declared.fault.Fault.TheVariants.{Unexpected, TooNested}
+use Rattle.std.specs.Prelude.{◌≡◌, ℕ, ◌+◌, ◌<◌, ◌≤◌, List, length, take, Result, Ok, Err}
 use Rattle.mojom_ast.specs.declared.token.Token.{Token}
 use Rattle.mojom_ast.specs.declared.file.File.{File}
 use Rattle.mojom_ast.specs.Parsed.{Spells, Begins, EndsTooDeep}

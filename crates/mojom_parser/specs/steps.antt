@@ -1,3 +1,4 @@
 -- Definitions that serve proofs alone: no public clause cites them.
 pub mod Reading
 pub mod Verdict
+pub mod NotNull

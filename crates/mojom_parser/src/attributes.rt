@@ -1,44 +1,33 @@
 //! Attributes.
 
-ghost use Rattle.mojom_ast.specs.Lang.{list};
 ghost use Rattle.mojom_ast.specs.Grammar.{attribute, attributes};
 ghost use Rattle.mojom_parser.specs.steps.Reading.{Gives};
+ghost use Rattle.mojom_parser.specs.steps.NotNull.{attribute_not_null};
 
 use crate::error::ReadError;
+use crate::lists::{Listed, list};
 use crate::tokens::{identifier, is_identifier, is_symbol, symbol};
 use crate::values::assigned;
 use mj_base::Items;
 use mojom_ast::{Attribute, Symbol, Token};
 use std::alloc::Global;
 
-#[tactic(auto, unfolding(mojom_ast::specs::Grammar::attribute))]
-fn attribute(alloc: Global, tokens: &[Token]) -> Result<(Attribute, &[Token]), ReadError>
-    ensures { Gives (λ x. (x.0, x.1.now)) result (attribute.read tokens.now) }
-{
-    let (name, rest) = identifier(alloc, tokens)?;
-    let (value, rest) = assigned(alloc, rest)?;
-    Ok((Attribute { name, value }, rest))
-}
+impl Listed for Attribute {
+    ghost rule = { attribute };
 
-/// Attributes with commas between them, and maybe one after the last.
-fn attribute_list(alloc: Global, tokens: &[Token]) -> Result<(Vec<Attribute>, &[Token]), ReadError>
-    ensures { Gives (λ x. (x.0.items, x.1.now)) result ((list attribute).read tokens.now) }
-{
-    let mut attributes = Vec::new(alloc);
-    let mut rest = tokens;
-    for _ in 0..tokens.len() {
-        if !is_identifier(rest) {
-            return Ok((attributes, rest));
-        }
-        let (attribute, after) = attribute(alloc, rest)?;
-        attributes.push(attribute)?;
-        if !is_symbol(after, Symbol::Comma) {
-            return Ok((attributes, after));
-        }
-        let (_, next) = symbol(after, Symbol::Comma)?;
-        rest = next;
+    ghost not_null = { attribute_not_null };
+
+    #[tactic(auto, unfolding(mojom_ast::specs::Grammar::attribute, mojom_ast::specs::Grammar::identifier))]
+    fn begins(tokens: &[Token]) -> bool {
+        is_identifier(tokens)
     }
-    Ok((attributes, rest))
+
+    #[tactic(auto, unfolding(mojom_ast::specs::Grammar::attribute))]
+    fn read(alloc: Global, tokens: &[Token]) -> Result<(Attribute, &[Token]), ReadError> {
+        let (name, rest) = identifier(alloc, tokens)?;
+        let (value, rest) = assigned(alloc, rest)?;
+        Ok((Attribute { name, value }, rest))
+    }
 }
 
 /// The attributes that stand next, none where no bracket opens.
@@ -53,7 +42,7 @@ pub fn attributes(
         return Ok((Items::new(alloc), tokens));
     }
     let (_, rest) = symbol(tokens, Symbol::OpenBracket)?;
-    let (attributes, rest) = attribute_list(alloc, rest)?;
+    let (attributes, rest) = list(alloc, rest)?;
     let (_, rest) = symbol(rest, Symbol::CloseBracket)?;
     Ok((Items::from_vec(attributes), rest))
 }

@@ -1,15 +1,18 @@
 //! Files.
 
 ghost use Rattle.std.specs.Prelude.{◌≡◌};
-ghost use Rattle.mojom_ast.specs.Lang.{front_in, times};
+ghost use Rattle.mj_base.specs.declared.limits.TheConstants.{MAX_NESTED_TYPES};
+ghost use Rattle.mojom_ast.specs.Lang.{front_in};
 ghost use Rattle.mojom_ast.specs.Grammar.{definition_item, definition, module_name, import_path};
 ghost use Rattle.grammar_laws.specs.steps.Factored.{definition_starts, statement_starts, file_starts, definition_line, import_line, module_line, statement, factored};
-ghost use Rattle.mojom_parser.specs.steps.Reading.{Gives, with_front, with_imports, definitions_with, lines, file_with, file_without};
+ghost use Rattle.mojom_parser.specs.steps.Reading.{Gives, with_imports, definitions_with, lines, file_with, file_without};
+ghost use Rattle.mojom_parser.specs.steps.NotNull.{definition_not_null};
 
 use crate::attributes::attributes;
 use crate::constants::{const_of, enum_of};
 use crate::error::ReadError;
 use crate::interfaces::interface_of;
+use crate::lists::{Listed, at_most};
 use crate::structs::{struct_of, union_of};
 use crate::tokens::{is_keyword, is_symbol, keyword, string, symbol};
 use crate::values::name;
@@ -46,15 +49,6 @@ fn definition_item(alloc: Global, tokens: &[Token]) -> Result<(DefinitionItem, &
     Ok((DefinitionItem::Const(item), rest))
 }
 
-#[tactic(auto, unfolding(mojom_ast::specs::Grammar::definition))]
-fn definition(alloc: Global, tokens: &[Token]) -> Result<(Definition, &[Token]), ReadError>
-    ensures { Gives (λ x. (x.0, x.1.now)) result ((definition MAX_NESTED_TYPES).read tokens.now) }
-{
-    let (attributes, rest) = attributes(alloc, tokens)?;
-    let (item, rest) = definition_item(alloc, rest)?;
-    Ok((Definition { attributes, item }, rest))
-}
-
 /// Whether the next token begins a definition behind its attributes.
 #[tactic(auto, unfolding(mojom_ast::specs::Grammar::definition_item, mojom_ast::specs::Grammar::struct_of, mojom_ast::specs::Grammar::union_of, mojom_ast::specs::Grammar::enum_of, mojom_ast::specs::Grammar::interface_of, mojom_ast::specs::Grammar::const_of))]
 fn begins_item(tokens: &[Token]) -> bool
@@ -67,16 +61,22 @@ fn begins_item(tokens: &[Token]) -> bool
         || is_keyword(tokens, Keyword::Const)
 }
 
-/// Whether the next token begins a definition, or its attributes.
-fn begins_definition(tokens: &[Token]) -> bool
-    ensures { result ≡ front_in definition_starts tokens.now }
-{
-    is_symbol(tokens, Symbol::OpenBracket)
-        || is_keyword(tokens, Keyword::Struct)
-        || is_keyword(tokens, Keyword::Union)
-        || is_keyword(tokens, Keyword::Enum)
-        || is_keyword(tokens, Keyword::Interface)
-        || is_keyword(tokens, Keyword::Const)
+impl Listed for Definition {
+    ghost rule = { definition MAX_NESTED_TYPES };
+
+    ghost not_null = { definition_not_null };
+
+    #[tactic(auto, using(crate::proofs::Starts::definition_begins))]
+    fn begins(tokens: &[Token]) -> bool {
+        is_symbol(tokens, Symbol::OpenBracket) || begins_item(tokens)
+    }
+
+    #[tactic(auto, unfolding(mojom_ast::specs::Grammar::definition))]
+    fn read(alloc: Global, tokens: &[Token]) -> Result<(Definition, &[Token]), ReadError> {
+        let (attributes, rest) = attributes(alloc, tokens)?;
+        let (item, rest) = definition_item(alloc, rest)?;
+        Ok((Definition { attributes, item }, rest))
+    }
 }
 
 /// Whether the next token begins a definition or an import, or the attributes before one.
@@ -92,28 +92,6 @@ fn begins_statement(tokens: &[Token]) -> bool
         || is_keyword(tokens, Keyword::Import)
 }
 
-/// At most `limit` definitions, behind those that there are.
-fn more_definitions(
-    alloc: Global,
-    limit: usize,
-    definitions: Vec<Definition>,
-    tokens: &[Token],
-) -> Result<(Vec<Definition>, &[Token]), ReadError>
-    ensures { Gives (λ x. (x.0.items, x.1.now)) result (with_front definitions.items ((times limit (definition MAX_NESTED_TYPES)).read tokens.now)) }
-{
-    let mut definitions = definitions;
-    let mut rest = tokens;
-    for _ in 0..limit {
-        if !begins_definition(rest) {
-            return Ok((definitions, rest));
-        }
-        let (definition, after) = definition(alloc, rest)?;
-        definitions.push(definition)?;
-        rest = after;
-    }
-    Ok((definitions, rest))
-}
-
 /// The definition that has these attributes, and at most `limit` after it.
 fn definitions(
     alloc: Global,
@@ -126,7 +104,7 @@ fn definitions(
     let (item, rest) = definition_item(alloc, tokens)?;
     let mut definitions = Vec::new(alloc);
     definitions.push(Definition { attributes, item })?;
-    more_definitions(alloc, limit, definitions, rest)
+    at_most(alloc, limit, definitions, rest)
 }
 
 /// `import`, a path and `;`.

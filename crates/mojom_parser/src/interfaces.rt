@@ -1,13 +1,16 @@
 //! Interfaces.
 
 ghost use Rattle.std.specs.Prelude.{◌≡◌};
-ghost use Rattle.mojom_ast.specs.Lang.{front_in, many, maybe};
+ghost use Rattle.mj_base.specs.declared.limits.TheConstants.{MAX_NESTED_TYPES};
+ghost use Rattle.mojom_ast.specs.Lang.{front_in, maybe};
 ghost use Rattle.mojom_ast.specs.Grammar.{parameter, next_parameter, parameters, response, method, interface_item, interface_member, interface_of};
-ghost use Rattle.mojom_parser.specs.steps.Reading.{Gives, with_front, parameter_list};
+ghost use Rattle.mojom_parser.specs.steps.Reading.{Gives, parameter_list};
+ghost use Rattle.mojom_parser.specs.steps.NotNull.{next_parameter_not_null, interface_member_not_null};
 
 use crate::attributes::attributes;
 use crate::constants::{const_of, enum_of};
 use crate::error::ReadError;
+use crate::lists::{Listed, at_most, many};
 use crate::tokens::{identifier, is_identifier, is_keyword, is_symbol, keyword, symbol};
 use crate::types::{begins_type, type_of};
 use crate::values::ordinal;
@@ -37,34 +40,22 @@ fn parameter(alloc: Global, tokens: &[Token]) -> Result<(Parameter, &[Token]), R
     ))
 }
 
-/// A comma and a parameter.
-#[tactic(auto, unfolding(mojom_ast::specs::Grammar::next_parameter))]
-fn next_parameter(alloc: Global, tokens: &[Token]) -> Result<(Parameter, &[Token]), ReadError>
-    ensures { Gives (λ x. (x.0, x.1.now)) result ((next_parameter MAX_NESTED_TYPES).read tokens.now) }
-{
-    let (_, rest) = symbol(tokens, Symbol::Comma)?;
-    parameter(alloc, rest)
-}
+/// A parameter behind others, with its comma.
+impl Listed for Parameter {
+    ghost rule = { next_parameter MAX_NESTED_TYPES };
 
-/// Parameters, each after a comma, behind those that there are.
-fn next_parameters(
-    alloc: Global,
-    parameters: Vec<Parameter>,
-    tokens: &[Token],
-) -> Result<(Vec<Parameter>, &[Token]), ReadError>
-    ensures { Gives (λ x. (x.0.items, x.1.now)) result (with_front parameters.items ((many (next_parameter MAX_NESTED_TYPES)).read tokens.now)) }
-{
-    let mut parameters = parameters;
-    let mut rest = tokens;
-    for _ in 0..tokens.len() {
-        if !is_symbol(rest, Symbol::Comma) {
-            return Ok((parameters, rest));
-        }
-        let (parameter, after) = next_parameter(alloc, rest)?;
-        parameters.push(parameter)?;
-        rest = after;
+    ghost not_null = { next_parameter_not_null };
+
+    #[tactic(auto, unfolding(mojom_ast::specs::Grammar::next_parameter))]
+    fn begins(tokens: &[Token]) -> bool {
+        is_symbol(tokens, Symbol::Comma)
     }
-    Ok((parameters, rest))
+
+    #[tactic(auto, unfolding(mojom_ast::specs::Grammar::next_parameter))]
+    fn read(alloc: Global, tokens: &[Token]) -> Result<(Parameter, &[Token]), ReadError> {
+        let (_, rest) = symbol(tokens, Symbol::Comma)?;
+        parameter(alloc, rest)
+    }
 }
 
 /// Whether the next token begins a parameter.
@@ -85,7 +76,7 @@ fn parameter_list(alloc: Global, tokens: &[Token]) -> Result<(Vec<Parameter>, &[
     }
     let (first, rest) = parameter(alloc, tokens)?;
     parameters.push(first)?;
-    next_parameters(alloc, parameters, rest)
+    at_most(alloc, rest.len(), parameters, rest)
 }
 
 /// A parameter list, with its parentheses.
@@ -152,46 +143,25 @@ fn interface_item(alloc: Global, tokens: &[Token]) -> Result<(InterfaceItem, &[T
     Ok((InterfaceItem::Method(item), rest))
 }
 
-#[tactic(auto, unfolding(mojom_ast::specs::Grammar::interface_member))]
-fn interface_member(
-    alloc: Global,
-    tokens: &[Token],
-) -> Result<(InterfaceMember, &[Token]), ReadError>
-    ensures { Gives (λ x. (x.0, x.1.now)) result ((interface_member MAX_NESTED_TYPES).read tokens.now) }
-{
-    let (attributes, rest) = attributes(alloc, tokens)?;
-    let (item, rest) = interface_item(alloc, rest)?;
-    Ok((InterfaceMember { attributes, item }, rest))
-}
+impl Listed for InterfaceMember {
+    ghost rule = { interface_member MAX_NESTED_TYPES };
 
-/// Whether the next token begins what may stand in an interface.
-#[tactic(auto, unfolding(mojom_ast::specs::Grammar::interface_member, mojom_ast::specs::Grammar::attributes, mojom_ast::specs::Grammar::bracketed, mojom_ast::specs::Grammar::interface_item, mojom_ast::specs::Grammar::const_of, mojom_ast::specs::Grammar::enum_of, mojom_ast::specs::Grammar::method, mojom_ast::specs::Grammar::identifier))]
-fn begins_interface_member(tokens: &[Token]) -> bool
-    ensures { result ≡ front_in (interface_member MAX_NESTED_TYPES).starts tokens.now }
-{
-    is_symbol(tokens, Symbol::OpenBracket)
-        || is_keyword(tokens, Keyword::Const)
-        || is_keyword(tokens, Keyword::Enum)
-        || is_identifier(tokens)
-}
+    ghost not_null = { interface_member_not_null };
 
-fn interface_members(
-    alloc: Global,
-    tokens: &[Token],
-) -> Result<(Vec<InterfaceMember>, &[Token]), ReadError>
-    ensures { Gives (λ x. (x.0.items, x.1.now)) result ((many (interface_member MAX_NESTED_TYPES)).read tokens.now) }
-{
-    let mut members = Vec::new(alloc);
-    let mut rest = tokens;
-    for _ in 0..tokens.len() {
-        if !begins_interface_member(rest) {
-            return Ok((members, rest));
-        }
-        let (member, after) = interface_member(alloc, rest)?;
-        members.push(member)?;
-        rest = after;
+    #[tactic(auto, unfolding(mojom_ast::specs::Grammar::interface_member, mojom_ast::specs::Grammar::attributes, mojom_ast::specs::Grammar::bracketed, mojom_ast::specs::Grammar::interface_item, mojom_ast::specs::Grammar::const_of, mojom_ast::specs::Grammar::enum_of, mojom_ast::specs::Grammar::method, mojom_ast::specs::Grammar::identifier))]
+    fn begins(tokens: &[Token]) -> bool {
+        is_symbol(tokens, Symbol::OpenBracket)
+            || is_keyword(tokens, Keyword::Const)
+            || is_keyword(tokens, Keyword::Enum)
+            || is_identifier(tokens)
     }
-    Ok((members, rest))
+
+    #[tactic(auto, unfolding(mojom_ast::specs::Grammar::interface_member))]
+    fn read(alloc: Global, tokens: &[Token]) -> Result<(InterfaceMember, &[Token]), ReadError> {
+        let (attributes, rest) = attributes(alloc, tokens)?;
+        let (item, rest) = interface_item(alloc, rest)?;
+        Ok((InterfaceMember { attributes, item }, rest))
+    }
 }
 
 /// An interface.
@@ -202,7 +172,7 @@ pub fn interface_of(alloc: Global, tokens: &[Token]) -> Result<(Interface, &[Tok
     let (_, rest) = keyword(tokens, Keyword::Interface)?;
     let (name, rest) = identifier(alloc, rest)?;
     let (_, rest) = symbol(rest, Symbol::OpenBrace)?;
-    let (members, rest) = interface_members(alloc, rest)?;
+    let (members, rest) = many(alloc, rest)?;
     let (_, rest) = symbol(rest, Symbol::CloseBrace)?;
     let (_, rest) = symbol(rest, Symbol::Semicolon)?;
     Ok((

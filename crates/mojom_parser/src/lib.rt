@@ -10,6 +10,7 @@ mod constants;
 mod error;
 mod file;
 mod interfaces;
+mod lists;
 mod parser;
 mod structs;
 mod tokens;

@@ -1,13 +1,14 @@
 //! Structs and unions.
 
-ghost use Rattle.std.specs.Prelude.{◌≡◌};
-ghost use Rattle.mojom_ast.specs.Lang.{front_in, many};
+ghost use Rattle.mj_base.specs.declared.limits.TheConstants.{MAX_NESTED_TYPES};
 ghost use Rattle.mojom_ast.specs.Grammar.{field, struct_item, struct_member, struct_of, union_field, union_of};
 ghost use Rattle.mojom_parser.specs.steps.Reading.{Gives};
+ghost use Rattle.mojom_parser.specs.steps.NotNull.{struct_member_not_null, union_field_not_null};
 
 use crate::attributes::attributes;
 use crate::constants::{const_of, enum_of};
 use crate::error::ReadError;
+use crate::lists::{Listed, many};
 use crate::tokens::{identifier, is_keyword, is_symbol, keyword, symbol};
 use crate::types::{begins_type, type_of};
 use crate::values::{assigned, ordinal};
@@ -55,43 +56,25 @@ fn struct_item(alloc: Global, tokens: &[Token]) -> Result<(StructItem, &[Token])
     Ok((StructItem::Field(item), rest))
 }
 
-#[tactic(auto, unfolding(mojom_ast::specs::Grammar::struct_member))]
-fn struct_member(alloc: Global, tokens: &[Token]) -> Result<(StructMember, &[Token]), ReadError>
-    ensures { Gives (λ x. (x.0, x.1.now)) result ((struct_member MAX_NESTED_TYPES).read tokens.now) }
-{
-    let (attributes, rest) = attributes(alloc, tokens)?;
-    let (item, rest) = struct_item(alloc, rest)?;
-    Ok((StructMember { attributes, item }, rest))
-}
+impl Listed for StructMember {
+    ghost rule = { struct_member MAX_NESTED_TYPES };
 
-/// Whether the next token begins what may stand in a struct.
-#[tactic(auto, unfolding(mojom_ast::specs::Grammar::struct_member, mojom_ast::specs::Grammar::attributes, mojom_ast::specs::Grammar::bracketed, mojom_ast::specs::Grammar::struct_item, mojom_ast::specs::Grammar::const_of, mojom_ast::specs::Grammar::enum_of, mojom_ast::specs::Grammar::field))]
-fn begins_struct_member(tokens: &[Token]) -> bool
-    ensures { result ≡ front_in (struct_member MAX_NESTED_TYPES).starts tokens.now }
-{
-    is_symbol(tokens, Symbol::OpenBracket)
-        || is_keyword(tokens, Keyword::Const)
-        || is_keyword(tokens, Keyword::Enum)
-        || begins_type(tokens)
-}
+    ghost not_null = { struct_member_not_null };
 
-fn struct_members(
-    alloc: Global,
-    tokens: &[Token],
-) -> Result<(Vec<StructMember>, &[Token]), ReadError>
-    ensures { Gives (λ x. (x.0.items, x.1.now)) result ((many (struct_member MAX_NESTED_TYPES)).read tokens.now) }
-{
-    let mut members = Vec::new(alloc);
-    let mut rest = tokens;
-    for _ in 0..tokens.len() {
-        if !begins_struct_member(rest) {
-            return Ok((members, rest));
-        }
-        let (member, after) = struct_member(alloc, rest)?;
-        members.push(member)?;
-        rest = after;
+    #[tactic(auto, unfolding(mojom_ast::specs::Grammar::struct_member, mojom_ast::specs::Grammar::attributes, mojom_ast::specs::Grammar::bracketed, mojom_ast::specs::Grammar::struct_item, mojom_ast::specs::Grammar::const_of, mojom_ast::specs::Grammar::enum_of, mojom_ast::specs::Grammar::field))]
+    fn begins(tokens: &[Token]) -> bool {
+        is_symbol(tokens, Symbol::OpenBracket)
+            || is_keyword(tokens, Keyword::Const)
+            || is_keyword(tokens, Keyword::Enum)
+            || begins_type(tokens)
     }
-    Ok((members, rest))
+
+    #[tactic(auto, unfolding(mojom_ast::specs::Grammar::struct_member))]
+    fn read(alloc: Global, tokens: &[Token]) -> Result<(StructMember, &[Token]), ReadError> {
+        let (attributes, rest) = attributes(alloc, tokens)?;
+        let (item, rest) = struct_item(alloc, rest)?;
+        Ok((StructMember { attributes, item }, rest))
+    }
 }
 
 /// A struct.
@@ -102,7 +85,7 @@ pub fn struct_of(alloc: Global, tokens: &[Token]) -> Result<(Struct, &[Token]), 
     let (_, rest) = keyword(tokens, Keyword::Struct)?;
     let (name, rest) = identifier(alloc, rest)?;
     let (_, rest) = symbol(rest, Symbol::OpenBrace)?;
-    let (members, rest) = struct_members(alloc, rest)?;
+    let (members, rest) = many(alloc, rest)?;
     let (_, rest) = symbol(rest, Symbol::CloseBrace)?;
     let (_, rest) = symbol(rest, Symbol::Semicolon)?;
     Ok((
@@ -114,48 +97,33 @@ pub fn struct_of(alloc: Global, tokens: &[Token]) -> Result<(Struct, &[Token]), 
     ))
 }
 
-#[tactic(auto, unfolding(mojom_ast::specs::Grammar::union_field))]
-fn union_field(alloc: Global, tokens: &[Token]) -> Result<(UnionField, &[Token]), ReadError>
-    ensures { Gives (λ x. (x.0, x.1.now)) result ((union_field MAX_NESTED_TYPES).read tokens.now) }
-{
-    let (attributes, rest) = attributes(alloc, tokens)?;
-    let (kind, rest) = type_of(alloc, rest)?;
-    let (name, rest) = identifier(alloc, rest)?;
-    let (ordinal, rest) = ordinal(rest)?;
-    let (_, rest) = symbol(rest, Symbol::Semicolon)?;
-    Ok((
-        UnionField {
-            attributes,
-            kind,
-            name,
-            ordinal,
-        },
-        rest,
-    ))
-}
+impl Listed for UnionField {
+    ghost rule = { union_field MAX_NESTED_TYPES };
 
-/// Whether the next token begins a union's field.
-#[tactic(auto, unfolding(mojom_ast::specs::Grammar::union_field, mojom_ast::specs::Grammar::attributes, mojom_ast::specs::Grammar::bracketed))]
-fn begins_union_field(tokens: &[Token]) -> bool
-    ensures { result ≡ front_in (union_field MAX_NESTED_TYPES).starts tokens.now }
-{
-    is_symbol(tokens, Symbol::OpenBracket) || begins_type(tokens)
-}
+    ghost not_null = { union_field_not_null };
 
-fn union_fields(alloc: Global, tokens: &[Token]) -> Result<(Vec<UnionField>, &[Token]), ReadError>
-    ensures { Gives (λ x. (x.0.items, x.1.now)) result ((many (union_field MAX_NESTED_TYPES)).read tokens.now) }
-{
-    let mut fields = Vec::new(alloc);
-    let mut rest = tokens;
-    for _ in 0..tokens.len() {
-        if !begins_union_field(rest) {
-            return Ok((fields, rest));
-        }
-        let (field, after) = union_field(alloc, rest)?;
-        fields.push(field)?;
-        rest = after;
+    #[tactic(auto, unfolding(mojom_ast::specs::Grammar::union_field, mojom_ast::specs::Grammar::attributes, mojom_ast::specs::Grammar::bracketed))]
+    fn begins(tokens: &[Token]) -> bool {
+        is_symbol(tokens, Symbol::OpenBracket) || begins_type(tokens)
     }
-    Ok((fields, rest))
+
+    #[tactic(auto, unfolding(mojom_ast::specs::Grammar::union_field))]
+    fn read(alloc: Global, tokens: &[Token]) -> Result<(UnionField, &[Token]), ReadError> {
+        let (attributes, rest) = attributes(alloc, tokens)?;
+        let (kind, rest) = type_of(alloc, rest)?;
+        let (name, rest) = identifier(alloc, rest)?;
+        let (ordinal, rest) = ordinal(rest)?;
+        let (_, rest) = symbol(rest, Symbol::Semicolon)?;
+        Ok((
+            UnionField {
+                attributes,
+                kind,
+                name,
+                ordinal,
+            },
+            rest,
+        ))
+    }
 }
 
 /// A union.
@@ -166,7 +134,7 @@ pub fn union_of(alloc: Global, tokens: &[Token]) -> Result<(Union, &[Token]), Re
     let (_, rest) = keyword(tokens, Keyword::Union)?;
     let (name, rest) = identifier(alloc, rest)?;
     let (_, rest) = symbol(rest, Symbol::OpenBrace)?;
-    let (fields, rest) = union_fields(alloc, rest)?;
+    let (fields, rest) = many(alloc, rest)?;
     let (_, rest) = symbol(rest, Symbol::CloseBrace)?;
     let (_, rest) = symbol(rest, Symbol::Semicolon)?;
     Ok((

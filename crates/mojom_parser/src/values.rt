@@ -1,11 +1,13 @@
 //! Names and values.
 
 ghost use Rattle.std.specs.Prelude.{◌≡◌};
-ghost use Rattle.mojom_ast.specs.Lang.{front_in, maybe, many, symbol, ◌▹◌};
+ghost use Rattle.mojom_ast.specs.Lang.{front_in, maybe, symbol, ◌▹◌};
 ghost use Rattle.mojom_ast.specs.Grammar.{dotted, name, number, ordinal, boolean, signed, value, assigned};
-ghost use Rattle.mojom_parser.specs.steps.Reading.{Gives, with_front};
+ghost use Rattle.mojom_parser.specs.steps.Reading.{Gives};
+ghost use Rattle.mojom_parser.specs.steps.NotNull.{dotted_not_null};
 
 use crate::error::ReadError;
+use crate::lists::{Listed, at_most};
 use crate::tokens::{
     identifier, is_keyword, is_number, is_string, is_symbol, keyword, number, string, symbol,
 };
@@ -13,34 +15,22 @@ use mj_base::{Items, Span};
 use mojom_ast::{Identifier, Keyword, Name, Number, Symbol, Token, Value};
 use std::alloc::Global;
 
-/// A dot and an identifier.
-#[tactic(auto, unfolding(mojom_ast::specs::Grammar::dotted))]
-fn dotted(alloc: Global, tokens: &[Token]) -> Result<(Identifier, &[Token]), ReadError>
-    ensures { Gives (λ x. (x.0, x.1.now)) result (dotted.read tokens.now) }
-{
-    let (_, rest) = symbol(tokens, Symbol::Dot)?;
-    identifier(alloc, rest)
-}
+/// A further part of a name, with its dot.
+impl Listed for Identifier {
+    ghost rule = { dotted };
 
-/// Identifiers, each after a dot, behind those of the parts.
-fn dotted_parts(
-    alloc: Global,
-    parts: Vec<Identifier>,
-    tokens: &[Token],
-) -> Result<(Vec<Identifier>, &[Token]), ReadError>
-    ensures { Gives (λ x. (x.0.items, x.1.now)) result (with_front parts.items ((many dotted).read tokens.now)) }
-{
-    let mut parts = parts;
-    let mut rest = tokens;
-    for _ in 0..tokens.len() {
-        if !is_symbol(rest, Symbol::Dot) {
-            return Ok((parts, rest));
-        }
-        let (part, after) = dotted(alloc, rest)?;
-        parts.push(part)?;
-        rest = after;
+    ghost not_null = { dotted_not_null };
+
+    #[tactic(auto, unfolding(mojom_ast::specs::Grammar::dotted))]
+    fn begins(tokens: &[Token]) -> bool {
+        is_symbol(tokens, Symbol::Dot)
     }
-    Ok((parts, rest))
+
+    #[tactic(auto, unfolding(mojom_ast::specs::Grammar::dotted))]
+    fn read(alloc: Global, tokens: &[Token]) -> Result<(Identifier, &[Token]), ReadError> {
+        let (_, rest) = symbol(tokens, Symbol::Dot)?;
+        identifier(alloc, rest)
+    }
 }
 
 /// A name, and the tokens after it.
@@ -51,7 +41,7 @@ pub fn name(alloc: Global, tokens: &[Token]) -> Result<(Name, &[Token]), ReadErr
     let (first, rest) = identifier(alloc, tokens)?;
     let mut parts = Vec::new(alloc);
     parts.push(first)?;
-    let (parts, rest) = dotted_parts(alloc, parts, rest)?;
+    let (parts, rest) = at_most(alloc, rest.len(), parts, rest)?;
     Ok((
         Name {
             parts: Items::from_vec(parts),

@@ -32,4 +32,4 @@ returns c =
     = ap (λ (l : List Parameter). with_front l ((many (next_parameter MAX_NESTED_TYPES)).read c.in_ok-first.rest.now)) items
     ∙ sym (pair_on (parameter MAX_NESTED_TYPES) not_null (many (next_parameter MAX_NESTED_TYPES)) c.args.tokens.now c.in_ok-first.first c.in_ok-first.rest.now
     (sym c.begins_parameter.ensures ∙ c.if-not-begins_parameter.false) c.in_ok-first.ensures) in
-    subst (λ (r : Read (List Parameter)). Gives (λ x. (x.0.items, x.1.now)) c.next_parameters.result r) read c.next_parameters.ensures
+    subst (λ (r : Read (List Parameter)). Gives (λ x. (x.0.items, x.1.now)) c.at_most.result r) read c.at_most.ensures

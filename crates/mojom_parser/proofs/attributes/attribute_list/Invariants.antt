@@ -1,8 +1,0 @@
-use Rattle.std.proofs.Common.{length}
-use Rattle.mojom_ast.specs.Lang.{commas, list}
-use Rattle.mojom_ast.specs.Grammar.{attribute}
-use Rattle.mojom_parser.proofs.Loops.{Reads}
-use Rattle.mojom_parser.proofs.attributes.attribute_list.Given as goal
-
-abbrev pub invariant-loop : goal.invariant-loop
-invariant-loop l = Reads (λ n. commas n attribute) l.attributes.items (length l.tokens) l.counter l.rest ((list attribute).read l.tokens)
