@@ -34,7 +34,7 @@ impl Listed for Enumerator {
 
     ghost not_null = { enumerator_not_null };
 
-    #[tactic(auto, unfolding(mojom_ast::specs::Grammar::enumerator, mojom_ast::specs::Grammar::attributes, mojom_ast::specs::Grammar::bracketed, mojom_ast::specs::Grammar::identifier))]
+    #[tactic(auto, using(crate::proofs::Starts::enumerator_begins))]
     fn begins(tokens: &[Token]) -> bool {
         is_symbol(tokens, Symbol::OpenBracket) || is_identifier(tokens)
     }

@@ -4,7 +4,7 @@ ghost use Rattle.std.specs.Prelude.{◌≡◌};
 ghost use Rattle.mj_base.specs.declared.limits.TheConstants.{MAX_NESTED_TYPES};
 ghost use Rattle.mojom_ast.specs.Lang.{front_in};
 ghost use Rattle.mojom_ast.specs.Grammar.{definition_item, definition, module_name, import_path};
-ghost use Rattle.grammar_laws.specs.steps.Factored.{definition_starts, statement_starts, file_starts, definition_line, import_line, module_line, statement, factored};
+ghost use Rattle.grammar_laws.specs.steps.Factored.{statement_starts, file_starts, definition_line, import_line, module_line, statement, factored};
 ghost use Rattle.mojom_parser.specs.steps.Reading.{Gives, with_imports, definitions_with, lines, file_with, file_without};
 ghost use Rattle.mojom_parser.specs.steps.NotNull.{definition_not_null};
 
@@ -25,7 +25,7 @@ use mojom_ast::{
 use std::alloc::Global;
 
 /// What a definition is, behind its attributes.
-#[tactic(auto, unfolding(mojom_ast::specs::Grammar::definition_item, mojom_ast::specs::Grammar::struct_of, mojom_ast::specs::Grammar::union_of, mojom_ast::specs::Grammar::enum_of, mojom_ast::specs::Grammar::interface_of))]
+#[tactic(auto, using(crate::proofs::Starts::items), unfolding(mojom_ast::specs::Grammar::definition_item))]
 fn definition_item(alloc: Global, tokens: &[Token]) -> Result<(DefinitionItem, &[Token]), ReadError>
     ensures { Gives (λ x. (x.0, x.1.now)) result ((definition_item MAX_NESTED_TYPES).read tokens.now) }
 {
@@ -50,7 +50,7 @@ fn definition_item(alloc: Global, tokens: &[Token]) -> Result<(DefinitionItem, &
 }
 
 /// Whether the next token begins a definition behind its attributes.
-#[tactic(auto, unfolding(mojom_ast::specs::Grammar::definition_item, mojom_ast::specs::Grammar::struct_of, mojom_ast::specs::Grammar::union_of, mojom_ast::specs::Grammar::enum_of, mojom_ast::specs::Grammar::interface_of, mojom_ast::specs::Grammar::const_of))]
+#[tactic(auto, using(crate::proofs::Starts::item_begins))]
 fn begins_item(tokens: &[Token]) -> bool
     ensures { result ≡ front_in (definition_item MAX_NESTED_TYPES).starts tokens.now }
 {
@@ -80,16 +80,11 @@ impl Listed for Definition {
 }
 
 /// Whether the next token begins a definition or an import, or the attributes before one.
+#[tactic(auto, using(crate::proofs::Starts::statement_begins))]
 fn begins_statement(tokens: &[Token]) -> bool
     ensures { result ≡ front_in statement_starts tokens.now }
 {
-    is_symbol(tokens, Symbol::OpenBracket)
-        || is_keyword(tokens, Keyword::Struct)
-        || is_keyword(tokens, Keyword::Union)
-        || is_keyword(tokens, Keyword::Enum)
-        || is_keyword(tokens, Keyword::Interface)
-        || is_keyword(tokens, Keyword::Const)
-        || is_keyword(tokens, Keyword::Import)
+    Definition::begins(tokens) || is_keyword(tokens, Keyword::Import)
 }
 
 /// The definition that has these attributes, and at most `limit` after it.
@@ -222,7 +217,7 @@ fn from_import(
 
 /// A file without a module statement, whose first attributes belong to its first import or
 /// definition.
-#[tactic(auto, unfolding(mojom_ast::specs::Grammar::definition_item, mojom_ast::specs::Grammar::struct_of, mojom_ast::specs::Grammar::union_of, mojom_ast::specs::Grammar::enum_of, mojom_ast::specs::Grammar::interface_of, mojom_ast::specs::Grammar::const_of))]
+#[tactic(auto, using(crate::proofs::Starts::item_not_null))]
 fn without_module(
     alloc: Global,
     limit: usize,
@@ -238,22 +233,14 @@ fn without_module(
 }
 
 /// Whether the next token begins a file that isn't empty.
-#[tactic(auto, unfolding(mojom_ast::specs::Grammar::attributes, mojom_ast::specs::Grammar::bracketed))]
+#[tactic(auto, using(crate::proofs::Starts::file_begins))]
 fn begins_file(tokens: &[Token]) -> bool
     ensures { result ≡ front_in file_starts tokens.now }
 {
-    is_symbol(tokens, Symbol::OpenBracket)
-        || is_keyword(tokens, Keyword::Module)
-        || is_keyword(tokens, Keyword::Struct)
-        || is_keyword(tokens, Keyword::Union)
-        || is_keyword(tokens, Keyword::Enum)
-        || is_keyword(tokens, Keyword::Interface)
-        || is_keyword(tokens, Keyword::Const)
-        || is_keyword(tokens, Keyword::Import)
+    begins_statement(tokens) || is_keyword(tokens, Keyword::Module)
 }
 
 /// A file, and the tokens after it.
-#[tactic(auto, unfolding(grammar_laws::specs::steps::Factored::factored, grammar_laws::specs::steps::Factored::opening, mojom_ast::specs::Grammar::attributes, mojom_ast::specs::Grammar::bracketed, mojom_ast::specs::Grammar::module_name, mojom_ast::specs::Grammar::import_path, mojom_ast::specs::Grammar::definition_item, mojom_ast::specs::Grammar::struct_of, mojom_ast::specs::Grammar::union_of, mojom_ast::specs::Grammar::enum_of, mojom_ast::specs::Grammar::interface_of, mojom_ast::specs::Grammar::const_of))]
 pub fn file(alloc: Global, tokens: &[Token]) -> Result<(File, &[Token]), ReadError>
     ensures { Gives (λ x. (x.0, x.1.now)) result ((factored MAX_NESTED_TYPES).read tokens.now) }
 {

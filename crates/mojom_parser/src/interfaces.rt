@@ -59,7 +59,7 @@ impl Listed for Parameter {
 }
 
 /// Whether the next token begins a parameter.
-#[tactic(auto, unfolding(mojom_ast::specs::Grammar::parameter, mojom_ast::specs::Grammar::attributes, mojom_ast::specs::Grammar::bracketed))]
+#[tactic(auto, using(crate::proofs::Starts::parameter_begins))]
 fn begins_parameter(tokens: &[Token]) -> bool
     ensures { result ≡ front_in (parameter MAX_NESTED_TYPES).starts tokens.now }
 {
@@ -148,7 +148,7 @@ impl Listed for InterfaceMember {
 
     ghost not_null = { interface_member_not_null };
 
-    #[tactic(auto, unfolding(mojom_ast::specs::Grammar::interface_member, mojom_ast::specs::Grammar::attributes, mojom_ast::specs::Grammar::bracketed, mojom_ast::specs::Grammar::interface_item, mojom_ast::specs::Grammar::const_of, mojom_ast::specs::Grammar::enum_of, mojom_ast::specs::Grammar::method, mojom_ast::specs::Grammar::identifier))]
+    #[tactic(auto, using(crate::proofs::Starts::interface_member_begins))]
     fn begins(tokens: &[Token]) -> bool {
         is_symbol(tokens, Symbol::OpenBracket)
             || is_keyword(tokens, Keyword::Const)

@@ -61,7 +61,7 @@ impl Listed for StructMember {
 
     ghost not_null = { struct_member_not_null };
 
-    #[tactic(auto, unfolding(mojom_ast::specs::Grammar::struct_member, mojom_ast::specs::Grammar::attributes, mojom_ast::specs::Grammar::bracketed, mojom_ast::specs::Grammar::struct_item, mojom_ast::specs::Grammar::const_of, mojom_ast::specs::Grammar::enum_of, mojom_ast::specs::Grammar::field))]
+    #[tactic(auto, using(crate::proofs::Starts::struct_member_begins))]
     fn begins(tokens: &[Token]) -> bool {
         is_symbol(tokens, Symbol::OpenBracket)
             || is_keyword(tokens, Keyword::Const)
@@ -102,7 +102,7 @@ impl Listed for UnionField {
 
     ghost not_null = { union_field_not_null };
 
-    #[tactic(auto, unfolding(mojom_ast::specs::Grammar::union_field, mojom_ast::specs::Grammar::attributes, mojom_ast::specs::Grammar::bracketed))]
+    #[tactic(auto, using(crate::proofs::Starts::union_field_begins))]
     fn begins(tokens: &[Token]) -> bool {
         is_symbol(tokens, Symbol::OpenBracket) || begins_type(tokens)
     }

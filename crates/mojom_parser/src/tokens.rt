@@ -67,7 +67,7 @@ pub fn keyword(tokens: &[Token], word: Keyword) -> Result<(&Token, &[Token]), Re
 }
 
 /// Whether the next token is an identifier.
-#[tactic(auto, using(mojom_ast::proofs::ClassFacts::identifier_is, mojom_ast::proofs::ClassFacts::keyword_no_identifier, mojom_ast::proofs::ClassFacts::symbol_no_identifier))]
+#[tactic(auto, using(crate::proofs::TokenFacts::identifiers_alone))]
 pub fn is_identifier(tokens: &[Token]) -> bool
     ensures { result ≡ front_in identifiers tokens.now }
 {
@@ -88,7 +88,7 @@ fn copied(alloc: Global, text: &Text) -> Result<Text, AllocError>
 }
 
 /// The text of an identifier.
-#[tactic(auto, using(mojom_ast::proofs::ClassFacts::identifier_is, mojom_ast::proofs::ClassFacts::keyword_no_identifier, mojom_ast::proofs::ClassFacts::symbol_no_identifier))]
+#[tactic(auto, using(crate::proofs::TokenFacts::identifiers_alone))]
 fn text_of(token: &Token) -> Option<&Text>
     ensures { MatchOption result (has identifiers (class token.now) ≡ false) (λ text. IsTextOf token.now text.now) }
 {
@@ -122,7 +122,7 @@ pub fn identifier(alloc: Global, tokens: &[Token]) -> Result<(Identifier, &[Toke
 }
 
 /// A number, and the tokens after it.
-#[tactic(auto, unfolding(mojom_ast::specs::Grammar::number), using(mojom_ast::proofs::ClassFacts::identifier_no_number, mojom_ast::proofs::ClassFacts::keyword_no_number, mojom_ast::proofs::ClassFacts::symbol_no_number))]
+#[tactic(auto, unfolding(mojom_ast::specs::Grammar::number), using(crate::proofs::TokenFacts::numbers_alone))]
 pub fn number(tokens: &[Token]) -> Result<(Number, &[Token]), ReadError>
     ensures { Gives (λ x. (x.0, x.1.now)) result (number.read tokens.now) }
 {
@@ -142,7 +142,7 @@ pub fn number(tokens: &[Token]) -> Result<(Number, &[Token]), ReadError>
 }
 
 /// Whether the next token is a number.
-#[tactic(auto, using(mojom_ast::proofs::ClassFacts::identifier_no_number, mojom_ast::proofs::ClassFacts::keyword_no_number, mojom_ast::proofs::ClassFacts::symbol_no_number))]
+#[tactic(auto, using(crate::proofs::TokenFacts::numbers_alone))]
 pub fn is_number(tokens: &[Token]) -> bool
     ensures { result ≡ front_in (NUMBER ∷ []) tokens.now }
 {
@@ -156,7 +156,7 @@ pub fn is_number(tokens: &[Token]) -> bool
 }
 
 /// Whether the next token is a string.
-#[tactic(auto, using(mojom_ast::proofs::ClassFacts::identifier_no_string, mojom_ast::proofs::ClassFacts::keyword_no_string, mojom_ast::proofs::ClassFacts::symbol_no_string))]
+#[tactic(auto, using(crate::proofs::TokenFacts::strings_alone))]
 pub fn is_string(tokens: &[Token]) -> bool
     ensures { result ≡ front_in (STRING ∷ []) tokens.now }
 {
@@ -170,7 +170,7 @@ pub fn is_string(tokens: &[Token]) -> bool
 }
 
 /// A string, and the tokens after it.
-#[tactic(auto, unfolding(mojom_ast::specs::Grammar::string), using(mojom_ast::proofs::ClassFacts::identifier_no_string, mojom_ast::proofs::ClassFacts::keyword_no_string, mojom_ast::proofs::ClassFacts::symbol_no_string))]
+#[tactic(auto, unfolding(mojom_ast::specs::Grammar::string), using(crate::proofs::TokenFacts::strings_alone))]
 pub fn string(alloc: Global, tokens: &[Token]) -> Result<(StringLiteral, &[Token]), ReadError>
     ensures { Gives (λ x. (x.0, x.1.now)) result (string.read tokens.now) }
 {

@@ -165,7 +165,7 @@ fn pending(alloc: Global, tokens: &[Token]) -> Result<(BaseNode, &[Token]), Read
 }
 
 /// Whether the next token is one of the four keywords for an end of an interface.
-#[tactic(auto, unfolding(mojom_ast::specs::Grammar::pending, mojom_ast::specs::Grammar::pending_sort))]
+#[tactic(auto, using(crate::proofs::Starts::pending_begins))]
 fn begins_pending(tokens: &[Token]) -> bool
     ensures { result ≡ front_in pending.starts tokens.now }
 {
@@ -176,7 +176,7 @@ fn begins_pending(tokens: &[Token]) -> bool
 }
 
 #[cycle(kind)]
-#[tactic(auto, unfolding(mojom_ast::specs::Grammar::base, mojom_ast::specs::Grammar::array, mojom_ast::specs::Grammar::map_of, mojom_ast::specs::Grammar::handle))]
+#[tactic(auto, using(crate::proofs::Starts::bases), unfolding(mojom_ast::specs::Grammar::base))]
 fn base(alloc: Global, left: u32, tokens: &[Token]) -> Result<(BaseNode, &[Token]), ReadError>
     ensures { Gives (λ x. (base_view x.0, x.1.now)) result ((base (type_within left)).read tokens.now) }
 {
@@ -211,16 +211,14 @@ fn node(alloc: Global, left: u32, tokens: &[Token]) -> Result<(TypeNode, &[Token
 }
 
 /// Whether the next token begins a type.
+#[tactic(auto, using(crate::proofs::Starts::type_begins))]
 pub fn begins_type(tokens: &[Token]) -> bool
     ensures { result ≡ front_in type_starts tokens.now }
 {
     is_keyword(tokens, Keyword::Array)
         || is_keyword(tokens, Keyword::Map)
         || is_keyword(tokens, Keyword::Handle)
-        || is_keyword(tokens, Keyword::PendingRemote)
-        || is_keyword(tokens, Keyword::PendingReceiver)
-        || is_keyword(tokens, Keyword::PendingAssociatedRemote)
-        || is_keyword(tokens, Keyword::PendingAssociatedReceiver)
+        || begins_pending(tokens)
         || is_identifier(tokens)
 }
 
