@@ -13,7 +13,9 @@ use mj_base::limits::MAX_PAYLOAD_BYTES;
 use mj_base::{Items, push_le32};
 use mj_schema::Schema;
 use std::alloc::{AllocError, Global};
+use std::fmt;
 use std::marker::Model;
+use thiserror::Error;
 
 /// A value that fits its target, with its payload made. Contracts see the target and the value.
 #[derive(Drop)]
@@ -52,13 +54,26 @@ impl Prepared {
 }
 
 /// Why a value is not prepared.
-#[derive(Drop)]
+#[derive(Drop, Error)]
 pub enum PrepareError {
     /// The value at this path isn't one of its kind. The empty path is the parameter struct.
+    #[error("a value is not one of its kind")]
     Misfit(Items<u32>),
     /// The payload would have more than 16,777,216 bytes.
+    #[error("the payload is too long")]
     TooLong,
+    #[error("out of memory")]
     Memory,
+}
+
+impl fmt::Debug for PrepareError {
+    fn fmt<W: fmt::Write>(&self, f: &mut fmt::Formatter<W>) -> fmt::Result {
+        match self {
+            PrepareError::Misfit(path) => f.debug_tuple("Misfit").field(&path.as_slice()).finish(),
+            PrepareError::TooLong => f.write_str("TooLong"),
+            PrepareError::Memory => f.write_str("Memory"),
+        }
+    }
 }
 
 impl From<AllocError> for PrepareError {
