@@ -1,18 +1,26 @@
 -- A text and its parts, one from the other.
 use Rattle.std.proofs.Common.{◌≡◌, ◌<◌, ℕ, List, [], ◌∷◌, ◌++◌, length, refl, sym, ap, ◌∙◌, arith, append_assoc, append-nil, Bool, true, false}
 use Rattle.std.specs.Prelude.{◌==◌, ◌&&◌, not, if◌then◌else◌, map}
-use Rattle.std.specs.List.{list_all, AllByRecursion}
+use Rattle.std.specs.List.{list_all, flat_map, join_by, AllByRecursion}
 use Rattle.std.proofs.lemmas.Bool.Decides.{nat_tests}
 use Rattle.std.proofs.lemmas.List.{map-append}
+use Rattle.std.proofs.lemmas.List.Folds.{flat_map-map}
 use denote.Ref.{Bor}
 use Rattle.call_script.specs.Pieces.{pieces, onto, without_empty_last}
-use Rattle.call_script.specs.Spelling.{joined_by}
+
+-- parts with a separator between each two
+abbrev pub joined : ℕ → List (List ℕ) → List ℕ
+joined c ps = join_by (λ p. p) (c ∷ []) ps
+
+-- the texts of things, joined, are their texts as parts
+pub joined_texts : {X : Type 0} (c : ℕ) (text : X → List ℕ) (xs : List X) → join_by text (c ∷ []) xs ≡ joined c (map text xs)
+joined_texts c text [] = refl
+joined_texts c text (x ∷ xs) = ap (λ rest. text x ++ rest) (sym (flat_map-map (λ (p : List ℕ). c ∷ p) text xs))
 
 -- a part, and the separator behind it
-joined_onto : (c : ℕ) (xs : List ℕ) (ps : List (List ℕ)) → joined_by c (onto xs ps) ≡ xs ++ joined_by c ps
-joined_onto c xs [] = sym (append-nil xs)
-joined_onto c xs (p ∷ []) = refl
-joined_onto c xs (p ∷ q ∷ ps) = append_assoc xs p (c ∷ joined_by c (q ∷ ps))
+joined_onto : (c : ℕ) (xs : List ℕ) (ps : List (List ℕ)) → joined c (onto xs ps) ≡ xs ++ joined c ps
+joined_onto c xs [] = refl
+joined_onto c xs (p ∷ ps) = append_assoc xs p (flat_map (λ q. c ∷ q) ps)
 
 pub onto_some : (xs : List ℕ) (ps : List (List ℕ)) → 0 < length (onto xs ps)
 onto_some xs [] = omega arith
@@ -26,15 +34,15 @@ pieces_some c (b ∷ bytes) = go (b == c)
     go true = omega arith
     go false = onto_some (b ∷ []) (pieces c bytes)
 
-pub joined_more : (c : ℕ) (p : List ℕ) (ps : List (List ℕ)) → 0 < length ps → joined_by c (p ∷ ps) ≡ p ++ c ∷ joined_by c ps
+pub joined_more : (c : ℕ) (p : List ℕ) (ps : List (List ℕ)) → 0 < length ps → joined c (p ∷ ps) ≡ p ++ c ∷ joined c ps
 joined_more c p [] h = absurd (omega arith)
 joined_more c p (q ∷ ps) h = refl
 
-pub joined_pieces : (c : ℕ) (bytes : List ℕ) → joined_by c (pieces c bytes) ≡ bytes
+pub joined_pieces : (c : ℕ) (bytes : List ℕ) → joined c (pieces c bytes) ≡ bytes
 joined_pieces c [] = refl
 joined_pieces c (b ∷ bytes) = go (b == c) refl (joined_pieces c bytes)
   where
-    go : (t : Bool) → (b == c) ≡ t → joined_by c (pieces c bytes) ≡ bytes → joined_by c (if t then [] ∷ pieces c bytes else onto (b ∷ []) (pieces c bytes)) ≡ b ∷ bytes
+    go : (t : Bool) → (b == c) ≡ t → joined c (pieces c bytes) ≡ bytes → joined c (if t then [] ∷ pieces c bytes else onto (b ∷ []) (pieces c bytes)) ≡ b ∷ bytes
     go true e ih = let same : b ≡ c = grind (arith, nat_tests) in rw (joined_more c [] (pieces c bytes) (pieces_some c bytes), ih, same) refl
     go false e ih = rw (joined_onto c (b ∷ []) (pieces c bytes), ih) refl
 
@@ -79,10 +87,10 @@ first_part c (b ∷ p) rest h =
     let k = both (not (b == c)) (list_all (λ b. not (b == c)) p) h in
     rw (negated (b == c) k.0, first_part c p rest k.1) refl
 
-pub pieces_joined : (c : ℕ) (ps : List (List ℕ)) → 0 < length ps → AllByRecursion (lacks c) ps → pieces c (joined_by c ps) ≡ ps
+pub pieces_joined : (c : ℕ) (ps : List (List ℕ)) → 0 < length ps → AllByRecursion (lacks c) ps → pieces c (joined c ps) ≡ ps
 pieces_joined c [] h all = absurd (omega arith)
-pieces_joined c (p ∷ []) h all = one_part c p all.0
-pieces_joined c (p ∷ q ∷ ps) h all = rw (first_part c p (joined_by c (q ∷ ps)) all.0, pieces_joined c (q ∷ ps) (omega arith) all.1) refl
+pieces_joined c (p ∷ []) h all = ap (pieces c) (append-nil p) ∙ one_part c p all.0
+pieces_joined c (p ∷ q ∷ ps) h all = rw (first_part c p (joined c (q ∷ ps)) all.0, pieces_joined c (q ∷ ps) (omega arith) all.1) refl
 
 pub apart_onto : (c b : ℕ) (ps : List (List ℕ)) → (b == c) ≡ false → AllByRecursion (lacks c) ps → AllByRecursion (lacks c) (onto (b ∷ []) ps)
 apart_onto c b [] e all = let one : lacks c (b ∷ []) = rw e refl in (one, tt)

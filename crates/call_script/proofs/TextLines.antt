@@ -1,6 +1,6 @@
 -- The text of one item more.
 use Rattle.std.proofs.Common.{◌≡◌, ◌<◌, ◌≤◌, ◌+◌, ◌-◌, ℕ, zero, suc, List, [], ◌∷◌, ◌++◌, length, take, drop, get_or, map, sym, ap, ◌∙◌, arith, append_assoc, append-nil, zero-add}
-use Rattle.std.specs.List.{flat_map, range_with_len}
+use Rattle.std.specs.List.{flat_map, join_by, range_with_len}
 use Rattle.std.proofs.lemmas.List.{take_rest}
 use Rattle.std.proofs.lemmas.List.{take_more, length-take-le, flat_map_more}
 use Rattle.std.proofs.lemmas.Grind.{flat_map-append}
@@ -8,7 +8,6 @@ use Rattle.std.proofs.lemmas.List.FromFn.{map-range_with_len_more}
 use Rattle.mj_schema.specs.declared.schema.Schema.{Schema}
 use Rattle.bind_model.specs.declared.event.Event.{Event}
 use Rattle.bind_model.specs.Machine.{serials}
-use Rattle.call_script.specs.Spelling.{joined_by}
 use Rattle.call_script.specs.Text.{lines_from, event_text, first_ends, left_ends, left_line}
 
 lines_snoc : (schema : Schema) (k n : ℕ) (xs : List Event) (e : Event) → n ≡ k + length xs → lines_from schema k (xs ++ e ∷ []) ≡ lines_from schema k xs ++ event_text schema n e
@@ -19,17 +18,12 @@ lines_snoc schema k n (x ∷ xs) e h =
 pub lines_more : (schema : Schema) (events : List Event) (k : ℕ) (d : Event) → k < length events → lines_from schema 0 (take (k + 1) events) ≡ lines_from schema 0 (take k events) ++ event_text schema k (get_or events k d)
 lines_more schema events k d h = rw (take_more events k d h) (lines_snoc schema 0 k (take k events) (get_or events k d) (omega (arith, length-take-le k events)))
 
--- pieces behind a first one, each behind the separator
-joined_rest : {X : Type 0} (c : ℕ) (f : X → List ℕ) (p : List ℕ) (xs : List X) → joined_by c (p ∷ map f xs) ≡ p ++ flat_map (λ x. c ∷ f x) xs
-joined_rest c f p [] = sym (append-nil p)
-joined_rest c f p (x ∷ xs) = ap (λ t. p ++ c ∷ t) (joined_rest c f (f x) xs)
-
 -- the first piece, and those behind it
 pub joined_parts : {X : Type 0} (c : ℕ) (f : X → List ℕ) (xs : List X) (d : X) (end : List ℕ) → 1 ≤ length xs
-    → f (get_or xs 0 d) ++ (flat_map (λ x. c ∷ f x) (take (length xs - 1) (drop 1 xs)) ++ end) ≡ joined_by c (map f xs) ++ end
+    → f (get_or xs 0 d) ++ (flat_map (λ x. c ∷ f x) (take (length xs - 1) (drop 1 xs)) ++ end) ≡ join_by f (c ∷ []) xs ++ end
 joined_parts c f [] d end h = absurd (omega (arith, h))
 joined_parts c f (x ∷ xs) d end h =
-    rw (take_rest (x ∷ xs) 1, joined_rest c f (f x) xs) (sym (append_assoc (f x) (flat_map (λ x. c ∷ f x) xs) end))
+    rw (take_rest (x ∷ xs) 1) (sym (append_assoc (f x) (flat_map (λ x. c ∷ f x) xs) end))
 
 range_suc : (a n j : ℕ) → a + n ≡ j → range_with_len a (suc n) ≡ range_with_len a n ++ j ∷ []
 range_suc a zero j h = let e : a ≡ j = omega (arith, h) in ap (λ k. k ∷ []) e

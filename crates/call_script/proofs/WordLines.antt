@@ -1,15 +1,15 @@
 -- The words of a text's lines spell the text, and are read back from it.
-use Rattle.std.proofs.Common.{◌≡◌, ◌<◌, ◌≤◌, ℕ, List, [], ◌∷◌, ◌++◌, length, refl, sym, ap, ◌∙◌, arith, append_assoc, length-append, Bool, true, false, inl, inr, suc}
-use Rattle.std.specs.Prelude.{◌==◌, ◌||◌, not, if◌then◌else◌, map, ◌⊎◌}
+use Rattle.std.proofs.Common.{◌≡◌, ◌<◌, ◌≤◌, ℕ, List, [], ◌∷◌, ◌++◌, length, refl, sym, ap, ◌∙◌, arith, append_assoc, append-nil, length-append, Bool, true, false, inl, inr, suc}
+use Rattle.std.specs.Prelude.{◌==◌, ◌||◌, not, if◌then◌else◌, map, codes, ◌⊎◌}
 use Rattle.std.specs.List.{list_all, AllByRecursion}
 use Rattle.std.proofs.lemmas.Bool.Decides.{nat_tests}
 use Rattle.std.proofs.lemmas.List.Folds.{list_all-append}
 use Rattle.call_script.specs.Pieces.{pieces, onto, without_empty_last, word_lines}
-use Rattle.call_script.specs.Spelling.{joined_by, is_plain, lines_text}
-use Rattle.call_script.proofs.Splits.{lacks, joined_pieces, pieces_joined, pieces_apart, apart_onto, both, and_true, negated, without_last}
+use Rattle.call_script.specs.Spelling.{is_plain, line_text, lines_text}
+use Rattle.call_script.proofs.Splits.{joined, lacks, joined_texts, joined_pieces, pieces_joined, pieces_apart, apart_onto, both, and_true, negated, without_last}
 
 -- each line of its words
-lines_joined : (ps : List (List ℕ)) → map (joined_by 32) (map (pieces 32) ps) ≡ ps
+lines_joined : (ps : List (List ℕ)) → map line_text (map (pieces 32) ps) ≡ ps
 lines_joined [] = refl
 lines_joined (p ∷ ps) = rw (joined_pieces 32 p, lines_joined ps) refl
 
@@ -19,24 +19,24 @@ empty (b ∷ q) e = absurd (grind (arith, nat_tests))
 
 -- the text of parts is that of all but an empty last one, or has a separator more
 ended : (c : ℕ) (ps : List (List ℕ)) → 0 < length (without_empty_last ps)
-    → (joined_by c ps ≡ joined_by c (without_empty_last ps)) ⊎ (joined_by c ps ≡ joined_by c (without_empty_last ps) ++ c ∷ [])
+    → (joined c ps ≡ joined c (without_empty_last ps)) ⊎ (joined c ps ≡ joined c (without_empty_last ps) ++ c ∷ [])
 ended c [] h = absurd (omega arith)
 ended c (p ∷ []) h = go (length p == 0) h
   where
-    go : (t : Bool) → 0 < length (if t then [] else p ∷ []) → (p ≡ joined_by c (if t then [] else p ∷ [])) ⊎ (p ≡ joined_by c (if t then [] else p ∷ []) ++ c ∷ [])
+    go : (t : Bool) → 0 < length (if t then [] else p ∷ []) → (p ++ [] ≡ joined c (if t then [] else p ∷ [])) ⊎ (p ++ [] ≡ joined c (if t then [] else p ∷ []) ++ c ∷ [])
     go true h = absurd (omega arith)
     go false h = inl refl
 ended c (p ∷ q ∷ []) h = go (length q == 0) refl
   where
-    go : (t : Bool) → (length q == 0) ≡ t → (p ++ c ∷ q ≡ joined_by c (p ∷ (if t then [] else q ∷ []))) ⊎ (p ++ c ∷ q ≡ joined_by c (p ∷ (if t then [] else q ∷ [])) ++ c ∷ [])
-    go true e = inr (rw (empty q e) refl)
+    go : (t : Bool) → (length q == 0) ≡ t → (joined c (p ∷ q ∷ []) ≡ joined c (p ∷ (if t then [] else q ∷ []))) ⊎ (joined c (p ∷ q ∷ []) ≡ joined c (p ∷ (if t then [] else q ∷ [])) ++ c ∷ [])
+    go true e = inr (rw (empty q e, append-nil p) refl)
     go false e = inl refl
 ended c (p ∷ q ∷ r ∷ ps) h = go (ended c (q ∷ r ∷ ps) (omega arith))
   where
-    go : (joined_by c (q ∷ r ∷ ps) ≡ joined_by c (q ∷ without_empty_last (r ∷ ps))) ⊎ (joined_by c (q ∷ r ∷ ps) ≡ joined_by c (q ∷ without_empty_last (r ∷ ps)) ++ c ∷ [])
-        → (joined_by c (p ∷ q ∷ r ∷ ps) ≡ joined_by c (p ∷ q ∷ without_empty_last (r ∷ ps))) ⊎ (joined_by c (p ∷ q ∷ r ∷ ps) ≡ joined_by c (p ∷ q ∷ without_empty_last (r ∷ ps)) ++ c ∷ [])
+    go : (joined c (q ∷ r ∷ ps) ≡ joined c (q ∷ without_empty_last (r ∷ ps))) ⊎ (joined c (q ∷ r ∷ ps) ≡ joined c (q ∷ without_empty_last (r ∷ ps)) ++ c ∷ [])
+        → (joined c (p ∷ q ∷ r ∷ ps) ≡ joined c (p ∷ q ∷ without_empty_last (r ∷ ps))) ⊎ (joined c (p ∷ q ∷ r ∷ ps) ≡ joined c (p ∷ q ∷ without_empty_last (r ∷ ps)) ++ c ∷ [])
     go (inl e) = inl (ap (λ rest. p ++ c ∷ rest) e)
-    go (inr e) = inr (ap (λ rest. p ++ c ∷ rest) e ∙ sym (append_assoc p (c ∷ joined_by c (q ∷ without_empty_last (r ∷ ps))) (c ∷ [])))
+    go (inr e) = inr (ap (λ rest. p ++ c ∷ rest) e ∙ sym (append_assoc p (c ∷ joined c (q ∷ without_empty_last (r ∷ ps))) (c ∷ [])))
 
 length_map : (ps : List (List ℕ)) → length (map (pieces 32) ps) ≡ length ps
 length_map [] = refl
@@ -44,14 +44,14 @@ length_map (p ∷ ps) = ap suc (length_map ps)
 
 pub spelled : (bytes : List ℕ) (lines : List (List (List ℕ))) → word_lines bytes ≡ lines → 0 < length lines → (bytes ≡ lines_text lines) ⊎ (bytes ≡ lines_text lines ++ 10 ∷ [])
 spelled bytes lines same some =
-    let e : map (joined_by 32) lines ≡ without_empty_last (pieces 10 bytes) = ap (map (joined_by 32)) (sym same) ∙ lines_joined (without_empty_last (pieces 10 bytes)) in
+    let e : map line_text lines ≡ without_empty_last (pieces 10 bytes) = ap (map line_text) (sym same) ∙ lines_joined (without_empty_last (pieces 10 bytes)) in
     let n : length lines ≡ length (without_empty_last (pieces 10 bytes)) = ap length (sym same) ∙ length_map (without_empty_last (pieces 10 bytes)) in
     go e (ended 10 (pieces 10 bytes) (omega arith))
   where
-    go : map (joined_by 32) lines ≡ without_empty_last (pieces 10 bytes) → (joined_by 10 (pieces 10 bytes) ≡ joined_by 10 (without_empty_last (pieces 10 bytes))) ⊎ (joined_by 10 (pieces 10 bytes) ≡ joined_by 10 (without_empty_last (pieces 10 bytes)) ++ 10 ∷ [])
+    go : map line_text lines ≡ without_empty_last (pieces 10 bytes) → (joined 10 (pieces 10 bytes) ≡ joined 10 (without_empty_last (pieces 10 bytes))) ⊎ (joined 10 (pieces 10 bytes) ≡ joined 10 (without_empty_last (pieces 10 bytes)) ++ 10 ∷ [])
         → (bytes ≡ lines_text lines) ⊎ (bytes ≡ lines_text lines ++ 10 ∷ [])
-    go e (inl h) = inl (rw (e, ← h, joined_pieces 10 bytes) refl)
-    go e (inr h) = inr (rw (e, ← h, joined_pieces 10 bytes) refl)
+    go e (inl h) = inl (rw (joined_texts 10 line_text lines, e, ← h, joined_pieces 10 bytes) refl)
+    go e (inr h) = inr (rw (joined_texts 10 line_text lines, e, ← h, joined_pieces 10 bytes) refl)
 
 -- a plain word holds neither separator
 neither : (a b : Bool) → not (a || b) ≡ true → (not a ≡ true) × (not b ≡ true)
@@ -77,63 +77,66 @@ lacks_plain (b ∷ w) h k =
     let y = both (not (b == 10)) (list_all (λ c. not (c == 10)) w) k in
     and_true (not ((b == 32) || (b == 10))) (is_plain w) (nor_true (b == 32) (b == 10) x.0 y.0) (lacks_plain w x.1 y.1)
 
-words_lack : (words : List (List ℕ)) → list_all is_plain words ≡ true → AllByRecursion (lacks 32) words × lacks 10 (joined_by 32 words)
+words_lack : (words : List (List ℕ)) → list_all is_plain words ≡ true → AllByRecursion (lacks 32) words × lacks 10 (line_text words)
 words_lack [] h = (tt, refl)
 words_lack (w ∷ []) h =
     let k = both (is_plain w) true h in
     let r = plain_lacks w k.0 in
-    ((r.0, tt), r.1)
+    ((r.0, tt), rw (append-nil w) r.1)
 words_lack (w ∷ v ∷ ws) h =
     let k = both (is_plain w) (list_all is_plain (v ∷ ws)) h in
     let r = plain_lacks w k.0 in
     let s = words_lack (v ∷ ws) k.1 in
-    ((r.0, s.0), list_all-append (λ b. not (b == 10)) w (32 ∷ joined_by 32 (v ∷ ws)) ∙ and_true (list_all (λ b. not (b == 10)) w) (list_all (λ b. not (b == 10)) (joined_by 32 (v ∷ ws))) r.1 s.1)
+    ((r.0, s.0), list_all-append (λ b. not (b == 10)) w (32 ∷ line_text (v ∷ ws)) ∙ and_true (list_all (λ b. not (b == 10)) w) (list_all (λ b. not (b == 10)) (line_text (v ∷ ws))) r.1 s.1)
 
 abbrev pub ArePlain : List (List (List ℕ)) → Type 0
 ArePlain lines = AllByRecursion (λ (words : List (List ℕ)). list_all is_plain words ≡ true) lines
 
-lines_lack : (lines : List (List (List ℕ))) → ArePlain lines → AllByRecursion (lacks 10) (map (joined_by 32) lines)
+lines_lack : (lines : List (List (List ℕ))) → ArePlain lines → AllByRecursion (lacks 10) (map line_text lines)
 lines_lack [] h = tt
 lines_lack (l ∷ lines) h = ((words_lack l h.0).1, lines_lack lines h.1)
 
 -- two words are no empty text
-two_words : (words : List (List ℕ)) → 2 ≤ length words → 0 < length (joined_by 32 words)
+two_words : (words : List (List ℕ)) → 2 ≤ length words → 0 < length (line_text words)
 two_words [] h = absurd (omega arith)
 two_words (w ∷ []) h = absurd (omega arith)
-two_words (w ∷ v ∷ ws) h = omega (arith, length-append w (32 ∷ joined_by 32 (v ∷ ws)))
+two_words (w ∷ v ∷ ws) h = omega (arith, length-append w (32 ∷ line_text (v ∷ ws)))
 
-none_empty : (lines : List (List (List ℕ))) → AllByRecursion (λ (words : List (List ℕ)). 2 ≤ length words) lines → without_empty_last (map (joined_by 32) lines) ≡ map (joined_by 32) lines
+none_empty : (lines : List (List (List ℕ))) → AllByRecursion (λ (words : List (List ℕ)). 2 ≤ length words) lines → without_empty_last (map line_text lines) ≡ map line_text lines
 none_empty [] h = refl
-none_empty (l ∷ []) h = let n = two_words l h.0 in let z : (length (joined_by 32 l) == 0) ≡ false = grind (arith, nat_tests) in rw z refl
-none_empty (l ∷ k ∷ lines) h = ap (λ rest. joined_by 32 l ∷ rest) (none_empty (k ∷ lines) h.1)
+none_empty (l ∷ []) h = let n = two_words l h.0 in let z : (length (line_text l) == 0) ≡ false = grind (arith, nat_tests) in rw z refl
+none_empty (l ∷ k ∷ lines) h = ap (λ rest. line_text l ∷ rest) (none_empty (k ∷ lines) h.1)
 
-words_back : (lines : List (List (List ℕ))) → AllByRecursion (λ (words : List (List ℕ)). 2 ≤ length words) lines → ArePlain lines → map (pieces 32) (map (joined_by 32) lines) ≡ lines
+words_back : (lines : List (List (List ℕ))) → AllByRecursion (λ (words : List (List ℕ)). 2 ≤ length words) lines → ArePlain lines → map (pieces 32) (map line_text lines) ≡ lines
 words_back [] h p = refl
 words_back (l ∷ lines) h p = let n : 2 ≤ length l = h.0 in rw (pieces_joined 32 l (omega arith) (words_lack l p.0).0, words_back lines h.1 p.1) refl
 
 -- a separator at the end is one more part, an empty one
-joined_ended : (c : ℕ) (ps : List (List ℕ)) → 0 < length ps → joined_by c (ps ++ [] ∷ []) ≡ joined_by c ps ++ c ∷ []
+joined_ended : (c : ℕ) (ps : List (List ℕ)) → 0 < length ps → joined c (ps ++ [] ∷ []) ≡ joined c ps ++ c ∷ []
 joined_ended c [] h = absurd (omega arith)
-joined_ended c (p ∷ []) h = refl
-joined_ended c (p ∷ q ∷ ps) h = ap (λ rest. p ++ c ∷ rest) (joined_ended c (q ∷ ps) (omega arith)) ∙ sym (append_assoc p (c ∷ joined_by c (q ∷ ps)) (c ∷ []))
+joined_ended c (p ∷ []) h = sym (append_assoc p [] (c ∷ []))
+joined_ended c (p ∷ q ∷ ps) h = ap (λ rest. p ++ c ∷ rest) (joined_ended c (q ∷ ps) (omega arith)) ∙ sym (append_assoc p (c ∷ joined c (q ∷ ps)) (c ∷ []))
 
 lack_ended : (c : ℕ) (ps : List (List ℕ)) → AllByRecursion (lacks c) ps → AllByRecursion (lacks c) (ps ++ [] ∷ [])
 lack_ended c [] h = (refl, tt)
 lack_ended c (p ∷ ps) h = (h.0, lack_ended c ps h.1)
 
-some_texts : (lines : List (List (List ℕ))) → 0 < length lines → 0 < length (map (joined_by 32) lines)
+some_texts : (lines : List (List (List ℕ))) → 0 < length lines → 0 < length (map line_text lines)
 some_texts [] h = h
 some_texts (l ∷ lines) h = omega arith
 
 pub read_back : (lines : List (List (List ℕ))) → 0 < length lines → AllByRecursion (λ (words : List (List ℕ)). 2 ≤ length words) lines → ArePlain lines
     → (word_lines (lines_text lines) ≡ lines) × (word_lines (lines_text lines ++ 10 ∷ []) ≡ lines)
 read_back lines some two plain =
-    let ls : List (List ℕ) = map (joined_by 32) lines in
-    let whole : pieces 10 (joined_by 10 (map (joined_by 32) lines)) ≡ map (joined_by 32) lines = pieces_joined 10 (map (joined_by 32) lines) (some_texts lines some) (lines_lack lines plain) in
-    let more : pieces 10 (joined_by 10 (map (joined_by 32) lines) ++ 10 ∷ []) ≡ map (joined_by 32) lines ++ [] ∷ [] =
-    ap (pieces 10) (sym (joined_ended 10 (map (joined_by 32) lines) (some_texts lines some))) ∙ pieces_joined 10 (map (joined_by 32) lines ++ [] ∷ []) (omega (arith, length-append (map (joined_by 32) lines) ([] ∷ []))) (lack_ended 10 (map (joined_by 32) lines) (lines_lack lines plain)) in (
+    let texts : List (List ℕ) = map line_text lines in
+    let text : lines_text lines ≡ joined 10 texts = joined_texts 10 line_text lines in
+    let whole : pieces 10 (lines_text lines) ≡ texts = ap (pieces 10) text ∙ pieces_joined 10 texts (some_texts lines some) (lines_lack lines plain) in
+    let more : pieces 10 (lines_text lines ++ 10 ∷ []) ≡ texts ++ [] ∷ [] =
+    ap (λ t. pieces 10 (t ++ 10 ∷ [])) text
+    ∙ ap (pieces 10) (sym (joined_ended 10 texts (some_texts lines some)))
+    ∙ pieces_joined 10 (texts ++ [] ∷ []) (omega (arith, length-append texts ([] ∷ []))) (lack_ended 10 texts (lines_lack lines plain)) in (
       ap (λ ps. map (pieces 32) (without_empty_last ps)) whole ∙ (ap (map (pieces 32)) (none_empty lines two) ∙ words_back lines two plain),
-      ap (λ ps. map (pieces 32) (without_empty_last ps)) more ∙ (ap (map (pieces 32)) (without_last (map (joined_by 32) lines) []) ∙ words_back lines two plain),
+      ap (λ ps. map (pieces 32) (without_empty_last ps)) more ∙ (ap (map (pieces 32)) (without_last texts []) ∙ words_back lines two plain),
     )
 
 -- the words of a text are plain

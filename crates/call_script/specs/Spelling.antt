@@ -1,7 +1,7 @@
 -- How a script is spelled: lines that each end with LF, which the last may lack, and words parted by one blank.
 use Rattle.std.specs.Prelude.{ℕ, ◌≡◌, ◌<◌, ◌≤◌, ◌^◌, ◌++◌, ◌⊎◌, Bool, true, false, ◌&&◌, ◌||◌, ◌==◌, nat_le, not, List, [], ◌∷◌, All, length, map, slice_get, codes, decimal, Option, Some, option_and_then, unwrap_or, find}
 use Rattle.std.specs.Option.{option_map}
-use Rattle.std.specs.List.{flat_map, list_all, AllByRecursion}
+use Rattle.std.specs.List.{flat_map, join_by, list_all, AllByRecursion}
 use Rattle.std.specs.Str.{bytes_eq}
 use Rattle.mj_base.specs.Texts.{are_distinct}
 use Rattle.mj_base.specs.declared.limits.TheConstants.{MAX_SCRIPT_LINES}
@@ -17,12 +17,6 @@ use Rattle.call_script.specs.declared.script.Line.{Line}
 use Rattle.call_script.specs.declared.script.Line.TheVariants.{Call, Take}
 use Rattle.call_script.specs.declared.script.Script.{Script}
 
--- pieces with a separator between each two
-abbrev pub joined_by : ℕ → List (List ℕ) → List ℕ
-joined_by c [] = []
-joined_by c (p ∷ []) = p
-joined_by c (p ∷ q ∷ ps) = p ++ c ∷ joined_by c (q ∷ ps)
-
 -- the full name of an interface, by its number
 abbrev pub interface_name : Schema → ℕ → List ℕ
 interface_name schema n = unwrap_or (option_map (λ (i : InterfaceRow). i.name) (slice_get schema.interfaces n)) []
@@ -37,7 +31,7 @@ method_text schema interface ordinal = interface_name schema interface ++ (codes
 
 -- a value as `(1,2)`
 abbrev pub value_text : List ℕ → List ℕ
-value_text values = codes "(" ++ (joined_by 44 (map decimal values) ++ codes ")")
+value_text values = codes "(" ++ (join_by decimal (codes ",") values ++ codes ")")
 
 -- the name of an end
 abbrev pub name_of : PipeEnd → Pipe → List ℕ
@@ -69,9 +63,13 @@ line_words schema pipes (Take pipe end) = codes "0:" ∷ codes "take" ∷ name_a
 abbrev pub script_lines : Schema → Script → List (List (List ℕ))
 script_lines schema script = (codes "seqs" ∷ codes "1" ∷ []) ∷ (map join_words script.pipes ++ (flat_map (bind_lines schema) script.pipes ++ map (line_words schema script.pipes) script.lines))
 
+-- the text of a line's words
+abbrev pub line_text : List (List ℕ) → List ℕ
+line_text words = join_by (λ word. word) (codes " ") words
+
 -- the text of lines, without an LF at its end
 abbrev pub lines_text : List (List (List ℕ)) → List ℕ
-lines_text lines = joined_by 10 (map (joined_by 32) lines)
+lines_text lines = join_by line_text (codes "\n") lines
 
 -- one of a to z
 abbrev pub is_small_letter : ℕ → Bool

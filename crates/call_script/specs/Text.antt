@@ -1,6 +1,6 @@
 -- The text of a history: a line for each event, a line for each end that is left, and how many events there were.
 use Rattle.std.specs.Prelude.{ℕ, decimal, ◌+◌, ◌/◌, ◌%◌, ◌++◌, nat_lt, List, [], ◌∷◌, length, map, reverse, codes, if◌then◌else◌}
-use Rattle.std.specs.List.{flat_map, range_with_len}
+use Rattle.std.specs.List.{flat_map, join_by, range_with_len}
 use Rattle.mj_base.specs.declared.ids.EndId.{EndId}
 use Rattle.mj_schema.specs.declared.schema.Schema.{Schema}
 use Rattle.wire_model.specs.declared.target.MessageSide.{MessageSide}
@@ -16,7 +16,7 @@ use Rattle.bind_model.specs.declared.event.Told.TheVariants.{Made, Bound, Sent, 
 use Rattle.bind_model.specs.declared.event.Taken.{Taken}
 use Rattle.bind_model.specs.declared.event.Event.{Event}
 use Rattle.bind_model.specs.Machine.{serials}
-use Rattle.call_script.specs.Spelling.{joined_by, interface_name, method_text, value_text}
+use Rattle.call_script.specs.Spelling.{interface_name, method_text, value_text}
 
 -- a digit in base 16, in lower case
 abbrev pub hex_digit : ℕ → ℕ
@@ -33,7 +33,7 @@ end_text x = codes "e" ++ (decimal x.seq ++ (codes "." ++ decimal x.serial))
 
 -- ends as `[e0.0,e0.1]`
 abbrev pub ends_text : List EndId → List ℕ
-ends_text ends = codes "[" ++ (joined_by 44 (map end_text ends) ++ codes "]")
+ends_text ends = codes "[" ++ (join_by end_text (codes ",") ends ++ codes "]")
 
 -- the word for a side of a pipe
 abbrev pub side_text : Side → List ℕ
