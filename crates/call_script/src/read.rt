@@ -17,13 +17,16 @@ use mj_base::limits::MAX_SCRIPT_LINES;
 use mj_base::{Items, are_distinct};
 use mj_schema::Schema;
 use std::alloc::{AllocError, Global};
+use thiserror::Error;
 
 /// Why a script is not read.
-#[derive(Clone, Copy, Debug, PartialEq, Eq)]
+#[derive(Clone, Copy, Debug, PartialEq, Eq, Error)]
 pub enum ScriptError {
-    /// The text isn't of the form that is read today, or names what isn't there.
+    /// The text isn't of the narrow form that is read, or names what isn't there.
+    #[error("the script is not supported")]
     Unsupported,
     /// Memory ran out, which may befall any text.
+    #[error("out of memory")]
     Memory,
 }
 
@@ -128,7 +131,7 @@ fn read_short(alloc: Global, schema: &Schema, lines: &[Words]) -> Result<Option<
     read_words(alloc, schema, lines)
 }
 
-/// Reads a script of today's form for this schema: a header, joins, the bindings of each pipe in
+/// Reads a script of the narrow form for this schema: a header, joins, the bindings of each pipe in
 /// order, and then calls on first ends and takes. It has one pipe at least, no name twice, and 65,536
 /// lines at most.
 ///

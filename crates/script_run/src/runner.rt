@@ -15,9 +15,11 @@ use mj_base::limits::MAX_SCRIPT_LINES;
 use mj_schema::Schema;
 use std::alloc::Global;
 use std::sync::Arc;
+use thiserror::Error;
 
 /// There was no memory for the run.
-#[derive(Clone, Copy, Debug, PartialEq, Eq)]
+#[derive(Clone, Copy, Debug, PartialEq, Eq, Error)]
+#[error("out of memory")]
 pub struct NoMemory;
 
 /// Runs a script of one sequence to its end: all that it asks, and then takes until no message is
