@@ -30,7 +30,8 @@ LeadsTo peer (Err why) = Unit {0}
 module _ (past : List Event) (so : Sound past) (x : EndId) (id : ℕ) (target : Target) (value : List ℕ) where
   -- each test in its turn
   tests : (first receiver asks full : Bool) (bytes : List ℕ) (y : EndId)
-      → told_by_way bytes (if not first then Err NoName else (if receiver then Err WrongSide else (if not asks then Err WrongMethod else (if full then Err Full else Ok y))))
+      → told_by_way bytes (if not first then Err NoName
+      else (if receiver then Err WrongSide else (if not asks then Err WrongMethod else (if full then Err Full else Ok y))))
       ≡ (if not first then No NoName else (if receiver then No WrongSide else (if not asks then No WrongMethod else (if full then No Full else Sent 0 bytes))))
   tests false receiver asks full bytes y = refl
   tests true true asks full bytes y = refl
@@ -39,7 +40,8 @@ module _ (past : List Event) (so : Sound past) (x : EndId) (id : ℕ) (target : 
   tests true false true false bytes y = refl
 
   leads : (first receiver asks full : Bool) (y : EndId)
-      → LeadsTo y (if not first then Err NoName else (if receiver then Err WrongSide else (if not asks then Err WrongMethod else (if full then Err Full else Ok y))))
+      → LeadsTo y (if not first then Err NoName
+      else (if receiver then Err WrongSide else (if not asks then Err WrongMethod else (if full then Err Full else Ok y))))
   leads false receiver asks full y = tt
   leads true true asks full y = tt
   leads true false false full y = tt
@@ -47,25 +49,34 @@ module _ (past : List Event) (so : Sound past) (x : EndId) (id : ℕ) (target : 
   leads true false true false y = refl
 
   bound : (b : Option Binding) → has_end (made past) x ≡ true
-      → (told_by_way (message_bytes 0 target.method value) (way_bound (rows_of past) id target (peer past x) b) ≡ called past x id target value b) × LeadsTo (peer past x) (way_bound (rows_of past) id target (peer past x) b)
+      → (told_by_way (message_bytes 0 target.method value) (way_bound (rows_of past) id target (peer past x) b)
+      ≡ called past x id target value b)
+      × LeadsTo (peer past x) (way_bound (rows_of past) id target (peer past x) b)
   bound None known = (refl, tt)
   bound (Some b) known =
       rw (row_at-made past (peer past x) (so.pairs.peer_made x known)) (
-        tests (id == 0) (is_receiver b.side) (asks_of b.interface target) (nat_le MAX_UNREAD_MESSAGES (length (unread past (peer past x)))) (message_bytes 0 target.method value) (peer past x),
+        tests (id == 0) (is_receiver b.side) (asks_of b.interface target) (nat_le MAX_UNREAD_MESSAGES (length (unread past (peer past x))))
+            (message_bytes 0 target.method value) (peer past x),
         leads (id == 0) (is_receiver b.side) (asks_of b.interface target) (nat_le MAX_UNREAD_MESSAGES (length (unread past (peer past x)))) (peer past x),
       )
 
-  way_is : (told_by_way (message_bytes 0 target.method value) (way (rows_of past) x id target) ≡ called past x id target value (binding past x)) × LeadsTo (peer past x) (way (rows_of past) x id target)
+  way_is :
+      (told_by_way (message_bytes 0 target.method value) (way (rows_of past) x id target) ≡ called past x id target value (binding past x))
+      × LeadsTo (peer past x) (way (rows_of past) x id target)
   way_is = rw (row_at-map past (made past) x) (go (has_end (made past) x) refl)
     where
       go : (known : Bool) → has_end (made past) x ≡ known
-          → (told_by_way (message_bytes 0 target.method value) (way_from (rows_of past) id target (if known then Some (row_of past x) else None)) ≡ called past x id target value (binding past x))
+          → (told_by_way (message_bytes 0 target.method value)
+          (way_from (rows_of past) id target (if known then Some (row_of past x) else None))
+          ≡ called past x id target value (binding past x))
           × LeadsTo (peer past x) (way_from (rows_of past) id target (if known then Some (row_of past x) else None))
       go true e = bound (binding past x) e
       go false e = (rw (unbound past so x e) refl, tt)
 
+  -- a call is told by its way what the history tells it
   pub way-told : told_by_way (message_bytes 0 target.method value) (way (rows_of past) x id target) ≡ called past x id target value (binding past x)
   way-told = way_is.0
 
+  -- a way that is open leads to the peer
   pub way-peer : LeadsTo (peer past x) (way (rows_of past) x id target)
   way-peer = way_is.1

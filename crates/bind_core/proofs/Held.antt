@@ -42,6 +42,7 @@ reverse-snoc events event = reverse-append events (event ∷ [])
 
 -- a step is done where the reply is the answer, the event is noted and the rows are those of the new history
 module _ (old new : State) (seq : SeqId) (command : Command) (reply : Reply) where
+  -- the step is done
   pub finish : CanDo old command
       → schema_of new ≡ schema_of old
       → new.seqs ≡ old.seqs
@@ -57,7 +58,10 @@ module _ (old new : State) (seq : SeqId) (command : Command) (reply : Reply) whe
       let may : AllAllowed (schema_of old) (event ∷ past_of old) = (can.allowed, can.holds.allowed) in
       record {
         holds = record {
-          legal = subst (λ (w : Schema). legal w new.seqs (past_of new)) (sym schema) (subst (λ (n : ℕ). legal (schema_of old) n (past_of new)) (sym seqs) (subst (λ (p : List Event). legal (schema_of old) old.seqs p) (sym past) goes));
+          legal =
+              subst (λ (w : Schema). legal w new.seqs (past_of new)) (sym schema)
+              (subst (λ (n : ℕ). legal (schema_of old) n (past_of new)) (sym seqs)
+              (subst (λ (p : List Event). legal (schema_of old) old.seqs p) (sym past) goes));
           allowed = subst (λ (w : Schema). AllAllowed w (past_of new)) (sym schema) (subst (λ (p : List Event). AllAllowed (schema_of old) p) (sym past) may);
           rows = rows ∙ ap rows_of (sym past);
           few = let n = can.few in omega (arith, ap length events, length-append old.history.events (event ∷ []));
@@ -74,10 +78,14 @@ module _ (old new : State) (seq : SeqId) (command : Command) (reply : Reply) whe
 pub new_of : (past : List Event) (seq t : ℕ) (a b : EndId) → Made (a ∷ b ∷ []) ≡ joined past seq t → AreNew past seq t a b
 new_of past seq t a b h = record { first = cc; second = cc }
 
+-- a join to a sequence that is there is told what was made
 pub join_told : (t seqs : ℕ) (made other : Told) → t < seqs → made ≡ (if nat_lt t seqs then made else other)
 join_told t seqs made other h = let e : nat_lt t seqs ≡ true = grind (arith, nat_tests) in rw e refl
 
-pub two_handles : (none one two all : List EndId) (x y a b : EndId) → none ≡ [] → one ≡ none ++ x ∷ [] → two ≡ one ++ y ∷ [] → all ≡ two → x ≡ a → y ≡ b → all ≡ a ∷ b ∷ []
+-- the handles of a reply are the two that were pushed
+pub two_handles : (none one two all : List EndId) (x y a b : EndId)
+    → none ≡ [] → one ≡ none ++ x ∷ [] → two ≡ one ++ y ∷ [] → all ≡ two → x ≡ a → y ≡ b
+    → all ≡ a ∷ b ∷ []
 two_handles none one two all x y a b n o t l e f = rw (l, t, o, n, e, f) refl
 
 module _ (s : State) (holds : Holds s) where
@@ -88,6 +96,7 @@ module _ (s : State) (holds : Holds s) where
   pub is_out-held : (x : EndId) → is_out_in s.rows x ≡ is_out (past_of s) x
   is_out-held x = rw holds.rows (is_out-rows (past_of s) sound-held x)
 
+  -- no end has two rows
   pub names-held : is_distinct (names_of s.rows) ≡ true
   names-held = rw (holds.rows, names-rows (past_of s) (made (past_of s))) (distinct_made (schema_of s) s.seqs (past_of s) holds.legal)
 
@@ -96,6 +105,7 @@ module _ (s : State) (holds : Holds s) where
       → told_by_way (message_bytes 0 target.method value) found ≡ answer (schema_of s) s.seqs (past_of s) seq (Call x id target value)
   call-held seq x id target value found e = rw (← e, holds.rows) (way-told (past_of s) sound-held x id target value)
 
+  -- an open way leads to the peer
   pub peer-held : (x : EndId) (id : ℕ) (target : Target) (y : EndId) → way s.rows x id target ≡ Ok y → y ≡ peer (past_of s) x
   peer-held x id target y e =
       let e' : way (rows_of (past_of s)) x id target ≡ Ok y = rw holds.rows at e in
@@ -106,7 +116,8 @@ module _ (s : State) (holds : Holds s) where
       → there ≡ peer (past_of s) x → rows ≡ map (changed_at there (with_mail (record { bytes = bytes }))) s.rows
       → rows ≡ rows_of (record { seq = seq; asked = Call x id target value; told = Sent 0 bytes } ∷ past_of s)
   send-held seq x id target value there bytes rows p w =
-      rw (w, p, holds.rows) (sym (rows_sent (schema_of s) seq x id target value 0 bytes (past_of s) (legal_in_order (schema_of s) s.seqs (past_of s) holds.legal)))
+      rw (w, p, holds.rows)
+      (sym (rows_sent (schema_of s) seq x id target value 0 bytes (past_of s) (legal_in_order (schema_of s) s.seqs (past_of s) holds.legal)))
 
   -- a take is answered as the rows say
   pub take-held : (seq : SeqId) (x : EndId) → took_in (schema_of s) (row_at x s.rows) ≡ answer (schema_of s) s.seqs (past_of s) seq (Take x)
@@ -121,7 +132,8 @@ module _ (s : State) (holds : Holds s) where
       subst IsGood told good.0
 
   -- the rows after a message is got
-  pub got-held : (seq : SeqId) (x : EndId) (t : Taken) (rows : List Row) → rows ≡ map (changed_at x without_front) s.rows → rows ≡ rows_of (record { seq = seq; asked = Take x; told = Got t } ∷ past_of s)
+  pub got-held : (seq : SeqId) (x : EndId) (t : Taken) (rows : List Row) → rows ≡ map (changed_at x without_front) s.rows
+      → rows ≡ rows_of (record { seq = seq; asked = Take x; told = Got t } ∷ past_of s)
   got-held seq x t rows w = rw (w, holds.rows) (sym (rows_got seq x t (past_of s)))
 
   pub count-held : (seq : ℕ) → count_in s.rows seq ≡ serials (past_of s) seq
@@ -131,10 +143,18 @@ module _ (s : State) (holds : Holds s) where
   pub join-held : (seq t : SeqId) (a b : EndId) (rows : List Row) → AreNew (past_of s) seq.0 t.0 a b
       → rows ≡ s.rows ++ fresh_row a b ∷ fresh_row b a ∷ [] → rows ≡ rows_of (record { seq = seq; asked = Join t; told = Made (a ∷ b ∷ []) } ∷ past_of s)
   join-held seq t a b rows new w =
-      rw (w, holds.rows) (sym (rows_joined (past_of s) sound-held seq t a b (first_new (past_of s) seq.0 t.0 a b sound-held.counted new) (second_new (past_of s) seq.0 t.0 a b sound-held.counted new) (apart (past_of s) seq.0 t.0 a b new)))
+      rw (w, holds.rows) (sym (rows_joined (past_of s) sound-held seq t a b (first_new (past_of s) seq.0 t.0 a b sound-held.counted new)
+      (second_new (past_of s) seq.0 t.0 a b sound-held.counted new) (apart (past_of s) seq.0 t.0 a b new)))
 
+  -- there are at most two rows an event
   pub rows_few : length s.rows ≤ 2 * length s.history.events
-  rows_few = rw holds.rows (omega (arith, length-map (made (past_of s)) (row_of (past_of s)), made_few (schema_of s) s.seqs (past_of s) holds.legal, length-reverse s.history.events))
+  rows_few =
+      rw holds.rows (omega (
+        arith,
+        length-map (made (past_of s)) (row_of (past_of s)),
+        made_few (schema_of s) s.seqs (past_of s) holds.legal,
+        length-reverse s.history.events,
+      ))
 
   -- what is ready
   pub ready-held : ready_in s.rows ≡ ready (schema_of s) (past_of s)

@@ -21,7 +21,8 @@ nothing : (n : ℕ) → drop {A = Message} n [] ≡ []
 nothing zero = refl
 nothing (suc n) = refl
 
-module _ (past : List Event) (so : Sound past) (seq t : SeqId) (a b : EndId) (na : has_end (made past) a ≡ false) (nb : has_end (made past) b ≡ false) (ab : same_end a b ≡ false) where
+module _ (past : List Event) (so : Sound past) (seq t : SeqId) (a b : EndId) (na : has_end (made past) a ≡ false)
+    (nb : has_end (made past) b ≡ false) (ab : same_end a b ≡ false) where
   abbrev pub event_joined : Event
   event_joined = record { seq = seq; asked = Join t; told = Made (a ∷ b ∷ []) }
 
@@ -35,7 +36,14 @@ module _ (past : List Event) (so : Sound past) (seq t : SeqId) (a b : EndId) (na
   row_old : (y : EndId) → has_end (made past) y ≡ true → row_of (event_joined ∷ past) y ≡ row_of past y
   row_old y within =
       row_after event_joined past y ∙
-      rw (differs a y na within, differs b y nb within, and_true (is_out past y), or_false (is_out past y), append-nil (taken past y), append-nil (written past y)) refl
+      rw (
+        differs a y na within,
+        differs b y nb within,
+        and_true (is_out past y),
+        or_false (is_out past y),
+        append-nil (taken past y),
+        append-nil (written past y),
+      ) refl
 
   or_true : (c : Bool) → (c || true) ≡ true
   or_true true = refl
@@ -44,16 +52,44 @@ module _ (past : List Event) (so : Sound past) (seq t : SeqId) (a b : EndId) (na
   row_first : row_of (event_joined ∷ past) a ≡ fresh_row a b
   row_first =
       row_after event_joined past a ∙
-      rw (same_end-refl a, or_true (is_out past a && true), unbound past so a na, append-nil (taken past a), append-nil (written past a), so.mail_made a na, nothing (length (taken past a))) refl
+      rw (
+        same_end-refl a,
+        or_true (is_out past a && true),
+        unbound past so a na,
+        append-nil (taken past a),
+        append-nil (written past a),
+        so.mail_made a na,
+        nothing (length (taken past a)),
+      ) refl
 
   row_second : row_of (event_joined ∷ past) b ≡ fresh_row b a
   row_second =
       row_after event_joined past b ∙
-      rw (ab, same_end-refl b, or_true (is_out past b && true), unbound past so b nb, append-nil (taken past b), append-nil (written past b), so.mail_made b nb, nothing (length (taken past b))) refl
+      rw (
+        ab,
+        same_end-refl b,
+        or_true (is_out past b && true),
+        unbound past so b nb,
+        append-nil (taken past b),
+        append-nil (written past b),
+        so.mail_made b nb,
+        nothing (length (taken past b)),
+      ) refl
 
   map_members : (f g : EndId → Row) (xs : List EndId) → ((y : EndId) → has_end xs y ≡ true → f y ≡ g y) → map f xs ≡ map g xs
   map_members f g [] same = refl
-  map_members f g (x ∷ xs) same = rw (same x (or_left (same_end x x) (has_end xs x) (same_end-refl x)), map_members f g xs (λ y h. same y (or_right (same_end x y) (has_end xs y) h))) refl
+  map_members f g (x ∷ xs) same =
+      rw (
+        same x (or_left (same_end x x) (has_end xs x) (same_end-refl x)),
+        map_members f g xs (λ y h. same y (or_right (same_end x y) (has_end xs y) h)),
+      ) refl
 
+  -- the rows after two ends are made
   pub rows_joined : rows_of (event_joined ∷ past) ≡ rows_of past ++ fresh_row a b ∷ fresh_row b a ∷ []
-  rows_joined = rw (map-append (row_of (event_joined ∷ past)) (made past) (a ∷ b ∷ []), row_first, row_second, map_members (row_of (event_joined ∷ past)) (row_of past) (made past) row_old) refl
+  rows_joined =
+      rw (
+        map-append (row_of (event_joined ∷ past)) (made past) (a ∷ b ∷ []),
+        row_first,
+        row_second,
+        map_members (row_of (event_joined ∷ past)) (row_of past) (made past) row_old,
+      ) refl

@@ -24,9 +24,11 @@ row_at-map past (y ∷ ys) x = go (same_end y x) refl (row_at-map past ys x)
     go true e rest = rw (same_end-true y x e) refl
     go false e rest = rest
 
+-- an end that was made has its row
 pub row_at-made : (past : List Event) (x : EndId) → has_end (made past) x ≡ true → row_at x (rows_of past) ≡ Some (row_of past x)
 row_at-made past x h = row_at-map past (made past) x ∙ ap (λ b. if b then Some (row_of past x) else None) h
 
+-- each end has a row, in their order
 pub names-rows : (past : List Event) (xs : List EndId) → names_of (map (row_of past) xs) ≡ xs
 names-rows past [] = refl
 names-rows past (x ∷ xs) = ap (λ ys. x ∷ ys) (names-rows past xs)
@@ -49,7 +51,8 @@ is_out-rows past so x = rw (row_at-map past (made past) x) (go (has_end (made pa
     go false false e h = refl
 
 -- what a take is told
-pub took-rows : (schema : Schema) (past : List Event) → Sound past → (x : EndId) → took_in schema (row_at x (rows_of past)) ≡ took schema past x (binding past x)
+pub took-rows : (schema : Schema) (past : List Event) → Sound past → (x : EndId)
+    → took_in schema (row_at x (rows_of past)) ≡ took schema past x (binding past x)
 took-rows schema past so x = rw (row_at-map past (made past) x) (go (has_end (made past) x) refl)
   where
     bound : (b : Option Binding) → took_from schema (unread past x) b ≡ took schema past x b
@@ -63,7 +66,12 @@ took-rows schema past so x = rw (row_at-map past (made past) x) (go (has_end (ma
 count_same : (past : List Event) (seq : ℕ) (xs : List EndId) → count_in (map (row_of past) xs) seq ≡ count_by (λ (y : EndId). y.seq == seq) xs
 count_same past seq [] = refl
 count_same past seq (x ∷ xs) =
-    omega (arith, count_same past seq xs, sum_by-append (λ (r : Row). if r.id.seq == seq then 1 else 0) (row_of past x ∷ []) (map (row_of past) xs), sum_by-append (λ (y : EndId). if y.seq == seq then 1 else 0) (x ∷ []) xs)
+    omega (
+      arith,
+      count_same past seq xs,
+      sum_by-append (λ (r : Row). if r.id.seq == seq then 1 else 0) (row_of past x ∷ []) (map (row_of past) xs),
+      sum_by-append (λ (y : EndId). if y.seq == seq then 1 else 0) (x ∷ []) xs,
+    )
 
 -- how many ends the sequence has made
 pub count-rows : (past : List Event) (seq : ℕ) → count_in (rows_of past) seq ≡ serials past seq

@@ -36,7 +36,8 @@ module _ (schema : Schema) (past : List Event) where
   ready_names [] = refl
   ready_names (x ∷ xs) = go (row_ready (row_of past x)) (is_ready schema past x) refl refl (row_told x (binding past x)) (ready_names xs)
     where
-      go : (a b : Bool) → row_ready (row_of past x) ≡ a → is_ready schema past x ≡ b → row_ready (row_of past x) ≡ is_ready schema past x → names_of (filter row_ready (map (row_of past) xs)) ≡ filter (is_ready schema past) xs
+      go : (a b : Bool) → row_ready (row_of past x) ≡ a → is_ready schema past x ≡ b → row_ready (row_of past x) ≡ is_ready schema past x
+          → names_of (filter row_ready (map (row_of past) xs)) ≡ filter (is_ready schema past) xs
           → names_of (filter row_ready (map (row_of past) (x ∷ xs))) ≡ filter (is_ready schema past) (x ∷ xs)
       go true true e f s rest = rw (e, f, rest) refl
       go false false e f s rest = rw (e, f, rest) refl
@@ -47,13 +48,17 @@ module _ (schema : Schema) (past : List Event) where
     on_told : (x : EndId) → bound_on x (row_at x (rows_of past)) ≡ option_map (λ (b : Binding). (b.on, x)) (binding past x)
     on_told x = rw (row_at-map past (made past) x) (go (has_end (made past) x) refl)
       where
-        go : (known : Bool) → has_end (made past) x ≡ known → bound_on x (if known then Some (row_of past x) else None) ≡ option_map (λ (b : Binding). (b.on, x)) (binding past x)
+        go : (known : Bool) → has_end (made past) x ≡ known
+            → bound_on x (if known then Some (row_of past x) else None) ≡ option_map (λ (b : Binding). (b.on, x)) (binding past x)
         go true e = refl
         go false e = rw (unbound past so x e) refl
 
-    then_told : (found : Option EndId) → option_and_then (λ x. bound_on x (row_at x (rows_of past))) found ≡ option_and_then (λ x. option_map (λ (b : Binding). (b.on, x)) (binding past x)) found
+    then_told : (found : Option EndId)
+        → option_and_then (λ x. bound_on x (row_at x (rows_of past))) found
+        ≡ option_and_then (λ x. option_map (λ (b : Binding). (b.on, x)) (binding past x)) found
     then_told None = refl
     then_told (Some x) = on_told x
 
+    -- the rows say which end is ready
     pub ready_told : ready_in (rows_of past) ≡ ready schema past
     ready_told = rw (ready_names (made past)) (then_told (least (filter (is_ready schema past) (made past))))

@@ -13,10 +13,13 @@ row_at-drop : (x : EndId) (rows : List Row) (k : ℕ) (d : Row) → k < length r
 row_at-drop x rows k d h = rw (add-one, drop-cons rows k d) refl
 
 -- the row at k is the first of its name
-pub row_at-here : (x : EndId) (rows : List Row) (k : ℕ) (d : Row) → k < length rows → row_at x (drop k rows) ≡ row_at x rows → d ≡ get_or rows k d → same_end d.id x ≡ true → row_at x rows ≡ slice_get rows k
+pub row_at-here : (x : EndId) (rows : List Row) (k : ℕ) (d : Row)
+    → k < length rows → row_at x (drop k rows) ≡ row_at x rows → d ≡ get_or rows k d → same_end d.id x ≡ true
+    → row_at x rows ≡ slice_get rows k
 row_at-here x rows k d h left is e =
     let here : same_end (get_or rows k d).id x ≡ true = rw (← is) e in
-    let found : row_at x (drop k rows) ≡ Some (get_or rows k d) = row_at-drop x rows k d h ∙ ap (λ b. if b then Some (get_or rows k d) else row_at x (drop (k + 1) rows)) here in
+    let found : row_at x (drop k rows) ≡ Some (get_or rows k d) =
+    row_at-drop x rows k d h ∙ ap (λ b. if b then Some (get_or rows k d) else row_at x (drop (k + 1) rows)) here in
     sym left ∙ (found ∙ sym (slice_get-get_or rows k d h))
 
 row_is : (r row : Row) → Some r ≡ Some row → r ≡ row
@@ -43,10 +46,13 @@ none_named : (x : EndId) (rows : List Row) → row_at x rows ≡ None → has_en
 none_named x [] h = refl
 none_named x (r ∷ rows) h = go (same_end r.id x) refl h (none_named x rows)
   where
-    go : (b : Bool) → same_end r.id x ≡ b → (if b then Some r else row_at x rows) ≡ None → (row_at x rows ≡ None → has_end (names_of rows) x ≡ false) → has_end (names_of (r ∷ rows)) x ≡ false
+    go : (b : Bool)
+        → same_end r.id x ≡ b → (if b then Some r else row_at x rows) ≡ None → (row_at x rows ≡ None → has_end (names_of rows) x ≡ false)
+        → has_end (names_of (r ∷ rows)) x ≡ false
     go true e h rest = cc
     go false e h rest = rw e (rest h)
 
+-- a change at an end that has no row changes none
 pub unchanged : (f : Row → Row) (x : EndId) (rows : List Row) → row_at x rows ≡ None → rows ≡ map (changed_at x f) rows
 unchanged f x rows h = sym (absent f x rows (none_named x rows h))
 
@@ -56,7 +62,9 @@ named (r ∷ rows) zero row h = or_left (same_end r.id row.id) (has_end (names_o
 named (r ∷ rows) (suc k) row h = or_right (same_end r.id row.id) (has_end (names_of rows) row.id) (named rows k row h)
 
 -- another name, where no name stands twice
-other : (rows : List Row) (k : ℕ) (r row : Row) → not (has_end (names_of rows) r.id) ≡ true → slice_get rows k ≡ Some row → (b : Bool) → same_end r.id row.id ≡ b → b ≡ false
+other : (rows : List Row) (k : ℕ) (r row : Row)
+    → not (has_end (names_of rows) r.id) ≡ true → slice_get rows k ≡ Some row → (b : Bool) → same_end r.id row.id ≡ b
+    → b ≡ false
 other rows k r row fresh h true e =
     let there : has_end (names_of rows) r.id ≡ true = rw (same_end-true r.id row.id e) (named rows k row h) in
     let none : false ≡ true = rw there at fresh in cc
@@ -66,18 +74,23 @@ set_front : (f : Row → Row) (r : Row) (rows : List Row) → has_end (names_of 
 set_front f r rows fresh = rw (same_end-refl r.id, absent f r.id rows fresh) refl
 
 -- a change of one row, where no name stands twice
-set_is_map : (f : Row → Row) (rows : List Row) (k : ℕ) (row : Row) → is_distinct (names_of rows) ≡ true → slice_get rows k ≡ Some row → set rows k (f row) ≡ map (changed_at row.id f) rows
+set_is_map : (f : Row → Row) (rows : List Row) (k : ℕ) (row : Row) → is_distinct (names_of rows) ≡ true → slice_get rows k ≡ Some row
+    → set rows k (f row) ≡ map (changed_at row.id f) rows
 set_is_map f [] k row d h = refl
 set_is_map f (r ∷ rows) zero row d h =
-    let fresh : has_end (names_of rows) r.id ≡ false = not-true (has_end (names_of rows) r.id) (and_left (not (has_end (names_of rows) r.id)) (is_distinct (names_of rows)) d) in
+    let fresh : has_end (names_of rows) r.id ≡ false =
+    not-true (has_end (names_of rows) r.id) (and_left (not (has_end (names_of rows) r.id)) (is_distinct (names_of rows)) d) in
     subst (λ (w : Row). f w ∷ rows ≡ changed_at w.id f r ∷ map (changed_at w.id f) rows) (row_is r row h) (set_front f r rows fresh)
 set_is_map f (r ∷ rows) (suc k) row d h =
-    let differ : same_end r.id row.id ≡ false = other rows k r row (and_left (not (has_end (names_of rows) r.id)) (is_distinct (names_of rows)) d) h (same_end r.id row.id) refl in
+    let differ : same_end r.id row.id ≡ false =
+    other rows k r row (and_left (not (has_end (names_of rows) r.id)) (is_distinct (names_of rows)) d) h (same_end r.id row.id) refl in
     let rest = set_is_map f rows k row (and_right (not (has_end (names_of rows) r.id)) (is_distinct (names_of rows)) d) h in
     rw (rest, differ) refl
 
 -- the row at the place that was found, written anew
-pub write_is_map : (f : Row → Row) (x : EndId) (seen rows : List Row) (k : ℕ) (d : Row) → is_distinct (names_of rows) ≡ true → seen ≡ rows → k < length seen → row_at x seen ≡ slice_get seen k → d ≡ get_or rows k d
+pub write_is_map : (f : Row → Row) (x : EndId) (seen rows : List Row) (k : ℕ) (d : Row)
+    → is_distinct (names_of rows) ≡ true → seen ≡ rows → k < length seen → row_at x seen ≡ slice_get seen k
+    → d ≡ get_or rows k d
     → set rows k (f d) ≡ map (changed_at x f) rows
 write_is_map f x seen rows k d distinct same h found is =
     let h' : k < length rows = rw same at h in

@@ -27,7 +27,11 @@ module _ (schema : Schema) (seqs : ℕ) (me : SeqId) (old new : List Event) (com
   still_legal : new ≡ old ++ its_event ∷ [] → Legal schema seqs old → Legal schema seqs new
   still_legal event h = rw (event, reverse-append old (its_event ∷ [])) (refl, h)
 
-  pub saw_alone : (result : Result Reply Refused) → IfOk result (λ reply. new ≡ old ++ its_event ∷ []) → IfOk result (λ reply. told_of reply ≡ its_told) → IfOk result (λ reply. HandsBack command reply)
+  -- what a stepper sees of a step that none other came before
+  pub saw_alone : (result : Result Reply Refused)
+      → IfOk result (λ reply. new ≡ old ++ its_event ∷ []) → IfOk result (λ reply. told_of reply ≡ its_told)
+      → IfOk result (λ reply. HandsBack command reply)
       → IfOk result (λ reply. Saw schema seqs me old new command reply)
-  saw_alone (Ok reply) event told back = record { before = old; others = nothing_between me old; event = event; legal = still_legal event; told = told; back = back }
+  saw_alone (Ok reply) event told back =
+      record { before = old; others = nothing_between me old; event = event; legal = still_legal event; told = told; back = back }
   saw_alone (Err refused) event told back = tt

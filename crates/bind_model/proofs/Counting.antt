@@ -5,6 +5,7 @@ use Rattle.mj_base.specs.declared.ids.EndId.{EndId}
 use Rattle.bind_model.specs.Ends.{same_end, has_end, times, without, is_distinct}
 use Rattle.bind_model.proofs.EndsLemmas.{same_end-true, or_cases, not_left, not_right, not-true, and_left, and_right}
 
+-- an end stands in two lists together as often as in both
 pub times-append : (z : EndId) (xs ys : List EndId) → times z (xs ++ ys) ≡ times z xs + times z ys
 times-append z [] ys = omega arith
 times-append z (x ∷ xs) ys = omega (arith, times-append z xs ys)
@@ -13,6 +14,7 @@ pub times-absent : (z : EndId) (xs : List EndId) → has_end xs z ≡ false → 
 times-absent z [] h = refl
 times-absent z (x ∷ xs) h = rw (not_left (same_end x z) (has_end xs z) h) (omega (arith, times-absent z xs (not_right (same_end x z) (has_end xs z) h)))
 
+-- an end that is in a list stands there once at least
 pub times-present : (z : EndId) (xs : List EndId) → has_end xs z ≡ true → 1 ≤ times z xs
 times-present z [] h = cc
 times-present z (x ∷ xs) h = elim (or_cases (same_end x z) (has_end xs z) h) [
@@ -24,10 +26,12 @@ distinct_case : (z x : EndId) (xs : List EndId) (b : Bool) → same_end x z ≡ 
 distinct_case z x xs true e none rest = let gone : times z xs ≡ 0 = times-absent z xs (rw (← same_end-true x z e) none) in omega arith
 distinct_case z x xs false e none rest = omega arith
 
+-- where no end stands twice, each stands there once at most
 pub times-distinct : (z : EndId) (xs : List EndId) → is_distinct xs ≡ true → times z xs ≤ 1
 times-distinct z [] d = omega arith
 times-distinct z (x ∷ xs) d =
-    distinct_case z x xs (same_end x z) refl (not-true (has_end xs x) (and_left (not (has_end xs x)) (is_distinct xs) d)) (times-distinct z xs (and_right (not (has_end xs x)) (is_distinct xs) d))
+    distinct_case z x xs (same_end x z) refl (not-true (has_end xs x) (and_left (not (has_end xs x)) (is_distinct xs) d))
+    (times-distinct z xs (and_right (not (has_end xs x)) (is_distinct xs) d))
 
 -- what is left out stands nowhere, and the rest as before
 without_times : (z : EndId) (gone : List EndId) (x : EndId) (xs : List EndId) (drops here : Bool) → has_end gone x ≡ drops → same_end x z ≡ here
@@ -42,6 +46,7 @@ without_times z gone x xs false false e h rest = rw (h, rest) (go (has_end gone 
     go true = refl
     go false = refl
 
+-- ends that are gone stand there no longer, and all others as often as before
 pub times-without : (z : EndId) (gone xs : List EndId) → times z (without gone xs) ≡ (if has_end gone z then 0 else times z xs)
 times-without z gone [] = go (has_end gone z)
   where

@@ -42,7 +42,10 @@ pub filter_in : (p : EndId → Bool) (xs : List EndId) (x : EndId) → has_end (
 filter_in p [] x h = absurd cc
 filter_in p (y ∷ ys) x h = go (p y) refl h (filter_in p ys x)
   where
-    go : (b : Bool) → p y ≡ b → has_end (if b then y ∷ filter p ys else filter p ys) x ≡ true → (has_end (filter p ys) x ≡ true → (p x ≡ true) × (has_end ys x ≡ true)) → (p x ≡ true) × ((same_end y x || has_end ys x) ≡ true)
+    go : (b : Bool)
+        → p y ≡ b → has_end (if b then y ∷ filter p ys else filter p ys) x ≡ true
+        → (has_end (filter p ys) x ≡ true → (p x ≡ true) × (has_end ys x ≡ true))
+        → (p x ≡ true) × ((same_end y x || has_end ys x) ≡ true)
     go true e f more = elim (or_cases (same_end y x) (has_end (filter p ys) x) f) [
       | inl s ↦ (rw (← same_end-true y x s) e, or_left (same_end y x) (has_end ys x) s)
       | inr s ↦ ((more s).0, or_right (same_end y x) (has_end ys x) (more s).1)
@@ -61,10 +64,13 @@ pub record IsReadyEnd (schema : Schema) (past : List Event) (s : SeqId) (x : End
   pub is_made : has_end (made past) x ≡ true
   pub takes : is_ready schema past x ≡ true
 
+-- what is known of the end that is ready
 pub ready_end : (schema : Schema) (past : List Event) (s : SeqId) (x : EndId) → ready schema past ≡ Some (s, x) → IsReadyEnd schema past s x
 ready_end schema past s x h = of_least (least (filter (is_ready schema past) (made past))) refl h
   where
-    of_binding : (y : EndId) (b : Option Binding) → binding past y ≡ b → least (filter (is_ready schema past) (made past)) ≡ Some y → option_map (placed y) b ≡ Some (s, x) → IsReadyEnd schema past s x
+    of_binding : (y : EndId) (b : Option Binding)
+        → binding past y ≡ b → least (filter (is_ready schema past) (made past)) ≡ Some y → option_map (placed y) b ≡ Some (s, x)
+        → IsReadyEnd schema past s x
     of_binding y None e l f = absurd cc
     of_binding y (Some b) e l f =
         let both : (b.on, y) ≡ (s, x) = cc in
@@ -73,6 +79,8 @@ ready_end schema past s x h = of_least (least (filter (is_ready schema past) (ma
         let in_list = filter_in (is_ready schema past) (made past) x (least_in (filter (is_ready schema past) (made past)) x (rw same at l)) in
         record { at = b; bound = rw same at e; on = on; is_made = in_list.1; takes = in_list.0 }
 
-    of_least : (l : Option EndId) → least (filter (is_ready schema past) (made past)) ≡ l → option_and_then (λ y. option_map (placed y) (binding past y)) l ≡ Some (s, x) → IsReadyEnd schema past s x
+    of_least : (l : Option EndId)
+        → least (filter (is_ready schema past) (made past)) ≡ l → option_and_then (λ y. option_map (placed y) (binding past y)) l ≡ Some (s, x)
+        → IsReadyEnd schema past s x
     of_least None l f = absurd cc
     of_least (Some y) l f = of_binding y (binding past y) refl l f

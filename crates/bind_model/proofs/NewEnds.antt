@@ -13,6 +13,7 @@ use Rattle.bind_model.proofs.Outcomes.{AreNew}
 abbrev pub IsCounted : List Event → Type 0
 IsCounted past = (x : EndId) → has_end (made past) x ≡ true → x.serial < serials past x.seq
 
+-- an end whose number its sequence has not yet given was not made
 pub not_made : (past : List Event) → IsCounted past → (x : EndId) → serials past x.seq ≤ x.serial → has_end (made past) x ≡ false
 not_made past counted x h = go (has_end (made past) x) refl
   where
@@ -20,12 +21,15 @@ not_made past counted x h = go (has_end (made past) x) refl
     go true e = absurd (let low : x.serial < serials past x.seq = counted x e in omega arith)
     go false e = refl
 
+-- the first end of a new pipe was not made before
 pub first_new : (past : List Event) (seq t : ℕ) (a b : EndId) → IsCounted past → AreNew past seq t a b → has_end (made past) a ≡ false
 first_new past seq t a b counted new = not_made past counted a (rw new.first (omega arith))
 
+-- the second end of a new pipe was not made before
 pub second_new : (past : List Event) (seq t : ℕ) (a b : EndId) → IsCounted past → AreNew past seq t a b → has_end (made past) b ≡ false
 second_new past seq t a b counted new = not_made past counted b (rw new.second (omega arith))
 
+-- the ends of a new pipe are two
 pub apart : (past : List Event) (seq t : ℕ) (a b : EndId) → AreNew past seq t a b → same_end a b ≡ false
 apart past seq t a b new = rw (new.first, new.second) (go (seq == t) refl)
   where

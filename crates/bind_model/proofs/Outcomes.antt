@@ -44,32 +44,42 @@ pub record AreNew (past : List Event) (seq t : ℕ) (a b : EndId) : Type 0 where
   pub first : a ≡ record { seq = seq; serial = serials past seq }
   pub second : b ≡ record { seq = t; serial = serials past t + (if t == seq then 1 else 0) }
 
+-- what a sequence is told in a legal history, and when
 pub data Outcome (schema : Schema) (seqs : ℕ) (past : List Event) (seq : SeqId) : Asked → Told → Type 0 where
   joins : {t : SeqId} {a b : EndId} → nat_lt t.0 seqs ≡ true → AreNew past seq.0 t.0 a b → Outcome schema seqs past seq (Join t) (Made (a ∷ b ∷ []))
-  binds : {x y : EndId} {side : Side} {interface : ℕ} → x ≡ y → is_out past x ≡ true → nat_lt interface (length schema.interfaces) ≡ true → Outcome schema seqs past seq (Bind x side interface) (Bound y)
-  sends : {x : EndId} {id : ℕ} {target : Target} {value : List ℕ} {request_id : ℕ} {bytes : List ℕ} → id ≡ 0 → request_id ≡ 0 → bytes ≡ message_bytes 0 target.method value → CanSend past x target
+  binds : {x y : EndId} {side : Side} {interface : ℕ} → x ≡ y → is_out past x ≡ true → nat_lt interface (length schema.interfaces) ≡ true
+      → Outcome schema seqs past seq (Bind x side interface) (Bound y)
+  sends : {x : EndId} {id : ℕ} {target : Target} {value : List ℕ} {request_id : ℕ} {bytes : List ℕ}
+      → id ≡ 0 → request_id ≡ 0 → bytes ≡ message_bytes 0 target.method value
+      → CanSend past x target
       → Outcome schema seqs past seq (Call x id target value) (Sent request_id bytes)
   gets : {x : EndId} {taken : Taken} → Front schema past x (Some taken) → Outcome schema seqs past seq (Take x) (Got taken)
   bads : {x : EndId} → Front schema past x None → Outcome schema seqs past seq (Take x) Bad
   refuses : {asked : Asked} {why : Why} → Outcome schema seqs past seq asked (No why)
 
 module _ (schema : Schema) (seqs : ℕ) (past : List Event) (seq : SeqId) where
-  of_join : (t : SeqId) (told : Told) (b : Bool) → nat_lt t.0 seqs ≡ b → told ≡ (if b then joined past seq.0 t.0 else No NoName) → Outcome schema seqs past seq (Join t) told
+  of_join : (t : SeqId) (told : Told) (b : Bool) → nat_lt t.0 seqs ≡ b → told ≡ (if b then joined past seq.0 t.0 else No NoName)
+      → Outcome schema seqs past seq (Join t) told
   of_join t told true e h = rw h (joins e (record { first = refl; second = refl }))
   of_join t told false e h = rw h refuses
 
-  of_bind : (x : EndId) (side : Side) (interface : ℕ) (told : Told) (here known : Bool) → is_out past x ≡ here → nat_lt interface (length schema.interfaces) ≡ known
+  of_bind : (x : EndId) (side : Side) (interface : ℕ) (told : Told) (here known : Bool) → is_out past x ≡ here
+      → nat_lt interface (length schema.interfaces) ≡ known
       → told ≡ (if here && known then Bound x else No NoName) → Outcome schema seqs past seq (Bind x side interface) told
   of_bind x side interface told true true o k h = rw h (binds refl o k)
   of_bind x side interface told true false o k h = rw h refuses
   of_bind x side interface told false known o k h = rw h refuses
 
-  of_front : (x : EndId) (b : Binding) (told : Told) (m : Message) (rest : List Message) → binding past x ≡ Some b → unread past x ≡ m ∷ rest → (given : Option Taken) → stands_for schema b m ≡ given
+  of_front : (x : EndId) (b : Binding) (told : Told) (m : Message) (rest : List Message)
+      → binding past x ≡ Some b → unread past x ≡ m ∷ rest → (given : Option Taken)
+      → stands_for schema b m ≡ given
       → told ≡ told_of_front given → Outcome schema seqs past seq (Take x) told
   of_front x b told m rest e s None g h = rw h (bads (record { at = b; m = m; rest = rest; bound = e; stands = s; gives = g }))
   of_front x b told m rest e s (Some taken) g h = rw h (gets (record { at = b; m = m; rest = rest; bound = e; stands = s; gives = g }))
 
-  of_unread : (x : EndId) (b : Binding) (told : Told) (ms : List Message) → binding past x ≡ Some b → unread past x ≡ ms → told ≡ took_at schema b ms → Outcome schema seqs past seq (Take x) told
+  of_unread : (x : EndId) (b : Binding) (told : Told) (ms : List Message)
+      → binding past x ≡ Some b → unread past x ≡ ms → told ≡ took_at schema b ms
+      → Outcome schema seqs past seq (Take x) told
   of_unread x b told [] e s h = rw h refuses
   of_unread x b told (m ∷ rest) e s h = of_front x b told m rest e s (stands_for schema b m) refl h
 
@@ -77,9 +87,14 @@ module _ (schema : Schema) (seqs : ℕ) (past : List Event) (seq : SeqId) where
   of_take x told None e h = rw h refuses
   of_take x told (Some b) e h = of_unread x b told (unread past x) e refl h
 
-  of_tests : (x : EndId) (id : ℕ) (target : Target) (value : List ℕ) (told : Told) (b : Binding) → binding past x ≡ Some b → (first receiver same request full : Bool)
-      → (id == 0) ≡ first → is_receiver b.side ≡ receiver → (target.interface == b.interface) ≡ same → is_request target.side ≡ request → nat_le MAX_UNREAD_MESSAGES (length (unread past (peer past x))) ≡ full
-      → told ≡ (if not first then No NoName else (if receiver then No WrongSide else (if not (same && request) then No WrongMethod else (if full then No Full else Sent 0 (message_bytes 0 target.method value)))))
+  of_tests : (x : EndId) (id : ℕ) (target : Target) (value : List ℕ) (told : Told) (b : Binding) → binding past x ≡ Some b
+      → (first receiver same request full : Bool)
+      → (id == 0) ≡ first → is_receiver b.side ≡ receiver → (target.interface == b.interface) ≡ same → is_request target.side ≡ request
+      → nat_le MAX_UNREAD_MESSAGES (length (unread past (peer past x))) ≡ full
+      → told ≡ (if not first then No NoName
+      else (if receiver then No WrongSide
+      else (if not (same && request) then No WrongMethod
+      else (if full then No Full else Sent 0 (message_bytes 0 target.method value)))))
       → Outcome schema seqs past seq (Call x id target value) told
   of_tests x id target value told b e false receiver same request full a1 a2 a3 a4 a5 h = rw h refuses
   of_tests x id target value told b e true true same request full a1 a2 a3 a4 a5 h = rw h refuses
@@ -87,12 +102,17 @@ module _ (schema : Schema) (seqs : ℕ) (past : List Event) (seq : SeqId) where
   of_tests x id target value told b e true false true false full a1 a2 a3 a4 a5 h = rw h refuses
   of_tests x id target value told b e true false true true true a1 a2 a3 a4 a5 h = rw h refuses
   of_tests x id target value told b e true false true true false a1 a2 a3 a4 a5 h =
-      rw h (sends (eqb-true id 0 a1) refl refl (record { to = b; bound = e; remote = a2; interface = eqb-true target.interface b.interface a3; request = a4; room = a5 }))
+      rw h
+      (sends (eqb-true id 0 a1) refl refl
+      (record { to = b; bound = e; remote = a2; interface = eqb-true target.interface b.interface a3; request = a4; room = a5 }))
 
-  of_call : (x : EndId) (id : ℕ) (target : Target) (value : List ℕ) (told : Told) (b : Option Binding) → binding past x ≡ b → told ≡ called past x id target value b → Outcome schema seqs past seq (Call x id target value) told
+  of_call : (x : EndId) (id : ℕ) (target : Target) (value : List ℕ) (told : Told) (b : Option Binding)
+      → binding past x ≡ b → told ≡ called past x id target value b
+      → Outcome schema seqs past seq (Call x id target value) told
   of_call x id target value told None e h = rw h refuses
   of_call x id target value told (Some b) e h =
-      of_tests x id target value told b e (id == 0) (is_receiver b.side) (target.interface == b.interface) (is_request target.side) (nat_le MAX_UNREAD_MESSAGES (length (unread past (peer past x)))) refl refl refl refl refl h
+      of_tests x id target value told b e (id == 0) (is_receiver b.side) (target.interface == b.interface) (is_request target.side)
+      (nat_le MAX_UNREAD_MESSAGES (length (unread past (peer past x)))) refl refl refl refl refl h
 
   -- an answer is one of these
   pub outcome : (asked : Asked) (told : Told) → told ≡ answer schema seqs past seq asked → Outcome schema seqs past seq asked told

@@ -13,14 +13,17 @@ pub record ArePaired (ends : List EndId) (other : EndId → EndId) : Type 0 wher
   pub peer_apart : (x : EndId) → has_end ends x ≡ true → same_end (other x) x ≡ false
   pub peer_none : (x : EndId) → has_end ends x ≡ false → other x ≡ x
 
+-- no ends are paired
 pub none_paired : ArePaired [] (λ x. x)
 none_paired = record { peer_made = λ x e. e; peer_twice = λ x e. refl; peer_apart = λ x e. cc; peer_none = λ x e. refl }
 
+-- ends that no new ones follow stay paired
 pub same_paired : (ends : List EndId) (other : EndId → EndId) → ArePaired ends other → ArePaired (ends ++ []) other
 same_paired ends other p = rw append-nil p
 
 -- the ends with one more pipe
-module _ (ends : List EndId) (other : EndId → EndId) (a b : EndId) (old : ArePaired ends other) (na : has_end ends a ≡ false) (nb : has_end ends b ≡ false) (two : same_end a b ≡ false) where
+module _ (ends : List EndId) (other : EndId → EndId) (a b : EndId) (old : ArePaired ends other) (na : has_end ends a ≡ false)
+    (nb : has_end ends b ≡ false) (two : same_end a b ≡ false) where
   abbrev pub next : EndId → EndId
   next x = if same_end a x then b else (if same_end b x then a else other x)
 
@@ -54,6 +57,7 @@ module _ (ends : List EndId) (other : EndId → EndId) (a b : EndId) (old : AreP
       go true e = let there : has_end ends b ≡ true = rw (same_end-true b x e) h in cc
       go false e = refl
 
+  -- an end that was there keeps its peer
   pub old_next : (x : EndId) → has_end ends x ≡ true → next x ≡ other x
   old_next x h = next_old x (not_first x h) (not_second x h)
 
@@ -63,7 +67,8 @@ module _ (ends : List EndId) (other : EndId → EndId) (a b : EndId) (old : AreP
     | inr s ↦ absurd (let none : false ≡ true = rw (e, f) at s in cc)
   ]
 
-  made_next : (x : EndId) (at_a at_b : Bool) → same_end a x ≡ at_a → same_end b x ≡ at_b → has_end (ends ++ a ∷ b ∷ []) x ≡ true → has_end (ends ++ a ∷ b ∷ []) (next x) ≡ true
+  made_next : (x : EndId) (at_a at_b : Bool) → same_end a x ≡ at_a → same_end b x ≡ at_b → has_end (ends ++ a ∷ b ∷ []) x ≡ true
+      → has_end (ends ++ a ∷ b ∷ []) (next x) ≡ true
   made_next x true at_b e f h = rw (next_first x e) has_second
   made_next x false true e f h = rw (next_second x f) has_first
   made_next x false false e f h = rw (next_old x e f) (has_end-front ends (a ∷ b ∷ []) (other x) (old.peer_made x (is_old x e f h)))
@@ -85,8 +90,10 @@ module _ (ends : List EndId) (other : EndId → EndId) (a b : EndId) (old : AreP
       let both : (has_end ends x || (same_end a x || (same_end b x || false))) ≡ false = rw has_end-append at h in
       let new : (same_end a x || (same_end b x || false)) ≡ false = not_right (has_end ends x) (same_end a x || (same_end b x || false)) both in
       let second : (same_end b x || false) ≡ false = not_right (same_end a x) (same_end b x || false) new in
-      next_old x (not_left (same_end a x) (same_end b x || false) new) (not_left (same_end b x) false second) ∙ old.peer_none x (has_end-not_front ends (a ∷ b ∷ []) x h)
+      next_old x (not_left (same_end a x) (same_end b x || false) new) (not_left (same_end b x) false second)
+      ∙ old.peer_none x (has_end-not_front ends (a ∷ b ∷ []) x h)
 
+  -- the ends stay paired with one more pipe
   pub more_paired : ArePaired (ends ++ a ∷ b ∷ []) next
   more_paired = record {
     peer_made = λ x h. made_next x (same_end a x) (same_end b x) refl refl h;

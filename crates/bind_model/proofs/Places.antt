@@ -30,19 +30,30 @@ module _ (past : List Event) (one : OnePlace past) where
       go false e = omega arith
 
   place_same : (z : EndId) → times z (without [] (out past) ++ []) + times z (bounds past ++ []) ≡ times z (made past ++ [])
-  place_same z = rw (append-nil (without [] (out past)), append-nil (bounds past), append-nil (made past)) (omega (arith, times-without z [] (out past), one.place z))
+  place_same z =
+      rw (append-nil (without [] (out past)), append-nil (bounds past), append-nil (made past))
+      (omega (arith, times-without z [] (out past), one.place z))
 
   place_step : (schema : Schema) (seqs : ℕ) (seq : SeqId) {asked : Asked} {told : Told} → Outcome schema seqs past seq asked told → (z : EndId)
       → times z (without (given told asked) (out past) ++ handed told) + times z (bounds past ++ bound_now told) ≡ times z (made past ++ made_by told)
   place_step schema seqs seq (joins {a = a} {b = b} n new) z =
-      rw (append-nil (bounds past)) (omega (arith, times-append z (without [] (out past)) (a ∷ b ∷ []), times-without z [] (out past), times-append z (made past) (a ∷ b ∷ []), one.place z))
+      rw (append-nil (bounds past))
+      (omega (
+        arith,
+        times-append z (without [] (out past)) (a ∷ b ∷ []),
+        times-without z [] (out past),
+        times-append z (made past) (a ∷ b ∷ []),
+        one.place z,
+      ))
   place_step schema seqs seq (binds {x = x} {y = y} e o k) z =
-      rw (append-nil (without (x ∷ []) (out past)), append-nil (made past), ← e) (omega (arith, one_given x z o, times-append z (bounds past) (x ∷ []), one.place z))
+      rw (append-nil (without (x ∷ []) (out past)), append-nil (made past), ← e)
+      (omega (arith, one_given x z o, times-append z (bounds past) (x ∷ []), one.place z))
   place_step schema seqs seq (sends i r b c) z = place_same z
   place_step schema seqs seq (gets f) z = place_same z
   place_step schema seqs seq (bads f) z = place_same z
   place_step schema seqs seq refuses z = place_same z
 
+-- in every legal history each end is made once, and stands in one place
 pub one_place : (schema : Schema) (seqs : ℕ) (past : List Event) → legal schema seqs past → OnePlace past
 one_place schema seqs [] h = record { once = refl; place = λ z. omega arith }
 one_place schema seqs (event ∷ past) h = record {

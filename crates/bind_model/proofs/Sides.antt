@@ -53,10 +53,15 @@ module _ (past : List Event) (so : Sound past) (suited : AreSuited past) where
         rw (← is) (suit-sym new b (suits new b (binding past (peer past y)) (rw back p) asked))
     bound_now x b c false false e f p q = suited x b c p q
 
-  suited_step : (schema : Schema) (seqs : ℕ) (seq : SeqId) {asked : Asked} {told : Told} → Outcome schema seqs past seq asked told → IsAllowed schema past asked → (x : EndId) (b c : Binding)
-      → bound_by seq told asked x (binding past x) ≡ Some b → bound_by seq told asked (peer_by told x (peer past x)) (binding past (peer_by told x (peer past x))) ≡ Some c → Suit b c
+  suited_step : (schema : Schema) (seqs : ℕ) (seq : SeqId) {asked : Asked} {told : Told}
+      → Outcome schema seqs past seq asked told → IsAllowed schema past asked
+      → (x : EndId) (b c : Binding)
+      → bound_by seq told asked x (binding past x) ≡ Some b
+      → bound_by seq told asked (peer_by told x (peer past x)) (binding past (peer_by told x (peer past x))) ≡ Some c
+      → Suit b c
   suited_step schema seqs seq (joins {t = t} {a = a} {b = d} n new) allowed x b c p q =
-      let kept : peer_by (Made (a ∷ d ∷ [])) x (peer past x) ≡ peer past x = peer_kept schema seqs past seq so (joins {t = t} {a = a} {b = d} n new) x (so.bound_made x b p) in
+      let kept : peer_by (Made (a ∷ d ∷ [])) x (peer past x) ≡ peer past x =
+      peer_kept schema seqs past seq so (joins {t = t} {a = a} {b = d} n new) x (so.bound_made x b p) in
       suited x b c p (ap (binding past) (sym kept) ∙ q)
   suited_step schema seqs seq (binds {x = y} {side = side} {interface = interface} e o k) allowed x b c p q =
       bound_now y (record { on = seq; side = side; interface = interface }) o allowed x b c (same_end y x) (same_end y (peer past x)) refl refl p q
@@ -65,7 +70,9 @@ module _ (past : List Event) (so : Sound past) (suited : AreSuited past) where
   suited_step schema seqs seq (bads f) allowed x b c p q = suited x b c p q
   suited_step schema seqs seq refuses allowed x b c p q = suited x b c p q
 
+-- in a legal history of allowed commands the ends of a pipe are bound as the two sides of one interface
 pub are_suited : (schema : Schema) (seqs : ℕ) (past : List Event) → legal schema seqs past → AllAllowed schema past → AreSuited past
 are_suited schema seqs [] h a x b c p q = absurd cc
 are_suited schema seqs (event ∷ past) h a x b c p q =
-    suited_step past (sound schema seqs past h.1) (are_suited schema seqs past h.1 a.1) schema seqs event.seq (outcome schema seqs past event.seq event.asked event.told h.0) a.0 x b c p q
+    suited_step past (sound schema seqs past h.1) (are_suited schema seqs past h.1 a.1) schema seqs event.seq
+    (outcome schema seqs past event.seq event.asked event.told h.0) a.0 x b c p q

@@ -41,7 +41,8 @@ InOrder schema past = (x : EndId) → map (gives_at schema past x) (take (consum
 
 -- what the calls at an end that were sent said, in order
 abbrev pub says : Told → Asked → EndId → List Taken
-says (Sent request_id bytes) (Call y id target value) x = if same_end y x then record { id = id; target = target; request_id = request_id; value = value } ∷ [] else []
+says (Sent request_id bytes) (Call y id target value) x =
+    if same_end y x then record { id = id; target = target; request_id = request_id; value = value } ∷ [] else []
 says told asked x = []
 
 abbrev pub said : List Event → EndId → List Taken

@@ -141,7 +141,12 @@ called past x id target value (Some b) = called_at past x id target value b
 abbrev pub taking : ℕ → Request → Option Taken
 taking interface request =
     if request.interface_id == 0
-    then Some (record { id = 0; target = record { interface = interface; method = request.method; side = messages.Request }; request_id = request.request_id; value = request.value })
+    then Some (record {
+      id = 0;
+      target = record { interface = interface; method = request.method; side = messages.Request };
+      request_id = request.request_id;
+      value = request.value;
+    })
     else None
 
 -- what a message gives at an end that is bound so: a receiver reads requests, and a remote reads nothing, since no method has a response

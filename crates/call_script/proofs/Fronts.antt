@@ -5,7 +5,8 @@ use Rattle.std.proofs.Math.Seq.{take-append_seam}
 
 -- a word is its front and what is behind it
 pub behind : (word front start rest : List ℕ) → start ≡ take (length front) word → rest ≡ drop (length front) word → start ≡ front → word ≡ front ++ rest
-behind word front start rest s r e = sym (take-append-drop (length front) word) ∙ ap (λ xs. xs ++ drop (length front) word) (sym s ∙ e) ∙ ap (λ xs. front ++ xs) (sym r)
+behind word front start rest s r e =
+    sym (take-append-drop (length front) word) ∙ ap (λ xs. xs ++ drop (length front) word) (sym s ∙ e) ∙ ap (λ xs. front ++ xs) (sym r)
 
 -- the first bytes of a word with this front are the front
 pub front_is : (word front start rest : List ℕ) → start ≡ take (length front) word → word ≡ front ++ rest → start ≡ front

@@ -27,14 +27,23 @@ pub there_at : (pipes : List Pipe) (k : ℕ) (p : Pipe) → k < length pipes →
 there_at pipes k p h e = slice_get-get_or pipes k p h ∙ ap Some (sym e)
 
 -- neither end of a pipe has the name
-pub not_named : (pipes : List Pipe) (name a b : List ℕ) (k : ℕ) (p : Pipe) → slice_get pipes k ≡ Some p → a ≡ p.first → false ≡ bytes_eq a name → b ≡ p.second → false ≡ bytes_eq b name → (end : PipeEnd) → IsEndNamed pipes name k end → ⊥
-not_named pipes name a b k p there ea fa eb fb First is = let same : Some is.pipe ≡ Some p = sym is.there ∙ there in let q : is.pipe ≡ p = cc in never_false a name (ea ∙ ap (λ (x : Pipe). x.first) (sym q) ∙ is.named) fa
-not_named pipes name a b k p there ea fa eb fb Second is = let same : Some is.pipe ≡ Some p = sym is.there ∙ there in let q : is.pipe ≡ p = cc in never_false b name (eb ∙ ap (λ (x : Pipe). x.second) (sym q) ∙ is.named) fb
+pub not_named : (pipes : List Pipe) (name a b : List ℕ) (k : ℕ) (p : Pipe)
+    → slice_get pipes k ≡ Some p → a ≡ p.first → false ≡ bytes_eq a name → b ≡ p.second → false ≡ bytes_eq b name → (end : PipeEnd)
+    → IsEndNamed pipes name k end → ⊥
+not_named pipes name a b k p there ea fa eb fb First is =
+    let same : Some is.pipe ≡ Some p = sym is.there ∙ there in
+    let q : is.pipe ≡ p = cc in never_false a name (ea ∙ ap (λ (x : Pipe). x.first) (sym q) ∙ is.named) fa
+not_named pipes name a b k p there ea fa eb fb Second is =
+    let same : Some is.pipe ≡ Some p = sym is.there ∙ there in
+    let q : is.pipe ≡ p = cc in never_false b name (eb ∙ ap (λ (x : Pipe). x.second) (sym q) ∙ is.named) fb
 
 -- the pipe has no such call
-pub not_called : (schema : Schema) (pipes : List Pipe) (name word : List ℕ) (count k : ℕ) (p : Pipe) → slice_get pipes k ≡ Some p → ((ordinal : ℕ) → IsCallOn schema p name word count ordinal → ⊥) → (ordinal : ℕ) → IsCallAt schema pipes name word count k ordinal → ⊥
+pub not_called : (schema : Schema) (pipes : List Pipe) (name word : List ℕ) (count k : ℕ) (p : Pipe)
+    → slice_get pipes k ≡ Some p → ((ordinal : ℕ) → IsCallOn schema p name word count ordinal → ⊥) → (ordinal : ℕ)
+    → IsCallAt schema pipes name word count k ordinal → ⊥
 not_called schema pipes name word count k p there none ordinal is =
-    let same : Some is.pipe ≡ Some p = sym is.there ∙ there in let q : is.pipe ≡ p = cc in none ordinal (subst (λ (x : Pipe). IsCallOn schema x name word count ordinal) q is.call)
+    let same : Some is.pipe ≡ Some p = sym is.there ∙ there in
+    let q : is.pipe ≡ p = cc in none ordinal (subst (λ (x : Pipe). IsCallOn schema x name word count ordinal) q is.call)
 
 -- the interface and the names of a pipe by its number
 interface_there : (pipes : List Pipe) (k : ℕ) (p : Pipe) → slice_get pipes k ≡ Some p → interface_at pipes k ≡ p.interface
@@ -64,7 +73,9 @@ module _ (schema : Schema) (pipes : List Pipe) (words : List (List ℕ)) where
           count = is.at.call.parameters.counted;
           small = is.small;
         },
-        is.words ∙ ap (λ x. codes "0:" ∷ codes "call" ∷ (is.name ++ codes "#0") ∷ x ∷ value_text value ∷ []) (is.at.call.method.spelled ∙ ap (λ x. method_text schema x ordinal) (sym i))
+        is.words
+            ∙ ap (λ x. codes "0:" ∷ codes "call" ∷ (is.name ++ codes "#0") ∷ x ∷ value_text value ∷ [])
+            (is.at.call.method.spelled ∙ ap (λ x. method_text schema x ordinal) (sym i))
             ∙ ap (λ x. codes "0:" ∷ codes "call" ∷ (x ++ codes "#0") ∷ method_text schema (interface_at pipes k) ordinal ∷ value_text value ∷ []) (sym n),
       )
 
@@ -77,11 +88,16 @@ module _ (schema : Schema) (pipes : List Pipe) (words : List (List ℕ)) where
   is_take : (k : ℕ) (end : PipeEnd) → k < length pipes → words ≡ line_words schema pipes (Take k end) → IsTake pipes words k end
   is_take k end h e = record {
     name = name_at pipes k end;
-    named = record { pipe = get_or pipes k default_pipe; there = pipe_there k h; named = sym (name_there pipes k end (get_or pipes k default_pipe) (pipe_there k h)) };
+    named = record {
+      pipe = get_or pipes k default_pipe;
+      there = pipe_there k h;
+      named = sym (name_there pipes k end (get_or pipes k default_pipe) (pipe_there k h));
+    };
     words = e;
   }
 
-  is_call : (k ordinal : ℕ) (value : List ℕ) → IsCall schema pipes k ordinal value → words ≡ line_words schema pipes (Call k ordinal value) → IsCallLine schema pipes words k ordinal value
+  is_call : (k ordinal : ℕ) (value : List ℕ) → IsCall schema pipes k ordinal value → words ≡ line_words schema pipes (Call k ordinal value)
+      → IsCallLine schema pipes words k ordinal value
   is_call k ordinal value is e =
       let p : Pipe = get_or pipes k default_pipe in
       let i : interface_at pipes k ≡ p.interface = interface_there pipes k p (pipe_there k is.inside) in
@@ -93,7 +109,10 @@ module _ (schema : Schema) (pipes : List Pipe) (words : List (List ℕ)) where
           there = pipe_there k is.inside;
           call = record {
             end = sym (name_there pipes k First p (pipe_there k is.inside));
-            method = record { found = subst (λ (x : ℕ). method_called schema x (method_name schema x ordinal) ≡ Some ordinal) i is.named; spelled = ap (λ x. method_text schema x ordinal) i };
+            method = record {
+              found = subst (λ (x : ℕ). method_called schema x (method_name schema x ordinal) ≡ Some ordinal) i is.named;
+              spelled = ap (λ x. method_text schema x ordinal) i;
+            };
             parameters = record { row = is.row; there = ap (λ x. request_of schema x ordinal) (sym i) ∙ is.there; counted = is.count };
           };
         };
@@ -117,12 +136,18 @@ module _ (schema : Schema) (pipes : List Pipe) (words : List (List ℕ)) where
   no_line three five (Call k ordinal value) is e = five (ap length e)
 
 -- where no end has the name, the words are no take
-pub no_end_named : (pipes : List Pipe) (a b n : List ℕ) → ((k : ℕ) (end : PipeEnd) → IsEndNamed pipes n k end → ⊥) → (k : ℕ) (end : PipeEnd) → IsTake pipes (a ∷ b ∷ n ∷ []) k end → ⊥
-no_end_named pipes a b n none k end is = let w = is.words in let e : is.name ≡ n = cc in none k end (subst (λ (x : List ℕ). IsEndNamed pipes x k end) e is.named)
+pub no_end_named : (pipes : List Pipe) (a b n : List ℕ)
+    → ((k : ℕ) (end : PipeEnd) → IsEndNamed pipes n k end → ⊥) → (k : ℕ) (end : PipeEnd)
+    → IsTake pipes (a ∷ b ∷ n ∷ []) k end → ⊥
+no_end_named pipes a b n none k end is =
+    let w = is.words in let e : is.name ≡ n = cc in none k end (subst (λ (x : List ℕ). IsEndNamed pipes x k end) e is.named)
 
 -- where no pipe has such a call, the words are no call
-pub no_call_at : (schema : Schema) (pipes : List Pipe) (a b end method numbers name value : List ℕ) (count : ℕ) → end ≡ name ++ codes "#0" → numbers ≡ value_text value → All (λ n. n < 2 ^ 32) value → count ≡ length value
-    → ((k ordinal : ℕ) → IsCallAt schema pipes name method count k ordinal → ⊥) → (k ordinal : ℕ) (other : List ℕ) → IsCallLine schema pipes (a ∷ b ∷ end ∷ method ∷ numbers ∷ []) k ordinal other → ⊥
+pub no_call_at : (schema : Schema) (pipes : List Pipe) (a b end method numbers name value : List ℕ) (count : ℕ)
+    → end ≡ name ++ codes "#0" → numbers ≡ value_text value → All (λ n. n < 2 ^ 32) value
+    → count ≡ length value
+    → ((k ordinal : ℕ) → IsCallAt schema pipes name method count k ordinal → ⊥) → (k ordinal : ℕ) (other : List ℕ)
+    → IsCallLine schema pipes (a ∷ b ∷ end ∷ method ∷ numbers ∷ []) k ordinal other → ⊥
 no_call_at schema pipes a b end method numbers name value count e n small c none k ordinal other is =
     let w = is.words in
     let end_is : end ≡ is.name ++ codes "#0" = cc in
@@ -136,17 +161,20 @@ no_call_at schema pipes a b end method numbers name value count e n small c none
     (subst (λ (x : List ℕ). IsCallAt schema pipes is.name x count k ordinal) method_is
     (subst (λ (x : ℕ). IsCallAt schema pipes is.name is.word x k ordinal) counts is.at)))
 
+-- the value that was found is one that the word spells
 pub value_given : (word : List ℕ) (found : Option (List ℕ)) (value : List ℕ) → SpellsValue word found → found ≡ Some value → SpellsValue word (Some value)
 value_given word found value spells e = subst (λ (o : Option (List ℕ)). SpellsValue word o) e spells
 
 -- the words of a slice of three, and of five
-pub three_words : (xs : List (Bor (List ℕ))) (d e f : Bor (List ℕ)) → 3 ≤ length xs → length xs < 4 → map (λ (x : Bor (List ℕ)). x.now) xs ≡ (get_or xs 0 d).now ∷ (get_or xs 1 e).now ∷ (get_or xs 2 f).now ∷ []
+pub three_words : (xs : List (Bor (List ℕ))) (d e f : Bor (List ℕ)) → 3 ≤ length xs → length xs < 4
+    → map (λ (x : Bor (List ℕ)). x.now) xs ≡ (get_or xs 0 d).now ∷ (get_or xs 1 e).now ∷ (get_or xs 2 f).now ∷ []
 three_words [] d e f h l = absurd (omega arith)
 three_words (a ∷ []) d e f h l = absurd (omega arith)
 three_words (a ∷ b ∷ []) d e f h l = absurd (omega arith)
 three_words (a ∷ b ∷ c ∷ []) d e f h l = refl
 three_words (a ∷ b ∷ c ∷ x ∷ xs) d e f h l = absurd (omega arith)
 
+-- the words of a slice of five
 pub five_words : (xs : List (Bor (List ℕ))) (d e f g i : Bor (List ℕ)) → 5 ≤ length xs → length xs < 6
     → map (λ (x : Bor (List ℕ)). x.now) xs ≡ (get_or xs 0 d).now ∷ (get_or xs 1 e).now ∷ (get_or xs 2 f).now ∷ (get_or xs 3 g).now ∷ (get_or xs 4 i).now ∷ []
 five_words [] d e f g i h l = absurd (omega arith)
@@ -161,5 +189,6 @@ five_words (a ∷ b ∷ c ∷ k ∷ m ∷ x ∷ xs) d e f g i h l = absurd (omeg
 pub said_of : {A : Type 0} (o : Option A) (x : A) (P : Type 0) (Q : A → Type 0) → o ≡ Some x → MatchOption o P Q → Q x
 said_of o x P Q e h = subst (λ (v : Option _). MatchOption v P Q) e h
 
+-- what is said of an option without a value
 pub said_none : {A : Type 0} (o : Option A) (P : Type 0) (Q : A → Type 0) → o ≡ None → MatchOption o P Q → P
 said_none o P Q e h = subst (λ (v : Option _). MatchOption v P Q) e h

@@ -24,24 +24,41 @@ module _ (schema : Schema) (pipes : List Pipe) (texts : List (List (List ℕ))) 
   all_snoc (y ∷ ys) x a p = (a.0, all_snoc ys x a.1 p)
 
   -- the next text spells a line
-  next_line : (k : ℕ) (left : List Line) → k < length texts → AreLines schema pipes (drop k texts) left → (line : Line) × (more : List Line) × IsLine schema pipes line × (get_or texts k [] ≡ line_words schema pipes line) × AreLines schema pipes (drop (k + 1) texts) more
+  next_line : (k : ℕ) (left : List Line)
+      → k < length texts → AreLines schema pipes (drop k texts) left
+      → (line : Line)
+      × (more : List Line)
+      × IsLine schema pipes line
+      × (get_or texts k [] ≡ line_words schema pipes line)
+      × AreLines schema pipes (drop (k + 1) texts) more
   next_line k [] h are = let e : get_or texts k [] ∷ drop (k + 1) texts ≡ [] = sym (rw add-one (drop-cons texts k [] h)) ∙ are.spelled in absurd cc
   next_line k (line ∷ more) h are =
-      let e : get_or texts k [] ∷ drop (k + 1) texts ≡ line_words schema pipes line ∷ map (line_words schema pipes) more = sym (rw add-one (drop-cons texts k [] h)) ∙ are.spelled in
+      let e : get_or texts k [] ∷ drop (k + 1) texts ≡ line_words schema pipes line ∷ map (line_words schema pipes) more =
+      sym (rw add-one (drop-cons texts k [] h)) ∙ are.spelled in
       let head : get_or texts k [] ≡ line_words schema pipes line = cc in
       let tail : drop (k + 1) texts ≡ map (line_words schema pipes) more = cc in
       (line, more, are.sound.0, head, record { sound = are.sound.1; spelled = tail })
 
-  pub line_more : (k : ℕ) (lines : List Line) (line : Line) → k < length texts → LinesRead schema pipes texts k lines → SpellsLine schema pipes (get_or texts k []) (Some line) → LinesRead schema pipes texts (k + 1) (lines ++ line ∷ [])
+  -- one line more is read
+  pub line_more : (k : ℕ) (lines : List Line) (line : Line)
+      → k < length texts → LinesRead schema pipes texts k lines → SpellsLine schema pipes (get_or texts k []) (Some line)
+      → LinesRead schema pipes texts (k + 1) (lines ++ line ∷ [])
   line_more k lines line h so spells = record {
     read = record {
       sound = all_snoc lines line so.read.sound spells.0;
-      spelled = take_more texts k [] h ∙ ap (λ xs. xs ++ get_or texts k [] ∷ []) so.read.spelled ∙ ap (λ w. map (line_words schema pipes) lines ++ w ∷ []) spells.1 ∙ sym (map-append (line_words schema pipes) lines (line ∷ []));
+      spelled =
+          take_more texts k [] h
+          ∙ ap (λ xs. xs ++ get_or texts k [] ∷ []) so.read.spelled
+          ∙ ap (λ w. map (line_words schema pipes) lines ++ w ∷ []) spells.1
+          ∙ sym (map-append (line_words schema pipes) lines (line ∷ []));
     };
     rest = λ ls are. let left = so.rest ls are in let n = next_line k left.0 h left.1 in (n.1, n.4);
   }
 
-  pub no_line_there : (k : ℕ) (lines : List Line) → k < length texts → LinesRead schema pipes texts k lines → SpellsLine schema pipes (get_or texts k []) None → NoLines schema pipes texts
+  -- a text that is no line leaves no lines
+  pub no_line_there : (k : ℕ) (lines : List Line)
+      → k < length texts → LinesRead schema pipes texts k lines → SpellsLine schema pipes (get_or texts k []) None
+      → NoLines schema pipes texts
   no_line_there k lines h so none ls are = let left = so.rest ls are in let n = next_line k left.0 h left.1 in none n.0 n.2 n.3
 
   pub all_lines : (k : ℕ) (lines : List Line) → length texts ≤ k → LinesRead schema pipes texts k lines → AreLines schema pipes texts lines

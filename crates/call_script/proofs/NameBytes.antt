@@ -24,7 +24,10 @@ bytes_small [] e i = lit≤ tt
 bytes_small (c ∷ cs) e zero = byte_small c (both (is_name_byte c) (list_all is_name_byte cs) e).0
 bytes_small (c ∷ cs) e (suc i) = bytes_small cs (both (is_name_byte c) (list_all is_name_byte cs) e).1 i
 
+-- a name is text
 pub name_is_ascii : (word : List ℕ) → is_name word ≡ true → IsAscii word
 name_is_ascii [] e i = absurd cc
 name_is_ascii (c ∷ cs) e zero = letter_small c (both (is_small_letter c) (list_all is_name_byte cs && nat_le (length cs) 31) e).0
-name_is_ascii (c ∷ cs) e (suc i) = bytes_small cs (both (list_all is_name_byte cs) (nat_le (length cs) 31) (both (is_small_letter c) (list_all is_name_byte cs && nat_le (length cs) 31) e).1).0 i
+name_is_ascii (c ∷ cs) e (suc i) =
+    bytes_small cs (both (list_all is_name_byte cs) (nat_le (length cs) 31)
+    (both (is_small_letter c) (list_all is_name_byte cs && nat_le (length cs) 31) e).1).0 i

@@ -31,19 +31,22 @@ onto_twice xs ys [] = refl
 onto_twice xs ys (p ∷ ps) = ap (λ q. q ∷ ps) (sym (append_assoc xs ys p))
 
 -- at a separator a part ends
-pub part_ends : (c b : ℕ) (text part : List ℕ) (at : ℕ) → at < length text → b ≡ get_or text at 0 → b ≡ c → onto part (pieces c (drop at text)) ≡ part ∷ pieces c (drop (at + 1) text)
+pub part_ends : (c b : ℕ) (text part : List ℕ) (at : ℕ) → at < length text → b ≡ get_or text at 0 → b ≡ c
+    → onto part (pieces c (drop at text)) ≡ part ∷ pieces c (drop (at + 1) text)
 part_ends c b text part at h g e =
     let d : drop at text ≡ get_or text at 0 ∷ drop (at + 1) text = rw add-one (drop-cons text at 0 h) in
     let t : (get_or text at 0 == c) ≡ true = grind (arith, nat_tests) in
     rw (d, t) (ap (λ p. p ∷ pieces c (drop (at + 1) text)) (append-nil part))
 
 -- any other byte belongs to the part
-pub part_grows : (c b : ℕ) (text part : List ℕ) (at : ℕ) → at < length text → b ≡ get_or text at 0 → (b ≡ c → ⊥) → onto part (pieces c (drop at text)) ≡ onto (part ++ b ∷ []) (pieces c (drop (at + 1) text))
+pub part_grows : (c b : ℕ) (text part : List ℕ) (at : ℕ) → at < length text → b ≡ get_or text at 0 → (b ≡ c → ⊥)
+    → onto part (pieces c (drop at text)) ≡ onto (part ++ b ∷ []) (pieces c (drop (at + 1) text))
 part_grows c b text part at h g e =
     let d : drop at text ≡ get_or text at 0 ∷ drop (at + 1) text = rw add-one (drop-cons text at 0 h) in
     let t : (get_or text at 0 == c) ≡ false = grind (arith, nat_tests) in
     rw (d, t, g) (onto_twice part (get_or text at 0 ∷ []) (pieces c (drop (at + 1) text)))
 
+-- with nothing before them, the parts of a text stay as they are
 pub none_before : (c : ℕ) (text : List ℕ) → onto [] (pieces c text) ≡ pieces c text
 none_before c text = onto_none c text
 
@@ -55,7 +58,8 @@ noted c b text part whole done at h g e w =
 
 -- a byte more in the part
 pub longer : (c b : ℕ) (text : List ℕ) (whole done : List (List ℕ)) (from at : ℕ) → at < length text → from ≤ at → b ≡ get_or text at 0 → (b ≡ c → ⊥)
-    → whole ≡ done ++ onto (take (at - from) (drop from text)) (pieces c (drop at text)) → whole ≡ done ++ onto (take (at + 1 - from) (drop from text)) (pieces c (drop (at + 1) text))
+    → whole ≡ done ++ onto (take (at - from) (drop from text)) (pieces c (drop at text))
+    → whole ≡ done ++ onto (take (at + 1 - from) (drop from text)) (pieces c (drop (at + 1) text))
 longer c b text whole done from at h f g e w =
     let m : from + (at - from) ≡ at = omega arith in
     let n : at + 1 - from ≡ (at - from) + 1 = omega arith in
@@ -64,7 +68,9 @@ longer c b text whole done from at h f g e w =
     w ∙ rw (part_grows c b text (take (at - from) (drop from text)) at h g e, n, take_more (drop from text) (at - from) 0 within, there) refl
 
 -- the same for parts that are borrowed
-pub noted_at : (c : ℕ) (text : List ℕ) (whole : List (List ℕ)) (parts items : List (Bor (List ℕ))) (p : Bor (List ℕ)) (from at start : ℕ) → at < length text → get_or text at 0 ≡ c
+pub noted_at : (c : ℕ) (text : List ℕ) (whole : List (List ℕ)) (parts items : List (Bor (List ℕ))) (p : Bor (List ℕ)) (from at start : ℕ)
+    → at < length text
+    → get_or text at 0 ≡ c
     → start ≡ at + 1 → items ≡ parts ++ p ∷ [] → p.now ≡ take (at - from) (drop from text)
     → whole ≡ map (λ (part : Bor (List ℕ)). part.now) parts ++ onto (take (at - from) (drop from text)) (pieces c (drop at text))
     → whole ≡ map (λ (part : Bor (List ℕ)). part.now) items ++ onto (take (at + 1 - start) (drop start text)) (pieces c (drop (at + 1) text))

@@ -15,7 +15,9 @@ use Rattle.call_script.specs.Spelling.{interface_name, is_name, IsPipe, join_wor
 use Rattle.call_script.specs.Reading.{IsJoin, IsBind, IsNamed, SpellsName, SpellsPipe}
 
 -- a join names one second end
-pub second_is : (join two : List (List ℕ)) (first second x y side interface : List ℕ) → IsJoin join first second → IsJoin join x y → IsBind two y side interface → IsBind two second side interface
+pub second_is : (join two : List (List ℕ)) (first second x y side interface : List ℕ)
+    → IsJoin join first second → IsJoin join x y → IsBind two y side interface
+    → IsBind two second side interface
 second_is join two first second x y side interface one other bind = let e : second ≡ y = cc in subst (λ (s : List ℕ). IsBind two s side interface) (sym e) bind
 
 no_row : InterfaceRow
@@ -26,10 +28,13 @@ pub name_found : (schema : Schema) (name : List ℕ) (n : ℕ) → Some n ≡ in
 name_found schema name n found =
     let at = position-Some (λ (i : InterfaceRow). bytes_eq i.name name) schema.interfaces n no_row (sym found) in
     let row : slice_get schema.interfaces n ≡ Some (get_or schema.interfaces n no_row) = slice_get-get_or schema.interfaces n no_row at.0 in
-    ap (λ (o : Option InterfaceRow). unwrap_or (option_map (λ (i : InterfaceRow). i.name) o) []) row ∙ (bytes_eq-Decides (get_or schema.interfaces n no_row).name name).0 at.1
+    ap (λ (o : Option InterfaceRow). unwrap_or (option_map (λ (i : InterfaceRow). i.name) o) []) row
+    ∙ (bytes_eq-Decides (get_or schema.interfaces n no_row).name name).0 at.1
 
 -- the pipe that the words spell
-pub pipe_spelled : (schema : Schema) (join one two : List (List ℕ)) (x y i first second : List ℕ) (n : ℕ) → IsNamed join one two x y i → Some n ≡ interface_number schema i → first ≡ x → is_name x ≡ true → second ≡ y → is_name y ≡ true
+pub pipe_spelled : (schema : Schema) (join one two : List (List ℕ)) (x y i first second : List ℕ) (n : ℕ)
+    → IsNamed join one two x y i → Some n ≡ interface_number schema i → first ≡ x → is_name x ≡ true → second ≡ y
+    → is_name y ≡ true
     → SpellsPipe schema join (one ∷ two ∷ []) (Some (record { first = first; second = second; interface = n }))
 pipe_spelled schema join one two x y i first second n named found f fx s sy =
     let name : interface_name schema n ≡ i = name_found schema i n found in (
@@ -41,10 +46,14 @@ pipe_spelled schema join one two x y i first second n named found f fx s sy =
 -- pipes of one spelling are one
 same_pipe : (p q : Pipe) → p.first ≡ q.first → p.second ≡ q.second → p.interface ≡ q.interface → p ≡ q
 same_pipe p q a b c =
-    ap (λ (f : List ℕ). record { first = f; second = p.second; interface = p.interface }) a ∙ ap (λ (s : List ℕ). record { first = q.first; second = s; interface = p.interface }) b
+    ap (λ (f : List ℕ). record { first = f; second = p.second; interface = p.interface }) a
+    ∙ ap (λ (s : List ℕ). record { first = q.first; second = s; interface = p.interface }) b
     ∙ ap (λ (i : ℕ). record { first = q.first; second = q.second; interface = i }) c
 
-pub one_pipe : (schema : Schema) (p q : Pipe) → IsPipe schema p → IsPipe schema q → join_words p ≡ join_words q → bind_lines schema p ≡ bind_lines schema q → p ≡ q
+-- two pipes of the same words are one
+pub one_pipe : (schema : Schema) (p q : Pipe)
+    → IsPipe schema p → IsPipe schema q → join_words p ≡ join_words q → bind_lines schema p ≡ bind_lines schema q
+    → p ≡ q
 one_pipe schema p q ip iq joins binds =
     let first : p.first ≡ q.first = cc in
     let second : p.second ≡ q.second = cc in
@@ -52,5 +61,6 @@ one_pipe schema p q ip iq joins binds =
     let found : Some p.interface ≡ Some q.interface = sym ip.interface ∙ ap (interface_number schema) names ∙ iq.interface in
     same_pipe p q first second cc
 
+-- the name that was found is the word, and a name
 pub name_given : (word : List ℕ) (found : Option (List ℕ)) (name : List ℕ) → SpellsName word found → found ≡ Some name → (name ≡ word) × (is_name word ≡ true)
 name_given word found name spells e = subst (λ (o : Option (List ℕ)). SpellsName word o) e spells

@@ -13,11 +13,13 @@ use Rattle.call_script.specs.Reading.{SpellsPipe, ArePipes, AreThePipes, NoPipes
 use Rattle.call_script.proofs.PipeWords.{one_pipe}
 
 -- what all pipes that are spelled have in common: those that were read stand in front
-pub record IsLeft (schema : Schema) (joins after : List (List (List ℕ))) (k : ℕ) (pipes : List Pipe) (body : List (List (List ℕ))) (ps : List Pipe) (others : List (List (List ℕ))) : Type 0 where
+pub record IsLeft (schema : Schema) (joins after : List (List (List ℕ))) (k : ℕ) (pipes : List Pipe) (body : List (List (List ℕ)))
+    (ps : List Pipe) (others : List (List (List ℕ))) : Type 0 where
   pub rest : List Pipe
   pub whole : ps ≡ pipes ++ rest
   pub left : ArePipes schema (drop k joins) body rest others
 
+-- the pipes of the first joins are read, and all pipes that are spelled begin with them
 pub record AreRead (schema : Schema) (joins after : List (List (List ℕ))) (k : ℕ) (pipes : List Pipe) (body : List (List (List ℕ))) : Type 0 where
   pub read : ArePipes schema (take k joins) after pipes body
   pub only : (ps : List Pipe) (others : List (List (List ℕ))) → ArePipes schema joins after ps others → IsLeft schema joins after k pipes body ps others
@@ -37,29 +39,53 @@ module _ (schema : Schema) (joins after : List (List (List ℕ))) where
   join_at k h = rw add-one (drop-cons joins k [] h)
 
   -- what is left begins with a pipe
-  first_left : (k : ℕ) (body : List (List (List ℕ))) (rest : List Pipe) (others : List (List (List ℕ))) → k < length joins → ArePipes schema (drop k joins) body rest others
-      → (q : Pipe) × (qs : List Pipe) × (rest ≡ q ∷ qs) × IsPipe schema q × (get_or joins k [] ≡ join_words q) × (body ≡ bind_lines schema q ++ (flat_map (bind_lines schema) qs ++ others)) × ArePipes schema (drop (k + 1) joins) (flat_map (bind_lines schema) qs ++ others) qs others
+  first_left : (k : ℕ) (body : List (List (List ℕ))) (rest : List Pipe) (others : List (List (List ℕ))) → k < length joins
+      → ArePipes schema (drop k joins) body rest others
+      → (q : Pipe)
+      × (qs : List Pipe)
+      × (rest ≡ q ∷ qs)
+      × IsPipe schema q
+      × (get_or joins k [] ≡ join_words q)
+      × (body ≡ bind_lines schema q ++ (flat_map (bind_lines schema) qs ++ others))
+      × ArePipes schema (drop (k + 1) joins) (flat_map (bind_lines schema) qs ++ others) qs others
   first_left k body [] others h are = let e : get_or joins k [] ∷ drop (k + 1) joins ≡ [] = sym (join_at k h) ∙ are.joined in absurd cc
   first_left k body (q ∷ qs) others h are =
       let e : get_or joins k [] ∷ drop (k + 1) joins ≡ join_words q ∷ map join_words qs = sym (join_at k h) ∙ are.joined in
       let head : get_or joins k [] ≡ join_words q = cc in
-      let tail : drop (k + 1) joins ≡ map join_words qs = cc in
-      (q, qs, refl, are.sound.0, head, are.bound ∙ append_assoc (bind_lines schema q) (flat_map (bind_lines schema) qs) others, record { sound = are.sound.1; joined = tail; bound = refl })
+      let tail : drop (k + 1) joins ≡ map join_words qs = cc in (
+        q,
+        qs,
+        refl,
+        are.sound.0,
+        head,
+        are.bound ∙ append_assoc (bind_lines schema q) (flat_map (bind_lines schema) qs) others,
+        record { sound = are.sound.1; joined = tail; bound = refl },
+      )
 
   -- a pipe more
-  pub one_more : (k : ℕ) (pipes : List Pipe) (body left : List (List (List ℕ))) (one two : List (List ℕ)) (pipe : Pipe) → k < length joins → AreRead schema joins after k pipes body → body ≡ one ∷ two ∷ left
+  pub one_more : (k : ℕ) (pipes : List Pipe) (body left : List (List (List ℕ))) (one two : List (List ℕ)) (pipe : Pipe)
+      → k < length joins → AreRead schema joins after k pipes body
+      → body ≡ one ∷ two ∷ left
       → SpellsPipe schema (get_or joins k []) (one ∷ two ∷ []) (Some pipe) → AreRead schema joins after (k + 1) (pipes ++ pipe ∷ []) left
   one_more k pipes body left one two pipe h so e spells = record {
     read = record {
       sound = all_snoc (IsPipe schema) pipes pipe so.read.sound spells.0;
-      joined = take_more joins k [] h ∙ ap (λ xs. xs ++ get_or joins k [] ∷ []) so.read.joined ∙ ap (λ w. map join_words pipes ++ w ∷ []) spells.1 ∙ sym (map-append join_words pipes (pipe ∷ []));
-      bound = so.read.bound ∙ ap (λ xs. flat_map (bind_lines schema) pipes ++ xs) (e ∙ ap (λ xs. xs ++ left) spells.2) ∙ sym (append_assoc (flat_map (bind_lines schema) pipes) (bind_lines schema pipe) left)
+      joined =
+          take_more joins k [] h
+          ∙ ap (λ xs. xs ++ get_or joins k [] ∷ []) so.read.joined
+          ∙ ap (λ w. map join_words pipes ++ w ∷ []) spells.1
+          ∙ sym (map-append join_words pipes (pipe ∷ []));
+      bound =
+          so.read.bound
+          ∙ ap (λ xs. flat_map (bind_lines schema) pipes ++ xs) (e ∙ ap (λ xs. xs ++ left) spells.2)
+          ∙ sym (append_assoc (flat_map (bind_lines schema) pipes) (bind_lines schema pipe) left)
           ∙ ap (λ xs. xs ++ left) (sym (flat_map-append (bind_lines schema) pipes (pipe ∷ [])));
     };
     only = λ ps others are. go ps others (so.only ps others are);
   }
     where
-      go : (ps : List Pipe) (others : List (List (List ℕ))) → IsLeft schema joins after k pipes body ps others → IsLeft schema joins after (k + 1) (pipes ++ pipe ∷ []) left ps others
+      go : (ps : List Pipe) (others : List (List (List ℕ))) → IsLeft schema joins after k pipes body ps others
+          → IsLeft schema joins after (k + 1) (pipes ++ pipe ∷ []) left ps others
       go ps others is =
           let f = first_left k body is.rest others h is.left in
           let lines : one ∷ two ∷ left ≡ bind_lines schema f.0 ++ (flat_map (bind_lines schema) f.1 ++ others) = sym e ∙ f.5 in
@@ -73,7 +99,9 @@ module _ (schema : Schema) (joins after : List (List (List ℕ))) where
           }
 
   -- too few lines are left
-  pub too_few : (k : ℕ) (pipes : List Pipe) (body : List (List (List ℕ))) → k < length joins → AreRead schema joins after k pipes body → length body < 2 → NoPipes schema joins after
+  pub too_few : (k : ℕ) (pipes : List Pipe) (body : List (List (List ℕ)))
+      → k < length joins → AreRead schema joins after k pipes body → length body < 2
+      → NoPipes schema joins after
   too_few k pipes body h so few ps others are =
       let is = so.only ps others are in
       let f = first_left k body is.rest others h is.left in
@@ -81,7 +109,9 @@ module _ (schema : Schema) (joins after : List (List (List ℕ))) where
       omega arith
 
   -- no pipe has these words
-  pub no_pipe : (k : ℕ) (pipes : List Pipe) (body left : List (List (List ℕ))) (one two : List (List ℕ)) → k < length joins → AreRead schema joins after k pipes body → body ≡ one ∷ two ∷ left
+  pub no_pipe : (k : ℕ) (pipes : List Pipe) (body left : List (List (List ℕ))) (one two : List (List ℕ))
+      → k < length joins → AreRead schema joins after k pipes body
+      → body ≡ one ∷ two ∷ left
       → SpellsPipe schema (get_or joins k []) (one ∷ two ∷ []) None → NoPipes schema joins after
   no_pipe k pipes body left one two h so e none ps others are =
       let is = so.only ps others are in
@@ -90,7 +120,8 @@ module _ (schema : Schema) (joins after : List (List (List ℕ))) where
       none f.0 f.3 f.4 cc
 
   -- all were read
-  pub all_read : (k : ℕ) (pipes : List Pipe) (body : List (List (List ℕ))) → length joins ≤ k → AreRead schema joins after k pipes body → AreThePipes schema joins after pipes body
+  pub all_read : (k : ℕ) (pipes : List Pipe) (body : List (List (List ℕ))) → length joins ≤ k → AreRead schema joins after k pipes body
+      → AreThePipes schema joins after pipes body
   all_read k pipes body h so = record {
     are = record { sound = so.read.sound; joined = sym (take_all joins k h) ∙ so.read.joined; bound = so.read.bound };
     only = λ ps others are. go ps others (so.only ps others are);

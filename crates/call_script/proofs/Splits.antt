@@ -38,14 +38,17 @@ pub joined_more : (c : ℕ) (p : List ℕ) (ps : List (List ℕ)) → 0 < length
 joined_more c p [] h = absurd (omega arith)
 joined_more c p (q ∷ ps) h = refl
 
+-- the parts of a text, joined, are the text
 pub joined_pieces : (c : ℕ) (bytes : List ℕ) → joined c (pieces c bytes) ≡ bytes
 joined_pieces c [] = refl
 joined_pieces c (b ∷ bytes) = go (b == c) refl (joined_pieces c bytes)
   where
-    go : (t : Bool) → (b == c) ≡ t → joined c (pieces c bytes) ≡ bytes → joined c (if t then [] ∷ pieces c bytes else onto (b ∷ []) (pieces c bytes)) ≡ b ∷ bytes
+    go : (t : Bool) → (b == c) ≡ t → joined c (pieces c bytes) ≡ bytes
+        → joined c (if t then [] ∷ pieces c bytes else onto (b ∷ []) (pieces c bytes)) ≡ b ∷ bytes
     go true e ih = let same : b ≡ c = grind (arith, nat_tests) in rw (joined_more c [] (pieces c bytes) (pieces_some c bytes), ih, same) refl
     go false e ih = rw (joined_onto c (b ∷ []) (pieces c bytes), ih) refl
 
+-- the last part goes exactly where it is empty
 pub without_last : (xs : List (List ℕ)) (p : List ℕ) → without_empty_last (xs ++ p ∷ []) ≡ (if length p == 0 then xs else xs ++ p ∷ [])
 without_last [] p = refl
 without_last (x ∷ []) p = go (length p == 0)
@@ -63,13 +66,16 @@ without_last (x ∷ y ∷ xs) p = rw (without_last (y ∷ xs) p) (go (length p =
 abbrev pub lacks : ℕ → List ℕ → Type 0
 lacks c p = list_all (λ b. not (b == c)) p ≡ true
 
+-- two tests that both hold, each by itself
 pub both : (a b : Bool) → (a && b) ≡ true → (a ≡ true) × (b ≡ true)
 both true b h = (refl, h)
 both false b h = absurd cc
 
+-- two tests that hold, together
 pub and_true : (a b : Bool) → a ≡ true → b ≡ true → (a && b) ≡ true
 and_true a b h k = rw (h, k) refl
 
+-- a test whose negation holds doesn't hold
 pub negated : (a : Bool) → not a ≡ true → a ≡ false
 negated true h = absurd cc
 negated false h = refl
@@ -87,41 +93,54 @@ first_part c (b ∷ p) rest h =
     let k = both (not (b == c)) (list_all (λ b. not (b == c)) p) h in
     rw (negated (b == c) k.0, first_part c p rest k.1) refl
 
+-- parts that lack the separator are read back
 pub pieces_joined : (c : ℕ) (ps : List (List ℕ)) → 0 < length ps → AllByRecursion (lacks c) ps → pieces c (joined c ps) ≡ ps
 pieces_joined c [] h all = absurd (omega arith)
 pieces_joined c (p ∷ []) h all = ap (pieces c) (append-nil p) ∙ one_part c p all.0
 pieces_joined c (p ∷ q ∷ ps) h all = rw (first_part c p (joined c (q ∷ ps)) all.0, pieces_joined c (q ∷ ps) (omega arith) all.1) refl
 
+-- the first part with a byte more lacks the separator still
 pub apart_onto : (c b : ℕ) (ps : List (List ℕ)) → (b == c) ≡ false → AllByRecursion (lacks c) ps → AllByRecursion (lacks c) (onto (b ∷ []) ps)
 apart_onto c b [] e all = let one : lacks c (b ∷ []) = rw e refl in (one, tt)
 apart_onto c b (p ∷ ps) e all = let one : lacks c (b ∷ p) = rw e all.0 in (one, all.1)
 
+-- each part of a text lacks the separator
 pub pieces_apart : (c : ℕ) (bytes : List ℕ) → AllByRecursion (lacks c) (pieces c bytes)
 pieces_apart c [] = (refl, tt)
 pieces_apart c (b ∷ bytes) = go (b == c) refl (pieces_apart c bytes)
   where
-    go : (t : Bool) → (b == c) ≡ t → AllByRecursion (lacks c) (pieces c bytes) → AllByRecursion (lacks c) (if t then [] ∷ pieces c bytes else onto (b ∷ []) (pieces c bytes))
+    go : (t : Bool) → (b == c) ≡ t → AllByRecursion (lacks c) (pieces c bytes)
+        → AllByRecursion (lacks c) (if t then [] ∷ pieces c bytes else onto (b ∷ []) (pieces c bytes))
     go true e ih = (refl, ih)
     go false e ih = apart_onto c b (pieces c bytes) e ih
 
 -- the parts without the last, and with it
-now_more : (olds : List (Bor (List ℕ))) (last : Bor (List ℕ)) → map (λ (part : Bor (List ℕ)). part.now) (olds ++ last ∷ []) ≡ map (λ (part : Bor (List ℕ)). part.now) olds ++ last.now ∷ []
+now_more : (olds : List (Bor (List ℕ))) (last : Bor (List ℕ))
+    → map (λ (part : Bor (List ℕ)). part.now) (olds ++ last ∷ []) ≡ map (λ (part : Bor (List ℕ)). part.now) olds ++ last.now ∷ []
 now_more olds last = map-append (λ (part : Bor (List ℕ)). part.now) olds (last ∷ [])
 
-pub last_goes : (items olds : List (Bor (List ℕ))) (last : Bor (List ℕ)) (ps : List (List ℕ)) → items ≡ olds ++ last ∷ [] → map (λ (part : Bor (List ℕ)). part.now) items ≡ ps → (length last.now == 0) ≡ true
+-- an empty last part is dropped
+pub last_goes : (items olds : List (Bor (List ℕ))) (last : Bor (List ℕ)) (ps : List (List ℕ))
+    → items ≡ olds ++ last ∷ [] → map (λ (part : Bor (List ℕ)). part.now) items ≡ ps
+    → (length last.now == 0) ≡ true
     → map (λ (part : Bor (List ℕ)). part.now) olds ≡ without_empty_last ps
 last_goes items olds last ps i s z =
     let w = without_last (map (λ (part : Bor (List ℕ)). part.now) olds) last.now in
     let t = now_more olds last in
     sym (ap without_empty_last (sym s ∙ (ap (map (λ (part : Bor (List ℕ)). part.now)) i ∙ t)) ∙ rw z at w)
 
-pub last_stays : (items olds news : List (Bor (List ℕ))) (last : Bor (List ℕ)) (ps : List (List ℕ)) → items ≡ olds ++ last ∷ [] → news ≡ olds ++ last ∷ [] → map (λ (part : Bor (List ℕ)). part.now) items ≡ ps → (length last.now == 0) ≡ false
+-- a last part that isn't empty stays
+pub last_stays : (items olds news : List (Bor (List ℕ))) (last : Bor (List ℕ)) (ps : List (List ℕ))
+    → items ≡ olds ++ last ∷ [] → news ≡ olds ++ last ∷ [] → map (λ (part : Bor (List ℕ)). part.now) items ≡ ps
+    → (length last.now == 0) ≡ false
     → map (λ (part : Bor (List ℕ)). part.now) news ≡ without_empty_last ps
 last_stays items olds news last ps i n s z =
     let w = without_last (map (λ (part : Bor (List ℕ)). part.now) olds) last.now in
     let t = now_more olds last in
-    ap (map (λ (part : Bor (List ℕ)). part.now)) n ∙ (t ∙ sym (ap without_empty_last (sym s ∙ (ap (map (λ (part : Bor (List ℕ)). part.now)) i ∙ t)) ∙ rw z at w))
+    ap (map (λ (part : Bor (List ℕ)). part.now)) n
+    ∙ (t ∙ sym (ap without_empty_last (sym s ∙ (ap (map (λ (part : Bor (List ℕ)). part.now)) i ∙ t)) ∙ rw z at w))
 
+-- a text has one part at least
 pub some_part : (items : List (Bor (List ℕ))) (c : ℕ) (bytes : List ℕ) → map (λ (part : Bor (List ℕ)). part.now) items ≡ pieces c bytes → 0 < length items
 some_part [] c bytes e = let h : 0 < length (pieces c bytes) = pieces_some c bytes in absurd (omega (arith, ap length e))
 some_part (x ∷ items) c bytes e = omega arith

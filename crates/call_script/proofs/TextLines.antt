@@ -1,5 +1,5 @@
 -- The text of one item more.
-use Rattle.std.proofs.Common.{◌≡◌, ◌<◌, ◌≤◌, ◌+◌, ◌-◌, ℕ, zero, suc, List, [], ◌∷◌, ◌++◌, length, take, drop, get_or, map, sym, ap, ◌∙◌, arith, append_assoc, append-nil, zero-add}
+use Rattle.std.proofs.Common.{◌≡◌, ◌<◌, ◌≤◌, ◌+◌, ◌-◌, ℕ, zero, suc, List, [], ◌∷◌, ◌++◌, length, take, drop, get_or, sym, ap, ◌∙◌, arith, append_assoc, append-nil, zero-add}
 use Rattle.std.specs.List.{flat_map, join_by, range_with_len}
 use Rattle.std.proofs.lemmas.List.{take_rest}
 use Rattle.std.proofs.lemmas.List.{take_more, length-take-le, flat_map_more}
@@ -10,13 +10,18 @@ use Rattle.bind_model.specs.declared.event.Event.{Event}
 use Rattle.bind_model.specs.Machine.{serials}
 use Rattle.call_script.specs.Text.{lines_from, event_text, first_ends, left_ends, left_line}
 
-lines_snoc : (schema : Schema) (k n : ℕ) (xs : List Event) (e : Event) → n ≡ k + length xs → lines_from schema k (xs ++ e ∷ []) ≡ lines_from schema k xs ++ event_text schema n e
+lines_snoc : (schema : Schema) (k n : ℕ) (xs : List Event) (e : Event) → n ≡ k + length xs
+    → lines_from schema k (xs ++ e ∷ []) ≡ lines_from schema k xs ++ event_text schema n e
 lines_snoc schema k n [] e h = let z : n ≡ k = omega (arith, h) in rw z (append-nil (event_text schema k e))
 lines_snoc schema k n (x ∷ xs) e h =
-    ap (λ t. event_text schema k x ++ t) (lines_snoc schema (k + 1) n xs e (omega (arith, h))) ∙ sym (append_assoc (event_text schema k x) (lines_from schema (k + 1) xs) (event_text schema n e))
+    ap (λ t. event_text schema k x ++ t) (lines_snoc schema (k + 1) n xs e (omega (arith, h)))
+    ∙ sym (append_assoc (event_text schema k x) (lines_from schema (k + 1) xs) (event_text schema n e))
 
-pub lines_more : (schema : Schema) (events : List Event) (k : ℕ) (d : Event) → k < length events → lines_from schema 0 (take (k + 1) events) ≡ lines_from schema 0 (take k events) ++ event_text schema k (get_or events k d)
-lines_more schema events k d h = rw (take_more events k d h) (lines_snoc schema 0 k (take k events) (get_or events k d) (omega (arith, length-take-le k events)))
+-- the lines of one event more
+pub lines_more : (schema : Schema) (events : List Event) (k : ℕ) (d : Event) → k < length events
+    → lines_from schema 0 (take (k + 1) events) ≡ lines_from schema 0 (take k events) ++ event_text schema k (get_or events k d)
+lines_more schema events k d h =
+    rw (take_more events k d h) (lines_snoc schema 0 k (take k events) (get_or events k d) (omega (arith, length-take-le k events)))
 
 -- the first piece, and those behind it
 pub joined_parts : {X : Type 0} (c : ℕ) (f : X → List ℕ) (xs : List X) (d : X) (end : List ℕ) → 1 ≤ length xs
@@ -33,15 +38,19 @@ range_snoc : (n : ℕ) → range_with_len 0 (n + 1) ≡ range_with_len 0 n ++ n 
 range_snoc n = let e : n + 1 ≡ suc n = omega arith in rw e (range_suc 0 n n (zero-add n))
 
 -- one end of a sequence more
-pub first_more : (seq n : ℕ) → flat_map left_line (first_ends seq (n + 1)) ≡ flat_map left_line (first_ends seq n) ++ left_line (record { seq = seq; serial = n })
+pub first_more : (seq n : ℕ)
+    → flat_map left_line (first_ends seq (n + 1)) ≡ flat_map left_line (first_ends seq n) ++ left_line (record { seq = seq; serial = n })
 first_more seq n =
-    let more : first_ends seq (n + 1) ≡ first_ends seq n ++ record { seq = seq; serial = n } ∷ [] = map-range_with_len_more (λ (n : ℕ). record { seq = seq; serial = n }) 0 n n (zero-add n) in
+    let more : first_ends seq (n + 1) ≡ first_ends seq n ++ record { seq = seq; serial = n } ∷ [] =
+    map-range_with_len_more (λ (n : ℕ). record { seq = seq; serial = n }) 0 n n (zero-add n) in
     rw more (sym (flat_map_more left_line [] (first_ends seq n) (record { seq = seq; serial = n })))
 
 -- the ends of one sequence more
-pub left_more : (n : ℕ) (past : List Event) → flat_map left_line (left_ends (n + 1) past) ≡ flat_map left_line (left_ends n past) ++ flat_map left_line (first_ends n (serials past n))
+pub left_more : (n : ℕ) (past : List Event)
+    → flat_map left_line (left_ends (n + 1) past) ≡ flat_map left_line (left_ends n past) ++ flat_map left_line (first_ends n (serials past n))
 left_more n past =
-    let more : left_ends (n + 1) past ≡ left_ends n past ++ first_ends n (serials past n) = rw (range_snoc n) (sym (flat_map_more (λ seq. first_ends seq (serials past seq)) [] (range_with_len 0 n) n)) in
+    let more : left_ends (n + 1) past ≡ left_ends n past ++ first_ends n (serials past n) =
+    rw (range_snoc n) (sym (flat_map_more (λ seq. first_ends seq (serials past seq)) [] (range_with_len 0 n) n)) in
     rw more (flat_map-append left_line (left_ends n past) (first_ends n (serials past n)))
 
 -- the text of an end and what is behind it

@@ -18,7 +18,9 @@ no_comma x d = go (x == 44) refl
   where
     go : (b : Bool) → (x == 44) ≡ b → not b ≡ true
     go false e = refl
-    go true e = let f : x ≡ 44 = grind (arith, nat_tests) in let g : digit_value x ≡ digit_value 44 = ap digit_value f in let h : 10 ≤ digit_value 44 = lit≤ tt in absurd (omega arith)
+    go true e =
+        let f : x ≡ 44 = grind (arith, nat_tests) in
+        let g : digit_value x ≡ digit_value 44 = ap digit_value f in let h : 10 ≤ digit_value 44 = lit≤ tt in absurd (omega arith)
 
 digits_lack : (ds : List ℕ) → AllDigits 10 ds → lacks 44 ds
 digits_lack [] a = refl
@@ -73,14 +75,16 @@ value_text-injective v w a b e =
     (inside_one (join_by decimal (codes ",") v) (join_by decimal (codes ",") w) e)
 
 -- the value that was read
-pub value_read : (word text : List ℕ) (words : List (List ℕ)) (v : List ℕ) → IsInside word text → words ≡ pieces 44 text → AreNumbers words v → SpellsValue word (Some v)
+pub value_read : (word text : List ℕ) (words : List (List ℕ)) (v : List ℕ) → IsInside word text → words ≡ pieces 44 text → AreNumbers words v
+    → SpellsValue word (Some v)
 value_read word text words v inside cut are = (
   inside ∙ ap (λ t. codes "(" ++ (t ++ codes ")")) (sym (joined_pieces 44 text) ∙ ap (joined 44) (sym cut ∙ are.spelled) ∙ sym (joined_texts 44 decimal v)),
   are.small,
 )
 
 -- no numbers, no value
-pub no_value : (word text : List ℕ) (words : List (List ℕ)) → IsInside word text → (text ≡ [] → ⊥) → words ≡ pieces 44 text → NoNumbers words → SpellsValue word None
+pub no_value : (word text : List ℕ) (words : List (List ℕ)) → IsInside word text → (text ≡ [] → ⊥) → words ≡ pieces 44 text → NoNumbers words
+    → SpellsValue word None
 no_value word text words inside some cut none v small e =
     go v (recursion_from_All _ v small) small (inside_one text (join_by decimal (codes ",") v) (sym inside ∙ e))
   where
@@ -89,7 +93,9 @@ no_value word text words inside some cut none v small e =
     go (n ∷ w) a all f = none (n ∷ w) (record { small = all; spelled = cut ∙ ap (pieces 44) f ∙ parts_of n w a })
 
 -- a word that is no number is none of the numbers
-pub not_these : (words : List (List ℕ)) (k : ℕ) (word : List ℕ) (found : Option ℕ) → k < length words → get_or words k [] ≡ word → SpellsNumber word found → found ≡ None → NoNumbers words
+pub not_these : (words : List (List ℕ)) (k : ℕ) (word : List ℕ) (found : Option ℕ)
+    → k < length words → get_or words k [] ≡ word → SpellsNumber word found → found ≡ None
+    → NoNumbers words
 not_these words k word found h e spells none ns are =
     let l : k < length ns = omega (arith, ap length are.spelled, length-map ns decimal) in
     let at : get_or words k [] ≡ decimal (get_or ns k 0) = ap (λ ws. get_or ws k []) are.spelled ∙ get_or-map decimal ns k 0 [] l in

@@ -51,6 +51,7 @@ words_of schema bytes s is =
     read (inr e) one two = ap word_lines e ∙ two
 
 module _ (schema : Schema) (bytes : List ℕ) (texts : List (List (List ℕ))) (lines : word_lines bytes ≡ texts) where
+  -- bytes whose lines spell a script spell it
   pub script_of : (s : Script) → SpellsShort schema texts (Some s) → IsScriptOf schema bytes s
   script_of s spells =
       let same : word_lines bytes ≡ script_lines schema s = lines ∙ spells.1 in (
@@ -65,6 +66,7 @@ module _ (schema : Schema) (bytes : List ℕ) (texts : List (List (List ℕ))) (
         spelled bytes (script_lines schema s) same (some_lines schema s),
       )
 
+  -- bytes whose lines spell no script spell none
   pub no_script_of : SpellsShort schema texts None → (s : Script) → IsScriptOf schema bytes s → ⊥
   no_script_of none s is =
       let sound : IsSoundScript schema s = record { some = is.0.some; pipes = is.0.pipes; distinct = is.0.distinct; lines = is.0.lines } in

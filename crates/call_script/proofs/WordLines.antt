@@ -1,6 +1,6 @@
 -- The words of a text's lines spell the text, and are read back from it.
 use Rattle.std.proofs.Common.{◌≡◌, ◌<◌, ◌≤◌, ℕ, List, [], ◌∷◌, ◌++◌, length, refl, sym, ap, ◌∙◌, arith, append_assoc, append-nil, length-append, Bool, true, false, inl, inr, suc}
-use Rattle.std.specs.Prelude.{◌==◌, ◌||◌, not, if◌then◌else◌, map, codes, ◌⊎◌}
+use Rattle.std.specs.Prelude.{◌==◌, ◌||◌, not, if◌then◌else◌, map, ◌⊎◌}
 use Rattle.std.specs.List.{list_all, AllByRecursion}
 use Rattle.std.proofs.lemmas.Bool.Decides.{nat_tests}
 use Rattle.std.proofs.lemmas.List.Folds.{list_all-append}
@@ -23,18 +23,23 @@ ended : (c : ℕ) (ps : List (List ℕ)) → 0 < length (without_empty_last ps)
 ended c [] h = absurd (omega arith)
 ended c (p ∷ []) h = go (length p == 0) h
   where
-    go : (t : Bool) → 0 < length (if t then [] else p ∷ []) → (p ++ [] ≡ joined c (if t then [] else p ∷ [])) ⊎ (p ++ [] ≡ joined c (if t then [] else p ∷ []) ++ c ∷ [])
+    go : (t : Bool) → 0 < length (if t then [] else p ∷ [])
+        → (p ++ [] ≡ joined c (if t then [] else p ∷ [])) ⊎ (p ++ [] ≡ joined c (if t then [] else p ∷ []) ++ c ∷ [])
     go true h = absurd (omega arith)
     go false h = inl refl
 ended c (p ∷ q ∷ []) h = go (length q == 0) refl
   where
-    go : (t : Bool) → (length q == 0) ≡ t → (joined c (p ∷ q ∷ []) ≡ joined c (p ∷ (if t then [] else q ∷ []))) ⊎ (joined c (p ∷ q ∷ []) ≡ joined c (p ∷ (if t then [] else q ∷ [])) ++ c ∷ [])
+    go : (t : Bool)
+        → (length q == 0) ≡ t
+        → (joined c (p ∷ q ∷ []) ≡ joined c (p ∷ (if t then [] else q ∷ [])))
+        ⊎ (joined c (p ∷ q ∷ []) ≡ joined c (p ∷ (if t then [] else q ∷ [])) ++ c ∷ [])
     go true e = inr (rw (empty q e, append-nil p) refl)
     go false e = inl refl
 ended c (p ∷ q ∷ r ∷ ps) h = go (ended c (q ∷ r ∷ ps) (omega arith))
   where
     go : (joined c (q ∷ r ∷ ps) ≡ joined c (q ∷ without_empty_last (r ∷ ps))) ⊎ (joined c (q ∷ r ∷ ps) ≡ joined c (q ∷ without_empty_last (r ∷ ps)) ++ c ∷ [])
-        → (joined c (p ∷ q ∷ r ∷ ps) ≡ joined c (p ∷ q ∷ without_empty_last (r ∷ ps))) ⊎ (joined c (p ∷ q ∷ r ∷ ps) ≡ joined c (p ∷ q ∷ without_empty_last (r ∷ ps)) ++ c ∷ [])
+        → (joined c (p ∷ q ∷ r ∷ ps) ≡ joined c (p ∷ q ∷ without_empty_last (r ∷ ps)))
+        ⊎ (joined c (p ∷ q ∷ r ∷ ps) ≡ joined c (p ∷ q ∷ without_empty_last (r ∷ ps)) ++ c ∷ [])
     go (inl e) = inl (ap (λ rest. p ++ c ∷ rest) e)
     go (inr e) = inr (ap (λ rest. p ++ c ∷ rest) e ∙ sym (append_assoc p (c ∷ joined c (q ∷ without_empty_last (r ∷ ps))) (c ∷ [])))
 
@@ -42,13 +47,17 @@ length_map : (ps : List (List ℕ)) → length (map (pieces 32) ps) ≡ length p
 length_map [] = refl
 length_map (p ∷ ps) = ap suc (length_map ps)
 
-pub spelled : (bytes : List ℕ) (lines : List (List (List ℕ))) → word_lines bytes ≡ lines → 0 < length lines → (bytes ≡ lines_text lines) ⊎ (bytes ≡ lines_text lines ++ 10 ∷ [])
+-- the lines of a text spell it, up to an LF at its end
+pub spelled : (bytes : List ℕ) (lines : List (List (List ℕ))) → word_lines bytes ≡ lines → 0 < length lines
+    → (bytes ≡ lines_text lines) ⊎ (bytes ≡ lines_text lines ++ 10 ∷ [])
 spelled bytes lines same some =
     let e : map line_text lines ≡ without_empty_last (pieces 10 bytes) = ap (map line_text) (sym same) ∙ lines_joined (without_empty_last (pieces 10 bytes)) in
     let n : length lines ≡ length (without_empty_last (pieces 10 bytes)) = ap length (sym same) ∙ length_map (without_empty_last (pieces 10 bytes)) in
     go e (ended 10 (pieces 10 bytes) (omega arith))
   where
-    go : map line_text lines ≡ without_empty_last (pieces 10 bytes) → (joined 10 (pieces 10 bytes) ≡ joined 10 (without_empty_last (pieces 10 bytes))) ⊎ (joined 10 (pieces 10 bytes) ≡ joined 10 (without_empty_last (pieces 10 bytes)) ++ 10 ∷ [])
+    go : map line_text lines ≡ without_empty_last (pieces 10 bytes)
+        → (joined 10 (pieces 10 bytes) ≡ joined 10 (without_empty_last (pieces 10 bytes)))
+        ⊎ (joined 10 (pieces 10 bytes) ≡ joined 10 (without_empty_last (pieces 10 bytes)) ++ 10 ∷ [])
         → (bytes ≡ lines_text lines) ⊎ (bytes ≡ lines_text lines ++ 10 ∷ [])
     go e (inl h) = inl (rw (joined_texts 10 line_text lines, e, ← h, joined_pieces 10 bytes) refl)
     go e (inr h) = inr (rw (joined_texts 10 line_text lines, e, ← h, joined_pieces 10 bytes) refl)
@@ -86,8 +95,11 @@ words_lack (w ∷ []) h =
 words_lack (w ∷ v ∷ ws) h =
     let k = both (is_plain w) (list_all is_plain (v ∷ ws)) h in
     let r = plain_lacks w k.0 in
-    let s = words_lack (v ∷ ws) k.1 in
-    ((r.0, s.0), list_all-append (λ b. not (b == 10)) w (32 ∷ line_text (v ∷ ws)) ∙ and_true (list_all (λ b. not (b == 10)) w) (list_all (λ b. not (b == 10)) (line_text (v ∷ ws))) r.1 s.1)
+    let s = words_lack (v ∷ ws) k.1 in (
+      (r.0, s.0),
+      list_all-append (λ b. not (b == 10)) w (32 ∷ line_text (v ∷ ws))
+          ∙ and_true (list_all (λ b. not (b == 10)) w) (list_all (λ b. not (b == 10)) (line_text (v ∷ ws))) r.1 s.1,
+    )
 
 abbrev pub ArePlain : List (List (List ℕ)) → Type 0
 ArePlain lines = AllByRecursion (λ (words : List (List ℕ)). list_all is_plain words ≡ true) lines
@@ -102,12 +114,14 @@ two_words [] h = absurd (omega arith)
 two_words (w ∷ []) h = absurd (omega arith)
 two_words (w ∷ v ∷ ws) h = omega (arith, length-append w (32 ∷ line_text (v ∷ ws)))
 
-none_empty : (lines : List (List (List ℕ))) → AllByRecursion (λ (words : List (List ℕ)). 2 ≤ length words) lines → without_empty_last (map line_text lines) ≡ map line_text lines
+none_empty : (lines : List (List (List ℕ))) → AllByRecursion (λ (words : List (List ℕ)). 2 ≤ length words) lines
+    → without_empty_last (map line_text lines) ≡ map line_text lines
 none_empty [] h = refl
 none_empty (l ∷ []) h = let n = two_words l h.0 in let z : (length (line_text l) == 0) ≡ false = grind (arith, nat_tests) in rw z refl
 none_empty (l ∷ k ∷ lines) h = ap (λ rest. line_text l ∷ rest) (none_empty (k ∷ lines) h.1)
 
-words_back : (lines : List (List (List ℕ))) → AllByRecursion (λ (words : List (List ℕ)). 2 ≤ length words) lines → ArePlain lines → map (pieces 32) (map line_text lines) ≡ lines
+words_back : (lines : List (List (List ℕ))) → AllByRecursion (λ (words : List (List ℕ)). 2 ≤ length words) lines → ArePlain lines
+    → map (pieces 32) (map line_text lines) ≡ lines
 words_back [] h p = refl
 words_back (l ∷ lines) h p = let n : 2 ≤ length l = h.0 in rw (pieces_joined 32 l (omega arith) (words_lack l p.0).0, words_back lines h.1 p.1) refl
 
@@ -125,6 +139,7 @@ some_texts : (lines : List (List (List ℕ))) → 0 < length lines → 0 < lengt
 some_texts [] h = h
 some_texts (l ∷ lines) h = omega arith
 
+-- the lines of a script's text are read back, with an LF at its end or without
 pub read_back : (lines : List (List (List ℕ))) → 0 < length lines → AllByRecursion (λ (words : List (List ℕ)). 2 ≤ length words) lines → ArePlain lines
     → (word_lines (lines_text lines) ≡ lines) × (word_lines (lines_text lines ++ 10 ∷ []) ≡ lines)
 read_back lines some two plain =
@@ -146,7 +161,8 @@ pieces_lack c d (b ∷ bytes) h =
     let k = both (not (b == d)) (list_all (λ x. not (x == d)) bytes) h in
     go (b == c) (negated (b == d) k.0) (pieces_lack c d bytes k.1)
   where
-    go : (t : Bool) → (b == d) ≡ false → AllByRecursion (lacks d) (pieces c bytes) → AllByRecursion (lacks d) (if t then [] ∷ pieces c bytes else onto (b ∷ []) (pieces c bytes))
+    go : (t : Bool) → (b == d) ≡ false → AllByRecursion (lacks d) (pieces c bytes)
+        → AllByRecursion (lacks d) (if t then [] ∷ pieces c bytes else onto (b ∷ []) (pieces c bytes))
     go true e ih = (refl, ih)
     go false e ih = apart_onto d b (pieces c bytes) e ih
 
@@ -167,5 +183,6 @@ each_plain : (ps : List (List ℕ)) → AllByRecursion (lacks 10) ps → ArePlai
 each_plain [] h = tt
 each_plain (p ∷ ps) h = (all_plain (pieces 32 p) (pieces_apart 32 p) (pieces_lack 32 10 p h.0), each_plain ps h.1)
 
+-- each word of a text's lines is plain
 pub plain : (bytes : List ℕ) → ArePlain (word_lines bytes)
 plain bytes = each_plain (without_empty_last (pieces 10 bytes)) (lacks_left 10 (pieces 10 bytes) (pieces_apart 10 bytes))

@@ -128,7 +128,9 @@ SpellsScript schema texts None = (script : Script) → IsSoundScript schema scri
 -- with at most 65,536 lines
 abbrev pub SpellsShort : Schema → List (List (List ℕ)) → Option Script → Type 0
 SpellsShort schema texts (Some script) = IsSoundScript schema script × (texts ≡ script_lines schema script) × (length texts ≤ MAX_SCRIPT_LINES)
-SpellsShort schema texts None = (script : Script) → IsSoundScript schema script → length (script_lines schema script) ≤ MAX_SCRIPT_LINES → texts ≡ script_lines schema script → ⊥
+SpellsShort schema texts None =
+    (script : Script) → IsSoundScript schema script → length (script_lines schema script) ≤ MAX_SCRIPT_LINES
+    → texts ≡ script_lines schema script → ⊥
 
 -- how many lines at the front begin with the word join
 abbrev pub begins_join : List (List ℕ) → Bool

@@ -56,12 +56,16 @@ bind_lines schema pipe =
     ∷ (codes "0:" ∷ codes "bind" ∷ pipe.second ∷ codes "receiver" ∷ interface_name schema pipe.interface ∷ []) ∷ []
 
 abbrev pub line_words : Schema → List Pipe → Line → List (List ℕ)
-line_words schema pipes (Call pipe method value) = codes "0:" ∷ codes "call" ∷ (name_at pipes pipe First ++ codes "#0") ∷ method_text schema (interface_at pipes pipe) method ∷ value_text value ∷ []
+line_words schema pipes (Call pipe method value) =
+    codes "0:" ∷ codes "call" ∷ (name_at pipes pipe First ++ codes "#0")
+    ∷ method_text schema (interface_at pipes pipe) method ∷ value_text value ∷ []
 line_words schema pipes (Take pipe end) = codes "0:" ∷ codes "take" ∷ name_at pipes pipe end ∷ []
 
 -- the words of each line: `seqs 1`, the joins, the bindings of each pipe, and the lines of sequence 0
 abbrev pub script_lines : Schema → Script → List (List (List ℕ))
-script_lines schema script = (codes "seqs" ∷ codes "1" ∷ []) ∷ (map join_words script.pipes ++ (flat_map (bind_lines schema) script.pipes ++ map (line_words schema script.pipes) script.lines))
+script_lines schema script =
+    (codes "seqs" ∷ codes "1" ∷ [])
+    ∷ (map join_words script.pipes ++ (flat_map (bind_lines schema) script.pipes ++ map (line_words schema script.pipes) script.lines))
 
 -- the text of a line's words
 abbrev pub line_text : List (List ℕ) → List ℕ
@@ -100,7 +104,9 @@ pub record IsPipe (schema : Schema) (pipe : Pipe) : Type 0 where
 
 -- the ordinal of the first method of this name
 abbrev pub method_called : Schema → ℕ → List ℕ → Option ℕ
-method_called schema interface name = option_map (λ (m : MethodRow). m.ordinal) (option_and_then (λ (i : InterfaceRow). find (λ (m : MethodRow). bytes_eq m.name name) i.methods) (slice_get schema.interfaces interface))
+method_called schema interface name =
+    option_map (λ (m : MethodRow). m.ordinal)
+    (option_and_then (λ (i : InterfaceRow). find (λ (m : MethodRow). bytes_eq m.name name) i.methods) (slice_get schema.interfaces interface))
 
 -- a call names a method, which its name finds, and has a number below 2 ^ 32 for each parameter; a take names an end
 pub record IsCall (schema : Schema) (pipes : List Pipe) (pipe method : ℕ) (value : List ℕ) : Type 0 where
@@ -126,4 +132,5 @@ pub record IsScript (schema : Schema) (script : Script) : Type 0 where
 
 -- the bytes spell the script
 abbrev pub IsScriptOf : Schema → List ℕ → Script → Type 0
-IsScriptOf schema bytes script = IsScript schema script × ((bytes ≡ lines_text (script_lines schema script)) ⊎ (bytes ≡ lines_text (script_lines schema script) ++ 10 ∷ []))
+IsScriptOf schema bytes script =
+    IsScript schema script × ((bytes ≡ lines_text (script_lines schema script)) ⊎ (bytes ≡ lines_text (script_lines schema script) ++ 10 ∷ []))

@@ -57,12 +57,17 @@ why_text Empty = codes "empty"
 abbrev pub asked_text : Schema → Asked → List ℕ
 asked_text schema (Join t) = codes "join " ++ decimal t.0
 asked_text schema (Bind x side interface) = codes "bind " ++ (end_text x ++ (codes " " ++ (side_text side ++ (codes " " ++ interface_name schema interface))))
-asked_text schema (Call x id target value) = codes "call " ++ (end_text x ++ (codes "#" ++ (decimal id ++ (codes " " ++ (method_text schema target.interface target.method ++ (codes " " ++ (value_text value ++ codes " []")))))))
+asked_text schema (Call x id target value) =
+    codes "call " ++ (end_text x ++ (codes "#" ++ (decimal id ++ (codes " "
+    ++ (method_text schema target.interface target.method ++ (codes " " ++ (value_text value ++ codes " []")))))))
 asked_text schema (Take x) = codes "take " ++ end_text x
 
 -- what a take got; the lists of handles, responders and dropped parts are empty
 abbrev pub taken_text : Schema → Taken → List ℕ
-taken_text schema taken = message_text taken.target.side ++ (codes " " ++ (decimal taken.id ++ (codes " " ++ (method_text schema taken.target.interface taken.target.method ++ (codes " " ++ (value_text taken.value ++ (codes " " ++ (decimal taken.request_id ++ codes " [] [] []"))))))))
+taken_text schema taken =
+    message_text taken.target.side ++ (codes " " ++ (decimal taken.id ++ (codes " "
+    ++ (method_text schema taken.target.interface taken.target.method ++ (codes " " ++ (value_text taken.value ++ (codes " "
+    ++ (decimal taken.request_id ++ codes " [] [] []"))))))))
 
 -- a reply
 abbrev pub told_text : Schema → Told → List ℕ
@@ -75,7 +80,9 @@ told_text schema (No why) = codes "no " ++ why_text why
 
 -- the line of an event: its number, its sequence, the command and the reply
 abbrev pub event_text : Schema → ℕ → Event → List ℕ
-event_text schema k event = decimal k ++ (codes " " ++ (decimal event.seq.0 ++ (codes " " ++ (asked_text schema event.asked ++ (codes " -> " ++ (told_text schema event.told ++ 10 ∷ []))))))
+event_text schema k event =
+    decimal k ++ (codes " " ++ (decimal event.seq.0 ++ (codes " "
+    ++ (asked_text schema event.asked ++ (codes " -> " ++ (told_text schema event.told ++ 10 ∷ []))))))
 
 -- the lines of events, numbered from k on
 abbrev pub lines_from : Schema → ℕ → List Event → List ℕ
@@ -96,4 +103,6 @@ left_line x = codes "left " ++ (end_text x ++ 10 ∷ [])
 
 -- the whole text of a history, whose oldest event is the first
 abbrev pub output : Schema → ℕ → List Event → List ℕ
-output schema seqs events = lines_from schema 0 events ++ (flat_map left_line (left_ends seqs (reverse events)) ++ (codes "done " ++ (decimal (length events) ++ 10 ∷ [])))
+output schema seqs events =
+    lines_from schema 0 events
+    ++ (flat_map left_line (left_ends seqs (reverse events)) ++ (codes "done " ++ (decimal (length events) ++ 10 ∷ [])))

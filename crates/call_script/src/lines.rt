@@ -113,8 +113,12 @@ fn call_of(
     words: &FiveWords,
 ) -> Result<Option<CallParts>, AllocError>
     requires { length pipes.now < 2 ^ 32 }
-    ensures { IfOk result (λ found. MatchOption found (NoCall schema.now pipes.now (words.now.start.now ∷ words.now.command.now ∷ words.now.end.now ∷ words.now.method.now ∷ words.now.numbers.now ∷ []))
-        (λ call. IsCallLine schema.now pipes.now (words.now.start.now ∷ words.now.command.now ∷ words.now.end.now ∷ words.now.method.now ∷ words.now.numbers.now ∷ []) call.pipe call.method call.value)) }
+    ensures { IfOk result (λ found. MatchOption found
+        (NoCall schema.now pipes.now
+        (words.now.start.now ∷ words.now.command.now ∷ words.now.end.now ∷ words.now.method.now ∷ words.now.numbers.now ∷ []))
+        (λ call. IsCallLine schema.now pipes.now
+        (words.now.start.now ∷ words.now.command.now ∷ words.now.end.now ∷ words.now.method.now ∷ words.now.numbers.now ∷ [])
+        call.pipe call.method call.value)) }
 {
     if !is_command(words.start, words.command, b"call") {
         return Ok(None);

@@ -35,7 +35,9 @@ fn first_named<'a>(methods: &'a [MethodRow], name: &[u8]) -> Option<&'a MethodRo
 
 /// The first method of this name in an interface.
 fn called<'a>(schema: &'a Schema, interface: u32, name: &[u8]) -> Option<&'a MethodRow>
-    ensures { option_copied result ≡ option_and_then (λ (i : InterfaceRow). find (λ (m : MethodRow). bytes_eq m.name name.now) i.methods) (slice_get schema.now.interfaces interface) }
+    ensures { option_copied result ≡ option_and_then
+        (λ (i : InterfaceRow). find (λ (m : MethodRow). bytes_eq m.name name.now) i.methods)
+        (slice_get schema.now.interfaces interface) }
 {
     let row = schema.interfaces.as_slice().get(interface as usize)?;
     first_named(row.methods.as_slice(), name)

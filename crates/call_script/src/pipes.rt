@@ -73,8 +73,16 @@ struct Named<'a> {
 
 /// What the words name, where they are those of one pipe.
 fn names_of_pipe<'a>(join: &[&'a [u8]], one: &[&'a [u8]], two: &[&'a [u8]]) -> Option<Named<'a>>
-    ensures some { IfSome result (λ n. IsNamed (map (λ word. word.now) join.now) (map (λ word. word.now) one.now) (map (λ word. word.now) two.now) n.first.now n.second.now n.interface.now) }
-    ensures none { IfNone result ((x y i : List ℕ) → IsNamed (map (λ word. word.now) join.now) (map (λ word. word.now) one.now) (map (λ word. word.now) two.now) x y i → ⊥) }
+    ensures some { IfSome result (λ n. IsNamed
+        (map (λ word. word.now) join.now)
+        (map (λ word. word.now) one.now)
+        (map (λ word. word.now) two.now)
+        n.first.now n.second.now n.interface.now) }
+    ensures none { IfNone result ((x y i : List ℕ) → IsNamed
+        (map (λ word. word.now) join.now)
+        (map (λ word. word.now) one.now)
+        (map (λ word. word.now) two.now)
+        x y i → ⊥) }
 {
     let Some((first, second)) = joined(join) else {
         return None;

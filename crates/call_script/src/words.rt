@@ -64,7 +64,9 @@ pub(crate) fn number(alloc: Global, word: &[u8]) -> Result<Option<u32>, AllocErr
 
 /// The numbers that the words spell, one each; none where a word spells none.
 fn numbers(alloc: Global, words: &[&[u8]]) -> Result<Option<Vec<u32>>, AllocError>
-    ensures { IfOk result (λ found. MatchOption found (NoNumbers (map (λ word. word.now) words.now)) (λ ns. AreNumbers (map (λ word. word.now) words.now) ns.items)) }
+    ensures { IfOk result (λ found. MatchOption found
+        (NoNumbers (map (λ word. word.now) words.now))
+        (λ ns. AreNumbers (map (λ word. word.now) words.now) ns.items)) }
 {
     let mut found = Vec::new(alloc);
     for word in words {

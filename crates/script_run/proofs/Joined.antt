@@ -21,6 +21,7 @@ use Rattle.script_run.specs.OfScript.{Next, AsksNext, IsPart, next_of, joins_of,
 use Rattle.script_run.proofs.FirstEnds.{numbered, numbered_from, numbered_more, numbered_count, other}
 use Rattle.script_run.proofs.Parts.{own_count}
 
+-- so many pipes were joined, and no end is bound
 pub record Joined (k : ℕ) (past : List Event) : Type 0 where
   pub ends : made past ≡ numbered_from 0 (2 * k)
   pub peers : (j : ℕ) (e : PipeEnd) → j < k → peer past (numbered (place_of j e)) ≡ numbered (place_of j (other e))
@@ -47,7 +48,8 @@ new_peer k Second before = rw (not_same (2 * k) (2 * k + 1) (λ q. omega arith),
 below : (j k : ℕ) → j < k + 1 → (j < k) ⊎ (j ≡ k)
 below j k h = grind arith
 
-one_more : (k : ℕ) (past : List Event) (seq : SeqId) (asked : Asked) (told : Told) → Joined k past → told ≡ pair k → Joined (k + 1) (record { seq = seq; asked = asked; told = told } ∷ past)
+one_more : (k : ℕ) (past : List Event) (seq : SeqId) (asked : Asked) (told : Told) → Joined k past → told ≡ pair k
+    → Joined (k + 1) (record { seq = seq; asked = asked; told = told } ∷ past)
 one_more k past seq asked told p e = record {
   ends =
       let m : 2 * (k + 1) ≡ 2 * k + 2 = omega arith in
@@ -60,12 +62,16 @@ one_more k past seq asked told p e = record {
   unbound = λ x. rw e (p.unbound x);
 }
 
-asked_join : (n i : ℕ) (asked : Asked) (next : Next) → option_map (λ (a : Asked). (sequence_0, a)) (slice_get (replicate n asked) i) ≡ Some next → next ≡ (sequence_0, asked)
+asked_join : (n i : ℕ) (asked : Asked) (next : Next)
+    → option_map (λ (a : Asked). (sequence_0, a)) (slice_get (replicate n asked) i) ≡ Some next
+    → next ≡ (sequence_0, asked)
 asked_join zero i asked next e = absurd cc
 asked_join (suc n) zero asked next e = cc
 asked_join (suc n) (suc i) asked next e = asked_join n i asked next e
 
-pub joined_by : (schema : Schema) (n : ℕ) (own : List Event) → legal schema 1 own → AsksNext (next_of (replicate n (asks.Join sequence_0))) own → Joined (length own) own
+pub joined_by : (schema : Schema) (n : ℕ) (own : List Event)
+    → legal schema 1 own → AsksNext (next_of (replicate n (asks.Join sequence_0))) own
+    → Joined (length own) own
 joined_by schema n [] h a = record { ends = refl; peers = λ j e l. absurd (omega arith); unbound = λ x. refl }
 joined_by schema n (event ∷ own) h a =
     let before = joined_by schema n own h.1 a.1 in
@@ -78,7 +84,9 @@ joined_by schema n (event ∷ own) h a =
     let m : length own + 1 ≡ suc (length own) = omega arith in
     rw m at (one_more (length own) own event.seq event.asked event.told before pairs)
 
-pub joined : (schema : Schema) (pipes : List Pipe) (past : List Event) → legal schema 1 past → IsPart (next_of (joins_of pipes)) [] past → Joined (length pipes) past
+-- the joins of a script make a pipe each
+pub joined : (schema : Schema) (pipes : List Pipe) (past : List Event) → legal schema 1 past → IsPart (next_of (joins_of pipes)) [] past
+    → Joined (length pipes) past
 joined schema pipes past h p =
     let whole : past ≡ p.own = p.whole ∙ append-nil p.own in
     let count : length p.own ≡ length pipes = own_count (joins_of pipes) p.own p.asks p.over ∙ length-replicate (length pipes) (asks.Join sequence_0) in

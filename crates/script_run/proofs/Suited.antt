@@ -24,14 +24,18 @@ use Rattle.script_run.specs.Going.{with_asked}
 use Rattle.script_run.proofs.FirstEnds.{numbered, other}
 use Rattle.script_run.proofs.Joined.{Joined}
 
+-- the side that an end of a pipe is bound as
 abbrev pub side_of : PipeEnd → Side
 side_of First = Remote
 side_of Second = Receiver
 
+-- the ends of each pipe are peers, and one that is bound is so as its side of the pipe's interface
 pub record Suited (pipes : List Pipe) (past : List Event) : Type 0 where
   pub peers : (j : ℕ) (e : PipeEnd) → j < length pipes → peer past (numbered (place_of j e)) ≡ numbered (place_of j (other e))
-  pub sides : (j : ℕ) (e : PipeEnd) (b : Binding) → binding past (numbered (place_of j e)) ≡ Some b → (b.side ≡ side_of e) × (b.interface ≡ interface_at pipes j)
+  pub sides : (j : ℕ) (e : PipeEnd) (b : Binding) → binding past (numbered (place_of j e)) ≡ Some b
+      → (b.side ≡ side_of e) × (b.interface ≡ interface_at pipes j)
 
+-- pipes of which no end is bound
 pub joined_suited : (pipes : List Pipe) (past : List Event) → Joined (length pipes) past → Suited pipes past
 joined_suited pipes past p = record { peers = p.peers; sides = λ j e b bound. let none = p.unbound (numbered (place_of j e)) in absurd cc }
 
@@ -55,7 +59,9 @@ place_same j k Second First h = absurd (omega (arith, h))
 place_same j k Second Second h = (omega (arith, h), refl)
 
 module _ (schema : Schema) (pipes : List Pipe) (past : List Event) (j : ℕ) (e : PipeEnd) (s : Suited pipes past) where
-  new_side : (k : ℕ) (f : PipeEnd) (b new : Binding) (here : Bool) → same_end (numbered (place_of j e)) (numbered (place_of k f)) ≡ here → new.side ≡ side_of e → new.interface ≡ interface_at pipes j
+  new_side : (k : ℕ) (f : PipeEnd) (b new : Binding) (here : Bool)
+      → same_end (numbered (place_of j e)) (numbered (place_of k f)) ≡ here → new.side ≡ side_of e
+      → new.interface ≡ interface_at pipes j
       → (if here then Some new else binding past (numbered (place_of k f))) ≡ Some b → (b.side ≡ side_of f) × (b.interface ≡ interface_at pipes k)
   new_side k f b new true here side interface q =
       let at = ap (λ (x : EndId). x.serial) (same_end-true (numbered (place_of j e)) (numbered (place_of k f)) here) in
@@ -64,7 +70,9 @@ module _ (schema : Schema) (pipes : List Pipe) (past : List Event) (j : ℕ) (e 
       rw (← same, ← so.0, ← so.1) (side, interface)
   new_side k f b new false here side interface q = s.sides k f b q
 
-  bound : {x : EndId} {side : Side} {interface : ℕ} {told : Told} → Outcome schema 1 past sequence_0 (asks.Bind x side interface) told → x ≡ numbered (place_of j e) → side ≡ side_of e → interface ≡ interface_at pipes j
+  bound : {x : EndId} {side : Side} {interface : ℕ} {told : Told}
+      → Outcome schema 1 past sequence_0 (asks.Bind x side interface) told → x ≡ numbered (place_of j e) → side ≡ side_of e
+      → interface ≡ interface_at pipes j
       → Suited pipes (record { seq = sequence_0; asked = asks.Bind x side interface; told = told } ∷ past)
   bound (binds {side = side} {interface = interface} q o k) at is for_interface = record {
     peers = s.peers;
@@ -72,6 +80,7 @@ module _ (schema : Schema) (pipes : List Pipe) (past : List Event) (j : ℕ) (e 
   }
   bound refuses at is for_interface = record { peers = s.peers; sides = s.sides }
 
+  -- one end more was bound as the script binds it
   pub suited_more : Suited pipes (with_asked schema past (asks.Bind (numbered (place_of j e)) (side_of e) (interface_at pipes j)))
   suited_more =
       let asked : Asked = asks.Bind (numbered (place_of j e)) (side_of e) (interface_at pipes j) in

@@ -34,7 +34,9 @@ script_length schema script =
       bind_lines_length schema script.pipes,
     )
 
-module _ (pipes : List Pipe) (start joined bound : Run) (fresh : past_of start ≡ []) (j : DidPart (next_of (joins_of pipes)) start joined) (b : DidPart (next_of (binds_from joined.held.items 0 pipes)) joined bound) where
+module _ (pipes : List Pipe) (start joined bound : Run) (fresh : past_of start ≡ []) (j : DidPart (next_of (joins_of pipes)) start joined)
+    (b : DidPart (next_of (binds_from joined.held.items 0 pipes)) joined bound) where
+  -- joins and bindings are three events a pipe
   pub bound_length : length bound.core.events ≡ 3 * length pipes
   bound_length =
       omega (
@@ -48,17 +50,23 @@ module _ (pipes : List Pipe) (start joined bound : Run) (fresh : past_of start �
       )
 
   module _ (ends : List EndId) (lines : List Line) (lined : Run) (l : DidPart (next_of (map (line_asks pipes ends) lines)) bound lined) where
+    -- joins, bindings and lines are three events a pipe and one a line
     pub lined_length : length lined.core.events ≡ 3 * length pipes + length lines
     lined_length = omega (arith, past_length lined, past_length bound, bound_length, part_length _ _ _ l.part, length-map lines (line_asks pipes ends))
 
-    pub whole : (schema : Schema) (script : Script) (last : Run) → pipes ≡ script.pipes → lines ≡ script.lines → ends ≡ joined.held.items → joined.held.items ≡ made (past_of joined) → start.core.schema ≡ schema
+    -- the parts of a run, one behind the other, are the script's
+    pub whole : (schema : Schema) (script : Script) (last : Run)
+        → pipes ≡ script.pipes → lines ≡ script.lines → ends ≡ joined.held.items → joined.held.items ≡ made (past_of joined)
+        → start.core.schema ≡ schema
         → DidPart (next_take lined.core.schema (past_of lined)) lined last → PastOfScript schema script (past_of last)
     whole schema script last p q named held s d = record {
       after_joins = past_of joined;
       after_lines = past_of lined;
       joins = let at_start : IsPart (next_of (joins_of pipes)) [] (past_of joined) = rw fresh at j.part in rw (← p) at_start;
       lines = rw (← p, ← q) (
-          rw (← held, ← named) (parts (binds_from ends 0 pipes) (map (line_asks pipes ends) lines) (past_of joined) (past_of bound) (past_of lined) (rw named b.part) l.part)
+          rw (← held, ← named)
+          (parts (binds_from ends 0 pipes) (map (line_asks pipes ends) lines) (past_of joined) (past_of bound) (past_of lined)
+          (rw named b.part) l.part)
           );
       drain = rw (sym (l.schema ∙ (b.schema ∙ (j.schema ∙ s)))) d.part;
     }

@@ -58,11 +58,15 @@ end_at ends pipe end = unwrap_or (slice_get ends (place_of pipe end)) (record { 
 -- the bindings of each pipe, from that number on: its first end is a remote and its second a receiver of one interface
 abbrev pub binds_from : List EndId → ℕ → List Pipe → List Asked
 binds_from ends n [] = []
-binds_from ends n (pipe ∷ pipes) = asks.Bind (end_at ends n First) Remote pipe.interface ∷ asks.Bind (end_at ends n Second) Receiver pipe.interface ∷ binds_from ends (n + 1) pipes
+binds_from ends n (pipe ∷ pipes) =
+    asks.Bind (end_at ends n First) Remote pipe.interface
+    ∷ asks.Bind (end_at ends n Second) Receiver pipe.interface
+    ∷ binds_from ends (n + 1) pipes
 
 -- what a line asks: a call goes to endpoint 0 of the pipe's first end
 abbrev pub line_asks : List Pipe → List EndId → Line → Asked
-line_asks pipes ends (Call pipe method value) = asks.Call (end_at ends pipe First) 0 (record { interface = interface_at pipes pipe; method = method; side = Request }) value
+line_asks pipes ends (Call pipe method value) =
+    asks.Call (end_at ends pipe First) 0 (record { interface = interface_at pipes pipe; method = method; side = Request }) value
 line_asks pipes ends (Take pipe end) = asks.Take (end_at ends pipe end)
 
 -- all lines of the script's sequence, where the joins made these ends

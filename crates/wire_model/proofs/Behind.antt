@@ -66,7 +66,9 @@ module _ (bytes more : List ℕ) where
       let version = le32_at-front (at + 4) (omega arith) in
       (rw (size, version) (and_from _ _ (le-longer (at + 8) parts.0) (and_from _ _ rest.0 (le-longer (at + le32_at bytes at) rest.1))), omega arith)
 
-  with_row : (r : Request) (found : Option StructRow) → has_header bytes ≡ true → option_and_then (λ (row : StructRow). request_with bytes (header_fields bytes) row) found ≡ Some r → option_and_then (λ (row : StructRow). request_with (bytes ++ more) (header_fields (bytes ++ more)) row) found ≡ Some r
+  with_row : (r : Request) (found : Option StructRow)
+      → has_header bytes ≡ true → option_and_then (λ (row : StructRow). request_with bytes (header_fields bytes) row) found ≡ Some r
+      → option_and_then (λ (row : StructRow). request_with (bytes ++ more) (header_fields (bytes ++ more)) row) found ≡ Some r
   with_row r None has is = absurd cc
   with_row r (Some row) has is =
       elim (cases_Bool (has_struct bytes 24 (length row.fields))) [
@@ -80,7 +82,8 @@ module _ (bytes more : List ℕ) where
       ]
 
   -- a request that the bytes stand for is the same with more bytes behind it
-  pub request_in-append : (schema : Schema) (interface : ℕ) (r : Request) → request_in schema interface bytes ≡ Some r → request_in schema interface (bytes ++ more) ≡ Some r
+  pub request_in-append : (schema : Schema) (interface : ℕ) (r : Request) → request_in schema interface bytes ≡ Some r
+      → request_in schema interface (bytes ++ more) ≡ Some r
   unfolding request_in
   request_in-append schema interface r is =
       elim (cases_Bool (has_header bytes)) [

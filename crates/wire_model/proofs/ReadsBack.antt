@@ -14,6 +14,7 @@ le32_at-le32_bytes n rest small = omega arith
 pub le32_at-append : (front rest : List ℕ) (at : ℕ) → le32_at (front ++ rest) (length front + at) ≡ le32_at rest at
 le32_at-append front rest at = simp (add_assoc, get_or-append-add)
 
+-- numbers behind a front
 pub numbers_at-append : (front rest : List ℕ) (at n : ℕ) → numbers_at (front ++ rest) (length front + at) n ≡ numbers_at rest at n
 numbers_at-append front rest at zero = refl
 numbers_at-append front rest at (suc n) =
@@ -33,5 +34,6 @@ pub numbers_at-flat_map : (values rest : List ℕ) → All (λ n. n < 2 ^ 32) va
 numbers_at-flat_map [] rest small = refl
 numbers_at-flat_map (n ∷ values) rest small =
     let later = numbers_at-append (le32_bytes n) (flat_map le32_bytes values ++ rest) 0 (length values) in
-    ap (λ m. m ∷ numbers_at (le32_bytes n ++ (flat_map le32_bytes values ++ rest)) 4 (length values)) (le32_at-le32_bytes n (flat_map le32_bytes values ++ rest) (All-head (λ n. n < 2 ^ 32) n values small))
+    ap (λ m. m ∷ numbers_at (le32_bytes n ++ (flat_map le32_bytes values ++ rest)) 4 (length values))
+    (le32_at-le32_bytes n (flat_map le32_bytes values ++ rest) (All-head (λ n. n < 2 ^ 32) n values small))
     ∙ ap (λ ns. n ∷ ns) (later ∙ numbers_at-flat_map values rest (All-tail (λ n. n < 2 ^ 32) n values small))

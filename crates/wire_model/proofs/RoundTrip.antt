@@ -23,7 +23,12 @@ length-flat_map (n ∷ values) = omega (arith, length-flat_map values)
 pub length-params_bytes : (values : List ℕ) → length (params_bytes values) ≡ narrow_struct_bytes (length values)
 length-params_bytes values =
     let zeros : List ℕ = replicate (narrow_struct_bytes (length values) - (8 + 4 * length values)) 0 in
-    omega (arith, length-append (flat_map le32_bytes values) zeros, length-flat_map values, length-replicate {A = ℕ} (narrow_struct_bytes (length values) - (8 + 4 * length values)) 0)
+    omega (
+      arith,
+      length-append (flat_map le32_bytes values) zeros,
+      length-flat_map values,
+      length-replicate {A = ℕ} (narrow_struct_bytes (length values) - (8 + 4 * length values)) 0,
+    )
 
 -- the header is one, of this id and this name
 pub header_of-header_bytes : (id name : ℕ) (payload : List ℕ) → id < 2 ^ 32 → name < 2 ^ 32 → header_of (header_bytes id name ++ payload) ≡ Some (record {
@@ -45,14 +50,16 @@ header_of-header_bytes id name payload small named =
     rw (whole, long, id_is, name_is, left) refl
 
 -- a struct that was written gives its numbers
-pub struct_at-params_bytes : (front values : List ℕ) → All (λ n. n < 2 ^ 32) values → narrow_struct_bytes (length values) ≤ MAX_PAYLOAD_BYTES → struct_at (front ++ params_bytes values) (length front) (length values) ≡ Some values
+pub struct_at-params_bytes : (front values : List ℕ) → All (λ n. n < 2 ^ 32) values → narrow_struct_bytes (length values) ≤ MAX_PAYLOAD_BYTES
+    → struct_at (front ++ params_bytes values) (length front) (length values) ≡ Some values
 struct_at-params_bytes front values small short =
     let bytes = front ++ params_bytes values in
     let at = length front in
     let size = narrow_struct_bytes (length values) in
     let whole : length bytes ≡ at + size = length-append front (params_bytes values) ∙ ap (λ n. at + n) (length-params_bytes values) in
     let there : at + 0 ≡ at = omega arith in
-    let size_is : le32_at bytes at ≡ size = rw there at (le32_at-append front (params_bytes values) 0) ∙ le32_at-le32_bytes size (drop 4 (params_bytes values)) (omega arith) in
+    let size_is : le32_at bytes at ≡ size =
+    rw there at (le32_at-append front (params_bytes values) 0) ∙ le32_at-le32_bytes size (drop 4 (params_bytes values)) (omega arith) in
     let version_is : le32_at bytes (at + 4) ≡ 0 = le32_at-append front (params_bytes values) 4 in
     let zeros : List ℕ = replicate (size - (8 + 4 * length values)) 0 in
     let front8 : List ℕ = le32_bytes size ++ le32_bytes 0 in
@@ -65,7 +72,11 @@ struct_at-params_bytes front values small short =
     let inside : nat_le (at + size) (length bytes) ≡ true = grind (arith, nat_tests) in
     rw (header, size_is, version_is, same, inside) (ap Some numbers)
 
-pub request_in-message_bytes : (schema : Schema) (target : Target) (value : List ℕ) (id : ℕ) → IsPrepared schema target value → id < 2 ^ 32 → request_in schema target.interface (message_bytes id target.method value) ≡ Some (record { interface_id = id; method = target.method; request_id = 0; value = value })
+-- the bytes of a message to a method of an interface stand for the request that was written
+pub request_in-message_bytes : (schema : Schema) (target : Target) (value : List ℕ) (id : ℕ)
+    → IsPrepared schema target value → id < 2 ^ 32
+    → request_in schema target.interface (message_bytes id target.method value)
+    ≡ Some (record { interface_id = id; method = target.method; request_id = 0; value = value })
 unfolding message_bytes request_in
 request_in-message_bytes schema target value id prepared small =
     let header = header_of-header_bytes id target.method (params_bytes value) small prepared.named in
@@ -77,7 +88,10 @@ same_parts : {r q : Request} → Some r ≡ Some q → (r.interface_id ≡ q.int
 same_parts e = (cc, cc, cc)
 
 -- two messages to one interface have the same bytes only where they are for the same endpoint and method, with the same value
-pub one_form : (schema : Schema) (target other : Target) (value others : List ℕ) (id other_id : ℕ) → IsPrepared schema target value → IsPrepared schema other others → target.interface ≡ other.interface → id < 2 ^ 32 → other_id < 2 ^ 32 → message_bytes id target.method value ≡ message_bytes other_id other.method others → (id ≡ other_id) × (target.method ≡ other.method) × (value ≡ others)
+pub one_form : (schema : Schema) (target other : Target) (value others : List ℕ) (id other_id : ℕ)
+    → IsPrepared schema target value → IsPrepared schema other others → target.interface ≡ other.interface → id < 2 ^ 32 → other_id < 2 ^ 32
+    → message_bytes id target.method value ≡ message_bytes other_id other.method others
+    → (id ≡ other_id) × (target.method ≡ other.method) × (value ≡ others)
 one_form schema target other value others id other_id prepared prepared' there small small' same =
     same_parts (sym (request_in-message_bytes schema target value id prepared small)
     ∙ ap (request_in schema target.interface) same

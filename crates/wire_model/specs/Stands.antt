@@ -20,7 +20,9 @@ numbers_at bytes at (suc fields) = le32_at bytes at ∷ numbers_at bytes (at + 4
 
 -- a struct of so many fields stands at a place: its header is within the bytes and follows the row rule, and all its bytes are there
 abbrev pub has_struct : List ℕ → ℕ → ℕ → Bool
-has_struct bytes at fields = nat_le (at + 8) (length bytes) && (has_row (le32_at bytes at) (le32_at bytes (at + 4)) fields && nat_le (at + le32_at bytes at) (length bytes))
+has_struct bytes at fields =
+    nat_le (at + 8) (length bytes)
+    && (has_row (le32_at bytes at) (le32_at bytes (at + 4)) fields && nat_le (at + le32_at bytes at) (length bytes))
 
 -- the value of the struct at a place
 abbrev pub struct_at : List ℕ → ℕ → ℕ → Option (List ℕ)
@@ -28,9 +30,20 @@ struct_at bytes at fields = if has_struct bytes at fields then Some (numbers_at 
 
 -- a request that the header and the struct of its method's parameters give
 abbrev pub request_with : List ℕ → Header → StructRow → Option Request
-request_with bytes header row = option_and_then (λ (values : List ℕ). Some (record { interface_id = header.interface_id; method = header.name; request_id = header.request_id; value = values })) (struct_at bytes header.payload.start (length row.fields))
+request_with bytes header row =
+    option_and_then
+    (λ (values : List ℕ). Some (record {
+      interface_id = header.interface_id;
+      method = header.name;
+      request_id = header.request_id;
+      value = values;
+    }))
+    (struct_at bytes header.payload.start (length row.fields))
 
 -- the request that the bytes stand for at an endpoint of this interface: the header is one, its name is the ordinal of a method,
 -- and the payload begins with a struct of that method's parameters. What lies behind the struct is ignored
 unfoldable pub request_in : Schema → ℕ → List ℕ → Option Request
-request_in schema interface bytes = option_and_then (λ (header : Header). option_and_then (λ (row : StructRow). request_with bytes header row) (request_of schema interface header.name)) (header_of bytes)
+request_in schema interface bytes =
+    option_and_then
+    (λ (header : Header). option_and_then (λ (row : StructRow). request_with bytes header row) (request_of schema interface header.name))
+    (header_of bytes)

@@ -13,7 +13,9 @@ use Rattle.wire_model.specs.declared.target.MessageSide.TheVariants.{Request}
 
 -- a parameter struct: num_bytes, version 0, its numbers, and zeros up to a multiple of 8
 abbrev pub params_bytes : List ℕ → List ℕ
-params_bytes values = le32_bytes (narrow_struct_bytes (length values)) ++ (le32_bytes 0 ++ (flat_map le32_bytes values ++ replicate (narrow_struct_bytes (length values) - (8 + 4 * length values)) 0))
+params_bytes values =
+    le32_bytes (narrow_struct_bytes (length values))
+    ++ (le32_bytes 0 ++ (flat_map le32_bytes values ++ replicate (narrow_struct_bytes (length values) - (8 + 4 * length values)) 0))
 
 -- a message to the endpoint of this id: its header, and its parameter struct as the payload
 unfoldable pub message_bytes : ℕ → ℕ → List ℕ → List ℕ

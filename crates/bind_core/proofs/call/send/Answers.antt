@@ -13,6 +13,8 @@ returns-clause-done c =
     rw c.in-Ok.ensures.told (finish c.args.state.now _ c.args.seq _ _ c.requires.can refl refl
     (c.push_reserved.ensures ∙ rw (c.in-Ok.ensures.asked, c.in-Ok.ensures.noted) refl)
     (call-held c.args.state.now holds c.args.seq c.args.end c.args.id c.args.prepared.target c.args.prepared.value (Ok c.args.peer) c.requires.free)
-    (send-held c.args.state.now holds c.args.seq c.args.end c.args.id c.args.prepared.target c.args.prepared.value c.args.peer (message_bytes 0 c.args.prepared.target.method c.args.prepared.value) c.put.new.self
-    (peer-held c.args.state.now holds c.args.end c.args.id c.args.prepared.target c.args.peer c.requires.free) (c.in-Ok-put.ensures.ok ∙ rw c.in-Ok.ensures.message refl))
+    (send-held c.args.state.now holds c.args.seq c.args.end c.args.id c.args.prepared.target c.args.prepared.value c.args.peer
+    (message_bytes 0 c.args.prepared.target.method c.args.prepared.value) c.put.new.self
+    (peer-held c.args.state.now holds c.args.end c.args.id c.args.prepared.target c.args.peer c.requires.free)
+    (c.in-Ok-put.ensures.ok ∙ rw c.in-Ok.ensures.message refl))
     tt)

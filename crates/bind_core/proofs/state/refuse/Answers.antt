@@ -10,7 +10,9 @@ use Rattle.bind_core.proofs.state.refuse.Goals as goal
 pub returns-clause-done : goal.returns-clause-done
 returns-clause-done c =
     finish c.args.state.now _ c.args.seq c.args.command _ c.requires.can refl refl
-    (c.push_reserved.ensures ∙ ap (λ (a : Asked). c.args.state.now.history.events ++ record { seq = c.args.seq; asked = a; told = No c.args.why } ∷ []) c.requires.asked)
+    (c.push_reserved.ensures
+    ∙ ap (λ (a : Asked). c.args.state.now.history.events ++ record { seq = c.args.seq; asked = a; told = No c.args.why } ∷ [])
+    c.requires.asked)
     (sym c.requires.why)
     (c.requires.can.holds.rows ∙ sym (rows_refused c.args.seq (asked_of c.args.command) c.args.why (past_of c.args.state.now)))
     refl

@@ -10,7 +10,8 @@ pub returns-in-Ok-parse : goal.returns-in-Ok-parse
 returns-in-Ok-parse c n h e =
     let r = parse-decimal 32 n c.in-Ok.text.now c.parse.result h (omega arith) (c.in-Ok.ensures.cases.0 ∙ e) c.parse.ensures.value.0 in
     let same : c.in-Ok-parse.n ≡ n = cc in
-    never_false c.as_bytes.result.now c.args.word.now (c.as_bytes.ensures.value ∙ c.in_ok-spelled-in-Ok-parse.ensures.ok ∙ ap decimal same ∙ sym e) c.if-eq.ensures
+    never_false c.as_bytes.result.now c.args.word.now
+    (c.as_bytes.ensures.value ∙ c.in_ok-spelled-in-Ok-parse.ensures.ok ∙ ap decimal same ∙ sym e) c.if-eq.ensures
 
 pub returns-in-Ok : goal.returns-in-Ok
 returns-in-Ok c n h e =

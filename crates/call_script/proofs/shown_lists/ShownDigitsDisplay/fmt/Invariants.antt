@@ -6,4 +6,6 @@ use Rattle.call_script.proofs.shown_lists.ShownDigitsDisplay.fmt.Given as goal
 
 abbrev pub invariant-loop-byte : goal.invariant-loop-byte
 invariant-loop-byte g l =
-    IsPlainFormatter l.initial.f → HasWritten g.W.Write.write_str_gives l.initial.f (flat_map (λ b. hex_digit (b / 16) ∷ hex_digit (b % 16) ∷ []) (take l.byte-index l.byte-items)) l.f
+    IsPlainFormatter l.initial.f
+    → HasWritten g.W.Write.write_str_gives l.initial.f
+    (flat_map (λ b. hex_digit (b / 16) ∷ hex_digit (b % 16) ∷ []) (take l.byte-index l.byte-items)) l.f

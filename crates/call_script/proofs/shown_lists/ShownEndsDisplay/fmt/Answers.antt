@@ -6,4 +6,6 @@ use Rattle.call_script.proofs.shown_lists.ShownEndsDisplay.fmt.Goals as goal
 
 pub returns-in-len1-up-clause-writes : goal.returns-in-len1-up-clause-writes
 returns-in-len1-up-clause-writes g c p o =
-    has_written_of_eq _ _ _ _ _ (ap (λ t. 91 ∷ t) (joined_parts 44 end_text c.args.self.now.0.now (record { seq = 0; serial = 0 }) (93 ∷ []) c.in-len1-up.len_at_least)) (c.write-in-len1-up.ensures.writes p o)
+    has_written_of_eq _ _ _ _ _
+    (ap (λ t. 91 ∷ t) (joined_parts 44 end_text c.args.self.now.0.now (record { seq = 0; serial = 0 }) (93 ∷ []) c.in-len1-up.len_at_least))
+    (c.write-in-len1-up.ensures.writes p o)

@@ -12,7 +12,8 @@ use Rattle.script_run.proofs.run.Run.do_lines.Goals as goal
 
 pub ask-requires-clause-allowed : goal.ask-requires-clause-allowed
 ask-requires-clause-allowed c =
-    let same : c.room.new.self.core.schema ≡ c.args.schema.now = ap (λ (p : Play). p.schema) c.room.ensures.same.0 ∙ (c.loop-line.invariant.schema ∙ sym c.requires.schema) in
+    let same : c.room.new.self.core.schema ≡ c.args.schema.now =
+    ap (λ (p : Play). p.schema) c.room.ensures.same.0 ∙ (c.loop-line.invariant.schema ∙ sym c.requires.schema) in
     rw same (c.in_ok-command.ensures.allowed (past_of c.room.new.self))
 
 pub ask-requires-clause-few : goal.ask-requires-clause-few
@@ -32,7 +33,8 @@ loop-line-preserved c = record {
   going = c.in_ok-ask.ensures.went.going;
   schema = c.in_ok-ask.ensures.went.schema ∙ (ap (λ (p : Play). p.schema) c.room.ensures.same.0 ∙ c.loop-line.invariant.schema);
   phase =
-      line_more c.args.self.now c.loop-line.self c.room.new.self c.ask.new.self c.args.pipes.now c.args.ends.now c.args.lines.now c.loop-line.line-index c.line-item.result (asked_of c.in_ok-command.command) c.loop-line-test.true
+      line_more c.args.self.now c.loop-line.self c.room.new.self c.ask.new.self c.args.pipes.now c.args.ends.now c.args.lines.now
+      c.loop-line.line-index c.line-item.result (asked_of c.in_ok-command.command) c.loop-line-test.true
       c.line-item.is c.in_ok-command.ensures.asked c.room.ensures.same.0 c.loop-line.invariant.phase c.in_ok-ask.ensures.went;
 }
 
@@ -41,6 +43,7 @@ returns c = record {
   going = c.loop-line.invariant.going;
   schema = c.loop-line.invariant.schema;
   part =
-      listed_done (map (line_asks c.args.pipes.now c.args.ends.now) c.args.lines.now) (past_of c.args.self.now) (past_of c.loop-line.self) c.loop-line.line-index
+      listed_done (map (line_asks c.args.pipes.now c.args.ends.now) c.args.lines.now) (past_of c.args.self.now) (past_of c.loop-line.self)
+      c.loop-line.line-index
       (omega (arith, c.loop-line-test.false, length-map c.args.lines.now (line_asks c.args.pipes.now c.args.ends.now))) c.loop-line.invariant.phase;
 }

@@ -18,13 +18,16 @@ loop-seq-init c = record {
 }
 
 pub ask-requires-clause-seq : goal.ask-requires-clause-seq
-ask-requires-clause-seq c = ready_alone c.loop-seq.self.core.schema (past_of c.loop-seq.self) c.loop-seq.invariant.going.alone c.in-Some.seq c.in-Some.end (sym c.in-Some.ensures)
+ask-requires-clause-seq c =
+    ready_alone c.loop-seq.self.core.schema (past_of c.loop-seq.self) c.loop-seq.invariant.going.alone c.in-Some.seq c.in-Some.end
+    (sym c.in-Some.ensures)
 
 pub loop-seq-smaller : goal.loop-seq-smaller
 loop-seq-smaller c =
     let g = c.loop-seq.invariant.going in
     let less =
-    one_less c.loop-seq.self.core.schema (past_of c.loop-seq.self) (past_of c.ask.new.self) c.in-Some.seq c.in-Some.end g.legal g.allowed (sym c.in-Some.ensures)
+    one_less c.loop-seq.self.core.schema (past_of c.loop-seq.self) (past_of c.ask.new.self) c.in-Some.seq c.in-Some.end g.legal g.allowed
+    (sym c.in-Some.ensures)
     (went_same c.loop-seq.self c.room.new.self c.ask.new.self (asks.Take c.in-Some.end) c.room.ensures.same.0 c.in_ok-ask.ensures.went).past in
     omega (arith, less.1)
 
@@ -33,7 +36,9 @@ loop-seq-preserved c =
     let g = c.loop-seq.invariant.going in
     let there : ready c.loop-seq.self.core.schema (past_of c.loop-seq.self) ≡ Some (c.in-Some.seq, c.in-Some.end) = sym c.in-Some.ensures in
     let went = went_same c.loop-seq.self c.room.new.self c.ask.new.self (asks.Take c.in-Some.end) c.room.ensures.same.0 c.in_ok-ask.ensures.went in
-    let less = one_less c.loop-seq.self.core.schema (past_of c.loop-seq.self) (past_of c.ask.new.self) c.in-Some.seq c.in-Some.end g.legal g.allowed there went.past in
+    let less =
+    one_less c.loop-seq.self.core.schema (past_of c.loop-seq.self) (past_of c.ask.new.self) c.in-Some.seq c.in-Some.end g.legal g.allowed
+    there went.past in
     let alone = ready_alone c.loop-seq.self.core.schema (past_of c.loop-seq.self) g.alone c.in-Some.seq c.in-Some.end there in
     record {
       going = went.going;
@@ -41,7 +46,8 @@ loop-seq-preserved c =
       phase = (
         c.loop-seq.invariant.phase.0 + 1,
         let same = c.loop-seq.invariant.schema in
-            take_more c.args.self.now.core.schema (past_of c.args.self.now) (past_of c.loop-seq.self) (past_of c.ask.new.self) c.in-Some.seq c.in-Some.end c.loop-seq.invariant.phase.0 alone (rw (← same) there)
+            take_more c.args.self.now.core.schema (past_of c.args.self.now) (past_of c.loop-seq.self) (past_of c.ask.new.self) c.in-Some.seq
+            c.in-Some.end c.loop-seq.invariant.phase.0 alone (rw (← same) there)
             c.loop-seq.invariant.phase.1 (rw (← same) went.past),
       );
       few = omega (arith, less.0, less.1, c.loop-seq.invariant.few);
