@@ -4,7 +4,7 @@ use Rattle.std.specs.Prelude.{Some, if◌then◌else◌, map, not, ◌&&◌, ◌
 use Rattle.std.proofs.lemmas.List.{append-nil, length-append, drop-append-le}
 use Rattle.mj_base.specs.declared.ids.EndId.{EndId}
 use Rattle.mj_base.specs.declared.ids.SeqId.{SeqId}
-use Rattle.mj_schema.specs.declared.schema.Schema.{Schema}
+use Rattle.mj_schema.specs.declared.narrow_schema.NarrowSchema.{NarrowSchema}
 use Rattle.wire_model.specs.declared.target.Target.{Target}
 use Rattle.bind_model.specs.declared.event.Binding.{Binding}
 use Rattle.bind_model.specs.declared.event.Event.{Event}
@@ -113,7 +113,7 @@ rows_bound seq x side interface past =
     (changed_at x (bound_as (record { on = seq; side = side; interface = interface }))) refl (row_bound seq x side interface past)
 
 -- a message that is sent goes behind the unread ones of the peer
-sent_here : (schema : Schema) (past : List Event) → InOrder schema past → (y : EndId) (m : Message) (here : Bool)
+sent_here : (schema : NarrowSchema) (past : List Event) → InOrder schema past → (y : EndId) (m : Message) (here : Bool)
     → record {
       id = y;
       peer = peer past y;
@@ -125,7 +125,7 @@ sent_here : (schema : Schema) (past : List Event) → InOrder schema past → (y
 sent_here schema past order y m true = rw (drop-append-le (length (taken past y)) (written past y) (m ∷ []) (taken_few schema past order y)) refl
 sent_here schema past order y m false = rw (append-nil (written past y)) refl
 
-row_sent : (schema : Schema) (seq : SeqId) (x : EndId) (id : ℕ) (target : Target) (value : List ℕ) (request_id : ℕ) (bytes : List ℕ)
+row_sent : (schema : NarrowSchema) (seq : SeqId) (x : EndId) (id : ℕ) (target : Target) (value : List ℕ) (request_id : ℕ) (bytes : List ℕ)
     (past : List Event)
     → InOrder schema past
     → (y : EndId)
@@ -137,7 +137,7 @@ row_sent schema seq x id target value request_id bytes past order y =
     (sent_here schema past order y (record { bytes = bytes }) (same_end (peer past x) y))
 
 -- the rows after a call is sent
-pub rows_sent : (schema : Schema) (seq : SeqId) (x : EndId) (id : ℕ) (target : Target) (value : List ℕ) (request_id : ℕ) (bytes : List ℕ)
+pub rows_sent : (schema : NarrowSchema) (seq : SeqId) (x : EndId) (id : ℕ) (target : Target) (value : List ℕ) (request_id : ℕ) (bytes : List ℕ)
     (past : List Event)
     → InOrder schema past
     → rows_of (record { seq = seq; asked = Call x id target value; told = Sent request_id bytes } ∷ past)

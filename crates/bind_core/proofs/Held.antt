@@ -5,7 +5,7 @@ use Rattle.std.proofs.lemmas.Bool.Decides.{nat_tests}
 use Rattle.std.proofs.lemmas.List.{reverse-append, length-append, length-map, length-reverse}
 use Rattle.mj_base.specs.declared.ids.EndId.{EndId}
 use Rattle.mj_base.specs.declared.ids.SeqId.{SeqId}
-use Rattle.mj_schema.specs.declared.schema.Schema.{Schema}
+use Rattle.mj_schema.specs.declared.narrow_schema.NarrowSchema.{NarrowSchema}
 use Rattle.wire_model.specs.declared.target.Target.{Target}
 use Rattle.wire_model.specs.Tight.{message_bytes}
 use Rattle.bind_model.specs.declared.event.Event.{Event}
@@ -59,10 +59,12 @@ module _ (old new : State) (seq : SeqId) (command : Command) (reply : Reply) whe
       record {
         holds = record {
           legal =
-              subst (λ (w : Schema). legal w new.seqs (past_of new)) (sym schema)
+              subst (λ (w : NarrowSchema). legal w new.seqs (past_of new)) (sym schema)
               (subst (λ (n : ℕ). legal (schema_of old) n (past_of new)) (sym seqs)
               (subst (λ (p : List Event). legal (schema_of old) old.seqs p) (sym past) goes));
-          allowed = subst (λ (w : Schema). AllAllowed w (past_of new)) (sym schema) (subst (λ (p : List Event). AllAllowed (schema_of old) p) (sym past) may);
+          allowed =
+              subst (λ (w : NarrowSchema). AllAllowed w (past_of new)) (sym schema)
+              (subst (λ (p : List Event). AllAllowed (schema_of old) p) (sym past) may);
           rows = rows ∙ ap rows_of (sym past);
           few = let n = can.few in omega (arith, ap length events, length-append old.history.events (event ∷ []));
         };

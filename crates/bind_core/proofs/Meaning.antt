@@ -4,7 +4,7 @@ use Rattle.std.specs.Prelude.{Option, Some, None, if◌then◌else◌, map, ◌|
 use Rattle.std.specs.List.{count_by}
 use Rattle.std.proofs.lemmas.List.Sums.{sum_by-append}
 use Rattle.mj_base.specs.declared.ids.EndId.{EndId}
-use Rattle.mj_schema.specs.declared.schema.Schema.{Schema}
+use Rattle.mj_schema.specs.declared.narrow_schema.NarrowSchema.{NarrowSchema}
 use Rattle.bind_model.specs.declared.event.Binding.{Binding}
 use Rattle.bind_model.specs.declared.event.Event.{Event}
 use Rattle.bind_model.specs.Ends.{same_end, has_end}
@@ -51,7 +51,7 @@ is_out-rows past so x = rw (row_at-map past (made past) x) (go (has_end (made pa
     go false false e h = refl
 
 -- what a take is told
-pub took-rows : (schema : Schema) (past : List Event) → Sound past → (x : EndId)
+pub took-rows : (schema : NarrowSchema) (past : List Event) → Sound past → (x : EndId)
     → took_in schema (row_at x (rows_of past)) ≡ took schema past x (binding past x)
 took-rows schema past so x = rw (row_at-map past (made past) x) (go (has_end (made past) x) refl)
   where

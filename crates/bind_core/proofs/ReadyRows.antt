@@ -4,7 +4,7 @@ use Rattle.std.specs.Prelude.{Option, Some, None, if◌then◌else◌, map, filt
 use Rattle.std.specs.Option.{option_map}
 use Rattle.std.proofs.lemmas.Bool.Decides.{nat_tests}
 use Rattle.mj_base.specs.declared.ids.EndId.{EndId}
-use Rattle.mj_schema.specs.declared.schema.Schema.{Schema}
+use Rattle.mj_schema.specs.declared.narrow_schema.NarrowSchema.{NarrowSchema}
 use Rattle.bind_model.specs.declared.event.Binding.{Binding}
 use Rattle.bind_model.specs.declared.event.Event.{Event}
 use Rattle.bind_model.specs.declared.event.Message.{Message}
@@ -16,7 +16,7 @@ use Rattle.bind_model.proofs.Sound.{Sound}
 use Rattle.bind_core.specs.Rows.{row_of, rows_of, row_at, names_of, row_ready, bound_on, ready_in}
 use Rattle.bind_core.proofs.Meaning.{row_at-map, unbound}
 
-module _ (schema : Schema) (past : List Event) where
+module _ (schema : NarrowSchema) (past : List Event) where
   front_settled : (given : Option Taken) → true ≡ is_settled (told_of_front given)
   front_settled None = refl
   front_settled (Some taken) = refl

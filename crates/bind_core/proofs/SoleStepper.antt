@@ -3,7 +3,7 @@ use Rattle.std.proofs.Common.{◌≡◌, ℕ, List, [], ◌∷◌, ◌++◌, ref
 use Rattle.std.specs.Prelude.{reverse, Result, Ok, Err, IfOk}
 use Rattle.std.proofs.lemmas.List.{append-nil, reverse-append}
 use Rattle.mj_base.specs.declared.ids.SeqId.{SeqId}
-use Rattle.mj_schema.specs.declared.schema.Schema.{Schema}
+use Rattle.mj_schema.specs.declared.narrow_schema.NarrowSchema.{NarrowSchema}
 use Rattle.bind_model.specs.declared.event.Event.{Event}
 use Rattle.bind_model.specs.declared.event.Told.{Told}
 use Rattle.bind_model.specs.Machine.{Legal, answer}
@@ -17,7 +17,7 @@ use Rattle.bind_core.specs.Seen.{Continues, Saw}
 pub nothing_between : (me : SeqId) (events : List Event) → Continues me events events
 nothing_between me events = record { between = []; none_own = refl; all = sym (append-nil events) }
 
-module _ (schema : Schema) (seqs : ℕ) (me : SeqId) (old new : List Event) (command : Command) where
+module _ (schema : NarrowSchema) (seqs : ℕ) (me : SeqId) (old new : List Event) (command : Command) where
   abbrev pub its_told : Told
   its_told = answer schema seqs (reverse old) me (asked_of command)
 

@@ -5,7 +5,7 @@ use Rattle.std.specs.List.{count_by}
 use Rattle.mj_base.specs.declared.limits.TheConstants.{MAX_UNREAD_MESSAGES}
 use Rattle.mj_base.specs.declared.ids.EndId.{EndId}
 use Rattle.mj_base.specs.declared.ids.SeqId.{SeqId}
-use Rattle.mj_schema.specs.declared.schema.Schema.{Schema}
+use Rattle.mj_schema.specs.declared.narrow_schema.NarrowSchema.{NarrowSchema}
 use Rattle.wire_model.specs.declared.target.Target.{Target}
 use Rattle.bind_model.specs.declared.event.Binding.{Binding}
 use Rattle.bind_model.specs.declared.event.Event.{Event}
@@ -93,12 +93,12 @@ abbrev pub way : List Row → EndId → ℕ → Target → Result EndId Why
 way rows x id target = way_from rows id target (row_at x rows)
 
 -- what a take is told, by the mail and the binding of its end
-abbrev pub took_from : Schema → List Message → Option Binding → Told
+abbrev pub took_from : NarrowSchema → List Message → Option Binding → Told
 took_from schema mail None = No NoName
 took_from schema mail (Some b) = took_at schema b mail
 
 -- what a take is told, by the row of its end
-abbrev pub took_in : Schema → Option Row → Told
+abbrev pub took_in : NarrowSchema → Option Row → Told
 took_in schema None = No NoName
 took_in schema (Some row) = took_from schema row.mail row.bound
 

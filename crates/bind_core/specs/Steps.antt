@@ -3,7 +3,7 @@ use Rattle.std.specs.Prelude.{◌≡◌, ◌<◌, ◌≤◌, ◌++◌, List, [],
 use Rattle.std.specs.Arc.{arc_value}
 use Rattle.mj_base.specs.declared.limits.TheConstants.{MAX_EVENTS}
 use Rattle.mj_base.specs.declared.ids.SeqId.{SeqId}
-use Rattle.mj_schema.specs.declared.schema.Schema.{Schema}
+use Rattle.mj_schema.specs.declared.narrow_schema.NarrowSchema.{NarrowSchema}
 use Rattle.bind_model.specs.declared.event.Event.{Event}
 use Rattle.bind_model.specs.declared.event.Told.{Told}
 use Rattle.bind_model.specs.Machine.{legal, answer}
@@ -20,7 +20,7 @@ abbrev pub past_of : State → List Event
 past_of s = reverse s.history.events
 
 -- the schema
-abbrev pub schema_of : State → Schema
+abbrev pub schema_of : State → NarrowSchema
 schema_of s = arc_value s.schema
 
 -- the history is legal and of allowed commands, and the rows are what it says

@@ -16,7 +16,7 @@ use crate::table::Table;
 use bind_model::History;
 use mj_base::limits::MAX_EVENTS;
 use mj_base::{EndId, SeqId};
-use mj_schema::Schema;
+use mj_schema::NarrowSchema;
 use std::alloc::Global;
 use std::marker::Model;
 use std::sync::Arc;
@@ -29,7 +29,7 @@ pub struct Core {
 
 impl Model for Core {
     ghost use Rattle.std.specs.Coded.{codes};
-    ghost use Rattle.mj_schema.specs.contracts.schema.Schema as schema;
+    ghost use Rattle.mj_schema.specs.contracts.narrow_schema.NarrowSchema as schema;
     ghost use Rattle.bind_core.specs.Play.{Play};
     ghost use Rattle.bind_core.specs.Steps.{Holds, schema_of};
 
@@ -44,7 +44,7 @@ impl Model for Core {
 
 impl Core {
     /// A core of this schema, with no events. Takes no memory.
-    pub fn new(alloc: Global, schema: Arc<Schema>, seqs: u32) -> Core
+    pub fn new(alloc: Global, schema: Arc<NarrowSchema>, seqs: u32) -> Core
         requires { seqs ≡ 1 }
         ensures { result ≡ record { schema = arc_value schema; seqs = seqs; events = [] } }
     {

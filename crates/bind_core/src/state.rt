@@ -12,14 +12,14 @@ use crate::{bind, call, join, take};
 use bind_model::{Asked, Event, History, Told, Why};
 use mj_base::SeqId;
 use mj_base::limits::MAX_EVENTS;
-use mj_schema::Schema;
+use mj_schema::NarrowSchema;
 use std::alloc::Global;
 use std::sync::Arc;
 
 /// The schema, how many sequences there are, all events, a row for each end, and the handles of
 /// bound ends.
 pub struct State {
-    pub schema: Arc<Schema>,
+    pub schema: Arc<NarrowSchema>,
     pub seqs: u32,
     pub history: History,
     pub rows: Table,

@@ -2,7 +2,7 @@
 
 ghost use Rattle.std.specs.Prelude.{◌≡◌, ◌<◌, List, ℕ, IfOk, IfErr};
 ghost use Rattle.mj_base.specs.declared.ids.SeqId.{SeqId};
-ghost use Rattle.mj_schema.specs.declared.schema.Schema.{Schema};
+ghost use Rattle.mj_schema.specs.declared.narrow_schema.NarrowSchema.{NarrowSchema};
 ghost use Rattle.bind_model.specs.declared.event.Event.{Event};
 ghost use Rattle.bind_core.specs.Seen.{MayStep, Saw, Waited};
 
@@ -14,7 +14,7 @@ use std::alloc::Global;
 /// Does the commands of one sequence of a core. Contracts see the core's schema, how many sequences
 /// it has, which of them this is, and the events that it has seen.
 pub trait Stepper {
-    ghost schema: { Self → Schema };
+    ghost schema: { Self → NarrowSchema };
 
     ghost seqs: { Self → ℕ };
 

@@ -12,7 +12,7 @@ use crate::state::{State, refuse};
 use crate::table::Table;
 use bind_model::{Asked, Binding, Event, Message, Side, Taken, Told, Why};
 use mj_base::{EndId, SeqId};
-use mj_schema::Schema;
+use mj_schema::NarrowSchema;
 use std::alloc::{AllocError, Global};
 use wire_model::{MessageSide, Request, Target, read_request};
 
@@ -40,7 +40,12 @@ pub fn take(state: &mut State, alloc: Global, seq: SeqId, end: EndId) -> Result<
 }
 
 /// What a take at an end would find.
-fn look(table: &Table, alloc: Global, schema: &Schema, end: EndId) -> Result<Front, AllocError>
+fn look(
+    table: &Table,
+    alloc: Global,
+    schema: &NarrowSchema,
+    end: EndId,
+) -> Result<Front, AllocError>
     ensures { IfOk result (λ front. told_of_look front ≡ took_in schema.now (row_at end table.now)) }
 {
     let Some(row) = table.look(end) else {
@@ -61,7 +66,7 @@ fn look(table: &Table, alloc: Global, schema: &Schema, end: EndId) -> Result<Fro
 /// What a message gives at an end that is bound so. A remote reads nothing.
 fn read(
     alloc: Global,
-    schema: &Schema,
+    schema: &NarrowSchema,
     binding: Binding,
     message: &Message,
 ) -> Result<Option<Taken>, AllocError>

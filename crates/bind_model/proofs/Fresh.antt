@@ -4,7 +4,7 @@ use Rattle.std.specs.Prelude.{◌*◌, not}
 use Rattle.std.proofs.lemmas.List.{append-nil, length-append}
 use Rattle.mj_base.specs.declared.ids.EndId.{EndId}
 use Rattle.mj_base.specs.declared.ids.SeqId.{SeqId}
-use Rattle.mj_schema.specs.declared.schema.Schema.{Schema}
+use Rattle.mj_schema.specs.declared.narrow_schema.NarrowSchema.{NarrowSchema}
 use Rattle.bind_model.specs.declared.event.Event.{Event}
 use Rattle.bind_model.specs.declared.event.Asked.{Asked}
 use Rattle.bind_model.specs.declared.event.Told.{Told}
@@ -30,7 +30,7 @@ distinct_two (x ∷ xs) a b d ha hb e =
     let nb : same_end b x ≡ false = same_end-sym b x ∙ not_left (same_end x b) (has_end xs b) hb in
     rw (has_end-append xs (a ∷ b ∷ []) x, none, na, nb, rest) refl
 
-distinct_step : (schema : Schema) (seqs : ℕ) (seq : SeqId) (past : List Event)
+distinct_step : (schema : NarrowSchema) (seqs : ℕ) (seq : SeqId) (past : List Event)
     → Sound past → {asked : Asked} {told : Told} → Outcome schema seqs past seq asked told → is_distinct (made past) ≡ true
     → is_distinct (made past ++ made_by told) ≡ true
 distinct_step schema seqs seq past so (joins {t = t} {a = a} {b = b} n new) d =
@@ -42,13 +42,13 @@ distinct_step schema seqs seq past so (bads f) d = rw append-nil d
 distinct_step schema seqs seq past so refuses d = rw append-nil d
 
 -- in a legal history no end is made twice
-pub distinct_made : (schema : Schema) (seqs : ℕ) (past : List Event) → legal schema seqs past → is_distinct (made past) ≡ true
+pub distinct_made : (schema : NarrowSchema) (seqs : ℕ) (past : List Event) → legal schema seqs past → is_distinct (made past) ≡ true
 distinct_made schema seqs [] h = refl
 distinct_made schema seqs (event ∷ past) h =
     distinct_step schema seqs event.seq past (sound schema seqs past h.1) (outcome schema seqs past event.seq event.asked event.told h.0)
     (distinct_made schema seqs past h.1)
 
-few_step : (schema : Schema) (seqs : ℕ) (seq : SeqId) (past : List Event) {asked : Asked} {told : Told}
+few_step : (schema : NarrowSchema) (seqs : ℕ) (seq : SeqId) (past : List Event) {asked : Asked} {told : Told}
     → Outcome schema seqs past seq asked told → length (made past) ≤ 2 * length past
     → length (made past ++ made_by told) ≤ 2 * (length past + 1)
 few_step schema seqs seq past (joins {a = a} {b = b} n new) h = omega (arith, length-append (made past) (a ∷ b ∷ []))
@@ -59,7 +59,7 @@ few_step schema seqs seq past (bads f) h = rw append-nil (omega arith)
 few_step schema seqs seq past refuses h = rw append-nil (omega arith)
 
 -- an event makes two ends at most
-pub made_few : (schema : Schema) (seqs : ℕ) (past : List Event) → legal schema seqs past → length (made past) ≤ 2 * length past
+pub made_few : (schema : NarrowSchema) (seqs : ℕ) (past : List Event) → legal schema seqs past → length (made past) ≤ 2 * length past
 made_few schema seqs [] h = omega arith
 made_few schema seqs (event ∷ past) h =
     let k =

@@ -3,7 +3,7 @@ use Rattle.std.proofs.Common.{◌≡◌, ℕ, Bool, true, false, List, refl}
 use Rattle.std.specs.Prelude.{Some, None, if◌then◌else◌}
 use Rattle.mj_base.specs.declared.ids.EndId.{EndId}
 use Rattle.mj_base.specs.declared.ids.SeqId.{SeqId}
-use Rattle.mj_schema.specs.declared.schema.Schema.{Schema}
+use Rattle.mj_schema.specs.declared.narrow_schema.NarrowSchema.{NarrowSchema}
 use Rattle.bind_model.specs.declared.event.Asked.{Asked}
 use Rattle.bind_model.specs.declared.event.Told.{Told}
 use Rattle.bind_model.specs.declared.event.Binding.{Binding}
@@ -16,7 +16,7 @@ use Rattle.bind_model.proofs.NewEnds.{first_new, second_new, apart}
 use Rattle.bind_model.proofs.Pipes.{old_next}
 use Rattle.bind_model.proofs.Sound.{Sound, out_unbound}
 
-module _ (schema : Schema) (seqs : ℕ) (past : List Event) (seq : SeqId) (so : Sound past) where
+module _ (schema : NarrowSchema) (seqs : ℕ) (past : List Event) (seq : SeqId) (so : Sound past) where
   -- an end that was made keeps its peer, whatever comes next
   pub peer_kept : {asked : Asked} {told : Told} → Outcome schema seqs past seq asked told → (x : EndId) → has_end (made past) x ≡ true
       → peer_by told x (peer past x) ≡ peer past x

@@ -4,7 +4,7 @@ use Rattle.std.specs.Prelude.{Option, Some, None, if◌then◌else◌, ◌||◌,
 use Rattle.std.specs.Option.{option_map}
 use Rattle.mj_base.specs.declared.ids.EndId.{EndId}
 use Rattle.mj_base.specs.declared.ids.SeqId.{SeqId}
-use Rattle.mj_schema.specs.declared.schema.Schema.{Schema}
+use Rattle.mj_schema.specs.declared.narrow_schema.NarrowSchema.{NarrowSchema}
 use Rattle.bind_model.specs.declared.event.Binding.{Binding}
 use Rattle.bind_model.specs.declared.event.Event.{Event}
 use Rattle.bind_model.specs.Ends.{same_end, has_end, is_before}
@@ -57,7 +57,7 @@ abbrev placed : EndId → Binding → SeqId × EndId
 placed y b = (b.on, y)
 
 -- the end that is ready, and the sequence that it is bound on
-pub record IsReadyEnd (schema : Schema) (past : List Event) (s : SeqId) (x : EndId) : Type 0 where
+pub record IsReadyEnd (schema : NarrowSchema) (past : List Event) (s : SeqId) (x : EndId) : Type 0 where
   pub at : Binding
   pub bound : binding past x ≡ Some at
   pub on : at.on ≡ s
@@ -65,7 +65,7 @@ pub record IsReadyEnd (schema : Schema) (past : List Event) (s : SeqId) (x : End
   pub takes : is_ready schema past x ≡ true
 
 -- what is known of the end that is ready
-pub ready_end : (schema : Schema) (past : List Event) (s : SeqId) (x : EndId) → ready schema past ≡ Some (s, x) → IsReadyEnd schema past s x
+pub ready_end : (schema : NarrowSchema) (past : List Event) (s : SeqId) (x : EndId) → ready schema past ≡ Some (s, x) → IsReadyEnd schema past s x
 ready_end schema past s x h = of_least (least (filter (is_ready schema past) (made past))) refl h
   where
     of_binding : (y : EndId) (b : Option Binding)

@@ -4,7 +4,7 @@ use Rattle.std.specs.Prelude.{map, Option, Some, if◌then◌else◌}
 use Rattle.std.proofs.lemmas.List.{append-nil, map-append}
 use Rattle.mj_base.specs.declared.ids.EndId.{EndId}
 use Rattle.mj_base.specs.declared.ids.SeqId.{SeqId}
-use Rattle.mj_schema.specs.declared.schema.Schema.{Schema}
+use Rattle.mj_schema.specs.declared.narrow_schema.NarrowSchema.{NarrowSchema}
 use Rattle.wire_model.specs.Tight.{message_bytes, IsPrepared}
 use Rattle.bind_model.specs.declared.event.Asked.{Asked}
 use Rattle.bind_model.specs.declared.event.Told.{Told}
@@ -22,7 +22,7 @@ use Rattle.bind_model.proofs.Sound.{Sound, sound}
 use Rattle.bind_model.proofs.Kept.{binding_kept}
 
 -- a call as an end that is bound so may say it
-pub record Fits (schema : Schema) (b : Option Binding) (t : Taken) : Type 0 where
+pub record Fits (schema : NarrowSchema) (b : Option Binding) (t : Taken) : Type 0 where
   pub at : Binding
   pub bound : b ≡ Some at
   pub remote : is_receiver at.side ≡ false
@@ -32,11 +32,12 @@ pub record Fits (schema : Schema) (b : Option Binding) (t : Taken) : Type 0 wher
   pub prepared : IsPrepared schema t.target t.value
 
 -- each call of the list fits the binding
-abbrev pub AllFit : Schema → Option Binding → List Taken → Type 0
+abbrev pub AllFit : NarrowSchema → Option Binding → List Taken → Type 0
 AllFit schema b [] = Unit {0}
 AllFit schema b (t ∷ ts) = Fits schema b t × AllFit schema b ts
 
-fit_kept : (schema : Schema) (b c : Option Binding) → ((d : Binding) → b ≡ Some d → c ≡ Some d) → (ts : List Taken) → AllFit schema b ts → AllFit schema c ts
+fit_kept : (schema : NarrowSchema) (b c : Option Binding) → ((d : Binding) → b ≡ Some d → c ≡ Some d) → (ts : List Taken)
+    → AllFit schema b ts → AllFit schema c ts
 fit_kept schema b c kept [] f = tt
 fit_kept schema b c kept (t ∷ ts) f = (
   record {
@@ -51,15 +52,15 @@ fit_kept schema b c kept (t ∷ ts) f = (
   fit_kept schema b c kept ts f.1,
 )
 
-fit_append : (schema : Schema) (b : Option Binding) (ts us : List Taken) → AllFit schema b ts → AllFit schema b us → AllFit schema b (ts ++ us)
+fit_append : (schema : NarrowSchema) (b : Option Binding) (ts us : List Taken) → AllFit schema b ts → AllFit schema b us → AllFit schema b (ts ++ us)
 fit_append schema b [] us f g = g
 fit_append schema b (t ∷ ts) us f g = (f.0, fit_append schema b ts us f.1 g)
 
 -- each call that was said at an end fits its binding
-abbrev pub SaidFit : Schema → List Event → Type 0
+abbrev pub SaidFit : NarrowSchema → List Event → Type 0
 SaidFit schema past = (y : EndId) → AllFit schema (binding past y) (said past y)
 
-module _ (schema : Schema) (seqs : ℕ) (past : List Event) (seq : SeqId) (so : Sound past) (fit : SaidFit schema past) where
+module _ (schema : NarrowSchema) (seqs : ℕ) (past : List Event) (seq : SeqId) (so : Sound past) (fit : SaidFit schema past) where
   fit_now : (x y : EndId) (t : Taken) → Fits schema (binding past y) t → (here : Bool) → same_end y x ≡ here
       → AllFit schema (binding past x) (if here then t ∷ [] else [])
   fit_now x y t f true e = (rw (← same_end-true y x e) f, tt)
@@ -85,7 +86,7 @@ module _ (schema : Schema) (seqs : ℕ) (past : List Event) (seq : SeqId) (so : 
       (fits_new o allowed x)
 
 -- in a legal history of allowed commands, each call that was sent fits the binding of its end
-pub said_fit : (schema : Schema) (seqs : ℕ) (past : List Event) → legal schema seqs past → AllAllowed schema past → SaidFit schema past
+pub said_fit : (schema : NarrowSchema) (seqs : ℕ) (past : List Event) → legal schema seqs past → AllAllowed schema past → SaidFit schema past
 said_fit schema seqs [] h a y = tt
 said_fit schema seqs (event ∷ past) h a y =
     fit_step schema seqs past event.seq (sound schema seqs past h.1) (said_fit schema seqs past h.1 a.1) event.asked event.told
@@ -98,7 +99,7 @@ message_of t = record { bytes = message_bytes 0 t.target.method t.value }
 abbrev pub IsSaid : List Event → Type 0
 IsSaid past = (x : EndId) → written past x ≡ map message_of (said past (peer past x))
 
-module _ (schema : Schema) (seqs : ℕ) (past : List Event) (seq : SeqId) (so : Sound past) (fit : SaidFit schema past) (same : IsSaid past) where
+module _ (schema : NarrowSchema) (seqs : ℕ) (past : List Event) (seq : SeqId) (so : Sound past) (fit : SaidFit schema past) (same : IsSaid past) where
   -- nothing is said at an end that was not made
   none_said : (y : EndId) → has_end (made past) y ≡ false → said past y ≡ []
   none_said y h = go (said past y) (fit y)
@@ -159,7 +160,7 @@ module _ (schema : Schema) (seqs : ℕ) (past : List Event) (seq : SeqId) (so : 
   said_step refuses x = said_same x
 
 -- in a legal history of allowed commands, what was written at an end are the messages of what its peer said
-pub is_said : (schema : Schema) (seqs : ℕ) (past : List Event) → legal schema seqs past → AllAllowed schema past → IsSaid past
+pub is_said : (schema : NarrowSchema) (seqs : ℕ) (past : List Event) → legal schema seqs past → AllAllowed schema past → IsSaid past
 is_said schema seqs [] h a x = refl
 is_said schema seqs (event ∷ past) h a x =
     said_step schema seqs past event.seq (sound schema seqs past h.1) (said_fit schema seqs past h.1 a.1) (is_said schema seqs past h.1 a.1)

@@ -5,7 +5,7 @@ use Rattle.std.proofs.lemmas.List.{append-nil, take-append-le, length-append, le
 use Rattle.std.proofs.Math.Seq.{take-add}
 use Rattle.mj_base.specs.declared.ids.EndId.{EndId}
 use Rattle.mj_base.specs.declared.ids.SeqId.{SeqId}
-use Rattle.mj_schema.specs.declared.schema.Schema.{Schema}
+use Rattle.mj_schema.specs.declared.narrow_schema.NarrowSchema.{NarrowSchema}
 use Rattle.bind_model.specs.declared.event.Asked.{Asked}
 use Rattle.bind_model.specs.declared.event.Asked.TheVariants.{Call}
 use Rattle.bind_model.specs.declared.event.Told.{Told}
@@ -45,10 +45,10 @@ module _ (g : Message → Option Taken) (ts : List Taken) (ws : List Message) (h
       ) refl
 
 -- what a message gives where an end is bound so, or not at all
-abbrev pub gives : Schema → Option Binding → Message → Option Taken
+abbrev pub gives : NarrowSchema → Option Binding → Message → Option Taken
 gives schema b m = option_and_then (λ (c : Binding). stands_for schema c m) b
 
-module _ (schema : Schema) (past : List Event) (x : EndId) (sound_past : Sound past)
+module _ (schema : NarrowSchema) (past : List Event) (x : EndId) (sound_past : Sound past)
     (so : map (gives schema (binding past x)) (take (length (taken past x)) (written past x)) ≡ map Some (taken past x)) where
   later : (ps : List Message) → map (gives schema (binding past x)) (take (length (taken past x ++ [])) (written past x ++ ps)) ≡ map Some (taken past x ++ [])
   later ps = grows (gives schema (binding past x)) (taken past x) (written past x) so ps
@@ -88,14 +88,14 @@ module _ (schema : Schema) (past : List Event) (x : EndId) (sound_past : Sound p
   step seqs seq refuses = later []
 
 -- every legal history is in order
-pub legal_in_order : (schema : Schema) (seqs : ℕ) (past : List Event) → legal schema seqs past → InOrder schema past
+pub legal_in_order : (schema : NarrowSchema) (seqs : ℕ) (past : List Event) → legal schema seqs past → InOrder schema past
 legal_in_order schema seqs [] h x = refl
 legal_in_order schema seqs (event ∷ past) h x =
     step schema past x (sound schema seqs past h.1) (legal_in_order schema seqs past h.1 x) seqs event.seq
     (outcome schema seqs past event.seq event.asked event.told h.0)
 
 -- no more were taken at an end than were written there
-pub taken_few : (schema : Schema) (past : List Event) → InOrder schema past → (x : EndId) → length (taken past x) ≤ length (written past x)
+pub taken_few : (schema : NarrowSchema) (past : List Event) → InOrder schema past → (x : EndId) → length (taken past x) ≤ length (written past x)
 taken_few schema past order x = counted (gives schema (binding past x)) (taken past x) (written past x) (order x)
 
 -- what was written stays, whatever comes later

@@ -5,7 +5,7 @@ use Rattle.std.proofs.lemmas.Bool.{eqb-true}
 use Rattle.mj_base.specs.declared.limits.TheConstants.{MAX_UNREAD_MESSAGES}
 use Rattle.mj_base.specs.declared.ids.EndId.{EndId}
 use Rattle.mj_base.specs.declared.ids.SeqId.{SeqId}
-use Rattle.mj_schema.specs.declared.schema.Schema.{Schema}
+use Rattle.mj_schema.specs.declared.narrow_schema.NarrowSchema.{NarrowSchema}
 use Rattle.wire_model.specs.declared.target.Target.{Target}
 use Rattle.wire_model.specs.Tight.{message_bytes}
 use Rattle.bind_model.specs.declared.event.Side.{Side}
@@ -31,7 +31,7 @@ pub record CanSend (past : List Event) (x : EndId) (target : Target) : Type 0 wh
   pub room : nat_le MAX_UNREAD_MESSAGES (length (unread past (peer past x))) ≡ false
 
 -- a bound end with an unread message, and what that stands for
-pub record Front (schema : Schema) (past : List Event) (x : EndId) (given : Option Taken) : Type 0 where
+pub record Front (schema : NarrowSchema) (past : List Event) (x : EndId) (given : Option Taken) : Type 0 where
   pub at : Binding
   pub m : Message
   pub rest : List Message
@@ -45,7 +45,7 @@ pub record AreNew (past : List Event) (seq t : ℕ) (a b : EndId) : Type 0 where
   pub second : b ≡ record { seq = t; serial = serials past t + (if t == seq then 1 else 0) }
 
 -- what a sequence is told in a legal history, and when
-pub data Outcome (schema : Schema) (seqs : ℕ) (past : List Event) (seq : SeqId) : Asked → Told → Type 0 where
+pub data Outcome (schema : NarrowSchema) (seqs : ℕ) (past : List Event) (seq : SeqId) : Asked → Told → Type 0 where
   joins : {t : SeqId} {a b : EndId} → nat_lt t.0 seqs ≡ true → AreNew past seq.0 t.0 a b → Outcome schema seqs past seq (Join t) (Made (a ∷ b ∷ []))
   binds : {x y : EndId} {side : Side} {interface : ℕ} → x ≡ y → is_out past x ≡ true → nat_lt interface (length schema.interfaces) ≡ true
       → Outcome schema seqs past seq (Bind x side interface) (Bound y)
@@ -57,7 +57,7 @@ pub data Outcome (schema : Schema) (seqs : ℕ) (past : List Event) (seq : SeqId
   bads : {x : EndId} → Front schema past x None → Outcome schema seqs past seq (Take x) Bad
   refuses : {asked : Asked} {why : Why} → Outcome schema seqs past seq asked (No why)
 
-module _ (schema : Schema) (seqs : ℕ) (past : List Event) (seq : SeqId) where
+module _ (schema : NarrowSchema) (seqs : ℕ) (past : List Event) (seq : SeqId) where
   of_join : (t : SeqId) (told : Told) (b : Bool) → nat_lt t.0 seqs ≡ b → told ≡ (if b then joined past seq.0 t.0 else No NoName)
       → Outcome schema seqs past seq (Join t) told
   of_join t told true e h = rw h (joins e (record { first = refl; second = refl }))

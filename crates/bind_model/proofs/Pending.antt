@@ -4,7 +4,7 @@ use Rattle.std.specs.Prelude.{Some, None, if◌then◌else◌}
 use Rattle.std.proofs.lemmas.List.{append-nil, length-append, length-drop, drop-append-le}
 use Rattle.mj_base.specs.declared.ids.EndId.{EndId}
 use Rattle.mj_base.specs.declared.ids.SeqId.{SeqId}
-use Rattle.mj_schema.specs.declared.schema.Schema.{Schema}
+use Rattle.mj_schema.specs.declared.narrow_schema.NarrowSchema.{NarrowSchema}
 use Rattle.bind_model.specs.declared.event.Asked.{Asked}
 use Rattle.bind_model.specs.declared.event.Asked.TheVariants.{Call, Take}
 use Rattle.bind_model.specs.declared.event.Told.{Told}
@@ -70,7 +70,7 @@ module _ (past : List Event) where
         length-drop (length (taken past z)) (written past z),
       ))
 
-module _ (schema : Schema) (seqs : ℕ) (past : List Event) (h : legal schema seqs past) where
+module _ (schema : NarrowSchema) (seqs : ℕ) (past : List Event) (h : legal schema seqs past) where
   -- where no end has more
   at_most : (f : EndId → ℕ) → ((z : EndId) → f z ≤ waiting past z) → total f (made past ++ []) ≤ total (waiting past) (made past) + 1
   at_most f few = rw (append-nil (made past)) (omega (arith, total_few f (waiting past) few (made past)))
@@ -115,14 +115,14 @@ module _ (schema : Schema) (seqs : ℕ) (past : List Event) (h : legal schema se
   more_step seq refuses = at_most (λ z. length (left (taken past z ++ []) (written past z ++ []))) (waiting_same past)
 
 -- no more messages are unread than there were events
-pub pending_few : (schema : Schema) (seqs : ℕ) (past : List Event) → legal schema seqs past → pending past ≤ length past
+pub pending_few : (schema : NarrowSchema) (seqs : ℕ) (past : List Event) → legal schema seqs past → pending past ≤ length past
 pending_few schema seqs [] h = lit≤ tt
 pending_few schema seqs (event ∷ past) h =
     let more = more_step schema seqs past h.1 event.seq (outcome schema seqs past event.seq event.asked event.told h.0) in
     omega (arith, more, pending-total (event ∷ past) (made (event ∷ past)), pending-total past (made past), pending_few schema seqs past h.1)
 
 -- a take at an end that is ready gets something
-pub ready_gets : (schema : Schema) (seqs : ℕ) (past : List Event)
+pub ready_gets : (schema : NarrowSchema) (seqs : ℕ) (past : List Event)
     → legal schema seqs past → AllAllowed schema past → (seq : SeqId) (x : EndId)
     → is_ready schema past x ≡ true
     → (t : Taken) × (answer schema seqs past seq (Take x) ≡ Got t)
@@ -144,7 +144,8 @@ ready_gets schema seqs past h a seq x r = go (answer schema seqs past seq (Take 
     go (Sent request_id bytes) e s = absurd cc
     go (No why) e s = absurd cc
 
-got_falls : (schema : Schema) (seqs : ℕ) (past : List Event) (seq : SeqId) (x : EndId) (t : Taken) → has_end (made past) x ≡ true → Front schema past x (Some t)
+got_falls : (schema : NarrowSchema) (seqs : ℕ) (past : List Event) (seq : SeqId) (x : EndId) (t : Taken) → has_end (made past) x ≡ true
+    → Front schema past x (Some t)
     → pending (record { seq = seq; asked = Take x; told = Got t } ∷ past) + 1 ≤ pending past
 got_falls schema seqs past seq x t known f =
     let event : Event = record { seq = seq; asked = Take x; told = Got t } in
@@ -154,7 +155,7 @@ got_falls schema seqs past seq x t known f =
     omega (arith, less, whole, pending-total past (made past))
 
 -- a take at the end that is ready leaves one unread message less
-pub take_falls : (schema : Schema) (seqs : ℕ) (past : List Event)
+pub take_falls : (schema : NarrowSchema) (seqs : ℕ) (past : List Event)
     → legal schema seqs past → AllAllowed schema past → (s seq : SeqId) (x : EndId)
     → ready schema past ≡ Some (s, x)
     → pending (record { seq = seq; asked = Take x; told = answer schema seqs past seq (Take x) } ∷ past) + 1 ≤ pending past

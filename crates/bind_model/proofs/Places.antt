@@ -4,7 +4,7 @@ use Rattle.std.specs.Prelude.{if◌then◌else◌, ◌||◌}
 use Rattle.std.proofs.lemmas.List.{append-nil}
 use Rattle.mj_base.specs.declared.ids.EndId.{EndId}
 use Rattle.mj_base.specs.declared.ids.SeqId.{SeqId}
-use Rattle.mj_schema.specs.declared.schema.Schema.{Schema}
+use Rattle.mj_schema.specs.declared.narrow_schema.NarrowSchema.{NarrowSchema}
 use Rattle.bind_model.specs.declared.event.Asked.{Asked}
 use Rattle.bind_model.specs.declared.event.Told.{Told}
 use Rattle.bind_model.specs.declared.event.Event.{Event}
@@ -34,7 +34,7 @@ module _ (past : List Event) (one : OnePlace past) where
       rw (append-nil (without [] (out past)), append-nil (bounds past), append-nil (made past))
       (omega (arith, times-without z [] (out past), one.place z))
 
-  place_step : (schema : Schema) (seqs : ℕ) (seq : SeqId) {asked : Asked} {told : Told} → Outcome schema seqs past seq asked told → (z : EndId)
+  place_step : (schema : NarrowSchema) (seqs : ℕ) (seq : SeqId) {asked : Asked} {told : Told} → Outcome schema seqs past seq asked told → (z : EndId)
       → times z (without (given told asked) (out past) ++ handed told) + times z (bounds past ++ bound_now told) ≡ times z (made past ++ made_by told)
   place_step schema seqs seq (joins {a = a} {b = b} n new) z =
       rw (append-nil (bounds past))
@@ -54,7 +54,7 @@ module _ (past : List Event) (one : OnePlace past) where
   place_step schema seqs seq refuses z = place_same z
 
 -- in every legal history each end is made once, and stands in one place
-pub one_place : (schema : Schema) (seqs : ℕ) (past : List Event) → legal schema seqs past → OnePlace past
+pub one_place : (schema : NarrowSchema) (seqs : ℕ) (past : List Event) → legal schema seqs past → OnePlace past
 one_place schema seqs [] h = record { once = refl; place = λ z. omega arith }
 one_place schema seqs (event ∷ past) h = record {
   once = distinct_made schema seqs (event ∷ past) h;

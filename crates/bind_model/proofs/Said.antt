@@ -3,7 +3,7 @@ use Rattle.std.proofs.Common.{zero, suc, ◌≡◌, ◌≢◌, ◌<◌, ℕ, tru
 use Rattle.std.specs.Prelude.{map, Option, Some, None, ◌^◌}
 use Rattle.mj_base.specs.declared.ids.EndId.{EndId}
 use Rattle.mj_base.specs.declared.ids.SeqId.{SeqId}
-use Rattle.mj_schema.specs.declared.schema.Schema.{Schema}
+use Rattle.mj_schema.specs.declared.narrow_schema.NarrowSchema.{NarrowSchema}
 use Rattle.wire_model.specs.declared.target.MessageSide.TheVariants as messages
 use Rattle.wire_model.specs.Tight.{message_bytes}
 use Rattle.wire_model.specs.Stands.{request_in}
@@ -59,7 +59,7 @@ same_taken t interface i first no_response side =
     ∙ ap (λ (k : ℕ). record { id = t.id; target = t.target; request_id = k; value = t.value }) (sym no_response))
 
 -- what a call wrote gives that call at an end that suits its own
-fits_give : (schema : Schema) (b : Binding) (other : Option Binding) (t : Taken)
+fits_give : (schema : NarrowSchema) (b : Binding) (other : Option Binding) (t : Taken)
     → ((c : Binding) → other ≡ Some c → Suit b c) → Fits schema other t
     → stands_for schema b (message_of t) ≡ Some t
 fits_give schema b other t suits f =
@@ -74,7 +74,7 @@ fits_give schema b other t suits f =
     ∙ request_in-message_bytes schema t.target t.value 0 f.prepared low in
     rw (here, read) (ap Some (same_taken t b.interface same f.first f.no_response f.prepared.request))
 
-module _ (schema : Schema) (b : Binding) (other : Option Binding) (suits : (c : Binding) → other ≡ Some c → Suit b c) where
+module _ (schema : NarrowSchema) (b : Binding) (other : Option Binding) (suits : (c : Binding) → other ≡ Some c → Suit b c) where
   -- what the first of these messages give
   take_gives : (n : ℕ) (ts : List Taken) → AllFit schema other ts
       → map (λ (m : Message). stands_for schema b m) (take n (map message_of ts)) ≡ map Some (take n ts)
@@ -103,7 +103,7 @@ some_injective (x ∷ xs) (y ∷ ys) h =
     let tail : xs ≡ ys = some_injective xs ys cc in
     cc
 
-module _ (schema : Schema) (seqs : ℕ) (past : List Event) (h : legal schema seqs past) (a : AllAllowed schema past) where
+module _ (schema : NarrowSchema) (seqs : ℕ) (past : List Event) (h : legal schema seqs past) (a : AllAllowed schema past) where
   -- in a legal history of allowed commands each take is told what its call said
   pub as_said : AsSaid past
   as_said x = go (binding past x) refl
@@ -128,7 +128,7 @@ module _ (schema : Schema) (seqs : ℕ) (past : List Event) (h : legal schema se
       front_gives schema f.at (binding past (peer past x)) (λ c. are_suited schema seqs past h a x f.at c f.bound) (consumed past x)
       (said past (peer past x)) (said_fit schema seqs past h a (peer past x)) f.m f.rest front (f.gives ∙ none)
 
-good_step : (schema : Schema) (seqs : ℕ) (past : List Event) (seq : SeqId)
+good_step : (schema : NarrowSchema) (seqs : ℕ) (past : List Event) (seq : SeqId)
     → ((x : EndId) (given : Option Taken) → Front schema past x given → given ≢ None) → {asked : Asked} {told : Told}
     → Outcome schema seqs past seq asked told
     → IsGood told
@@ -140,7 +140,7 @@ good_step schema seqs past seq good (bads {x = x} f) = good x None f refl
 good_step schema seqs past seq good refuses = tt
 
 -- in a legal history of allowed commands no message is found bad
-pub are_good : (schema : Schema) (seqs : ℕ) (past : List Event) → legal schema seqs past → AllAllowed schema past → AreGood past
+pub are_good : (schema : NarrowSchema) (seqs : ℕ) (past : List Event) → legal schema seqs past → AllAllowed schema past → AreGood past
 are_good schema seqs [] h a = tt
 are_good schema seqs (event ∷ past) h a = (
   good_step schema seqs past event.seq (front_good schema seqs past h.1 a.1)

@@ -3,7 +3,7 @@ use Rattle.std.proofs.Common.{◌≡◌, ◌≢◌, ℕ, Bool, true, false, List
 use Rattle.std.specs.Prelude.{Option, Some, None, if◌then◌else◌}
 use Rattle.mj_base.specs.declared.ids.EndId.{EndId}
 use Rattle.mj_base.specs.declared.ids.SeqId.{SeqId}
-use Rattle.mj_schema.specs.declared.schema.Schema.{Schema}
+use Rattle.mj_schema.specs.declared.narrow_schema.NarrowSchema.{NarrowSchema}
 use Rattle.bind_model.specs.declared.event.Asked.{Asked}
 use Rattle.bind_model.specs.declared.event.Told.{Told}
 use Rattle.bind_model.specs.declared.event.Told.TheVariants.{Made}
@@ -53,7 +53,7 @@ module _ (past : List Event) (so : Sound past) (suited : AreSuited past) where
         rw (← is) (suit-sym new b (suits new b (binding past (peer past y)) (rw back p) asked))
     bound_now x b c false false e f p q = suited x b c p q
 
-  suited_step : (schema : Schema) (seqs : ℕ) (seq : SeqId) {asked : Asked} {told : Told}
+  suited_step : (schema : NarrowSchema) (seqs : ℕ) (seq : SeqId) {asked : Asked} {told : Told}
       → Outcome schema seqs past seq asked told → IsAllowed schema past asked
       → (x : EndId) (b c : Binding)
       → bound_by seq told asked x (binding past x) ≡ Some b
@@ -71,7 +71,7 @@ module _ (past : List Event) (so : Sound past) (suited : AreSuited past) where
   suited_step schema seqs seq refuses allowed x b c p q = suited x b c p q
 
 -- in a legal history of allowed commands the ends of a pipe are bound as the two sides of one interface
-pub are_suited : (schema : Schema) (seqs : ℕ) (past : List Event) → legal schema seqs past → AllAllowed schema past → AreSuited past
+pub are_suited : (schema : NarrowSchema) (seqs : ℕ) (past : List Event) → legal schema seqs past → AllAllowed schema past → AreSuited past
 are_suited schema seqs [] h a x b c p q = absurd cc
 are_suited schema seqs (event ∷ past) h a x b c p q =
     suited_step past (sound schema seqs past h.1) (are_suited schema seqs past h.1 a.1) schema seqs event.seq

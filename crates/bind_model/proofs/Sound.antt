@@ -8,7 +8,7 @@ use Rattle.std.proofs.lemmas.Bool.{eq-eqb}
 use Rattle.std.proofs.lemmas.Bool.Decides.{nat_tests}
 use Rattle.mj_base.specs.declared.ids.EndId.{EndId}
 use Rattle.mj_base.specs.declared.ids.SeqId.{SeqId}
-use Rattle.mj_schema.specs.declared.schema.Schema.{Schema}
+use Rattle.mj_schema.specs.declared.narrow_schema.NarrowSchema.{NarrowSchema}
 use Rattle.bind_model.specs.declared.event.Binding.{Binding}
 use Rattle.bind_model.specs.declared.event.Event.{Event}
 use Rattle.bind_model.specs.declared.event.Message.{Message}
@@ -64,7 +64,7 @@ module _ (past : List Event) (so : Sound past) where
   in_given : (x : EndId) → has_end (without (x ∷ []) (out past) ++ []) x ≡ false
   in_given x = rw (append-nil, has_end-without_is (x ∷ []) (out past) x, same_end-refl x) (and_false (is_out past x))
 
-  module _ (schema : Schema) (seqs : ℕ) (seq : SeqId) where
+  module _ (schema : NarrowSchema) (seqs : ℕ) (seq : SeqId) where
     out_made_step : {asked : Asked} {told : Told}
         → Outcome schema seqs past seq asked told → (x : EndId) → has_end (without (given told asked) (out past) ++ handed told) x ≡ true
         → has_end (made past ++ made_by told) x ≡ true
@@ -189,7 +189,7 @@ module _ (past : List Event) (so : Sound past) where
     taken_step (bads f) x h = taken_same x h
     taken_step refuses x h = taken_same x h
 
-sound_step : (schema : Schema) (seqs : ℕ) (event : Event) (past : List Event)
+sound_step : (schema : NarrowSchema) (seqs : ℕ) (event : Event) (past : List Event)
     → Sound past → Outcome schema seqs past event.seq event.asked event.told
     → Sound (event ∷ past)
 sound_step schema seqs event past so o = record {
@@ -203,7 +203,7 @@ sound_step schema seqs event past so o = record {
 }
 
 -- every legal history is sound
-pub sound : (schema : Schema) (seqs : ℕ) (past : List Event) → legal schema seqs past → Sound past
+pub sound : (schema : NarrowSchema) (seqs : ℕ) (past : List Event) → legal schema seqs past → Sound past
 sound schema seqs [] h = record {
   out_made = λ x e. e;
   bound_made = λ x b e. cc;

@@ -1,7 +1,7 @@
 -- What every legal history keeps. A history of allowed commands has prepared calls alone, and binds the ends of a pipe as the two sides of one interface.
 use Rattle.std.specs.Prelude.{ℕ, ◌≡◌, ◌≢◌, ◌+◌, ◌++◌, true, List, [], ◌∷◌, map, take, Option, Some, None, if◌then◌else◌, option_and_then}
 use Rattle.mj_base.specs.declared.ids.EndId.{EndId}
-use Rattle.mj_schema.specs.declared.schema.Schema.{Schema}
+use Rattle.mj_schema.specs.declared.narrow_schema.NarrowSchema.{NarrowSchema}
 use Rattle.wire_model.specs.Tight.{message_bytes, IsPrepared}
 use Rattle.bind_model.specs.declared.event.Asked.{Asked}
 use Rattle.bind_model.specs.declared.event.Asked.TheVariants.{Join, Bind, Call, Take}
@@ -21,22 +21,22 @@ SuitsPeer side interface None = Unit {0}
 SuitsPeer side interface (Some b) = (side ≢ b.side) × (interface ≡ b.interface)
 
 -- what may be asked: calls that were prepared with the schema, and bindings that suit the peer's
-abbrev pub IsAllowed : Schema → List Event → Asked → Type 0
+abbrev pub IsAllowed : NarrowSchema → List Event → Asked → Type 0
 IsAllowed schema past (Bind x side interface) = SuitsPeer side interface (binding past (peer past x))
 IsAllowed schema past (Call x id target value) = IsPrepared schema target value
 IsAllowed schema past (Join t) = Unit {0}
 IsAllowed schema past (Take x) = Unit {0}
 
-abbrev pub AllAllowed : Schema → List Event → Type 0
+abbrev pub AllAllowed : NarrowSchema → List Event → Type 0
 AllAllowed schema [] = Unit {0}
 AllAllowed schema (event ∷ past) = IsAllowed schema past event.asked × AllAllowed schema past
 
 -- what a message gives at an end, as that is bound
-abbrev pub gives_at : Schema → List Event → EndId → Message → Option Taken
+abbrev pub gives_at : NarrowSchema → List Event → EndId → Message → Option Taken
 gives_at schema past x m = option_and_then (λ (b : Binding). stands_for schema b m) (binding past x)
 
 -- at each end, what the takes were told is in order what the messages give of a prefix of all that was written there
-abbrev pub InOrder : Schema → List Event → Type 0
+abbrev pub InOrder : NarrowSchema → List Event → Type 0
 InOrder schema past = (x : EndId) → map (gives_at schema past x) (take (consumed past x) (written past x)) ≡ map Some (taken past x)
 
 -- what the calls at an end that were sent said, in order

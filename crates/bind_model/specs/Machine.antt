@@ -5,7 +5,7 @@ use Rattle.std.specs.List.{count_by}
 use Rattle.mj_base.specs.declared.limits.TheConstants.{MAX_UNREAD_MESSAGES}
 use Rattle.mj_base.specs.declared.ids.EndId.{EndId}
 use Rattle.mj_base.specs.declared.ids.SeqId.{SeqId}
-use Rattle.mj_schema.specs.declared.schema.Schema.{Schema}
+use Rattle.mj_schema.specs.declared.narrow_schema.NarrowSchema.{NarrowSchema}
 use Rattle.wire_model.specs.declared.target.Target.{Target}
 use Rattle.wire_model.specs.declared.target.MessageSide.{MessageSide}
 use Rattle.wire_model.specs.declared.target.MessageSide.TheVariants as messages
@@ -150,7 +150,7 @@ taking interface request =
     else None
 
 -- what a message gives at an end that is bound so: a receiver reads requests, and a remote reads nothing, since no method has a response
-abbrev pub stands_for : Schema → Binding → Message → Option Taken
+abbrev pub stands_for : NarrowSchema → Binding → Message → Option Taken
 stands_for schema b m = if is_receiver b.side then option_and_then (taking b.interface) (request_in schema b.interface m.bytes) else None
 
 abbrev pub told_of_front : Option Taken → Told
@@ -158,26 +158,26 @@ told_of_front None = Bad
 told_of_front (Some taken) = Got taken
 
 -- a take on a bound end looks at the oldest unread message
-abbrev pub took_at : Schema → Binding → List Message → Told
+abbrev pub took_at : NarrowSchema → Binding → List Message → Told
 took_at schema b [] = No Empty
 took_at schema b (front ∷ messages) = told_of_front (stands_for schema b front)
 
-abbrev pub took : Schema → List Event → EndId → Option Binding → Told
+abbrev pub took : NarrowSchema → List Event → EndId → Option Binding → Told
 took schema past x None = No NoName
 took schema past x (Some b) = took_at schema b (unread past x)
 
 -- the one reply to a command, by the events before it
-abbrev pub answer : Schema → ℕ → List Event → SeqId → Asked → Told
+abbrev pub answer : NarrowSchema → ℕ → List Event → SeqId → Asked → Told
 answer schema seqs past seq (Join t) = if nat_lt t.0 seqs then joined past seq.0 t.0 else No NoName
 answer schema seqs past seq (Bind x side interface) = if is_out past x && nat_lt interface (length schema.interfaces) then Bound x else No NoName
 answer schema seqs past seq (Call x id target value) = called past x id target value (binding past x)
 answer schema seqs past seq (Take x) = took schema past x (binding past x)
 
 -- each reply is the one that the events before it give
-abbrev pub legal : Schema → ℕ → List Event → Type 0
+abbrev pub legal : NarrowSchema → ℕ → List Event → Type 0
 legal schema seqs [] = Unit {0}
 legal schema seqs (event ∷ past) = (event.told ≡ answer schema seqs past event.seq event.asked) × legal schema seqs past
 
 -- a history, the oldest event first
-abbrev pub Legal : Schema → ℕ → List Event → Type 0
+abbrev pub Legal : NarrowSchema → ℕ → List Event → Type 0
 Legal schema seqs history = legal schema seqs (reverse history)

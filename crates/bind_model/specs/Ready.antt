@@ -3,7 +3,7 @@ use Rattle.std.specs.Prelude.{ℕ, Bool, true, false, List, [], ◌∷◌, ◌+�
 use Rattle.std.specs.Option.{option_map}
 use Rattle.mj_base.specs.declared.ids.EndId.{EndId}
 use Rattle.mj_base.specs.declared.ids.SeqId.{SeqId}
-use Rattle.mj_schema.specs.declared.schema.Schema.{Schema}
+use Rattle.mj_schema.specs.declared.narrow_schema.NarrowSchema.{NarrowSchema}
 use Rattle.bind_model.specs.declared.event.Binding.{Binding}
 use Rattle.bind_model.specs.declared.event.Told.{Told}
 use Rattle.bind_model.specs.declared.event.Told.TheVariants.{Got, Bad}
@@ -17,7 +17,7 @@ is_settled Bad = true
 is_settled told = false
 
 -- whether a take there would consume a message or find it bad
-abbrev pub is_ready : Schema → List Event → EndId → Bool
+abbrev pub is_ready : NarrowSchema → List Event → EndId → Bool
 is_ready schema past x = is_settled (took schema past x (binding past x))
 
 abbrev pub lesser : Option EndId → EndId → Option EndId
@@ -29,7 +29,7 @@ abbrev pub least : List EndId → Option EndId
 least xs = fold lesser None xs
 
 -- the least end that is ready, behind the sequence that it is bound on
-abbrev pub ready : Schema → List Event → Option (SeqId × EndId)
+abbrev pub ready : NarrowSchema → List Event → Option (SeqId × EndId)
 ready schema past = option_and_then (λ x. option_map (λ (b : Binding). (b.on, x)) (binding past x)) (least (filter (is_ready schema past) (made past)))
 
 -- how many messages are unread at these ends

@@ -7,12 +7,12 @@ use Rattle.std.proofs.Common.{◌^◌}
 use Rattle.std.specs.Prelude.{All, MatchOption, map, Option, slice_get, codes, unwrap_or}
 use Rattle.std.specs.Option.{option_map}
 use Rattle.std.proofs.lemmas.Option.{slice_get_within}
-use Rattle.mj_schema.specs.Lookups.{request_of}
+use Rattle.mj_schema.specs.NarrowLookups.{request_of}
 use Rattle.call_script.specs.declared.script.Line.TheVariants.{Call, Take}
 use Rattle.call_script.specs.Spelling.{interface_at, name_at, name_of, line_words, value_text, method_text, method_called, method_name, IsCall}
 use Rattle.std.specs.Str.{bytes_eq}
 use Rattle.std.proofs.lemmas.Option.{slice_get-get_or}
-use Rattle.mj_schema.specs.declared.schema.Schema.{Schema}
+use Rattle.mj_schema.specs.declared.narrow_schema.NarrowSchema.{NarrowSchema}
 use Rattle.call_script.specs.declared.script.Pipe.{Pipe}
 use Rattle.call_script.specs.declared.script.PipeEnd.{PipeEnd}
 use Rattle.call_script.specs.declared.script.PipeEnd.TheVariants.{First, Second}
@@ -38,7 +38,7 @@ not_named pipes name a b k p there ea fa eb fb Second is =
     let q : is.pipe ≡ p = cc in never_false b name (eb ∙ ap (λ (x : Pipe). x.second) (sym q) ∙ is.named) fb
 
 -- the pipe has no such call
-pub not_called : (schema : Schema) (pipes : List Pipe) (name word : List ℕ) (count k : ℕ) (p : Pipe)
+pub not_called : (schema : NarrowSchema) (pipes : List Pipe) (name word : List ℕ) (count k : ℕ) (p : Pipe)
     → slice_get pipes k ≡ Some p → ((ordinal : ℕ) → IsCallOn schema p name word count ordinal → ⊥) → (ordinal : ℕ)
     → IsCallAt schema pipes name word count k ordinal → ⊥
 not_called schema pipes name word count k p there none ordinal is =
@@ -52,7 +52,7 @@ interface_there pipes k p e = ap (λ (o : Option Pipe). unwrap_or (option_map (�
 name_there : (pipes : List Pipe) (k : ℕ) (end : PipeEnd) (p : Pipe) → slice_get pipes k ≡ Some p → name_at pipes k end ≡ name_of end p
 name_there pipes k end p e = ap (λ (o : Option Pipe). unwrap_or (option_map (name_of end) o) []) e
 
-module _ (schema : Schema) (pipes : List Pipe) (words : List (List ℕ)) where
+module _ (schema : NarrowSchema) (pipes : List Pipe) (words : List (List ℕ)) where
   -- a take that was read
   pub take_line : (k : ℕ) (end : PipeEnd) → IsTake pipes words k end → SpellsLine schema pipes words (Some (Take k end))
   take_line k end is = (
@@ -143,7 +143,7 @@ no_end_named pipes a b n none k end is =
     let w = is.words in let e : is.name ≡ n = cc in none k end (subst (λ (x : List ℕ). IsEndNamed pipes x k end) e is.named)
 
 -- where no pipe has such a call, the words are no call
-pub no_call_at : (schema : Schema) (pipes : List Pipe) (a b end method numbers name value : List ℕ) (count : ℕ)
+pub no_call_at : (schema : NarrowSchema) (pipes : List Pipe) (a b end method numbers name value : List ℕ) (count : ℕ)
     → end ≡ name ++ codes "#0" → numbers ≡ value_text value → All (λ n. n < 2 ^ 32) value
     → count ≡ length value
     → ((k ordinal : ℕ) → IsCallAt schema pipes name method count k ordinal → ⊥) → (k ordinal : ℕ) (other : List ℕ)

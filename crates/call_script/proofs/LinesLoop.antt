@@ -4,18 +4,18 @@ use Rattle.std.specs.Prelude.{map}
 use Rattle.std.specs.List.{AllByRecursion}
 use Rattle.std.proofs.lemmas.Grind.{common_steps}
 use Rattle.std.proofs.lemmas.List.{take_more, map-append}
-use Rattle.mj_schema.specs.declared.schema.Schema.{Schema}
+use Rattle.mj_schema.specs.declared.narrow_schema.NarrowSchema.{NarrowSchema}
 use Rattle.call_script.specs.declared.script.Pipe.{Pipe}
 use Rattle.call_script.specs.declared.script.Line.{Line}
 use Rattle.call_script.specs.Spelling.{IsLine, line_words}
 use Rattle.call_script.specs.Reading.{SpellsLine, AreLines, NoLines}
 
 -- the lines that were read, and what the texts from there on spell, where all spell lines
-pub record LinesRead (schema : Schema) (pipes : List Pipe) (texts : List (List (List ℕ))) (k : ℕ) (lines : List Line) : Type 0 where
+pub record LinesRead (schema : NarrowSchema) (pipes : List Pipe) (texts : List (List (List ℕ))) (k : ℕ) (lines : List Line) : Type 0 where
   pub read : AreLines schema pipes (take k texts) lines
   pub rest : (ls : List Line) → AreLines schema pipes texts ls → (left : List Line) × AreLines schema pipes (drop k texts) left
 
-module _ (schema : Schema) (pipes : List Pipe) (texts : List (List (List ℕ))) where
+module _ (schema : NarrowSchema) (pipes : List Pipe) (texts : List (List (List ℕ))) where
   pub no_lines_yet : LinesRead schema pipes texts 0 []
   no_lines_yet = record { read = record { sound = tt; spelled = refl }; rest = λ ls are. (ls, are) }
 

@@ -3,13 +3,13 @@ use Rattle.std.proofs.Common.{◌≡◌, ℕ, List, ◌++◌, Some, None, sym, a
 use Rattle.std.specs.Prelude.{codes}
 use Rattle.std.specs.Str.{bytes_eq}
 use Rattle.std.proofs.lemmas.List.{append_cancel_left}
-use Rattle.mj_schema.specs.declared.schema.Schema.{Schema}
+use Rattle.mj_schema.specs.declared.narrow_schema.NarrowSchema.{NarrowSchema}
 use Rattle.call_script.specs.declared.script.Pipe.{Pipe}
 use Rattle.call_script.specs.Spelling.{interface_name, method_called, method_name}
 use Rattle.call_script.specs.Reading.{NamesMethod, HasParameters, IsCallOn}
 use Rattle.call_script.proofs.Parts.{never_false}
 
-module _ (schema : Schema) (interface : ℕ) (word : List ℕ) where
+module _ (schema : NarrowSchema) (interface : ℕ) (word : List ℕ) where
   -- behind the interface's name stand the dot and the method's name
   pub dotted_is : (dotted : List ℕ) (ordinal : ℕ)
       → word ≡ interface_name schema interface ++ dotted → NamesMethod schema interface word ordinal
@@ -55,7 +55,7 @@ module _ (schema : Schema) (interface : ℕ) (word : List ℕ) where
       cc
 
 -- a method with another number of parameters is not called
-pub not_counted : (schema : Schema) (pipe : Pipe) (name word : List ℕ) (count first : ℕ)
+pub not_counted : (schema : NarrowSchema) (pipe : Pipe) (name word : List ℕ) (count first : ℕ)
     → NamesMethod schema pipe.interface word first → (HasParameters schema pipe.interface first count → ⊥) → (ordinal : ℕ)
     → IsCallOn schema pipe name word count ordinal → ⊥
 not_counted schema pipe name word count first named none ordinal call =

@@ -5,7 +5,7 @@ use Rattle.std.specs.List.{flat_map, list_any, AllByRecursion}
 use Rattle.std.specs.Str.{bytes_eq}
 use Rattle.std.proofs.lemmas.List.{append_cancel_right}
 use Rattle.mj_base.specs.Texts.{are_distinct}
-use Rattle.mj_schema.specs.declared.schema.Schema.{Schema}
+use Rattle.mj_schema.specs.declared.narrow_schema.NarrowSchema.{NarrowSchema}
 use Rattle.call_script.specs.declared.script.Pipe.{Pipe}
 use Rattle.call_script.specs.declared.script.PipeEnd.{PipeEnd}
 use Rattle.call_script.specs.declared.script.PipeEnd.TheVariants.{First, Second}
@@ -97,7 +97,7 @@ one_end (p ∷ ps) differ (suc k) (suc j) one other k_in j_in same =
     let found = one_end ps (apart p ps differ).rest k j one other (omega arith) (omega arith) same in
     (ap suc found.0, found.1)
 
-module _ (schema : Schema) where
+module _ (schema : NarrowSchema) where
   -- pipes of the same joins and bindings are one
   one_list : (ps qs : List Pipe) (others more : List (List (List ℕ))) → AllByRecursion (IsPipe schema) ps → AllByRecursion (IsPipe schema) qs
       → map join_words ps ≡ map join_words qs → flat_map (bind_lines schema) ps ++ others ≡ flat_map (bind_lines schema) qs ++ more
@@ -185,7 +185,7 @@ module _ (schema : Schema) where
   sound s is = record { some = is.some; pipes = is.pipes; distinct = is.distinct; lines = is.lines }
 
 -- bytes spell at most one script
-pub one_script : (schema : Schema) (bytes : List ℕ) (one other : Script) → IsScriptOf schema bytes one → IsScriptOf schema bytes other → one ≡ other
+pub one_script : (schema : NarrowSchema) (bytes : List ℕ) (one other : Script) → IsScriptOf schema bytes one → IsScriptOf schema bytes other → one ≡ other
 one_script schema bytes s t one other =
     let same : script_lines schema s ≡ script_lines schema t = sym (words_of schema bytes s one) ∙ words_of schema bytes t other in
     same_lines schema s t (sound schema s one.0) (sound schema t other.0) same

@@ -7,9 +7,9 @@ use Rattle.std.specs.Str.{bytes_eq}
 use Rattle.std.proofs.lemmas.List.Quantifiers.{position-Some}
 use Rattle.std.proofs.lemmas.Option.{slice_get-get_or}
 use Rattle.std.proofs.lemmas.Slice.Eq.{bytes_eq-Decides}
-use Rattle.mj_schema.specs.declared.schema.Schema.{Schema}
+use Rattle.mj_schema.specs.declared.narrow_schema.NarrowSchema.{NarrowSchema}
 use Rattle.mj_schema.specs.declared.rows.InterfaceRow.{InterfaceRow}
-use Rattle.mj_schema.specs.Lookups.{interface_number}
+use Rattle.mj_schema.specs.NarrowLookups.{interface_number}
 use Rattle.call_script.specs.declared.script.Pipe.{Pipe}
 use Rattle.call_script.specs.Spelling.{interface_name, is_name, IsPipe, join_words, bind_lines}
 use Rattle.call_script.specs.Reading.{IsJoin, IsBind, IsNamed, SpellsName, SpellsPipe}
@@ -24,7 +24,7 @@ no_row : InterfaceRow
 no_row = record { name = []; methods = [] }
 
 -- a name that finds an interface is that interface's
-pub name_found : (schema : Schema) (name : List ℕ) (n : ℕ) → Some n ≡ interface_number schema name → interface_name schema n ≡ name
+pub name_found : (schema : NarrowSchema) (name : List ℕ) (n : ℕ) → Some n ≡ interface_number schema name → interface_name schema n ≡ name
 name_found schema name n found =
     let at = position-Some (λ (i : InterfaceRow). bytes_eq i.name name) schema.interfaces n no_row (sym found) in
     let row : slice_get schema.interfaces n ≡ Some (get_or schema.interfaces n no_row) = slice_get-get_or schema.interfaces n no_row at.0 in
@@ -32,7 +32,7 @@ name_found schema name n found =
     ∙ (bytes_eq-Decides (get_or schema.interfaces n no_row).name name).0 at.1
 
 -- the pipe that the words spell
-pub pipe_spelled : (schema : Schema) (join one two : List (List ℕ)) (x y i first second : List ℕ) (n : ℕ)
+pub pipe_spelled : (schema : NarrowSchema) (join one two : List (List ℕ)) (x y i first second : List ℕ) (n : ℕ)
     → IsNamed join one two x y i → Some n ≡ interface_number schema i → first ≡ x → is_name x ≡ true → second ≡ y
     → is_name y ≡ true
     → SpellsPipe schema join (one ∷ two ∷ []) (Some (record { first = first; second = second; interface = n }))
@@ -51,7 +51,7 @@ same_pipe p q a b c =
     ∙ ap (λ (i : ℕ). record { first = q.first; second = q.second; interface = i }) c
 
 -- two pipes of the same words are one
-pub one_pipe : (schema : Schema) (p q : Pipe)
+pub one_pipe : (schema : NarrowSchema) (p q : Pipe)
     → IsPipe schema p → IsPipe schema q → join_words p ≡ join_words q → bind_lines schema p ≡ bind_lines schema q
     → p ≡ q
 one_pipe schema p q ip iq joins binds =

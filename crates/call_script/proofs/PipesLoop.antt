@@ -6,21 +6,21 @@ use Rattle.std.proofs.lemmas.Grind.{flat_map-append}
 use Rattle.std.proofs.lemmas.List.{take_more, map-append}
 use Rattle.std.proofs.Common.{Some, None}
 use Rattle.std.proofs.lemmas.Grind.{common_steps}
-use Rattle.mj_schema.specs.declared.schema.Schema.{Schema}
+use Rattle.mj_schema.specs.declared.narrow_schema.NarrowSchema.{NarrowSchema}
 use Rattle.call_script.specs.declared.script.Pipe.{Pipe}
 use Rattle.call_script.specs.Spelling.{IsPipe, join_words, bind_lines}
 use Rattle.call_script.specs.Reading.{SpellsPipe, ArePipes, AreThePipes, NoPipes}
 use Rattle.call_script.proofs.PipeWords.{one_pipe}
 
 -- what all pipes that are spelled have in common: those that were read stand in front
-pub record IsLeft (schema : Schema) (joins after : List (List (List ℕ))) (k : ℕ) (pipes : List Pipe) (body : List (List (List ℕ)))
+pub record IsLeft (schema : NarrowSchema) (joins after : List (List (List ℕ))) (k : ℕ) (pipes : List Pipe) (body : List (List (List ℕ)))
     (ps : List Pipe) (others : List (List (List ℕ))) : Type 0 where
   pub rest : List Pipe
   pub whole : ps ≡ pipes ++ rest
   pub left : ArePipes schema (drop k joins) body rest others
 
 -- the pipes of the first joins are read, and all pipes that are spelled begin with them
-pub record AreRead (schema : Schema) (joins after : List (List (List ℕ))) (k : ℕ) (pipes : List Pipe) (body : List (List (List ℕ))) : Type 0 where
+pub record AreRead (schema : NarrowSchema) (joins after : List (List (List ℕ))) (k : ℕ) (pipes : List Pipe) (body : List (List (List ℕ))) : Type 0 where
   pub read : ArePipes schema (take k joins) after pipes body
   pub only : (ps : List Pipe) (others : List (List (List ℕ))) → ArePipes schema joins after ps others → IsLeft schema joins after k pipes body ps others
 
@@ -28,7 +28,7 @@ all_snoc : (P : Pipe → Type 0) (xs : List Pipe) (x : Pipe) → AllByRecursion 
 all_snoc P [] x a p = (p, tt)
 all_snoc P (y ∷ ys) x a p = (a.0, all_snoc P ys x a.1 p)
 
-module _ (schema : Schema) (joins after : List (List (List ℕ))) where
+module _ (schema : NarrowSchema) (joins after : List (List (List ℕ))) where
   pub none_read : AreRead schema joins after 0 [] after
   none_read = record {
     read = record { sound = tt; joined = refl; bound = refl };

@@ -4,7 +4,7 @@ use Rattle.std.specs.Prelude.{map, codes, if◌then◌else◌}
 use Rattle.std.specs.List.{flat_map}
 use Rattle.std.proofs.lemmas.List.{take-append-drop, length-map}
 use Rattle.std.proofs.Math.Seq.{take-append_seam, drop-append_seam}
-use Rattle.mj_schema.specs.declared.schema.Schema.{Schema}
+use Rattle.mj_schema.specs.declared.narrow_schema.NarrowSchema.{NarrowSchema}
 use Rattle.call_script.specs.declared.script.Pipe.{Pipe}
 use Rattle.call_script.specs.declared.script.Line.{Line}
 use Rattle.call_script.specs.declared.script.Script.{Script}
@@ -33,11 +33,12 @@ all_joins : (ps : List Pipe) (others : List (List (List ℕ))) → joins_in_fron
 all_joins [] others = sym (zero-add (joins_in_front others))
 all_joins (p ∷ ps) others = let h = all_joins ps others in omega arith
 
-no_join : (schema : Schema) (ps : List Pipe) (others : List (List (List ℕ))) → 0 < length ps → joins_in_front (flat_map (bind_lines schema) ps ++ others) ≡ 0
+no_join : (schema : NarrowSchema) (ps : List Pipe) (others : List (List (List ℕ))) → 0 < length ps
+    → joins_in_front (flat_map (bind_lines schema) ps ++ others) ≡ 0
 no_join schema [] others h = absurd (omega arith)
 no_join schema (p ∷ ps) others h = refl
 
-module _ (schema : Schema) (texts : List (List (List ℕ))) where
+module _ (schema : NarrowSchema) (texts : List (List (List ℕ))) where
   abbrev pub joins : List (List (List ℕ))
   joins = take (joins_in_front texts) texts
 

@@ -5,12 +5,12 @@ use Rattle.std.proofs.lemmas.List.{take_rest}
 use Rattle.std.proofs.lemmas.List.{take_more, length-take-le, flat_map_more}
 use Rattle.std.proofs.lemmas.Grind.{flat_map-append}
 use Rattle.std.proofs.lemmas.List.FromFn.{map-range_with_len_more}
-use Rattle.mj_schema.specs.declared.schema.Schema.{Schema}
+use Rattle.mj_schema.specs.declared.narrow_schema.NarrowSchema.{NarrowSchema}
 use Rattle.bind_model.specs.declared.event.Event.{Event}
 use Rattle.bind_model.specs.Machine.{serials}
 use Rattle.call_script.specs.Text.{lines_from, event_text, first_ends, left_ends, left_line}
 
-lines_snoc : (schema : Schema) (k n : ℕ) (xs : List Event) (e : Event) → n ≡ k + length xs
+lines_snoc : (schema : NarrowSchema) (k n : ℕ) (xs : List Event) (e : Event) → n ≡ k + length xs
     → lines_from schema k (xs ++ e ∷ []) ≡ lines_from schema k xs ++ event_text schema n e
 lines_snoc schema k n [] e h = let z : n ≡ k = omega (arith, h) in rw z (append-nil (event_text schema k e))
 lines_snoc schema k n (x ∷ xs) e h =
@@ -18,7 +18,7 @@ lines_snoc schema k n (x ∷ xs) e h =
     ∙ sym (append_assoc (event_text schema k x) (lines_from schema (k + 1) xs) (event_text schema n e))
 
 -- the lines of one event more
-pub lines_more : (schema : Schema) (events : List Event) (k : ℕ) (d : Event) → k < length events
+pub lines_more : (schema : NarrowSchema) (events : List Event) (k : ℕ) (d : Event) → k < length events
     → lines_from schema 0 (take (k + 1) events) ≡ lines_from schema 0 (take k events) ++ event_text schema k (get_or events k d)
 lines_more schema events k d h =
     rw (take_more events k d h) (lines_snoc schema 0 k (take k events) (get_or events k d) (omega (arith, length-take-le k events)))

@@ -3,7 +3,7 @@ use Rattle.std.proofs.Common.{◌≡◌, ◌<◌, ◌≤◌, ℕ, List, [], ◌�
 use Rattle.std.specs.Prelude.{map, ◌⊎◌}
 use Rattle.std.specs.List.{flat_map, AllByRecursion, list_all}
 use Rattle.mj_base.specs.declared.limits.TheConstants.{MAX_SCRIPT_LINES}
-use Rattle.mj_schema.specs.declared.schema.Schema.{Schema}
+use Rattle.mj_schema.specs.declared.narrow_schema.NarrowSchema.{NarrowSchema}
 use Rattle.call_script.specs.declared.script.Pipe.{Pipe}
 use Rattle.call_script.specs.declared.script.Line.{Line}
 use Rattle.call_script.specs.declared.script.Line.TheVariants.{Call, Take}
@@ -21,25 +21,25 @@ two_joins : (ps : List Pipe) (others : List (List (List ℕ))) → AllByRecursio
 two_joins [] others h = h
 two_joins (p ∷ ps) others h = (omega arith, two_joins ps others h)
 
-two_binds : (schema : Schema) (ps : List Pipe) (others : List (List (List ℕ))) → AllByRecursion HasTwo others
+two_binds : (schema : NarrowSchema) (ps : List Pipe) (others : List (List (List ℕ))) → AllByRecursion HasTwo others
     → AllByRecursion HasTwo (flat_map (bind_lines schema) ps ++ others)
 two_binds schema [] others h = h
 two_binds schema (p ∷ ps) others h = (omega arith, (omega arith, two_binds schema ps others h))
 
-two_lines : (schema : Schema) (pipes : List Pipe) (ls : List Line) → AllByRecursion HasTwo (map (line_words schema pipes) ls)
+two_lines : (schema : NarrowSchema) (pipes : List Pipe) (ls : List Line) → AllByRecursion HasTwo (map (line_words schema pipes) ls)
 two_lines schema pipes [] = tt
 two_lines schema pipes (Call k m v ∷ ls) = (omega arith, two_lines schema pipes ls)
 two_lines schema pipes (Take k e ∷ ls) = (omega arith, two_lines schema pipes ls)
 
-two_each : (schema : Schema) (s : Script) → AllByRecursion HasTwo (script_lines schema s)
+two_each : (schema : NarrowSchema) (s : Script) → AllByRecursion HasTwo (script_lines schema s)
 two_each schema s = (omega arith, two_joins s.pipes _ (two_binds schema s.pipes _ (two_lines schema s.pipes s.lines)))
 
 -- there is a first line
-pub some_lines : (schema : Schema) (s : Script) → 0 < length (script_lines schema s)
+pub some_lines : (schema : NarrowSchema) (s : Script) → 0 < length (script_lines schema s)
 some_lines schema s = omega arith
 
 -- the lines of a script's bytes are the script's lines
-pub words_of : (schema : Schema) (bytes : List ℕ) (s : Script) → IsScriptOf schema bytes s → word_lines bytes ≡ script_lines schema s
+pub words_of : (schema : NarrowSchema) (bytes : List ℕ) (s : Script) → IsScriptOf schema bytes s → word_lines bytes ≡ script_lines schema s
 words_of schema bytes s is =
     let back = read_back (script_lines schema s) (some_lines schema s) (two_each schema s) is.0.plain in
     read is.1 back.0 back.1
@@ -50,7 +50,7 @@ words_of schema bytes s is =
     read (inl e) one two = ap word_lines e ∙ one
     read (inr e) one two = ap word_lines e ∙ two
 
-module _ (schema : Schema) (bytes : List ℕ) (texts : List (List (List ℕ))) (lines : word_lines bytes ≡ texts) where
+module _ (schema : NarrowSchema) (bytes : List ℕ) (texts : List (List (List ℕ))) (lines : word_lines bytes ≡ texts) where
   -- bytes whose lines spell a script spell it
   pub script_of : (s : Script) → SpellsShort schema texts (Some s) → IsScriptOf schema bytes s
   script_of s spells =

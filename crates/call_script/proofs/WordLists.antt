@@ -4,7 +4,7 @@ use Rattle.std.proofs.Common.{true, false}
 use Rattle.std.proofs.lemmas.Bool.Decides.{nat_tests}
 use Rattle.std.specs.Prelude.{map, Option, ◌==◌}
 use Rattle.std.proofs.lemmas.Grind.{common_steps}
-use Rattle.mj_schema.specs.declared.schema.Schema.{Schema}
+use Rattle.mj_schema.specs.declared.narrow_schema.NarrowSchema.{NarrowSchema}
 use Rattle.call_script.specs.declared.split.Words.{Words}
 use Rattle.call_script.specs.declared.script.Pipe.{Pipe}
 use Rattle.call_script.specs.Words.{words_now}
@@ -52,14 +52,14 @@ rest_is xs at h = ap (map words_now) (whole xs at h) ∙ sym (drop_now at xs)
     whole ys k le = grind (arith, common_steps)
 
 -- the same of equal words
-pub spells_at : (schema : Schema) (w v : List (List ℕ)) (ls : List (List (List ℕ))) (found o : Option Pipe)
+pub spells_at : (schema : NarrowSchema) (w v : List (List ℕ)) (ls : List (List (List ℕ))) (found o : Option Pipe)
     → v ≡ w → found ≡ o → SpellsPipe schema w ls found
     → SpellsPipe schema v ls o
 spells_at schema w v ls found o e f spells =
     subst (λ (x : List (List ℕ)). SpellsPipe schema x ls o) (sym e) (subst (λ (x : Option Pipe). SpellsPipe schema w ls x) f spells)
 
 -- the same for a line
-pub spells_line_at : (schema : Schema) (pipes : List Pipe) (w v : List (List ℕ)) (found o : Option Line)
+pub spells_line_at : (schema : NarrowSchema) (pipes : List Pipe) (w v : List (List ℕ)) (found o : Option Line)
     → v ≡ w → found ≡ o → SpellsLine schema pipes w found
     → SpellsLine schema pipes v o
 spells_line_at schema pipes w v found o e f spells =

@@ -5,11 +5,11 @@ use Rattle.std.specs.List.{flat_map, join_by, list_all, AllByRecursion}
 use Rattle.std.specs.Str.{bytes_eq}
 use Rattle.mj_base.specs.Texts.{are_distinct}
 use Rattle.mj_base.specs.declared.limits.TheConstants.{MAX_SCRIPT_LINES}
-use Rattle.mj_schema.specs.declared.schema.Schema.{Schema}
+use Rattle.mj_schema.specs.declared.narrow_schema.NarrowSchema.{NarrowSchema}
 use Rattle.mj_schema.specs.declared.rows.InterfaceRow.{InterfaceRow}
 use Rattle.mj_schema.specs.declared.rows.MethodRow.{MethodRow}
 use Rattle.mj_schema.specs.declared.rows.StructRow.{StructRow}
-use Rattle.mj_schema.specs.Lookups.{interface_number, method_of, request_of}
+use Rattle.mj_schema.specs.NarrowLookups.{interface_number, method_of, request_of}
 use Rattle.call_script.specs.declared.script.Pipe.{Pipe}
 use Rattle.call_script.specs.declared.script.PipeEnd.{PipeEnd}
 use Rattle.call_script.specs.declared.script.PipeEnd.TheVariants.{First, Second}
@@ -18,15 +18,15 @@ use Rattle.call_script.specs.declared.script.Line.TheVariants.{Call, Take}
 use Rattle.call_script.specs.declared.script.Script.{Script}
 
 -- the full name of an interface, by its number
-abbrev pub interface_name : Schema → ℕ → List ℕ
+abbrev pub interface_name : NarrowSchema → ℕ → List ℕ
 interface_name schema n = unwrap_or (option_map (λ (i : InterfaceRow). i.name) (slice_get schema.interfaces n)) []
 
 -- a method's name within its interface, by its ordinal
-abbrev pub method_name : Schema → ℕ → ℕ → List ℕ
+abbrev pub method_name : NarrowSchema → ℕ → ℕ → List ℕ
 method_name schema interface ordinal = unwrap_or (option_map (λ (m : MethodRow). m.name) (method_of schema interface ordinal)) []
 
 -- a method as `INTERFACE.METHOD`
-abbrev pub method_text : Schema → ℕ → ℕ → List ℕ
+abbrev pub method_text : NarrowSchema → ℕ → ℕ → List ℕ
 method_text schema interface ordinal = interface_name schema interface ++ (codes "." ++ method_name schema interface ordinal)
 
 -- a value as `(1,2)`
@@ -50,19 +50,19 @@ name_at pipes n end = unwrap_or (option_map (name_of end) (slice_get pipes n)) [
 abbrev pub join_words : Pipe → List (List ℕ)
 join_words pipe = codes "join" ∷ codes "0" ∷ codes "0" ∷ pipe.first ∷ pipe.second ∷ []
 
-abbrev pub bind_lines : Schema → Pipe → List (List (List ℕ))
+abbrev pub bind_lines : NarrowSchema → Pipe → List (List (List ℕ))
 bind_lines schema pipe =
     (codes "0:" ∷ codes "bind" ∷ pipe.first ∷ codes "remote" ∷ interface_name schema pipe.interface ∷ [])
     ∷ (codes "0:" ∷ codes "bind" ∷ pipe.second ∷ codes "receiver" ∷ interface_name schema pipe.interface ∷ []) ∷ []
 
-abbrev pub line_words : Schema → List Pipe → Line → List (List ℕ)
+abbrev pub line_words : NarrowSchema → List Pipe → Line → List (List ℕ)
 line_words schema pipes (Call pipe method value) =
     codes "0:" ∷ codes "call" ∷ (name_at pipes pipe First ++ codes "#0")
     ∷ method_text schema (interface_at pipes pipe) method ∷ value_text value ∷ []
 line_words schema pipes (Take pipe end) = codes "0:" ∷ codes "take" ∷ name_at pipes pipe end ∷ []
 
 -- the words of each line: `seqs 1`, the joins, the bindings of each pipe, and the lines of sequence 0
-abbrev pub script_lines : Schema → Script → List (List (List ℕ))
+abbrev pub script_lines : NarrowSchema → Script → List (List (List ℕ))
 script_lines schema script =
     (codes "seqs" ∷ codes "1" ∷ [])
     ∷ (map join_words script.pipes ++ (flat_map (bind_lines schema) script.pipes ++ map (line_words schema script.pipes) script.lines))
@@ -97,19 +97,19 @@ abbrev pub names_of : Pipe → List (List ℕ)
 names_of pipe = pipe.first ∷ pipe.second ∷ []
 
 -- a pipe's names are names, and the name of its interface finds it
-pub record IsPipe (schema : Schema) (pipe : Pipe) : Type 0 where
+pub record IsPipe (schema : NarrowSchema) (pipe : Pipe) : Type 0 where
   pub first : is_name pipe.first ≡ true
   pub second : is_name pipe.second ≡ true
   pub interface : interface_number schema (interface_name schema pipe.interface) ≡ Some pipe.interface
 
 -- the ordinal of the first method of this name
-abbrev pub method_called : Schema → ℕ → List ℕ → Option ℕ
+abbrev pub method_called : NarrowSchema → ℕ → List ℕ → Option ℕ
 method_called schema interface name =
     option_map (λ (m : MethodRow). m.ordinal)
     (option_and_then (λ (i : InterfaceRow). find (λ (m : MethodRow). bytes_eq m.name name) i.methods) (slice_get schema.interfaces interface))
 
 -- a call names a method, which its name finds, and has a number below 2 ^ 32 for each parameter; a take names an end
-pub record IsCall (schema : Schema) (pipes : List Pipe) (pipe method : ℕ) (value : List ℕ) : Type 0 where
+pub record IsCall (schema : NarrowSchema) (pipes : List Pipe) (pipe method : ℕ) (value : List ℕ) : Type 0 where
   pub inside : pipe < length pipes
   pub named : method_called schema (interface_at pipes pipe) (method_name schema (interface_at pipes pipe) method) ≡ Some method
   pub row : StructRow
@@ -117,12 +117,12 @@ pub record IsCall (schema : Schema) (pipes : List Pipe) (pipe method : ℕ) (val
   pub count : length value ≡ length row.fields
   pub small : All (λ n. n < 2 ^ 32) value
 
-abbrev pub IsLine : Schema → List Pipe → Line → Type 0
+abbrev pub IsLine : NarrowSchema → List Pipe → Line → Type 0
 IsLine schema pipes (Call pipe method value) = IsCall schema pipes pipe method value
 IsLine schema pipes (Take pipe end) = pipe < length pipes
 
 -- a script of this schema: a pipe at least, no name twice, words that hold no separator, and 65,536 lines at most
-pub record IsScript (schema : Schema) (script : Script) : Type 0 where
+pub record IsScript (schema : NarrowSchema) (script : Script) : Type 0 where
   pub some : 0 < length script.pipes
   pub pipes : AllByRecursion (IsPipe schema) script.pipes
   pub distinct : are_distinct (flat_map names_of script.pipes) ≡ true
@@ -131,6 +131,6 @@ pub record IsScript (schema : Schema) (script : Script) : Type 0 where
   pub few : length (script_lines schema script) ≤ MAX_SCRIPT_LINES
 
 -- the bytes spell the script
-abbrev pub IsScriptOf : Schema → List ℕ → Script → Type 0
+abbrev pub IsScriptOf : NarrowSchema → List ℕ → Script → Type 0
 IsScriptOf schema bytes script =
     IsScript schema script × ((bytes ≡ lines_text (script_lines schema script)) ⊎ (bytes ≡ lines_text (script_lines schema script) ++ 10 ∷ []))

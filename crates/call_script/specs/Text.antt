@@ -2,7 +2,7 @@
 use Rattle.std.specs.Prelude.{ℕ, decimal, ◌+◌, ◌/◌, ◌%◌, ◌++◌, nat_lt, List, [], ◌∷◌, length, map, reverse, codes, if◌then◌else◌}
 use Rattle.std.specs.List.{flat_map, join_by, range_with_len}
 use Rattle.mj_base.specs.declared.ids.EndId.{EndId}
-use Rattle.mj_schema.specs.declared.schema.Schema.{Schema}
+use Rattle.mj_schema.specs.declared.narrow_schema.NarrowSchema.{NarrowSchema}
 use Rattle.wire_model.specs.declared.target.MessageSide.{MessageSide}
 use Rattle.wire_model.specs.declared.target.MessageSide.TheVariants.{Request, Response}
 use Rattle.bind_model.specs.declared.event.Side.{Side}
@@ -54,7 +54,7 @@ why_text Full = codes "full"
 why_text Empty = codes "empty"
 
 -- a command; the list of a call's handles is empty
-abbrev pub asked_text : Schema → Asked → List ℕ
+abbrev pub asked_text : NarrowSchema → Asked → List ℕ
 asked_text schema (Join t) = codes "join " ++ decimal t.0
 asked_text schema (Bind x side interface) = codes "bind " ++ (end_text x ++ (codes " " ++ (side_text side ++ (codes " " ++ interface_name schema interface))))
 asked_text schema (Call x id target value) =
@@ -63,14 +63,14 @@ asked_text schema (Call x id target value) =
 asked_text schema (Take x) = codes "take " ++ end_text x
 
 -- what a take got; the lists of handles, responders and dropped parts are empty
-abbrev pub taken_text : Schema → Taken → List ℕ
+abbrev pub taken_text : NarrowSchema → Taken → List ℕ
 taken_text schema taken =
     message_text taken.target.side ++ (codes " " ++ (decimal taken.id ++ (codes " "
     ++ (method_text schema taken.target.interface taken.target.method ++ (codes " " ++ (value_text taken.value ++ (codes " "
     ++ (decimal taken.request_id ++ codes " [] [] []"))))))))
 
 -- a reply
-abbrev pub told_text : Schema → Told → List ℕ
+abbrev pub told_text : NarrowSchema → Told → List ℕ
 told_text schema (Made ends) = codes "made " ++ ends_text ends
 told_text schema (Bound x) = codes "bound " ++ end_text x
 told_text schema (Sent request_id bytes) = codes "sent " ++ (decimal request_id ++ (codes " " ++ hex_text bytes))
@@ -79,13 +79,13 @@ told_text schema Bad = codes "bad"
 told_text schema (No why) = codes "no " ++ why_text why
 
 -- the line of an event: its number, its sequence, the command and the reply
-abbrev pub event_text : Schema → ℕ → Event → List ℕ
+abbrev pub event_text : NarrowSchema → ℕ → Event → List ℕ
 event_text schema k event =
     decimal k ++ (codes " " ++ (decimal event.seq.0 ++ (codes " "
     ++ (asked_text schema event.asked ++ (codes " -> " ++ (told_text schema event.told ++ 10 ∷ []))))))
 
 -- the lines of events, numbered from k on
-abbrev pub lines_from : Schema → ℕ → List Event → List ℕ
+abbrev pub lines_from : NarrowSchema → ℕ → List Event → List ℕ
 lines_from schema k [] = []
 lines_from schema k (event ∷ events) = event_text schema k event ++ lines_from schema (k + 1) events
 
@@ -102,7 +102,7 @@ abbrev pub left_line : EndId → List ℕ
 left_line x = codes "left " ++ (end_text x ++ 10 ∷ [])
 
 -- the whole text of a history, whose oldest event is the first
-abbrev pub output : Schema → ℕ → List Event → List ℕ
+abbrev pub output : NarrowSchema → ℕ → List Event → List ℕ
 output schema seqs events =
     lines_from schema 0 events
     ++ (flat_map left_line (left_ends seqs (reverse events)) ++ (codes "done " ++ (decimal (length events) ++ 10 ∷ [])))

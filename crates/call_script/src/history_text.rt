@@ -8,13 +8,13 @@ ghost use Rattle.call_script.specs.Text.{event_text, lines_from, first_ends, lef
 use crate::shown_events::{ShownAsked, ShownTold};
 use bind_model::{Event, Told};
 use mj_base::{EndId, Items};
-use mj_schema::Schema;
+use mj_schema::NarrowSchema;
 use std::alloc::{AllocError, Global};
 
 /// The line of an event.
 fn event_line(
     alloc: Global,
-    schema: &Schema,
+    schema: &NarrowSchema,
     number: usize,
     event: &Event,
 ) -> Result<String, AllocError>
@@ -35,7 +35,11 @@ fn event_line(
 }
 
 /// The lines of the events, numbered from 0.
-fn event_lines(alloc: Global, schema: &Schema, events: &[Event]) -> Result<Vec<u8>, AllocError>
+fn event_lines(
+    alloc: Global,
+    schema: &NarrowSchema,
+    events: &[Event],
+) -> Result<Vec<u8>, AllocError>
     ensures { IfOk result (λ text. text.items ≡ lines_from schema.now 0 events.now) }
 {
     let mut text = Vec::new(alloc);
@@ -101,7 +105,7 @@ fn left_lines(alloc: Global, seqs: u32, events: &[Event]) -> Result<Vec<u8>, All
 /// that is left; and how many events there were.
 pub fn render(
     alloc: Global,
-    schema: &Schema,
+    schema: &NarrowSchema,
     seqs: u32,
     events: &[Event],
 ) -> Result<Items<u8>, AllocError>

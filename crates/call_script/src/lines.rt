@@ -12,7 +12,7 @@ use crate::methods::{after, call_on};
 use crate::script::{Line, Pipe, PipeEnd};
 use crate::split::Words;
 use crate::words::value;
-use mj_schema::Schema;
+use mj_schema::NarrowSchema;
 use std::alloc::{AllocError, Global};
 use wire_model::Value;
 
@@ -36,7 +36,7 @@ fn end_named(pipes: &[Pipe], name: &[u8]) -> Option<(u32, PipeEnd)>
 /// The pipe and the method of a call: a pipe whose first end has this name, and the method that the
 /// word names, with so many parameters.
 fn call_at(
-    schema: &Schema,
+    schema: &NarrowSchema,
     pipes: &[Pipe],
     name: &[u8],
     method: &[u8],
@@ -108,7 +108,7 @@ struct FiveWords<'a> {
 /// The call of these words.
 fn call_of(
     alloc: Global,
-    schema: &Schema,
+    schema: &NarrowSchema,
     pipes: &[Pipe],
     words: &FiveWords,
 ) -> Result<Option<CallParts>, AllocError>
@@ -142,7 +142,7 @@ fn call_of(
 /// The line that the words spell.
 fn read_line(
     alloc: Global,
-    schema: &Schema,
+    schema: &NarrowSchema,
     pipes: &[Pipe],
     words: &[&[u8]],
 ) -> Result<Option<Line>, AllocError>
@@ -174,7 +174,7 @@ fn read_line(
 /// The lines that the texts spell.
 pub(crate) fn read_lines(
     alloc: Global,
-    schema: &Schema,
+    schema: &NarrowSchema,
     pipes: &[Pipe],
     texts: &[Words],
 ) -> Result<Option<Vec<Line>>, AllocError>

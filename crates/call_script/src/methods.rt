@@ -9,7 +9,7 @@ ghost use Rattle.call_script.specs.Spelling.{interface_name, method_called, meth
 ghost use Rattle.call_script.specs.Reading.{NamesMethod, HasParameters, IsCallOn};
 
 use crate::script::Pipe;
-use mj_schema::{MethodRow, Schema};
+use mj_schema::{MethodRow, NarrowSchema};
 
 /// What stands behind a front; none exactly where the word doesn't begin with it.
 #[tactic(auto, using(crate::proofs::Fronts::behind, crate::proofs::Fronts::front_is, crate::proofs::Fronts::too_short))]
@@ -34,7 +34,7 @@ fn first_named<'a>(methods: &'a [MethodRow], name: &[u8]) -> Option<&'a MethodRo
 }
 
 /// The first method of this name in an interface.
-fn called<'a>(schema: &'a Schema, interface: u32, name: &[u8]) -> Option<&'a MethodRow>
+fn called<'a>(schema: &'a NarrowSchema, interface: u32, name: &[u8]) -> Option<&'a MethodRow>
     ensures { option_copied result ≡ option_and_then
         (λ (i : InterfaceRow). find (λ (m : MethodRow). bytes_eq m.name name.now) i.methods)
         (slice_get schema.now.interfaces interface) }
@@ -44,14 +44,14 @@ fn called<'a>(schema: &'a Schema, interface: u32, name: &[u8]) -> Option<&'a Met
 }
 
 /// The ordinal of the first method of this name in an interface.
-fn ordinal_named(schema: &Schema, interface: u32, name: &[u8]) -> Option<u32>
+fn ordinal_named(schema: &NarrowSchema, interface: u32, name: &[u8]) -> Option<u32>
     ensures { result ≡ method_called schema.now interface name.now }
 {
     called(schema, interface, name).map(|method| method.ordinal)
 }
 
 /// A method's name within its interface, empty where there is none of this ordinal.
-pub(crate) fn name_of_method(schema: &Schema, interface: u32, ordinal: u32) -> &str
+pub(crate) fn name_of_method(schema: &NarrowSchema, interface: u32, ordinal: u32) -> &str
     ensures { result.now ≡ method_name schema.now interface ordinal }
 {
     match schema.method(interface, ordinal) {
@@ -61,7 +61,7 @@ pub(crate) fn name_of_method(schema: &Schema, interface: u32, ordinal: u32) -> &
 }
 
 /// The full name of an interface, empty where there is none of this number.
-pub(crate) fn name_of_interface(schema: &Schema, interface: u32) -> &str
+pub(crate) fn name_of_interface(schema: &NarrowSchema, interface: u32) -> &str
     ensures { result.now ≡ interface_name schema.now interface }
 {
     match schema.interfaces.as_slice().get(interface as usize) {
@@ -71,7 +71,7 @@ pub(crate) fn name_of_interface(schema: &Schema, interface: u32) -> &str
 }
 
 /// The ordinal of the method that the word names as `INTERFACE.METHOD`.
-fn method_named(schema: &Schema, interface: u32, word: &[u8]) -> Option<u32>
+fn method_named(schema: &NarrowSchema, interface: u32, word: &[u8]) -> Option<u32>
     ensures some { IfSome result (λ ordinal. NamesMethod schema.now interface word.now ordinal) }
     ensures none { IfNone result ((ordinal : ℕ) → NamesMethod schema.now interface word.now ordinal → ⊥) }
 {
@@ -92,7 +92,7 @@ fn method_named(schema: &Schema, interface: u32, word: &[u8]) -> Option<u32>
 }
 
 /// Whether the method of this ordinal has so many parameters.
-fn has_parameters(schema: &Schema, interface: u32, ordinal: u32, count: usize) -> bool
+fn has_parameters(schema: &NarrowSchema, interface: u32, ordinal: u32, count: usize) -> bool
     ensures { IsTrue result ↔ HasParameters schema.now interface ordinal count }
 {
     match schema.request(interface, ordinal) {
@@ -104,7 +104,7 @@ fn has_parameters(schema: &Schema, interface: u32, ordinal: u32, count: usize) -
 /// The ordinal of the method of a call on this pipe, where its first end has this name and the word
 /// names a method with so many parameters.
 pub(crate) fn call_on(
-    schema: &Schema,
+    schema: &NarrowSchema,
     pipe: &Pipe,
     name: &[u8],
     word: &[u8],

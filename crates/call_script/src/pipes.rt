@@ -10,7 +10,7 @@ use crate::script::Pipe;
 use crate::split::Words;
 use crate::words::is_name;
 use mj_base::Text;
-use mj_schema::Schema;
+use mj_schema::NarrowSchema;
 use std::alloc::{AllocError, Global};
 
 /// Whether a line of these three words and two names is a join of sequence 0 with itself.
@@ -107,7 +107,7 @@ fn names_of_pipe<'a>(join: &[&'a [u8]], one: &[&'a [u8]], two: &[&'a [u8]]) -> O
 /// The pipe that a join and its two bindings spell.
 fn read_pipe(
     alloc: Global,
-    schema: &Schema,
+    schema: &NarrowSchema,
     join: &Words,
     one: &Words,
     two: &Words,
@@ -147,7 +147,7 @@ pub(crate) struct Head<'w, 'a> {
 /// The pipes that the joins and the lines behind them spell.
 pub(crate) fn read_pipes<'w, 'a>(
     alloc: Global,
-    schema: &Schema,
+    schema: &NarrowSchema,
     joins: &[Words<'a>],
     after: &'w [Words<'a>],
 ) -> Result<Option<Head<'w, 'a>>, AllocError>

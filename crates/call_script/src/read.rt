@@ -15,7 +15,7 @@ use crate::script::{Pipe, Script};
 use crate::split::{Words, word_lines};
 use mj_base::limits::MAX_SCRIPT_LINES;
 use mj_base::{Items, are_distinct};
-use mj_schema::Schema;
+use mj_schema::NarrowSchema;
 use std::alloc::{AllocError, Global};
 use thiserror::Error;
 
@@ -66,7 +66,11 @@ fn names_differ(alloc: Global, pipes: &[Pipe]) -> Result<bool, AllocError>
 }
 
 /// The script of these lines behind `seqs 1`.
-fn read_rest(alloc: Global, schema: &Schema, lines: &[Words]) -> Result<Option<Script>, AllocError>
+fn read_rest(
+    alloc: Global,
+    schema: &NarrowSchema,
+    lines: &[Words],
+) -> Result<Option<Script>, AllocError>
     requires { length lines.now < 2 ^ 32 }
     ensures { IfOk result (λ found. SpellsScript schema.now ((codes "seqs" ∷ codes "1" ∷ []) ∷ map words_now lines.now) found) }
 {
@@ -107,7 +111,11 @@ fn is_seqs(command: &[u8], count: &[u8]) -> bool
 }
 
 /// The script of these lines.
-fn read_words(alloc: Global, schema: &Schema, lines: &[Words]) -> Result<Option<Script>, AllocError>
+fn read_words(
+    alloc: Global,
+    schema: &NarrowSchema,
+    lines: &[Words],
+) -> Result<Option<Script>, AllocError>
     requires { length lines.now < 2 ^ 32 }
     ensures { IfOk result (λ found. SpellsScript schema.now (map words_now lines.now) found) }
 {
@@ -122,7 +130,11 @@ fn read_words(alloc: Global, schema: &Schema, lines: &[Words]) -> Result<Option<
 }
 
 /// The script of these lines, of which there are at most 65,536.
-fn read_short(alloc: Global, schema: &Schema, lines: &[Words]) -> Result<Option<Script>, AllocError>
+fn read_short(
+    alloc: Global,
+    schema: &NarrowSchema,
+    lines: &[Words],
+) -> Result<Option<Script>, AllocError>
     ensures { IfOk result (λ found. SpellsShort schema.now (map words_now lines.now) found) }
 {
     if lines.len() > MAX_SCRIPT_LINES {
@@ -138,7 +150,11 @@ fn read_short(alloc: Global, schema: &Schema, lines: &[Words]) -> Result<Option<
 /// # Errors
 ///
 /// `Unsupported` only where the text spells no such script, and `Memory` where memory ran out.
-pub fn read_script(alloc: Global, schema: &Schema, bytes: &[u8]) -> Result<Script, ScriptError>
+pub fn read_script(
+    alloc: Global,
+    schema: &NarrowSchema,
+    bytes: &[u8],
+) -> Result<Script, ScriptError>
     ensures ok { IfOk result (λ script. IsScriptOf schema.now bytes.now script) }
     ensures unsupported { result ≡ Err ScriptError.Unsupported → (script : Script) → IsScriptOf schema.now bytes.now script → ⊥ }
 {

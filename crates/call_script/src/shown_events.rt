@@ -6,7 +6,7 @@ ghost use Rattle.call_script.specs.Text.{side_text, message_text, why_text};
 use crate::methods::{name_of_interface, name_of_method};
 use crate::shown_lists::{ShownEnd, ShownEnds, ShownHex, ShownValue};
 use bind_model::{Asked, Side, Taken, Told, Why};
-use mj_schema::Schema;
+use mj_schema::NarrowSchema;
 use std::fmt;
 use wire_model::{MessageSide, Target};
 
@@ -46,7 +46,7 @@ fn why(why: Why) -> &'static str
 /// A method, as `INTERFACE.METHOD`.
 #[derive(Clone, Copy)]
 struct ShownMethod<'a> {
-    schema: &'a Schema,
+    schema: &'a NarrowSchema,
     target: Target,
 }
 
@@ -70,7 +70,7 @@ impl fmt::Display for ShownMethod<'_> {
 /// A command.
 #[derive(Clone, Copy)]
 pub(crate) struct ShownAsked<'a> {
-    pub(crate) schema: &'a Schema,
+    pub(crate) schema: &'a NarrowSchema,
     pub(crate) asked: &'a Asked,
 }
 
@@ -109,7 +109,7 @@ impl fmt::Display for ShownAsked<'_> {
 /// What a take got.
 #[derive(Clone, Copy)]
 struct ShownTaken<'a> {
-    schema: &'a Schema,
+    schema: &'a NarrowSchema,
     taken: &'a Taken,
 }
 
@@ -139,7 +139,7 @@ impl fmt::Display for ShownTaken<'_> {
 /// A reply.
 #[derive(Clone, Copy)]
 pub(crate) struct ShownTold<'a> {
-    pub(crate) schema: &'a Schema,
+    pub(crate) schema: &'a NarrowSchema,
     pub(crate) told: &'a Told,
 }
 

@@ -36,6 +36,7 @@ fn a_declared_bool_has_the_first_bit(rt: HostRuntime) -> Result<(), Fail> {
         name: Text::from_str(alloc, "flag")?,
         kind: Kind::new(KindNode::Bool),
         min_version: 0,
+        default: None,
     };
     let places = pack_fields(alloc, &[flag])?;
     let wanted = [Place { offset: 0, bit: 0 }];

@@ -69,6 +69,7 @@ fn fields_of(
             name: Text::from_str(alloc, "f")?,
             kind,
             min_version,
+            default: None,
         })?;
     }
     Ok(Some(fields))

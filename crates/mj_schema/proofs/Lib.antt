@@ -2,3 +2,4 @@ pub mod Apart
 pub mod OneLayout
 pub mod NarrowLayout
 pub mod RisingRows
+pub mod Examples

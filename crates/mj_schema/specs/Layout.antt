@@ -78,12 +78,20 @@ abbrev pub field_rows : ℕ → List DraftField → List Place → List FieldRow
 field_rows k [] places = []
 field_rows k (field ∷ fields) [] = []
 field_rows k (field ∷ fields) (place ∷ places) =
-    record { name = field.name; ordinal = k; kind = field.kind; offset = place.offset; bit = place.bit; min_version = field.min_version }
+    record {
+      name = field.name;
+      ordinal = k;
+      kind = field.kind;
+      offset = place.offset;
+      bit = place.bit;
+      min_version = field.min_version;
+      default = field.default;
+    }
     ∷ field_rows (k + 1) fields places
 
 -- a field without its place
 abbrev pub draft_field : FieldRow → DraftField
-draft_field field = record { name = field.name; kind = field.kind; min_version = field.min_version }
+draft_field field = record { name = field.name; kind = field.kind; min_version = field.min_version; default = field.default }
 
 -- a struct without places and rows
 abbrev pub draft_of : StructRow → DraftStruct

@@ -4,4 +4,6 @@ pub mod Versions
 pub mod Layout
 pub mod Narrow
 pub mod Lookups
+pub mod NarrowLookups
+pub mod WellFormed
 pub mod steps

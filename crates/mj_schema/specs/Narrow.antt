@@ -1,5 +1,5 @@
 -- The narrow form: what is encoded until other kinds are. A narrow struct has `uint32` fields alone, all there from version 0 on.
-use Rattle.std.specs.Prelude.{ℕ, suc, ◌+◌, ◌*◌, ◌≡◌, ◌&&◌, ◌==◌, Bool, true, false, List, [], ◌∷◌, length}
+use Rattle.std.specs.Prelude.{ℕ, suc, ◌+◌, ◌*◌, ◌≡◌, ◌&&◌, ◌==◌, Bool, true, false, None, List, [], ◌∷◌, length}
 use Rattle.std.specs.List.{list_all}
 use Rattle.mj_base.specs.Bytes.{rounded8}
 use Rattle.mj_schema.specs.declared.kind.Width.TheVariants.{Bits32}
@@ -18,9 +18,9 @@ abbrev pub is_narrow_kind : KindTree → Bool
 is_narrow_kind (kinds.IntKind Bits32 false) = true
 is_narrow_kind _ = false
 
--- the narrow field of this name as it is declared
+-- the narrow field of this name as it is declared, with no default
 abbrev pub narrow_field : List ℕ → DraftField
-narrow_field name = record { name = name; kind = narrow_kind; min_version = 0 }
+narrow_field name = record { name = name; kind = narrow_kind; min_version = 0; default = None }
 
 -- whether each field of a struct is narrow and there from version 0 on
 abbrev pub is_narrow : StructRow → Bool

@@ -1,15 +1,18 @@
-//! The tables of a compiled Mojom file: its structs, unions, enums and interfaces, with the layout of
-//! their fields.
+//! The tables of compiled Mojom files: structs, unions, enums, interfaces and constants, with the
+//! layout of fields.
 #![tactic(auto)]
 
 mod kind;
 pub mod laws;
+mod lookups;
+mod narrow_schema;
 mod rows;
 mod schema;
 
 pub use kind::{HandleSort, Kind, KindNode, Width};
+pub use narrow_schema::NarrowSchema;
 pub use rows::{
-    DraftField, DraftStruct, EnumRow, FieldRow, InterfaceRow, MemberRow, MethodRow, Place,
-    StructRow, UnionFieldRow, UnionRow, VersionRow,
+    ConstRow, DefinitionRow, DraftField, DraftStruct, EnumRow, FieldRow, InterfaceRow, Literal,
+    MemberRow, MethodRow, Place, RowSort, StructRow, UnionFieldRow, UnionRow, VersionRow,
 };
 pub use schema::Schema;

@@ -4,7 +4,7 @@ use Rattle.std.specs.Prelude.{Option, Result, Ok, Err, IfOk, IfErr}
 use Rattle.mj_base.specs.declared.limits.TheConstants.{MAX_FILE_BYTES}
 use Rattle.mj_io.specs.Outside.{Named, FilesState, FilesGoOn}
 use Rattle.command_line.specs.Asked.{RunWords, Run}
-use Rattle.mj_schema.specs.declared.schema.Schema.{Schema}
+use Rattle.mj_schema.specs.declared.narrow_schema.NarrowSchema.{NarrowSchema}
 use Rattle.mojom_ast.specs.declared.file.File.{File}
 use Rattle.mojom_compile.specs.declared.error.FileRefusal.{FileRefusal}
 use Rattle.mojom_compile.specs.Compiled.{IsParsed, IsSchemaOf, IsUnread, IsRefusedFile}
@@ -54,20 +54,21 @@ leads_on_lost (Some files) name other bytes next before now has short (inl asked
 leads_on_lost (Some files) name other bytes next before now has short (inr rose) = inr rose
 
 -- where the bytes have a schema, it leads on
-compiled : (held : Option (List Named)) (name bytes : List ℕ) (schema : Schema) (next : List Named → Schema → Work → Type 0) (work : Work)
+compiled : (held : Option (List Named)) (name bytes : List ℕ) (schema : NarrowSchema) (next : List Named → NarrowSchema → Work → Type 0) (work : Work)
     → IsSchemaOf bytes schema
     → AskedFor held (λ files w. next files schema w) work → AskedFor held (λ files w. Compiling name (next files) bytes w) work
 compiled None name bytes schema next work is asked = tt
 compiled (Some files) name bytes schema next work is asked = inl (schema, is, asked)
 
-compiled_lost : (held : Option (List Named)) (name other bytes : List ℕ) (schema : Schema) (next : List Named → Schema → Work → Type 0) (before now : ℕ)
+compiled_lost : (held : Option (List Named)) (name other bytes : List ℕ) (schema : NarrowSchema)
+    (next : List Named → NarrowSchema → Work → Type 0) (before now : ℕ)
     → IsSchemaOf bytes schema
     → ReadFailed held (λ files w. next files schema w) other before now → ReadFailed held (λ files w. Compiling name (next files) bytes w) other before now
 compiled_lost None name other bytes schema next before now is failed = tt
 compiled_lost (Some files) name other bytes schema next before now is (inl asked) = inl (inl (schema, is, asked))
 compiled_lost (Some files) name other bytes schema next before now is (inr rose) = inr rose
 
-refused : (held : Option (List Named)) (name bytes : List ℕ) (next : List Named → Schema → Work → Type 0) (work : Work) (why : FileRefusal)
+refused : (held : Option (List Named)) (name bytes : List ℕ) (next : List Named → NarrowSchema → Work → Type 0) (work : Work) (why : FileRefusal)
     → IsRefusedFile bytes why → work ≡ Refuses name why
     → AskedFor held (λ files w. Compiling name (next files) bytes w) work
 refused None name bytes next work why is e = tt
@@ -82,7 +83,7 @@ treed : (held : Option (List Named)) (name bytes : List ℕ) (tree : File) → I
 treed None name bytes tree is = tt
 treed (Some files) name bytes tree is = inl (tree, is, refl)
 
-unread : (held : Option (List Named)) (name bytes : List ℕ) (schema : Schema) (work : Work) → ((script : Script) → IsScriptOf schema bytes script → ⊥)
+unread : (held : Option (List Named)) (name bytes : List ℕ) (schema : NarrowSchema) (work : Work) → ((script : Script) → IsScriptOf schema bytes script → ⊥)
     → work ≡ Unreadable name
     → AskedFor held (λ files w. Reading name schema bytes w) work
 unread None name bytes schema work none e = tt
@@ -119,7 +120,7 @@ tree_text held name bytes text tree has short is e = record {
 }
 
 -- a file without a script
-pub no_script : (before now : FilesState) (name : List ℕ) (schema : Schema) (bytes : List ℕ) (stop : Stop) → HasBytes before.held name bytes
+pub no_script : (before now : FilesState) (name : List ℕ) (schema : NarrowSchema) (bytes : List ℕ) (stop : Stop) → HasBytes before.held name bytes
     → length bytes ≤ MAX_FILE_BYTES → NoScript schema bytes name stop
     → Stops before now (λ files w. Scripting files name schema w) stop
 no_script before now name schema bytes (Refused refusal) has short why =
@@ -129,7 +130,7 @@ no_script before now name schema bytes (ReadFault other) has short why = absurd 
 no_script before now name schema bytes NoMemory has short why = tt
 
 -- the script stops
-pub later : (before mid now : FilesState) (words : RunWords) (bytes : List ℕ) (schema : Schema) (stop : Stop) → FilesGoOn before mid
+pub later : (before mid now : FilesState) (words : RunWords) (bytes : List ℕ) (schema : NarrowSchema) (stop : Stop) → FilesGoOn before mid
     → HasBytes before.held words.file bytes → length bytes ≤ MAX_FILE_BYTES → IsSchemaOf bytes schema
     → Stops mid now (λ files w. Scripting files words.script schema w) stop → Stops before now (λ files w. Running files words w) stop
 later before mid now words bytes schema (Refused refusal) on has short is stops =
@@ -147,7 +148,7 @@ later before mid now words bytes schema (ReadFault other) on has short is stops 
       on.same stops.failed)));
 }
   where
-    weaker : (held : Option (List Named)) (script : List ℕ) (schema : Schema) (name : List ℕ) (mid before now : ℕ) → before ≤ mid
+    weaker : (held : Option (List Named)) (script : List ℕ) (schema : NarrowSchema) (name : List ℕ) (mid before now : ℕ) → before ≤ mid
         → ReadFailed held (λ files w. Scripting files script schema w) name mid now
         → ReadFailed held (λ files w. Scripting files script schema w) name before now
     weaker None script schema name mid before now le failed = tt
@@ -156,7 +157,7 @@ later before mid now words bytes schema (ReadFault other) on has short is stops 
 later before mid now words bytes schema NoMemory on has short is stops = tt
 
 -- the text of a script is that of the words
-pub right_text : (before mid : FilesState) (words : RunWords) (bytes text : List ℕ) (schema : Schema) → FilesGoOn before mid
+pub right_text : (before mid : FilesState) (words : RunWords) (bytes text : List ℕ) (schema : NarrowSchema) → FilesGoOn before mid
     → HasBytes before.held words.file bytes → length bytes ≤ MAX_FILE_BYTES → IsSchemaOf bytes schema
     → IsRunText mid.held (λ files w. Scripting files words.script schema w) text → IsRunText before.held (λ files w. Running files words w) text
 right_text before mid words bytes text schema on has short is right = record {
@@ -170,7 +171,7 @@ right_text before mid words bytes text schema on has short is right = record {
 }
 
 -- the text of a run of the script
-pub script_text : (held : Option (List Named)) (name bytes text : List ℕ) (schema : Schema) (script : Script) → HasBytes held name bytes
+pub script_text : (held : Option (List Named)) (name bytes text : List ℕ) (schema : NarrowSchema) (script : Script) → HasBytes held name bytes
     → length bytes ≤ MAX_FILE_BYTES → IsScriptOf schema bytes script → IsTextOf schema script text
     → IsRunText held (λ files w. Scripting files name schema w) text
 script_text held name bytes text schema script has short is text_of = record {
@@ -185,7 +186,7 @@ script_text held name bytes text schema script has short is text_of = record {
     reads (Some files) is = inl (script, is, refl)
 
 -- a file with a schema
-has_schema : (held : Option (List Named)) (name bytes : List ℕ) (schema : Schema) → HasBytes held name bytes → length bytes ≤ MAX_FILE_BYTES
+has_schema : (held : Option (List Named)) (name bytes : List ℕ) (schema : NarrowSchema) → HasBytes held name bytes → length bytes ≤ MAX_FILE_BYTES
     → IsSchemaOf bytes schema
     → HasSchemaAt held name
 has_schema None name bytes schema has short is = tt
@@ -202,7 +203,7 @@ err_goes (Ok x) P Q f h = tt
 err_goes (Err e) P Q f h = f e h
 
 -- a call comes to a script where the Mojom file has a schema
-pub comes_to_script : (held : Option (List Named)) (words : RunWords) (bytes : List ℕ) (schema : Schema) (stop : Stop) → HasBytes held words.file bytes
+pub comes_to_script : (held : Option (List Named)) (words : RunWords) (bytes : List ℕ) (schema : NarrowSchema) (stop : Stop) → HasBytes held words.file bytes
     → length bytes ≤ MAX_FILE_BYTES → IsSchemaOf bytes schema → IsOf (λ name. name ≡ words.script) stop → IsOf (ComesTo (Some (Run words)) held) stop
 comes_to_script held words bytes schema (Refused refusal) has short is named = inr (named, has_schema held words.file bytes schema has short is)
 comes_to_script held words bytes schema (ReadFault name) has short is named = inr (named, has_schema held words.file bytes schema has short is)

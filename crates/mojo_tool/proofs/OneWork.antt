@@ -2,7 +2,7 @@
 use Rattle.std.proofs.Common.{◌≡◌, ℕ, List, Some, None, sym, ap, ◌∙◌, subst, inl, inr, arith}
 use Rattle.std.specs.Prelude.{Option}
 use Rattle.mj_io.specs.Outside.{Named, find_file}
-use Rattle.mj_schema.specs.declared.schema.Schema.{Schema}
+use Rattle.mj_schema.specs.declared.narrow_schema.NarrowSchema.{NarrowSchema}
 use Rattle.mojom_compile.proofs.Readings.{one_tree}
 use Rattle.mojom_compile.proofs.Whole.{one_schema}
 use Rattle.call_script.proofs.OneScript.{one_script}
@@ -17,10 +17,10 @@ leads name next (Some bytes) w v one (inl a) (inr b) = absurd (omega (arith, a.0
 leads name next (Some bytes) w v one (inr a) (inl b) = absurd (omega (arith, a.0, b.0))
 leads name next (Some bytes) w v one (inr a) (inr b) = one bytes a.1 b.1
 
-compiling : (name : List ℕ) (next : Schema → Work → Type 0) (bytes : List ℕ) (w v : Work) → ((s : Schema) → next s w → next s v → w ≡ v)
+compiling : (name : List ℕ) (next : NarrowSchema → Work → Type 0) (bytes : List ℕ) (w v : Work) → ((s : NarrowSchema) → next s w → next s v → w ≡ v)
     → Compiling name next bytes w → Compiling name next bytes v → w ≡ v
 compiling name next bytes w v one (inl a) (inl b) =
-    one a.0 a.2 (subst (λ (s : Schema). next s v) ((one_schema bytes).one_schema b.0 a.0 b.1 a.1) b.2)
+    one a.0 a.2 (subst (λ (s : NarrowSchema). next s v) ((one_schema bytes).one_schema b.0 a.0 b.1 a.1) b.2)
 compiling name next bytes w v one (inl a) (inr b) = absurd ((one_schema bytes).never_both a.0 b.0 a.1 b.1)
 compiling name next bytes w v one (inr a) (inl b) = absurd ((one_schema bytes).never_both b.0 a.0 b.1 a.1)
 compiling name next bytes w v one (inr a) (inr b) = a.2 ∙ ap (Refuses name) ((one_schema bytes).one_refusal a.0 b.0 a.1 b.1) ∙ sym b.2
@@ -31,13 +31,13 @@ parsing name bytes w v (inl a) (inr b) = absurd ((one_tree bytes).never_both a.0
 parsing name bytes w v (inr a) (inl b) = absurd ((one_tree bytes).never_both b.0 a.0 b.1 a.1)
 parsing name bytes w v (inr a) (inr b) = a.2 ∙ ap (Refuses name) ((one_tree bytes).one_refusal a.0 b.0 a.1 b.1) ∙ sym b.2
 
-reading : (name : List ℕ) (s : Schema) (bytes : List ℕ) (w v : Work) → Reading name s bytes w → Reading name s bytes v → w ≡ v
+reading : (name : List ℕ) (s : NarrowSchema) (bytes : List ℕ) (w v : Work) → Reading name s bytes w → Reading name s bytes v → w ≡ v
 reading name s bytes w v (inl a) (inl b) = a.2 ∙ ap (Runs s) (one_script s bytes a.0 b.0 a.1 b.1) ∙ sym b.2
 reading name s bytes w v (inl a) (inr b) = absurd (b.0 a.0 a.1)
 reading name s bytes w v (inr a) (inl b) = absurd (a.0 b.0 b.1)
 reading name s bytes w v (inr a) (inr b) = a.1 ∙ sym b.1
 
-scripting : (files : List Named) (name : List ℕ) (s : Schema) (w v : Work) → Scripting files name s w → Scripting files name s v → w ≡ v
+scripting : (files : List Named) (name : List ℕ) (s : NarrowSchema) (w v : Work) → Scripting files name s w → Scripting files name s v → w ≡ v
 scripting files name s w v = leads name (Reading name s) (find_file files name) w v (λ bytes. reading name s bytes w v)
 
 running : (files : List Named) (words : RunWords) (bytes : List ℕ) (w v : Work) → Compiling words.file (Scripting files words.script) bytes w

@@ -2,7 +2,7 @@
 use Rattle.std.specs.Prelude.{ℕ, ◌≡◌, List, reverse, Option, Some, None, ◌⊎◌}
 use Rattle.mj_io.specs.Outside.{Named, FilesState, SinkState, Rose, Wrote, WroteSome}
 use Rattle.command_line.specs.Asked.{Command, Run, Print, command_of}
-use Rattle.mj_schema.specs.declared.schema.Schema.{Schema}
+use Rattle.mj_schema.specs.declared.narrow_schema.NarrowSchema.{NarrowSchema}
 use Rattle.bind_model.specs.declared.event.Event.{Event}
 use Rattle.bind_model.specs.Machine.{Legal}
 use Rattle.bind_model.specs.Laws.{InOrder, AsSaid, AreTight, AreGood, OnePlace}
@@ -42,7 +42,7 @@ abbrev pub asked_by : Seen → List Named → Work → Type 0
 asked_by s files work = IsWork (command_of s.words) files work
 
 -- what a history keeps, said of its events, the newest first
-pub record KeepsLaws (schema : Schema) (past : List Event) : Type 0 where
+pub record KeepsLaws (schema : NarrowSchema) (past : List Event) : Type 0 where
   -- at each end the takes were told, in order and once, what a prefix of the messages written there gives
   pub in_order : InOrder schema past
   -- what they were told is what the calls at the peer said
@@ -55,7 +55,7 @@ pub record KeepsLaws (schema : Schema) (past : List Event) : Type 0 where
   pub one_place : OnePlace past
 
 -- the text is that of one history, which is legal for the schema, is of the script's events, and keeps the laws
-pub record IsTextOf (schema : Schema) (script : Script) (text : List ℕ) : Type 0 where
+pub record IsTextOf (schema : NarrowSchema) (script : Script) (text : List ℕ) : Type 0 where
   pub history : List Event
   pub legal : Legal schema 1 history
   pub events : OfScript schema script history
@@ -64,7 +64,7 @@ pub record IsTextOf (schema : Schema) (script : Script) (text : List ℕ) : Type
 
 -- the text is that of a run that is asked for
 pub record IsRunText (held : Option (List Named)) (ask : List Named → Work → Type 0) (text : List ℕ) : Type 0 where
-  pub schema : Schema
+  pub schema : NarrowSchema
   pub script : Script
   pub asked : AskedFor held ask (Runs schema script)
   pub text_of : IsTextOf schema script text

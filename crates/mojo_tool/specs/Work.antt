@@ -3,7 +3,7 @@ use Rattle.std.specs.Prelude.{ℕ, ◌≡◌, ◌≤◌, ◌<◌, List, length, 
 use Rattle.mj_base.specs.declared.limits.TheConstants.{MAX_FILE_BYTES}
 use Rattle.mj_io.specs.Outside.{Named, find_file}
 use Rattle.command_line.specs.Asked.{Command, RunWords, Run, Print}
-use Rattle.mj_schema.specs.declared.schema.Schema.{Schema}
+use Rattle.mj_schema.specs.declared.narrow_schema.NarrowSchema.{NarrowSchema}
 use Rattle.mojom_ast.specs.declared.file.File.{File}
 use Rattle.mojom_compile.specs.declared.error.FileRefusal.{FileRefusal}
 use Rattle.mojom_compile.specs.Compiled.{IsParsed, IsSchemaOf, IsUnread, IsRefusedFile}
@@ -13,7 +13,7 @@ use Rattle.call_script.specs.Spelling.{IsScriptOf}
 -- the file is there, no longer than a file may be, and has a schema
 abbrev pub HasSchema : Option (List ℕ) → Type 0
 HasSchema None = ⊥
-HasSchema (Some bytes) = (length bytes ≤ MAX_FILE_BYTES) × ((schema : Schema) × IsSchemaOf bytes schema)
+HasSchema (Some bytes) = (length bytes ≤ MAX_FILE_BYTES) × ((schema : NarrowSchema) × IsSchemaOf bytes schema)
 
 -- the file of this name has a schema, over files that say what they hold
 abbrev pub HasSchemaAt : Option (List Named) → List ℕ → Type 0
@@ -41,7 +41,7 @@ pub data Work : Type 0 where
   -- the text of this tree
   Prints : (tree : File) → Work
   -- a run of this script
-  Runs : (schema : Schema) → (script : Script) → Work
+  Runs : (schema : NarrowSchema) → (script : Script) → Work
 
 -- the file is not there, or too long, or its bytes lead on
 abbrev pub Leads : List ℕ → (List ℕ → Work → Type 0) → Option (List ℕ) → Work → Type 0
@@ -53,9 +53,9 @@ abbrev pub Fetching : List Named → List ℕ → (List ℕ → Work → Type 0)
 Fetching files name next work = Leads name next (find_file files name) work
 
 -- the bytes have a schema, which leads on, or are refused
-abbrev pub Compiling : List ℕ → (Schema → Work → Type 0) → List ℕ → Work → Type 0
+abbrev pub Compiling : List ℕ → (NarrowSchema → Work → Type 0) → List ℕ → Work → Type 0
 Compiling name next bytes work =
-    ((schema : Schema) × IsSchemaOf bytes schema × next schema work)
+    ((schema : NarrowSchema) × IsSchemaOf bytes schema × next schema work)
     ⊎ ((refusal : FileRefusal) × IsRefusedFile bytes refusal × (work ≡ Refuses name refusal))
 
 -- the bytes have a tree, which is printed, or are refused
@@ -65,13 +65,13 @@ Parsing name bytes work =
     ⊎ ((refusal : FileRefusal) × IsUnread bytes refusal × (work ≡ Refuses name refusal))
 
 -- the bytes are a script, which is run, or none
-abbrev pub Reading : List ℕ → Schema → List ℕ → Work → Type 0
+abbrev pub Reading : List ℕ → NarrowSchema → List ℕ → Work → Type 0
 Reading name schema bytes work =
     ((script : Script) × IsScriptOf schema bytes script × (work ≡ Runs schema script))
     ⊎ (((script : Script) → IsScriptOf schema bytes script → ⊥) × (work ≡ Unreadable name))
 
 -- the script's file comes after the Mojom file
-abbrev pub Scripting : List Named → List ℕ → Schema → Work → Type 0
+abbrev pub Scripting : List Named → List ℕ → NarrowSchema → Work → Type 0
 Scripting files name schema work = Fetching files name (Reading name schema) work
 
 -- the Mojom file comes first

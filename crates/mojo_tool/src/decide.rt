@@ -3,7 +3,7 @@
 ghost use Rattle.std.specs.Prelude.{◌≡◌, ◌≤◌, ℕ, List, length, Some, IfOk, IfErr};
 ghost use Rattle.std.specs.Arc.{arc_value};
 ghost use Rattle.mj_io.specs.Outside.{FilesGoOn};
-ghost use Rattle.mj_schema.specs.declared.schema.Schema.{Schema};
+ghost use Rattle.mj_schema.specs.declared.narrow_schema.NarrowSchema.{NarrowSchema};
 ghost use Rattle.mojom_compile.specs.Compiled.{IsParsed, IsSchemaOf, IsUnread, IsRefusedFile};
 ghost use Rattle.mojom_print.specs.FileText.{file_text};
 ghost use Rattle.call_script.specs.declared.script.Script.{Script};
@@ -20,7 +20,7 @@ use command_line::Command;
 use mj_base::Items;
 use mj_base::limits::MAX_FILE_BYTES;
 use mj_io::{Fetched, Files, FilesError};
-use mj_schema::Schema;
+use mj_schema::NarrowSchema;
 use mojom_ast::File;
 use mojom_compile::CompileError;
 use std::alloc::Global;
@@ -54,7 +54,7 @@ fn fetch<'a, F: Files>(alloc: Global, files: &mut F, name: &'a str) -> Result<Ve
 
 /// The schema of the Mojom file of that name.
 #[tactic(auto, using(crate::proofs::Narrows::narrow_schema))]
-fn read_schema<'a>(alloc: Global, name: &'a str, bytes: &[u8]) -> Result<Schema, Stop<'a>>
+fn read_schema<'a>(alloc: Global, name: &'a str, bytes: &[u8]) -> Result<NarrowSchema, Stop<'a>>
     ensures schema { IfOk result (λ schema. IsSchemaOf bytes.now schema) }
     ensures narrow { IfOk result (λ schema. IsNarrow schema) }
     ensures stop { IfErr result (NotCompiled (IsRefusedFile bytes.now) name.now) }
@@ -88,7 +88,7 @@ fn read_tree<'a>(alloc: Global, name: &'a str, bytes: &[u8]) -> Result<File, Sto
 fn read_script<'a>(
     alloc: Global,
     name: &'a str,
-    schema: &Schema,
+    schema: &NarrowSchema,
     bytes: &[u8],
 ) -> Result<Script, Stop<'a>>
     ensures script { IfOk result (λ script. IsScriptOf schema.now bytes.now script) }
@@ -104,7 +104,7 @@ fn read_script<'a>(
 
 /// The text of a run of the script.
 #[tactic(auto, using(crate::proofs::Laws::keeps_laws))]
-fn run<'a>(alloc: Global, schema: Schema, script: &Script) -> Result<Items<u8>, Stop<'a>>
+fn run<'a>(alloc: Global, schema: NarrowSchema, script: &Script) -> Result<Items<u8>, Stop<'a>>
     requires script { IsScript schema script.now }
     requires narrow { IsNarrow schema }
     ensures text { IfOk result (λ text. IsTextOf schema script.now text) }
@@ -129,7 +129,7 @@ fn run<'a>(alloc: Global, schema: Schema, script: &Script) -> Result<Items<u8>, 
 fn decide_script<'a, F: Files>(
     alloc: Global,
     name: &'a str,
-    schema: Schema,
+    schema: NarrowSchema,
     files: &mut F,
 ) -> Result<Items<u8>, Stop<'a>>
     requires { IsNarrow schema }

@@ -1,11 +1,11 @@
 -- A file of the narrow form has a schema.
-use Rattle.std.proofs.Common.{◌≡◌, ℕ, zero, suc, ◌+◌, ◌*◌, ◌/◌, ◌%◌, ◌^◌, ◌<◌, ◌≤◌, true, false, List, [], ◌∷◌, ◌++◌, codes, length, map, refl, sym, ap, ◌∙◌, subst, inl, inr, add-one, arith}
+use Rattle.std.proofs.Common.{◌≡◌, ℕ, zero, suc, ◌+◌, ◌*◌, ◌/◌, ◌%◌, ◌^◌, ◌<◌, ◌≤◌, true, false, List, [], ◌∷◌, ◌++◌, codes, length, map, refl, sym, ap, ◌∙◌, subst, inl, inr, add-one, arith, None}
 use Rattle.std.specs.List.{list_all, flat_map, AllByRecursion}
 use Rattle.std.proofs.lemmas.Bool.{and_from}
 use Rattle.std.proofs.lemmas.Bool.Decides.{Decides-eqb}
 use Rattle.std.proofs.lemmas.List.{map-append}
 use Rattle.std.proofs.lemmas.List.Folds.{list_all-append}
-use Rattle.mj_schema.specs.declared.schema.Schema.{Schema}
+use Rattle.mj_schema.specs.declared.narrow_schema.NarrowSchema.{NarrowSchema}
 use Rattle.mj_schema.specs.KindTrees.{KindTree}
 use Rattle.mj_schema.specs.KindTrees as kinds
 use Rattle.mj_schema.specs.declared.kind.Width.TheVariants.{Bits32}
@@ -50,7 +50,7 @@ uint32 = kinds.IntKind Bits32 false
 
 -- the fields of these names, each behind those before it, where k stand before
 abbrev field_row : ℕ → List ℕ → FieldRow
-field_row k name = record { name = name; ordinal = k; kind = uint32; offset = 4 * k; bit = 0; min_version = 0 }
+field_row k name = record { name = name; ordinal = k; kind = uint32; offset = 4 * k; bit = 0; min_version = 0; default = None }
 
 abbrev fields_from : ℕ → List (List ℕ) → List FieldRow
 fields_from k [] = []
@@ -175,7 +175,7 @@ module _ (outer : List ℕ) where
   all_numbered before (i ∷ is) = ap suc (all_numbered (before + length i.methods) is)
 
 -- for the law of schemas
-pub schema_of : (file : NarrowFile) → AreFew file.interfaces → length file.interfaces < 2 ^ 32 → (schema : Schema) × IsSchema file schema
+pub schema_of : (file : NarrowFile) → AreFew file.interfaces → length file.interfaces < 2 ^ 32 → (schema : NarrowSchema) × IsSchema file schema
 schema_of file few fits =
     let outer = dotted file.module_name in
     let count = all_numbered outer 0 file.interfaces in (

@@ -5,7 +5,7 @@ use Rattle.std.specs.List.{list_all, AllByRecursion}
 use Rattle.std.proofs.Props.{props}
 use Rattle.std.proofs.lemmas.Bool.{cases_lt}
 use Rattle.std.proofs.Math.Bridge.{le_prop}
-use Rattle.mj_schema.specs.declared.schema.Schema.{Schema}
+use Rattle.mj_schema.specs.declared.narrow_schema.NarrowSchema.{NarrowSchema}
 use Rattle.mj_schema.specs.declared.rows.StructRow.{StructRow}
 use Rattle.mj_schema.specs.declared.rows.InterfaceRow.{InterfaceRow}
 use Rattle.mj_schema.specs.declared.rows.DraftStruct.{DraftStruct}
@@ -29,7 +29,7 @@ use Rattle.mojom_compile.proofs.NarrowRows.{schema_of}
 
 -- a schema of these parts
 abbrev made : (structs : List StructRow) (unions : List UnionRow) (enums : List EnumRow) (is : List InterfaceRow)
-    → length is < 2 ^ 32 → AllByRecursion IsLaidOut structs → IsTrue (list_all is_narrow structs) → Schema
+    → length is < 2 ^ 32 → AllByRecursion IsLaidOut structs → IsTrue (list_all is_narrow structs) → NarrowSchema
 made structs unions enums is few laid_out narrow =
     record { structs = structs; unions = unions; enums = enums; interfaces = is; few = few; laid_out = laid_out; narrow = narrow }
 
@@ -56,7 +56,7 @@ same_rows structs others us vs es gs is js a b c d f g l m u v =
     → made structs us es is f l u ≡ made rows us es is h n w) a
     (λ n w h. same_proofs structs us es is f h l n u w) m v) g))
 
-same_schema : (s t : Schema) → s.structs ≡ t.structs → s.unions ≡ t.unions → s.enums ≡ t.enums → s.interfaces ≡ t.interfaces → s ≡ t
+same_schema : (s t : NarrowSchema) → s.structs ≡ t.structs → s.unions ≡ t.unions → s.enums ≡ t.enums → s.interfaces ≡ t.interfaces → s ≡ t
 same_schema s t a b c d =
     same_rows s.structs t.structs s.unions t.unions s.enums t.enums s.interfaces t.interfaces a b c d
     s.few t.few s.laid_out t.laid_out s.narrow t.narrow
@@ -84,7 +84,7 @@ module _ (bytes : List ℕ) where
   trees : OneTree bytes
   trees = one_tree bytes
 
-  the_schema : (s t : Schema) → IsSchemaOf bytes s → IsSchemaOf bytes t → s ≡ t
+  the_schema : (s t : NarrowSchema) → IsSchemaOf bytes s → IsSchemaOf bytes t → s ≡ t
   the_schema s t p q =
       let tree : p.1.tree ≡ q.1.tree = trees.one_tree p.1.tree q.1.tree p.1.parsed q.1.parsed in
       let files : ◌≡◌ {A = Result NarrowFile ℕ} (Ok p.0) (Ok q.0) = sym p.1.narrow ∙ (ap narrow_file tree ∙ q.1.narrow) in
@@ -106,7 +106,7 @@ module _ (bytes : List ℕ) where
   the_refusal r o (inr a) (inl b) = absurd (trees.never_both a.tree o a.parsed b)
   the_refusal r o (inr a) (inr b) = same_beyond r o a b
 
-  never : (s : Schema) (r : FileRefusal) → IsSchemaOf bytes s → IsRefusedFile bytes r → ⊥
+  never : (s : NarrowSchema) (r : FileRefusal) → IsSchemaOf bytes s → IsRefusedFile bytes r → ⊥
   never s r p (inl a) = trees.never_both p.1.tree r p.1.parsed a
   never s r p (inr a) =
       let tree : p.1.tree ≡ a.tree = trees.one_tree p.1.tree a.tree p.1.parsed a.parsed in
@@ -116,7 +116,7 @@ module _ (bytes : List ℕ) where
   -- a file of the narrow form has a schema, but for too many interfaces
   schema_for : (tree : File) → IsParsed bytes tree → (file : NarrowFile) → narrow_file tree ≡ Ok file
       → (length file.interfaces < 2 ^ 32) ⊎ (2 ^ 32 ≤ length file.interfaces)
-      → ((schema : Schema) × IsSchemaOf bytes schema) ⊎ (((refusal : FileRefusal) × IsRefusedFile bytes refusal) ⊎ HasTooMany bytes)
+      → ((schema : NarrowSchema) × IsSchemaOf bytes schema) ⊎ (((refusal : FileRefusal) × IsRefusedFile bytes refusal) ⊎ HasTooMany bytes)
   schema_for tree parsed file is (inl fits) =
       let found = schema_of file (few_file tree file is) fits in
       inl (found.0, (file, record { tree = tree; parsed = parsed; narrow = is; tables = found.1 }))
@@ -124,13 +124,13 @@ module _ (bytes : List ℕ) where
 
   -- what has a tree has a schema or something beyond the narrow form
   schema_or_beyond : (tree : File) → IsParsed bytes tree → (read : Result NarrowFile ℕ) → narrow_file tree ≡ read
-      → ((schema : Schema) × IsSchemaOf bytes schema) ⊎ (((refusal : FileRefusal) × IsRefusedFile bytes refusal) ⊎ HasTooMany bytes)
+      → ((schema : NarrowSchema) × IsSchemaOf bytes schema) ⊎ (((refusal : FileRefusal) × IsRefusedFile bytes refusal) ⊎ HasTooMany bytes)
   schema_or_beyond tree parsed (Ok file) is = schema_for tree parsed file is (cases_lt (length file.interfaces) (2 ^ 32))
   schema_or_beyond tree parsed (Err at) is =
       inr (inl (record { at = at; cause = Unsupported }, inr (record { tree = tree; parsed = parsed; beyond = is; cause = refl })))
 
   schema_or_refusal : ((tree : File) × IsParsed bytes tree) ⊎ ((refusal : FileRefusal) × IsUnread bytes refusal)
-      → ((schema : Schema) × IsSchemaOf bytes schema) ⊎ (((refusal : FileRefusal) × IsRefusedFile bytes refusal) ⊎ HasTooMany bytes)
+      → ((schema : NarrowSchema) × IsSchemaOf bytes schema) ⊎ (((refusal : FileRefusal) × IsRefusedFile bytes refusal) ⊎ HasTooMany bytes)
   schema_or_refusal (inl read) = schema_or_beyond read.0 read.1 (narrow_file read.0) refl
   schema_or_refusal (inr refused) = inr (inl (refused.0, inl refused.1))
 

@@ -1,6 +1,6 @@
 -- Which bytes have which tree and which schema, and which refusal.
 use Rattle.std.specs.Prelude.{ℕ, ◌≡◌, ◌^◌, ◌≤◌, ◌⊎◌, List, length, Some, None, slice_get, Ok, Err}
-use Rattle.mj_schema.specs.declared.schema.Schema.{Schema}
+use Rattle.mj_schema.specs.declared.narrow_schema.NarrowSchema.{NarrowSchema}
 use Rattle.mojom_ast.specs.declared.token.Token.{Token}
 use Rattle.mojom_ast.specs.declared.file.File.{File}
 use Rattle.mojom_ast.specs.Parsed.{Spells}
@@ -27,14 +27,14 @@ pub record IsParsed (bytes : List ℕ) (tree : File) : Type 0 where
   pub spelled : Spells tree tokens
 
 -- the bytes spell a tree of the narrow form, and the schema is that file's
-pub record IsSchemaFor (bytes : List ℕ) (schema : Schema) (file : NarrowFile) : Type 0 where
+pub record IsSchemaFor (bytes : List ℕ) (schema : NarrowSchema) (file : NarrowFile) : Type 0 where
   pub tree : File
   pub parsed : IsParsed bytes tree
   pub narrow : narrow_file tree ≡ Ok file
   pub tables : IsSchema file schema
 
 -- the bytes are a file of the form, and this is its schema
-abbrev pub IsSchemaOf : List ℕ → Schema → Type 0
+abbrev pub IsSchemaOf : List ℕ → NarrowSchema → Type 0
 IsSchemaOf bytes schema = (file : NarrowFile) × IsSchemaFor bytes schema file
 
 -- the refusal of what stands at a place, by a cause that names it
@@ -112,7 +112,7 @@ pub record HasTooMany (bytes : List ℕ) : Type 0 where
 
 -- bytes have just one schema or just one refusal, and never both, but for more interfaces than a schema can have
 pub record OneSchema (bytes : List ℕ) : Type 0 where
-  pub some : ((schema : Schema) × IsSchemaOf bytes schema) ⊎ (((refusal : FileRefusal) × IsRefusedFile bytes refusal) ⊎ HasTooMany bytes)
-  pub one_schema : (schema other : Schema) → IsSchemaOf bytes schema → IsSchemaOf bytes other → schema ≡ other
+  pub some : ((schema : NarrowSchema) × IsSchemaOf bytes schema) ⊎ (((refusal : FileRefusal) × IsRefusedFile bytes refusal) ⊎ HasTooMany bytes)
+  pub one_schema : (schema other : NarrowSchema) → IsSchemaOf bytes schema → IsSchemaOf bytes other → schema ≡ other
   pub one_refusal : (refusal other : FileRefusal) → IsRefusedFile bytes refusal → IsRefusedFile bytes other → refusal ≡ other
-  pub never_both : (schema : Schema) (refusal : FileRefusal) → IsSchemaOf bytes schema → IsRefusedFile bytes refusal → ⊥
+  pub never_both : (schema : NarrowSchema) (refusal : FileRefusal) → IsSchemaOf bytes schema → IsRefusedFile bytes refusal → ⊥

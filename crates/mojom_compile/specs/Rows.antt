@@ -1,10 +1,10 @@
 -- The tables of a file of the narrow form.
-use Rattle.std.specs.Prelude.{ℕ, ◌+◌, ◌≡◌, List, [], ◌∷◌, ◌++◌, codes, length, map}
+use Rattle.std.specs.Prelude.{ℕ, ◌+◌, ◌≡◌, List, [], ◌∷◌, ◌++◌, codes, length, map, None}
 use Rattle.std.specs.List.{flat_map, join_by}
 use Rattle.mj_schema.specs.declared.rows.DraftStruct.{DraftStruct}
 use Rattle.mj_schema.specs.declared.rows.MethodRow.{MethodRow}
 use Rattle.mj_schema.specs.declared.rows.InterfaceRow.{InterfaceRow}
-use Rattle.mj_schema.specs.declared.schema.Schema.{Schema}
+use Rattle.mj_schema.specs.declared.narrow_schema.NarrowSchema.{NarrowSchema}
 use Rattle.mj_schema.specs.Layout.{draft_of}
 use Rattle.mj_schema.specs.Narrow.{narrow_field}
 use Rattle.mojom_compile.specs.declared.narrow_file.NarrowMethod.{NarrowMethod}
@@ -32,7 +32,7 @@ structs_in outer interface = map (request_struct (within outer interface.name)) 
 abbrev pub methods_from : ℕ → ℕ → List NarrowMethod → List MethodRow
 methods_from ordinal request [] = []
 methods_from ordinal request (method ∷ methods) =
-    record { name = method.name; ordinal = ordinal; request = request } ∷ methods_from (ordinal + 1) (request + 1) methods
+    record { name = method.name; ordinal = ordinal; request = request; response = None } ∷ methods_from (ordinal + 1) (request + 1) methods
 
 -- interfaces by their full names, where so many structs stand before those of the first
 abbrev pub interfaces_from : List ℕ → ℕ → List NarrowInterface → List InterfaceRow
@@ -42,7 +42,7 @@ interfaces_from outer before (interface ∷ interfaces) =
     ∷ interfaces_from outer (before + length interface.methods) interfaces
 
 -- the schema of a file: the structs of its methods in the order of the file, laid out as each schema has them, and its interfaces
-pub record IsSchema (file : NarrowFile) (schema : Schema) : Type 0 where
+pub record IsSchema (file : NarrowFile) (schema : NarrowSchema) : Type 0 where
   pub structs : map draft_of schema.structs ≡ flat_map (structs_in (dotted file.module_name)) file.interfaces
   pub unions : schema.unions ≡ []
   pub enums : schema.enums ≡ []

@@ -6,7 +6,7 @@ ghost use Rattle.mojom_compile.specs.Compiled.{IsParsed, IsSchemaOf, IsUnread, I
 use crate::error::{Cause, CompileError, FileRefusal};
 use crate::narrow::narrow_file;
 use crate::rows::schema;
-use mj_schema::Schema;
+use mj_schema::NarrowSchema;
 use mojom_ast::{File, Token};
 use mojom_lexer::{LexError, lex};
 use mojom_parser::{ParseError, parse};
@@ -74,7 +74,7 @@ pub fn read(alloc: Global, bytes: &[u8]) -> Result<File, CompileError>
 
 /// The schema of a file, or why it has none: lexical refusals come before those of the grammar, and
 /// these before what is beyond the narrow form.
-pub fn compile(alloc: Global, bytes: &[u8]) -> Result<Schema, CompileError>
+pub fn compile(alloc: Global, bytes: &[u8]) -> Result<NarrowSchema, CompileError>
     ensures ok { IfOk result (λ schema. IsSchemaOf bytes.now schema) }
     ensures refused { IfErr result (IsFor (IsRefusedFile bytes.now)) }
 {

@@ -10,7 +10,7 @@ ghost use Rattle.mojom_compile.specs.Rows.{dotted, within, request_struct, struc
 use crate::narrow_file::{NarrowFile, NarrowMethod};
 use mj_base::limits::{MAX_METHODS, MAX_PARAMETERS};
 use mj_base::{Items, Text};
-use mj_schema::{InterfaceRow, MethodRow, Schema, StructRow};
+use mj_schema::{InterfaceRow, MethodRow, NarrowSchema, StructRow};
 use std::alloc::{AllocError, Global};
 use version_tables::lay_out_narrow;
 
@@ -93,6 +93,7 @@ fn methods(
             name,
             ordinal,
             request: first + ordinal,
+            response: None,
         })?;
     }
     Ok(rows)
@@ -109,7 +110,7 @@ fn next_number(rows: usize, more: usize) -> Result<u32, AllocError>
 }
 
 /// The schema of a file.
-pub fn schema(alloc: Global, file: &NarrowFile) -> Result<Schema, AllocError>
+pub fn schema(alloc: Global, file: &NarrowFile) -> Result<NarrowSchema, AllocError>
     requires { AreFew file.now.interfaces }
     ensures { IfOk result (IsSchema file.now) }
 {
@@ -125,7 +126,7 @@ pub fn schema(alloc: Global, file: &NarrowFile) -> Result<Schema, AllocError>
         interfaces.push(InterfaceRow { name, methods })?;
     }
     next_number(interfaces.len(), 0)?;
-    Ok(Schema {
+    Ok(NarrowSchema {
         structs: Items::from_vec(structs),
         unions: Items::new(alloc),
         enums: Items::new(alloc),

@@ -4,7 +4,7 @@ use crate::wire;
 use bind_model::{Asked, Binding, Event, Side, Taken, Told, Why};
 use mj_base::limits::MAX_UNREAD_MESSAGES;
 use mj_base::{EndId, Items, SeqId};
-use mj_schema::Schema;
+use mj_schema::NarrowSchema;
 use std::alloc::{AllocError, Global};
 use wire_model::{MessageSide, Target};
 
@@ -157,7 +157,7 @@ fn serials(alloc: Global, past: &[Event], seq: u32) -> Result<u32, AllocError> {
 /// The one reply to a command, by the events before it.
 pub fn answer(
     alloc: Global,
-    schema: &Schema,
+    schema: &NarrowSchema,
     seqs: u32,
     past: &[Event],
     seq: SeqId,
@@ -226,7 +226,12 @@ fn called(
     })
 }
 
-fn took(alloc: Global, schema: &Schema, past: &[Event], end: EndId) -> Result<Told, AllocError> {
+fn took(
+    alloc: Global,
+    schema: &NarrowSchema,
+    past: &[Event],
+    end: EndId,
+) -> Result<Told, AllocError> {
     let Some(bound) = binding(past, end) else {
         return Ok(Told::No(Why::NoName));
     };
@@ -255,7 +260,7 @@ fn took(alloc: Global, schema: &Schema, past: &[Event], end: EndId) -> Result<To
 /// Whether each reply is the one that the events before it give.
 pub fn is_legal(
     alloc: Global,
-    schema: &Schema,
+    schema: &NarrowSchema,
     seqs: u32,
     events: &[Event],
 ) -> Result<bool, AllocError> {

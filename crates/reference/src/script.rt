@@ -5,7 +5,7 @@ use crate::machine::{answer, binding, made};
 use bind_model::{Asked, Event, Side, Told};
 use call_script::{Line, Pipe, PipeEnd, Script};
 use mj_base::{EndId, SeqId};
-use mj_schema::Schema;
+use mj_schema::NarrowSchema;
 use std::alloc::{AllocError, Global};
 use wire_model::{MessageSide, Target};
 
@@ -82,7 +82,7 @@ fn place_of(pipe: u32, end: PipeEnd) -> usize {
 /// on.
 pub fn ready(
     alloc: Global,
-    schema: &Schema,
+    schema: &NarrowSchema,
     past: &[Event],
 ) -> Result<Option<(SeqId, EndId)>, AllocError> {
     let mut least: Option<EndId> = None;
@@ -99,7 +99,7 @@ pub fn ready(
 /// Adds the event of a command, which is told what the events before give.
 fn ask(
     alloc: Global,
-    schema: &Schema,
+    schema: &NarrowSchema,
     events: &mut Vec<Event>,
     seq: SeqId,
     asked: Asked,
@@ -112,7 +112,7 @@ fn ask(
 /// Adds the events of the lines.
 fn ask_lines(
     alloc: Global,
-    schema: &Schema,
+    schema: &NarrowSchema,
     script: &Script,
     events: &mut Vec<Event>,
 ) -> Result<(), AllocError> {
@@ -127,7 +127,7 @@ fn ask_lines(
 }
 
 /// Adds takes until no end is ready: each takes a message, of which there are fewer than events.
-fn drain(alloc: Global, schema: &Schema, events: &mut Vec<Event>) -> Result<(), AllocError> {
+fn drain(alloc: Global, schema: &NarrowSchema, events: &mut Vec<Event>) -> Result<(), AllocError> {
     for _ in 0..events.len() {
         let Some((seq, end)) = ready(alloc, schema, events.as_slice())? else {
             return Ok(());
@@ -140,7 +140,7 @@ fn drain(alloc: Global, schema: &Schema, events: &mut Vec<Event>) -> Result<(), 
 /// All events of the script, in order.
 pub fn events_of(
     alloc: Global,
-    schema: &Schema,
+    schema: &NarrowSchema,
     script: &Script,
 ) -> Result<Vec<Event>, AllocError> {
     let mut events = Vec::new(alloc);

@@ -3,7 +3,7 @@
 use crate::machine::made;
 use bind_model::{Asked, Event, Side, Taken, Told, Why};
 use mj_base::EndId;
-use mj_schema::Schema;
+use mj_schema::NarrowSchema;
 use std::alloc::{AllocError, Global};
 use wire_model::MessageSide;
 
@@ -60,7 +60,7 @@ fn bytes_text(alloc: Global, bytes: &[u8]) -> Result<String, AllocError> {
 }
 
 /// The full name of the interface of this number.
-fn interface_text(schema: &Schema, number: u32) -> &str {
+fn interface_text(schema: &NarrowSchema, number: u32) -> &str {
     match schema.interfaces.as_slice().get(number as usize) {
         Some(row) => row.name.as_str(),
         None => "",
@@ -68,7 +68,7 @@ fn interface_text(schema: &Schema, number: u32) -> &str {
 }
 
 /// The name of the first method of this ordinal.
-fn method_name(schema: &Schema, interface: u32, ordinal: u32) -> &str {
+fn method_name(schema: &NarrowSchema, interface: u32, ordinal: u32) -> &str {
     let Some(row) = schema.interfaces.as_slice().get(interface as usize) else {
         return "";
     };
@@ -83,7 +83,7 @@ fn method_name(schema: &Schema, interface: u32, ordinal: u32) -> &str {
 /// A method, as `INTERFACE.METHOD`.
 fn method_text(
     alloc: Global,
-    schema: &Schema,
+    schema: &NarrowSchema,
     interface: u32,
     ordinal: u32,
 ) -> Result<String, AllocError> {
@@ -91,7 +91,7 @@ fn method_text(
     format!(in alloc; "{}.{name}", interface_text(schema, interface))
 }
 
-fn asked_text(alloc: Global, schema: &Schema, asked: &Asked) -> Result<String, AllocError> {
+fn asked_text(alloc: Global, schema: &NarrowSchema, asked: &Asked) -> Result<String, AllocError> {
     match asked {
         Asked::Join(seq) => format!(in alloc; "join {}", seq.0),
         Asked::Bind(end, side, interface) => {
@@ -115,7 +115,7 @@ fn asked_text(alloc: Global, schema: &Schema, asked: &Asked) -> Result<String, A
     }
 }
 
-fn taken_text(alloc: Global, schema: &Schema, taken: &Taken) -> Result<String, AllocError> {
+fn taken_text(alloc: Global, schema: &NarrowSchema, taken: &Taken) -> Result<String, AllocError> {
     let side = match taken.target.side {
         MessageSide::Request => "request",
         MessageSide::Response => "response",
@@ -128,7 +128,7 @@ fn taken_text(alloc: Global, schema: &Schema, taken: &Taken) -> Result<String, A
     )
 }
 
-fn told_text(alloc: Global, schema: &Schema, told: &Told) -> Result<String, AllocError> {
+fn told_text(alloc: Global, schema: &NarrowSchema, told: &Told) -> Result<String, AllocError> {
     match told {
         Told::Made(ends) => {
             let ends = ends_text(alloc, ends.as_slice())?;
@@ -162,7 +162,11 @@ fn told_text(alloc: Global, schema: &Schema, told: &Told) -> Result<String, Allo
 
 /// The whole text of a history. No command closes an end, so all that were made are left, and a
 /// history of one sequence made them in the order of their numbers.
-pub fn output(alloc: Global, schema: &Schema, events: &[Event]) -> Result<String, AllocError> {
+pub fn output(
+    alloc: Global,
+    schema: &NarrowSchema,
+    events: &[Event],
+) -> Result<String, AllocError> {
     let mut text = String::new(alloc);
     for (k, event) in events.iter().enumerate() {
         let asked = asked_text(alloc, schema, &event.asked)?;

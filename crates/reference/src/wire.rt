@@ -1,6 +1,6 @@
 //! Messages: the bytes of a request, and the request that bytes stand for.
 
-use mj_schema::{Schema, StructRow};
+use mj_schema::{NarrowSchema, StructRow};
 use std::alloc::{AllocError, Global};
 
 /// A request as its bytes give it.
@@ -67,7 +67,7 @@ pub fn message_bytes(alloc: Global, method: u32, value: &[u32]) -> Result<Vec<u8
 }
 
 /// The struct of the parameters of the first method of this ordinal.
-fn parameters(schema: &Schema, interface: u32, ordinal: u32) -> Option<&StructRow> {
+fn parameters(schema: &NarrowSchema, interface: u32, ordinal: u32) -> Option<&StructRow> {
     let row = schema.interfaces.as_slice().get(interface as usize)?;
     for method in row.methods.as_slice() {
         if method.ordinal == ordinal {
@@ -80,7 +80,7 @@ fn parameters(schema: &Schema, interface: u32, ordinal: u32) -> Option<&StructRo
 /// The request that the bytes stand for at an endpoint of this interface.
 pub fn request_in(
     alloc: Global,
-    schema: &Schema,
+    schema: &NarrowSchema,
     interface: u32,
     bytes: &[u8],
 ) -> Result<Option<Read>, AllocError> {

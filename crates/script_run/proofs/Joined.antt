@@ -6,7 +6,7 @@ use Rattle.std.proofs.lemmas.Bool.Decides.{nat_tests}
 use Rattle.std.proofs.lemmas.List.{length-replicate, append-nil}
 use Rattle.mj_base.specs.declared.ids.EndId.{EndId}
 use Rattle.mj_base.specs.declared.ids.SeqId.{SeqId}
-use Rattle.mj_schema.specs.declared.schema.Schema.{Schema}
+use Rattle.mj_schema.specs.declared.narrow_schema.NarrowSchema.{NarrowSchema}
 use Rattle.bind_model.specs.declared.event.Asked.{Asked}
 use Rattle.bind_model.specs.declared.event.Asked.TheVariants as asks
 use Rattle.bind_model.specs.declared.event.Told.{Told}
@@ -69,7 +69,7 @@ asked_join zero i asked next e = absurd cc
 asked_join (suc n) zero asked next e = cc
 asked_join (suc n) (suc i) asked next e = asked_join n i asked next e
 
-pub joined_by : (schema : Schema) (n : ℕ) (own : List Event)
+pub joined_by : (schema : NarrowSchema) (n : ℕ) (own : List Event)
     → legal schema 1 own → AsksNext (next_of (replicate n (asks.Join sequence_0))) own
     → Joined (length own) own
 joined_by schema n [] h a = record { ends = refl; peers = λ j e l. absurd (omega arith); unbound = λ x. refl }
@@ -85,7 +85,7 @@ joined_by schema n (event ∷ own) h a =
     rw m at (one_more (length own) own event.seq event.asked event.told before pairs)
 
 -- the joins of a script make a pipe each
-pub joined : (schema : Schema) (pipes : List Pipe) (past : List Event) → legal schema 1 past → IsPart (next_of (joins_of pipes)) [] past
+pub joined : (schema : NarrowSchema) (pipes : List Pipe) (past : List Event) → legal schema 1 past → IsPart (next_of (joins_of pipes)) [] past
     → Joined (length pipes) past
 joined schema pipes past h p =
     let whole : past ≡ p.own = p.whole ∙ append-nil p.own in

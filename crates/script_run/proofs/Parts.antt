@@ -3,7 +3,7 @@ use Rattle.std.proofs.Common.{◌≡◌, ◌+◌, ◌≤◌, ℕ, zero, suc, Lis
 use Rattle.std.specs.Prelude.{Option, slice_get}
 use Rattle.std.specs.Option.{option_map}
 use Rattle.std.proofs.lemmas.Option.{slice_get_past, slice_get_within}
-use Rattle.mj_schema.specs.declared.schema.Schema.{Schema}
+use Rattle.mj_schema.specs.declared.narrow_schema.NarrowSchema.{NarrowSchema}
 use Rattle.bind_model.specs.declared.event.Asked.{Asked}
 use Rattle.bind_model.specs.declared.event.Event.{Event}
 use Rattle.bind_model.specs.Machine.{answer}
@@ -27,7 +27,7 @@ module _ (next : List Event → Option Next) (before : List Event) where
   phase_none = record { own = []; whole = refl; count = refl; asks = tt }
 
   -- one event more, the next
-  pub phase_more : (schema : Schema) (mid after : List Event) (n : ℕ) (asked : Asked) → Phase next before mid n → after ≡ with_asked schema mid asked
+  pub phase_more : (schema : NarrowSchema) (mid after : List Event) (n : ℕ) (asked : Asked) → Phase next before mid n → after ≡ with_asked schema mid asked
       → ((own : List Event) → length own ≡ n → mid ≡ own ++ before → next own ≡ Some (sequence_0, asked)) → Phase next before after (n + 1)
   phase_more schema mid after n asked p e asks =
       let event : Event = record { seq = sequence_0; asked = asked; told = answer schema 1 mid sequence_0 asked } in
@@ -42,7 +42,7 @@ module _ (next : List Event → Option Next) (before : List Event) where
 -- of a list of commands
 module _ (commands : List Asked) (before : List Event) where
   -- one command of the list more was asked
-  pub listed_more : (schema : Schema) (mid after : List Event) (n : ℕ) (asked : Asked)
+  pub listed_more : (schema : NarrowSchema) (mid after : List Event) (n : ℕ) (asked : Asked)
       → slice_get commands n ≡ Some asked → Phase (next_of commands) before mid n
       → after ≡ with_asked schema mid asked
       → Phase (next_of commands) before after (n + 1)

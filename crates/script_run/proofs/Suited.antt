@@ -2,7 +2,7 @@
 use Rattle.std.proofs.Common.{◌≡◌, ◌≢◌, ◌<◌, ℕ, List, ◌∷◌, length, refl, sym, ap, arith, Some, None, true, false}
 use Rattle.std.specs.Prelude.{Option, Bool, if◌then◌else◌}
 use Rattle.mj_base.specs.declared.ids.EndId.{EndId}
-use Rattle.mj_schema.specs.declared.schema.Schema.{Schema}
+use Rattle.mj_schema.specs.declared.narrow_schema.NarrowSchema.{NarrowSchema}
 use Rattle.bind_model.specs.declared.event.Asked.{Asked}
 use Rattle.bind_model.specs.declared.event.Asked.TheVariants as asks
 use Rattle.bind_model.specs.declared.event.Binding.{Binding}
@@ -44,7 +44,7 @@ sides_differ First b h q = cc
 sides_differ Second b h q = cc
 
 -- a binding of the script suits the peer's
-pub bind_allowed : (schema : Schema) (pipes : List Pipe) (past : List Event) (j : ℕ) (e : PipeEnd) → Suited pipes past → j < length pipes
+pub bind_allowed : (schema : NarrowSchema) (pipes : List Pipe) (past : List Event) (j : ℕ) (e : PipeEnd) → Suited pipes past → j < length pipes
     → IsAllowed schema past (asks.Bind (numbered (place_of j e)) (side_of e) (interface_at pipes j))
 bind_allowed schema pipes past j e s h = rw (s.peers j e h) (go (binding past (numbered (place_of j (other e)))) refl)
   where
@@ -58,7 +58,7 @@ place_same j k First Second h = absurd (omega (arith, h))
 place_same j k Second First h = absurd (omega (arith, h))
 place_same j k Second Second h = (omega (arith, h), refl)
 
-module _ (schema : Schema) (pipes : List Pipe) (past : List Event) (j : ℕ) (e : PipeEnd) (s : Suited pipes past) where
+module _ (schema : NarrowSchema) (pipes : List Pipe) (past : List Event) (j : ℕ) (e : PipeEnd) (s : Suited pipes past) where
   new_side : (k : ℕ) (f : PipeEnd) (b new : Binding) (here : Bool)
       → same_end (numbered (place_of j e)) (numbered (place_of k f)) ≡ here → new.side ≡ side_of e
       → new.interface ≡ interface_at pipes j

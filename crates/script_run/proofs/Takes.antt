@@ -4,7 +4,7 @@ use Rattle.std.specs.Prelude.{Bool, if◌then◌else◌}
 use Rattle.std.specs.List.{AllByRecursion}
 use Rattle.mj_base.specs.declared.ids.EndId.{EndId}
 use Rattle.mj_base.specs.declared.ids.SeqId.{SeqId}
-use Rattle.mj_schema.specs.declared.schema.Schema.{Schema}
+use Rattle.mj_schema.specs.declared.narrow_schema.NarrowSchema.{NarrowSchema}
 use Rattle.bind_model.specs.declared.event.Asked.{Asked}
 use Rattle.bind_model.specs.declared.event.Asked.TheVariants as asks
 use Rattle.bind_model.specs.declared.event.Binding.{Binding}
@@ -41,14 +41,14 @@ bound_alone (event ∷ past) alone x b h = go event.told event.asked (bound_alon
     go told asked before q = before q
 
 -- what is ready is taken by sequence 0
-pub ready_alone : (schema : Schema) (past : List Event)
+pub ready_alone : (schema : NarrowSchema) (past : List Event)
     → AllByRecursion (λ (event : Event). event.seq ≡ sequence_0) past → (seq : SeqId) (x : EndId) → ready schema past ≡ Some (seq, x)
     → seq ≡ sequence_0
 ready_alone schema past alone seq x h =
     let so = ready_end schema past seq x h in
     sym so.on ∙ bound_alone past alone x so.at so.bound
 
-module _ (schema : Schema) (before : List Event) where
+module _ (schema : NarrowSchema) (before : List Event) where
   -- one take more was asked
   pub take_more : (mid after : List Event) (seq : SeqId) (x : EndId) (n : ℕ) → seq ≡ sequence_0 → ready schema mid ≡ Some (seq, x)
       → Phase (next_take schema before) before mid n
@@ -61,7 +61,7 @@ module _ (schema : Schema) (before : List Event) where
   no_more after n none p = phase_done (next_take schema before) before after n p (λ own count whole. rw (← whole, none) refl)
 
 -- a take leaves one unread message less
-pub one_less : (schema : Schema) (mid after : List Event) (seq : SeqId) (x : EndId) → legal schema 1 mid → AllAllowed schema mid
+pub one_less : (schema : NarrowSchema) (mid after : List Event) (seq : SeqId) (x : EndId) → legal schema 1 mid → AllAllowed schema mid
     → ready schema mid ≡ Some (seq, x)
     → after ≡ with_asked schema mid (asks.Take x) → (length after ≡ length mid + 1) × (pending after + 1 ≤ pending mid)
 one_less schema mid after seq x h a there e =

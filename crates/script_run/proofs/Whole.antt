@@ -4,7 +4,7 @@ use Rattle.std.specs.Prelude.{map}
 use Rattle.std.specs.List.{flat_map}
 use Rattle.std.proofs.lemmas.List.{length-map, length-replicate}
 use Rattle.mj_base.specs.declared.ids.EndId.{EndId}
-use Rattle.mj_schema.specs.declared.schema.Schema.{Schema}
+use Rattle.mj_schema.specs.declared.narrow_schema.NarrowSchema.{NarrowSchema}
 use Rattle.bind_model.specs.Machine.{made}
 use Rattle.bind_model.specs.declared.event.Asked.TheVariants as asks
 use Rattle.call_script.specs.declared.script.Pipe.{Pipe}
@@ -18,12 +18,12 @@ use Rattle.script_run.proofs.Parts.{parts, part_length}
 use Rattle.script_run.proofs.Binds.{binds_length}
 use Rattle.script_run.proofs.Steps.{past_length}
 
-bind_lines_length : (schema : Schema) (pipes : List Pipe) → length (flat_map (bind_lines schema) pipes) ≡ 2 * length pipes
+bind_lines_length : (schema : NarrowSchema) (pipes : List Pipe) → length (flat_map (bind_lines schema) pipes) ≡ 2 * length pipes
 bind_lines_length schema [] = refl
 bind_lines_length schema (pipe ∷ pipes) = omega (arith, bind_lines_length schema pipes)
 
 -- a line of text for each join, binding and line, and one before them
-pub script_length : (schema : Schema) (script : Script) → length (script_lines schema script) ≡ 1 + 3 * length script.pipes + length script.lines
+pub script_length : (schema : NarrowSchema) (script : Script) → length (script_lines schema script) ≡ 1 + 3 * length script.pipes + length script.lines
 script_length schema script =
     omega (
       arith,
@@ -55,7 +55,7 @@ module _ (pipes : List Pipe) (start joined bound : Run) (fresh : past_of start �
     lined_length = omega (arith, past_length lined, past_length bound, bound_length, part_length _ _ _ l.part, length-map lines (line_asks pipes ends))
 
     -- the parts of a run, one behind the other, are the script's
-    pub whole : (schema : Schema) (script : Script) (last : Run)
+    pub whole : (schema : NarrowSchema) (script : Script) (last : Run)
         → pipes ≡ script.pipes → lines ≡ script.lines → ends ≡ joined.held.items → joined.held.items ≡ made (past_of joined)
         → start.core.schema ≡ schema
         → DidPart (next_take lined.core.schema (past_of lined)) lined last → PastOfScript schema script (past_of last)

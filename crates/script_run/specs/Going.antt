@@ -2,7 +2,7 @@
 use Rattle.std.specs.Prelude.{ℕ, ◌≡◌, List, ◌∷◌, reverse, Option}
 use Rattle.std.specs.List.{AllByRecursion}
 use Rattle.mj_base.specs.declared.ids.EndId.{EndId}
-use Rattle.mj_schema.specs.declared.schema.Schema.{Schema}
+use Rattle.mj_schema.specs.declared.narrow_schema.NarrowSchema.{NarrowSchema}
 use Rattle.bind_model.specs.declared.event.Asked.{Asked}
 use Rattle.bind_model.specs.declared.event.Asked.TheVariants as asks
 use Rattle.bind_model.specs.declared.event.Event.{Event}
@@ -24,7 +24,7 @@ pub record IsGoing (run : Run) : Type 0 where
   pub alone : AllByRecursion (λ (event : Event). event.seq ≡ sequence_0) (past_of run)
 
 -- one event more: sequence 0 asks this, and is told what the events before give
-abbrev pub with_asked : Schema → List Event → Asked → List Event
+abbrev pub with_asked : NarrowSchema → List Event → Asked → List Event
 with_asked schema past asked = record { seq = sequence_0; asked = asked; told = answer schema 1 past sequence_0 asked } ∷ past
 
 -- a run in which one thing more was asked

@@ -4,7 +4,7 @@ use Rattle.std.specs.Prelude.{ℕ, ◌≡◌, ◌+◌, ◌*◌, ◌++◌, List, 
 use Rattle.std.specs.Option.{option_map}
 use Rattle.mj_base.specs.declared.ids.EndId.{EndId}
 use Rattle.mj_base.specs.declared.ids.SeqId.{SeqId}
-use Rattle.mj_schema.specs.declared.schema.Schema.{Schema}
+use Rattle.mj_schema.specs.declared.narrow_schema.NarrowSchema.{NarrowSchema}
 use Rattle.wire_model.specs.declared.target.MessageSide.TheVariants.{Request}
 use Rattle.bind_model.specs.declared.event.Asked.{Asked}
 use Rattle.bind_model.specs.declared.event.Asked.TheVariants as asks
@@ -74,10 +74,10 @@ abbrev pub commands_of : Script → List EndId → List Asked
 commands_of script ends = binds_from ends 0 script.pipes ++ map (line_asks script.pipes ends) script.lines
 
 -- a take at the end that is ready, by the sequence that it is bound on
-abbrev pub next_take : Schema → List Event → List Event → Option Next
+abbrev pub next_take : NarrowSchema → List Event → List Event → Option Next
 next_take schema before own = option_map (λ (turn : SeqId × EndId). (turn.0, asks.Take turn.1)) (ready schema (own ++ before))
 
-pub record PastOfScript (schema : Schema) (script : Script) (past : List Event) : Type 0 where
+pub record PastOfScript (schema : NarrowSchema) (script : Script) (past : List Event) : Type 0 where
   pub after_joins : List Event
   pub after_lines : List Event
   pub joins : IsPart (next_of (joins_of script.pipes)) [] after_joins
@@ -85,5 +85,5 @@ pub record PastOfScript (schema : Schema) (script : Script) (past : List Event) 
   pub drain : IsPart (next_take schema after_lines) after_lines past
 
 -- the events, in order, are the script's
-abbrev pub OfScript : Schema → Script → List Event → Type 0
+abbrev pub OfScript : NarrowSchema → Script → List Event → Type 0
 OfScript schema script history = PastOfScript schema script (reverse history)

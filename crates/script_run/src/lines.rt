@@ -17,7 +17,7 @@ use bind_core::Command;
 use call_script::{Line, Pipe, PipeEnd};
 use mj_base::EndId;
 use mj_base::limits::MAX_PAYLOAD_BYTES;
-use mj_schema::Schema;
+use mj_schema::NarrowSchema;
 use std::alloc::Global;
 use wire_model::{MessageSide, PrepareError, Target, Value, prepare};
 
@@ -48,7 +48,7 @@ fn interface_of(pipes: &[Pipe], pipe: u32) -> u32
 /// The command of a line.
 pub fn command_of_line(
     alloc: Global,
-    schema: &Schema,
+    schema: &NarrowSchema,
     pipes: &[Pipe],
     ends: &[EndId],
     line: &Line,
@@ -80,7 +80,7 @@ pub fn command_of_line(
 /// The command of a call on endpoint 0 at an end.
 fn call(
     alloc: Global,
-    schema: &Schema,
+    schema: &NarrowSchema,
     end: EndId,
     target: Target,
     value: &Value,

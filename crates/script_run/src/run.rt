@@ -20,7 +20,7 @@ use bind_model::{History, Side};
 use call_script::{Line, Pipe, Script};
 use mj_base::limits::{MAX_EVENTS, MAX_SCRIPT_LINES};
 use mj_base::{EndId, SeqId};
-use mj_schema::Schema;
+use mj_schema::NarrowSchema;
 use std::alloc::Global;
 use std::sync::Arc;
 
@@ -35,7 +35,7 @@ pub struct Run {
 
 impl Run {
     /// A run in which nothing was asked yet.
-    pub fn new(alloc: Global, schema: Arc<Schema>) -> Run
+    pub fn new(alloc: Global, schema: Arc<NarrowSchema>) -> Run
         ensures going { IsGoing result }
         ensures schema { result.core.schema ≡ arc_value schema }
         ensures fresh { result.core.events ≡ [] }
@@ -197,7 +197,7 @@ impl Run {
     fn do_lines(
         &mut self,
         alloc: Global,
-        schema: &Schema,
+        schema: &NarrowSchema,
         pipes: &[Pipe],
         ends: &[EndId],
         lines: &[Line],
@@ -232,7 +232,12 @@ impl Run {
     }
 
     /// The whole script.
-    pub fn play(&mut self, alloc: Global, schema: &Schema, script: &Script) -> Result<(), NoMemory>
+    pub fn play(
+        &mut self,
+        alloc: Global,
+        schema: &NarrowSchema,
+        script: &Script,
+    ) -> Result<(), NoMemory>
         requires going { IsGoing self.old }
         requires schema { schema.now ≡ self.old.core.schema }
         requires fresh { past_of self.old ≡ [] }

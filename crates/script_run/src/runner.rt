@@ -12,7 +12,7 @@ use crate::run::Run;
 use bind_model::History;
 use call_script::Script;
 use mj_base::limits::MAX_SCRIPT_LINES;
-use mj_schema::Schema;
+use mj_schema::NarrowSchema;
 use std::alloc::Global;
 use std::sync::Arc;
 use thiserror::Error;
@@ -24,7 +24,11 @@ pub struct NoMemory;
 
 /// Runs a script of one sequence to its end: all that it asks, and then takes until no message is
 /// ready. The history has 131,072 events at most.
-pub fn run_alone(alloc: Global, schema: Arc<Schema>, script: &Script) -> Result<History, NoMemory>
+pub fn run_alone(
+    alloc: Global,
+    schema: Arc<NarrowSchema>,
+    script: &Script,
+) -> Result<History, NoMemory>
     requires script { IsScript (arc_value schema) script.now }
     requires narrow { IsNarrow (arc_value schema) }
     ensures legal { IfOk result (λ history. Legal (arc_value schema) 1 history.events) }

@@ -182,6 +182,7 @@ rows_more : (k i : ℕ) (fs : List DraftField) (ps : List Place) (d : DraftField
       offset = (get_or ps i e).offset;
       bit = (get_or ps i e).bit;
       min_version = (get_or fs i d).min_version;
+      default = (get_or fs i d).default;
     } ∷ []
 rows_more k i [] ps d e same lt = absurd (omega arith)
 rows_more k i (f ∷ fs) [] d e same lt = absurd (omega arith)
@@ -191,8 +192,16 @@ rows_more k zero (f ∷ fs) (p ∷ ps) d e same lt =
 rows_more k (suc i) (f ∷ fs) (p ∷ ps) d e same lt =
     let rest = rows_more (k + 1) i fs ps d e (omega arith) (omega arith) in
     let there : k + 1 + i ≡ k + suc i = omega arith in
-    ap (λ (rs : List FieldRow). record { name = f.name; ordinal = k; kind = f.kind; offset = p.offset; bit = p.bit; min_version = f.min_version }
-    ∷ rs) (rw there at rest)
+    let row : FieldRow = record {
+      name = f.name;
+      ordinal = k;
+      kind = f.kind;
+      offset = p.offset;
+      bit = p.bit;
+      min_version = f.min_version;
+      default = f.default;
+    } in
+    ap (λ (rs : List FieldRow). row ∷ rs) (rw there at rest)
 
 -- the versions of the fields that are left
 pub falls_next : (v i : ℕ) (fs : List DraftField) (d : DraftField) → i < length fs
@@ -215,7 +224,7 @@ module _ (fs : List DraftField) (ps : List Place) (i version end end' : ℕ) (ro
     (falls : never_fall version (map (λ (d : DraftField). d.min_version) (drop i fs)) ≡ true)
     (end-is : end' ≡ max end (p.offset + bytes_of f.kind)) where
   abbrev here : FieldRow
-  here = record { name = f.name; ordinal = i; kind = f.kind; offset = p.offset; bit = p.bit; min_version = f.min_version }
+  here = record { name = f.name; ordinal = i; kind = f.kind; offset = p.offset; bit = p.bit; min_version = f.min_version; default = f.default }
 
   more : field_rows 0 (take (i + 1) fs) (take (i + 1) ps) ≡ field_rows 0 (take i fs) (take i ps) ++ here ∷ []
   more =

@@ -59,6 +59,7 @@ fn narrow_fields(alloc: Global, names: &[Text]) -> Result<Vec<DraftField>, Alloc
             name: Text::from_str(alloc, name.as_str())?,
             kind: Kind::UINT32,
             min_version: 0,
+            default: None,
         })?;
     }
     Ok(fields)
@@ -84,6 +85,7 @@ fn place_fields(
             offset: place.offset,
             bit: place.bit,
             min_version: field.min_version,
+            default: field.default,
         })?;
     }
     Ok(rows)

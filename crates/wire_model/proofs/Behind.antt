@@ -6,10 +6,10 @@ use Rattle.std.proofs.lemmas.Bool.Decides.{nat_tests}
 use Rattle.std.proofs.lemmas.List.{get_or_append_left}
 use Rattle.mj_base.specs.Bytes.{le32_at}
 use Rattle.mj_base.specs.Header.{has_header, header_fields}
-use Rattle.mj_schema.specs.declared.schema.Schema.{Schema}
+use Rattle.mj_schema.specs.declared.narrow_schema.NarrowSchema.{NarrowSchema}
 use Rattle.mj_schema.specs.declared.rows.StructRow.{StructRow}
 use Rattle.mj_schema.specs.Narrow.{narrow_struct_bytes}
-use Rattle.mj_schema.specs.Lookups.{request_of}
+use Rattle.mj_schema.specs.NarrowLookups.{request_of}
 use Rattle.wire_model.specs.declared.wire_decoder.Request.{Request}
 use Rattle.wire_model.specs.Stands.{has_row, has_struct, numbers_at, request_with, request_in}
 
@@ -82,7 +82,7 @@ module _ (bytes more : List ℕ) where
       ]
 
   -- a request that the bytes stand for is the same with more bytes behind it
-  pub request_in-append : (schema : Schema) (interface : ℕ) (r : Request) → request_in schema interface bytes ≡ Some r
+  pub request_in-append : (schema : NarrowSchema) (interface : ℕ) (r : Request) → request_in schema interface bytes ≡ Some r
       → request_in schema interface (bytes ++ more) ≡ Some r
   unfolding request_in
   request_in-append schema interface r is =

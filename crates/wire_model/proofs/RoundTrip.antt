@@ -7,7 +7,7 @@ use Rattle.std.proofs.lemmas.List.{length-replicate}
 use Rattle.mj_base.specs.declared.limits.TheConstants.{MAX_PAYLOAD_BYTES}
 use Rattle.mj_base.specs.Bytes.{le32_at, le32_bytes}
 use Rattle.mj_base.specs.Header.{header_of, header_bytes}
-use Rattle.mj_schema.specs.declared.schema.Schema.{Schema}
+use Rattle.mj_schema.specs.declared.narrow_schema.NarrowSchema.{NarrowSchema}
 use Rattle.mj_schema.specs.Narrow.{narrow_struct_bytes}
 use Rattle.wire_model.specs.declared.target.Target.{Target}
 use Rattle.wire_model.specs.declared.wire_decoder.Request.{Request}
@@ -73,7 +73,7 @@ struct_at-params_bytes front values small short =
     rw (header, size_is, version_is, same, inside) (ap Some numbers)
 
 -- the bytes of a message to a method of an interface stand for the request that was written
-pub request_in-message_bytes : (schema : Schema) (target : Target) (value : List ℕ) (id : ℕ)
+pub request_in-message_bytes : (schema : NarrowSchema) (target : Target) (value : List ℕ) (id : ℕ)
     → IsPrepared schema target value → id < 2 ^ 32
     → request_in schema target.interface (message_bytes id target.method value)
     ≡ Some (record { interface_id = id; method = target.method; request_id = 0; value = value })
@@ -88,7 +88,7 @@ same_parts : {r q : Request} → Some r ≡ Some q → (r.interface_id ≡ q.int
 same_parts e = (cc, cc, cc)
 
 -- two messages to one interface have the same bytes only where they are for the same endpoint and method, with the same value
-pub one_form : (schema : Schema) (target other : Target) (value others : List ℕ) (id other_id : ℕ)
+pub one_form : (schema : NarrowSchema) (target other : Target) (value others : List ℕ) (id other_id : ℕ)
     → IsPrepared schema target value → IsPrepared schema other others → target.interface ≡ other.interface → id < 2 ^ 32 → other_id < 2 ^ 32
     → message_bytes id target.method value ≡ message_bytes other_id other.method others
     → (id ≡ other_id) × (target.method ≡ other.method) × (value ≡ others)

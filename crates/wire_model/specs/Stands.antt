@@ -3,10 +3,10 @@ use Rattle.std.specs.Prelude.{ℕ, zero, suc, Bool, ◌+◌, ◌==◌, ◌&&◌,
 use Rattle.mj_base.specs.Bytes.{le32_at}
 use Rattle.mj_base.specs.Header.{header_of}
 use Rattle.mj_base.specs.declared.header.Header.{Header}
-use Rattle.mj_schema.specs.declared.schema.Schema.{Schema}
+use Rattle.mj_schema.specs.declared.narrow_schema.NarrowSchema.{NarrowSchema}
 use Rattle.mj_schema.specs.declared.rows.StructRow.{StructRow}
 use Rattle.mj_schema.specs.Narrow.{narrow_struct_bytes}
-use Rattle.mj_schema.specs.Lookups.{request_of}
+use Rattle.mj_schema.specs.NarrowLookups.{request_of}
 use Rattle.wire_model.specs.declared.wire_decoder.Request.{Request}
 
 -- the row rule: a struct of the known version has exactly its bytes, a newer one at least as many
@@ -42,7 +42,7 @@ request_with bytes header row =
 
 -- the request that the bytes stand for at an endpoint of this interface: the header is one, its name is the ordinal of a method,
 -- and the payload begins with a struct of that method's parameters. What lies behind the struct is ignored
-unfoldable pub request_in : Schema → ℕ → List ℕ → Option Request
+unfoldable pub request_in : NarrowSchema → ℕ → List ℕ → Option Request
 request_in schema interface bytes =
     option_and_then
     (λ (header : Header). option_and_then (λ (row : StructRow). request_with bytes header row) (request_of schema interface header.name))

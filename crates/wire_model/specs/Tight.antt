@@ -4,10 +4,10 @@ use Rattle.std.specs.List.{flat_map}
 use Rattle.mj_base.specs.declared.limits.TheConstants.{MAX_PAYLOAD_BYTES}
 use Rattle.mj_base.specs.Bytes.{le32_bytes}
 use Rattle.mj_base.specs.Header.{header_bytes}
-use Rattle.mj_schema.specs.declared.schema.Schema.{Schema}
+use Rattle.mj_schema.specs.declared.narrow_schema.NarrowSchema.{NarrowSchema}
 use Rattle.mj_schema.specs.declared.rows.StructRow.{StructRow}
 use Rattle.mj_schema.specs.Narrow.{narrow_struct_bytes}
-use Rattle.mj_schema.specs.Lookups.{request_of}
+use Rattle.mj_schema.specs.NarrowLookups.{request_of}
 use Rattle.wire_model.specs.declared.target.Target.{Target}
 use Rattle.wire_model.specs.declared.target.MessageSide.TheVariants.{Request}
 
@@ -22,11 +22,11 @@ unfoldable pub message_bytes : ℕ → ℕ → List ℕ → List ℕ
 message_bytes interface_id method values = header_bytes interface_id method ++ params_bytes values
 
 -- the schema has a method of this target
-abbrev pub HasTarget : Schema → Target → Type 0
+abbrev pub HasTarget : NarrowSchema → Target → Type 0
 HasTarget schema target = IsSome (request_of schema target.interface target.method) × (target.side ≡ Request)
 
 -- the value is one of the target's parameter struct, and its payload is within the limit
-pub record IsPrepared (schema : Schema) (target : Target) (value : List ℕ) : Type 0 where
+pub record IsPrepared (schema : NarrowSchema) (target : Target) (value : List ℕ) : Type 0 where
   pub row : StructRow
   pub there : request_of schema target.interface target.method ≡ Some row
   pub request : target.side ≡ Request

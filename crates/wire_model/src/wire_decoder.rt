@@ -8,7 +8,7 @@ use crate::numbers::read_numbers;
 use crate::struct_size::struct_size;
 use crate::target::Value;
 use mj_base::{Items, le32};
-use mj_schema::Schema;
+use mj_schema::NarrowSchema;
 use std::alloc::{AllocError, Global};
 
 /// A request as its bytes give it: the endpoint that it is for, its method's ordinal, its request
@@ -26,7 +26,7 @@ pub struct Request {
 #[tactic(auto, unfolding(crate::specs::Stands::request_in))]
 pub fn read_request(
     alloc: Global,
-    schema: &Schema,
+    schema: &NarrowSchema,
     interface: u32,
     bytes: &[u8],
 ) -> Result<Option<Request>, AllocError>

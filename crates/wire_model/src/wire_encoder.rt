@@ -11,7 +11,7 @@ use crate::struct_size::struct_size;
 use crate::target::{Target, Value};
 use mj_base::limits::MAX_PAYLOAD_BYTES;
 use mj_base::{Items, push_le32};
-use mj_schema::Schema;
+use mj_schema::NarrowSchema;
 use std::alloc::{AllocError, Global};
 use std::fmt;
 use std::marker::Model;
@@ -97,7 +97,7 @@ pub struct Head {
 /// can only want for memory. A value that doesn't fit is refused with the path of what misfits.
 pub fn prepare(
     alloc: Global,
-    schema: &Schema,
+    schema: &NarrowSchema,
     target: Target,
     value: &Value,
 ) -> Result<Prepared, PrepareError>
@@ -118,7 +118,7 @@ pub fn prepare(
 /// Refuses a value that isn't one of its target's parameters.
 fn check_value(
     alloc: Global,
-    schema: &Schema,
+    schema: &NarrowSchema,
     target: Target,
     numbers: &[u32],
 ) -> Result<(), PrepareError>
@@ -136,7 +136,7 @@ fn check_value(
 }
 
 /// How many parameters the target's method has.
-fn parameter_count(schema: &Schema, target: Target) -> usize
+fn parameter_count(schema: &NarrowSchema, target: Target) -> usize
     requires { HasTarget schema.now target }
     ensures { parameter_count schema.now target ≡ Some result }
 {

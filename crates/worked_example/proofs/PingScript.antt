@@ -4,7 +4,7 @@ use Rattle.std.specs.Prelude.{codes, decimal}
 use Rattle.std.proofs.lemmas.Fmt.{decimal_digit}
 use Rattle.std.proofs.lemmas.List.{length-map}
 use Rattle.mj_schema.specs.declared.rows.DraftStruct.{DraftStruct}
-use Rattle.mj_schema.specs.declared.schema.Schema.{Schema}
+use Rattle.mj_schema.specs.declared.narrow_schema.NarrowSchema.{NarrowSchema}
 use Rattle.mj_schema.specs.Layout.{draft_field}
 use Rattle.wire_model.specs.Tight.{HasTarget}
 use Rattle.call_script.specs.declared.script.Pipe.{Pipe}
@@ -16,19 +16,19 @@ use Rattle.worked_example.specs.declared.ping.TheConstants.{PING}
 use Rattle.worked_example.specs.Ping.{IsPing}
 
 -- the struct of the parameters has one field
-one_field : (s : Schema) (ping : IsPing s) → length ping.params.fields ≡ 1
+one_field : (s : NarrowSchema) (ping : IsPing s) → length ping.params.fields ≡ 1
 one_field s ping = sym (length-map ping.params.fields draft_field) ∙ ap (λ (draft : DraftStruct). length draft.fields) ping.draft
 
 -- the schema has the one method: for the clauses of `ping_schema`
-pub has_ping : (s : Schema) → IsPing s → HasTarget s PING
+pub has_ping : (s : NarrowSchema) → IsPing s → HasTarget s PING
 has_ping s ping = (rw (ping.interfaces, ping.structs) refl, refl)
 
 -- its struct fits a message: for the clauses of `ping_schema`
-pub narrow_ping : (s : Schema) → IsPing s → IsNarrow s
+pub narrow_ping : (s : NarrowSchema) → IsPing s → IsNarrow s
 narrow_ping s ping = let fields = one_field s ping in rw ping.structs (omega arith, tt)
 
 -- the script is one of the schema: for the clause of `ping_script`
-pub script_of_ping : (s : Schema) (p : Pipe) (script : Script) → script.pipes ≡ p ∷ [] → p.first ≡ codes "a" → p.second ≡ codes "b" → p.interface ≡ 0
+pub script_of_ping : (s : NarrowSchema) (p : Pipe) (script : Script) → script.pipes ≡ p ∷ [] → p.first ≡ codes "a" → p.second ≡ codes "b" → p.interface ≡ 0
     → script.lines ≡ Call 0 0 (7 ∷ []) ∷ [] → IsPing s → IsScript s script
 script_of_ping s p script pipes first second interface lines ping =
     let fields = one_field s ping in

@@ -14,7 +14,7 @@ ghost use Rattle.wire_model.specs.Tight.{HasTarget};
 use bind_core::{Command, Core, Handle, Reply};
 use bind_model::Side;
 use mj_base::{EndId, Items, SeqId};
-use mj_schema::Schema;
+use mj_schema::NarrowSchema;
 use std::alloc::Global;
 use std::process::Abort;
 use wire_model::{Target, prepare};
@@ -100,7 +100,7 @@ pub fn call(
     rt: &impl Abort,
     core: &mut Core,
     alloc: Global,
-    schema: &Schema,
+    schema: &NarrowSchema,
     from: EndId,
     target: Target,
     numbers: &[u32],

@@ -8,7 +8,7 @@ use crate::core_steps::{ONLY, call, open, tell};
 use bind_core::{Alone, Command, Core, Reply, Stepper};
 use bind_model::{Taken, Told, Why};
 use mj_base::EndId;
-use mj_schema::Schema;
+use mj_schema::NarrowSchema;
 use std::alloc::{AllocError, Global};
 use std::process::Abort;
 use std::sync::Arc;
@@ -27,7 +27,7 @@ fn take_at<S: Stepper>(rt: &impl Abort, stepper: &mut S, alloc: Global, end: End
 }
 
 /// A take in vain at the second end of a new pipe, a call of `Ping(7)` at the first, and its take.
-fn ping(rt: &impl Abort, core: &mut Core, alloc: Global, schema: &Schema) -> Option<Taken>
+fn ping(rt: &impl Abort, core: &mut Core, alloc: Global, schema: &NarrowSchema) -> Option<Taken>
     requires seqs { core.old.seqs ≡ 1 }
     requires schema { core.old.schema ≡ schema.now }
     requires target { HasTarget schema.now PING }

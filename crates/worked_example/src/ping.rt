@@ -1,7 +1,7 @@
 //! The schema and the script of the worked example.
 
 ghost use Rattle.std.specs.Prelude.{IfOk};
-ghost use Rattle.mj_schema.specs.declared.schema.Schema.{Schema};
+ghost use Rattle.mj_schema.specs.declared.narrow_schema.NarrowSchema.{NarrowSchema};
 ghost use Rattle.wire_model.specs.Tight.{HasTarget};
 ghost use Rattle.call_script.specs.Spelling.{IsScript};
 ghost use Rattle.script_run.specs.Narrow.{IsNarrow};
@@ -9,7 +9,7 @@ ghost use Rattle.worked_example.specs.Ping.{IsPing};
 
 use call_script::{Line, Pipe, Script};
 use mj_base::{Items, Text};
-use mj_schema::{InterfaceRow, MethodRow, Schema};
+use mj_schema::{InterfaceRow, MethodRow, NarrowSchema};
 use std::alloc::{AllocError, Global};
 use version_tables::lay_out_narrow;
 use wire_model::{MessageSide, Target};
@@ -22,7 +22,7 @@ pub const PING: Target = Target {
 };
 
 /// The schema of `module t; interface P { Ping(uint32 n); };`, with the names that the compiler gives.
-pub fn ping_schema(alloc: Global) -> Result<Schema, AllocError>
+pub fn ping_schema(alloc: Global) -> Result<NarrowSchema, AllocError>
     ensures ping { IfOk result IsPing }
     ensures target { IfOk result (λ schema. HasTarget schema PING) }
     ensures narrow { IfOk result IsNarrow }
@@ -36,12 +36,13 @@ pub fn ping_schema(alloc: Global) -> Result<Schema, AllocError>
         name: Text::from_str(alloc, "Ping")?,
         ordinal: 0,
         request: 0,
+        response: None,
     };
     let interface = InterfaceRow {
         name: Text::from_str(alloc, "t.P")?,
         methods: Items::from_vec(vec![in alloc; method]?),
     };
-    Ok(Schema {
+    Ok(NarrowSchema {
         structs: Items::from_vec(vec![in alloc; params]?),
         unions: Items::new(alloc),
         enums: Items::new(alloc),
@@ -51,7 +52,7 @@ pub fn ping_schema(alloc: Global) -> Result<Schema, AllocError>
 
 /// A script of one pipe, `a` to `b`, that calls `Ping(7)`.
 pub fn ping_script(alloc: Global) -> Result<Script, AllocError>
-    ensures { IfOk result (λ script. (schema : Schema) → IsPing schema → IsScript schema script) }
+    ensures { IfOk result (λ script. (schema : NarrowSchema) → IsPing schema → IsScript schema script) }
 {
     let pipe = Pipe {
         first: Text::from_str(alloc, "a")?,

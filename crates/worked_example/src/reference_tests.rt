@@ -12,7 +12,7 @@ use bind_core::{Command, Core, Handle, Reply};
 use bind_model::{Asked, Binding, Event, Side, Taken, Told, Why};
 use mj_base::limits::MAX_FIELDS;
 use mj_base::{EndId, Items, Text};
-use mj_schema::{InterfaceRow, MethodRow, Schema, StructRow};
+use mj_schema::{InterfaceRow, MethodRow, NarrowSchema, StructRow};
 use reference::{binding, is_legal, message_bytes, outs, peer, request_in, taken, unread, written};
 use std::alloc::{AllocError, Global};
 use std::process::Abort;
@@ -61,11 +61,12 @@ fn method(alloc: Global, name: &str, number: u32) -> Result<MethodRow, AllocErro
         name: Text::from_str(alloc, name)?,
         ordinal: number,
         request: number,
+        response: None,
     })
 }
 
 /// The schema of `module t; interface P { Ping(uint32 n); Move(uint32 x, uint32 y); };`.
-fn two_methods(alloc: Global) -> Result<Schema, AllocError>
+fn two_methods(alloc: Global) -> Result<NarrowSchema, AllocError>
     ensures { IfOk result (λ schema. HasTarget schema PING × HasTarget schema MOVE) }
 {
     let one = [Text::from_str(alloc, "n")?];
@@ -77,7 +78,7 @@ fn two_methods(alloc: Global) -> Result<Schema, AllocError>
         name: Text::from_str(alloc, "t.P")?,
         methods: Items::from_vec(methods),
     };
-    Ok(Schema {
+    Ok(NarrowSchema {
         structs: Items::from_vec(vec![in alloc; ping, shift]?),
         unions: Items::new(alloc),
         enums: Items::new(alloc),
@@ -163,7 +164,7 @@ fn misbind(rt: &impl Abort, core: &mut Core, alloc: Global, handle: Handle) -> H
 }
 
 /// Three pipes, of which the third stays with the caller; calls at three ends, and takes at two.
-fn play(rt: &impl Abort, core: &mut Core, alloc: Global, schema: &Schema) -> (Handle, Handle)
+fn play(rt: &impl Abort, core: &mut Core, alloc: Global, schema: &NarrowSchema) -> (Handle, Handle)
     requires seqs { core.old.seqs ≡ 1 }
     requires schema { core.old.schema ≡ schema.now }
     requires targets { HasTarget schema.now PING × HasTarget schema.now MOVE }

@@ -2,7 +2,7 @@
 use Rattle.std.specs.Prelude.{ℕ, ◌≡◌, ◌<◌, ◌⊎◌, List, length, Option, Some, None}
 use Rattle.mj_base.specs.declared.limits.TheConstants.{MAX_FILE_BYTES}
 use Rattle.mj_io.specs.Outside.{Named, find_file, FilesState, Rose}
-use Rattle.mj_schema.specs.declared.schema.Schema.{Schema}
+use Rattle.mj_schema.specs.declared.narrow_schema.NarrowSchema.{NarrowSchema}
 use Rattle.mojom_compile.specs.declared.error.FileRefusal.{FileRefusal}
 use Rattle.call_script.specs.declared.script.Script.{Script}
 use Rattle.call_script.specs.Spelling.{IsScriptOf}
@@ -50,7 +50,7 @@ NotCompiled Such name (ReadFault other) = ⊥
 NotCompiled Such name NoMemory = Unit {0}
 
 -- the bytes are no script of the schema, or there was no memory to tell
-abbrev pub NoScript : Schema → List ℕ → List ℕ → Stop → Type 0
+abbrev pub NoScript : NarrowSchema → List ℕ → List ℕ → Stop → Type 0
 NoScript schema bytes name (Refused refusal) = ((script : Script) → IsScriptOf schema bytes script → ⊥) × (refused_work refusal ≡ Unreadable name)
 NoScript schema bytes name (ReadFault other) = ⊥
 NoScript schema bytes name NoMemory = Unit {0}
