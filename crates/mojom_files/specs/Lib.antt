@@ -1,0 +1,5 @@
+pub mod Basics
+pub mod Names
+pub mod Definitions
+pub mod Views
+pub mod Refusals
