@@ -1,0 +1,12 @@
+pub mod Positions
+pub mod Known
+pub mod OneMore
+pub mod Places
+pub mod Marks
+pub mod Firsts
+pub mod FileNumbers
+pub mod Walks
+pub mod Leading
+pub mod OneOrder
+pub mod Counts
+pub mod Frees

@@ -1,0 +1,209 @@
+//! The names of files, from their trees.
+
+ghost use Rattle.std.specs.Prelude.{◌≡◌, ◌++◌, IfOk, OnOk, map, filter};
+ghost use Rattle.std.specs.List.{flat_map, list_any};
+ghost use Rattle.std.specs.Str.{bytes_eq};
+ghost use Rattle.mojom_files.specs.Names.{within};
+ghost use Rattle.mojom_files.specs.Definitions.{enumerator_names};
+ghost use Rattle.mojom_files.specs.Views.{item_view};
+ghost use Rattle.module_resolver.specs.NamesOf.{sort_of_item, fronts_of, module_fronts, sees, sees_number, names_in, names_of};
+
+use crate::file_names::{FileNames, Names};
+use crate::name_table::NameTable;
+use crate::target::DefinitionSort;
+use mj_base::{Items, Text};
+use mojom_ast::{Enumerator, Identifier, Import, ModuleStatement};
+use mojom_files::{DefinitionView, ItemView, NamedFile, definitions, within};
+use std::alloc::{AllocError, Global};
+
+/// The full names of definitions.
+fn full_names(alloc: Global, views: &[DefinitionView<'_>]) -> Result<Items<Text>, AllocError>
+    ensures { IfOk result (λ names. names ≡ map (λ d. d.full) views.now) }
+{
+    let mut names = Vec::new(alloc);
+    for view in views {
+        names.push(Text::from_str(alloc, view.full())?)?;
+    }
+    Ok(Items::from_vec(names))
+}
+
+/// What a definition is.
+fn sort_of_item(item: ItemView<'_>) -> DefinitionSort
+    ensures { result ≡ sort_of_item (item_view item.entry) }
+{
+    match item {
+        ItemView::Struct(_) => DefinitionSort::Struct,
+        ItemView::Union(_) => DefinitionSort::Union,
+        ItemView::Enum(_) => DefinitionSort::Enum,
+        ItemView::Interface(_) => DefinitionSort::Interface,
+        ItemView::Const(_) => DefinitionSort::Const,
+    }
+}
+
+/// What definitions are.
+fn sorts(alloc: Global, views: &[DefinitionView<'_>]) -> Result<Items<DefinitionSort>, AllocError>
+    ensures { IfOk result (λ sorts. sorts ≡ map (λ d. sort_of_item d.item) views.now) }
+{
+    let mut sorts = Vec::new(alloc);
+    for view in views {
+        sorts.push(sort_of_item(view.item()))?;
+    }
+    Ok(Items::from_vec(sorts))
+}
+
+/// Adds the full names of the enumerators of an enum.
+fn add_enumerators(
+    alloc: Global,
+    names: &mut Vec<Text>,
+    outer: &str,
+    enumerators: &[Enumerator],
+) -> Result<(), AllocError>
+    ensures { OnOk result (names.new.items ≡ names.old.items ++ map (λ e. within outer.now e.name.text) enumerators.now) }
+{
+    for enumerator in enumerators {
+        names.push(within(alloc, outer, enumerator.name.text.as_str())?)?;
+    }
+    Ok(())
+}
+
+/// Adds the full names of the enumerators of a definition.
+fn add_of_definition(
+    alloc: Global,
+    names: &mut Vec<Text>,
+    view: &DefinitionView<'_>,
+) -> Result<(), AllocError>
+    ensures { OnOk result (names.new.items ≡ names.old.items ++ enumerator_names view.now) }
+{
+    match view.item() {
+        ItemView::Enum(item) => {
+            add_enumerators(alloc, names, view.full(), item.enumerators.as_slice())
+        }
+        ItemView::Struct(_) | ItemView::Union(_) | ItemView::Interface(_) | ItemView::Const(_) => {
+            Ok(())
+        }
+    }
+}
+
+/// The full names of the enumerators of definitions.
+fn enumerator_names(alloc: Global, views: &[DefinitionView<'_>]) -> Result<Items<Text>, AllocError>
+    ensures { IfOk result (λ names. names ≡ flat_map enumerator_names views.now) }
+{
+    let mut names = Vec::new(alloc);
+    for view in views {
+        add_of_definition(alloc, &mut names, view)?;
+    }
+    Ok(Items::from_vec(names))
+}
+
+/// Whether one of these imports is of the file of this name.
+fn is_imported(imports: &[Import], name: &str) -> bool
+    ensures { result ≡ list_any (λ one. bytes_eq one.path.bytes name.now) imports.now }
+{
+    for one in imports {
+        if one.path.bytes.as_slice() == name.as_bytes() {
+            return true;
+        }
+    }
+    false
+}
+
+/// Whether a file sees another: itself, or one that it imports.
+fn sees(file: &NamedFile, other: &NamedFile) -> bool
+    ensures { result ≡ sees file.now other.now }
+{
+    let name = other.name.as_str();
+    name == file.name.as_str() || is_imported(file.tree.imports.as_slice(), name)
+}
+
+/// Whether a file sees the one of this number.
+fn sees_number(files: &[NamedFile], file: &NamedFile, number: u32) -> bool
+    ensures { result ≡ sees_number files.now file.now number }
+{
+    match files.get(number as usize) {
+        Some(other) => sees(file, other),
+        None => false,
+    }
+}
+
+/// The numbers of the files that a file sees, in resolved order.
+fn seen(
+    alloc: Global,
+    files: &[NamedFile],
+    order: &[u32],
+    file: &NamedFile,
+) -> Result<Items<u32>, AllocError>
+    ensures { IfOk result (λ seen. seen ≡ filter (sees_number files.now file.now) order.now) }
+{
+    let mut seen = Vec::new(alloc);
+    for number in order {
+        if sees_number(files, file, *number) {
+            seen.push(*number)?;
+        }
+    }
+    Ok(Items::from_vec(seen))
+}
+
+/// The text of a name and of each shorter front of it, the longest first.
+fn fronts_of(alloc: Global, parts: &[Identifier]) -> Result<Items<Text>, AllocError>
+    ensures { IfOk result (λ fronts. fronts ≡ fronts_of parts.now) }
+{
+    let [first, rest @ ..] = parts else {
+        return Ok(Items::new(alloc));
+    };
+    let mut fronts = Vec::new(alloc);
+    let mut front = Text::from_str(alloc, first.text.as_str())?;
+    for part in rest {
+        let longer = within(alloc, front.as_str(), part.text.as_str())?;
+        fronts.push(front)?;
+        front = longer;
+    }
+    fronts.push(front)?;
+    fronts.as_mut_slice().reverse();
+    Ok(Items::from_vec(fronts))
+}
+
+/// The name of a file's module and each shorter front of it, the longest first.
+fn module_fronts(
+    alloc: Global,
+    statement: &Option<ModuleStatement>,
+) -> Result<Items<Text>, AllocError>
+    ensures { IfOk result (λ fronts. fronts ≡ module_fronts statement.now) }
+{
+    match statement {
+        Some(statement) => fronts_of(alloc, statement.name.parts.as_slice()),
+        None => Ok(Items::new(alloc)),
+    }
+}
+
+/// The names of a file.
+fn names_in(
+    alloc: Global,
+    files: &[NamedFile],
+    order: &[u32],
+    file: &NamedFile,
+) -> Result<FileNames, AllocError>
+    ensures { IfOk result (λ names. names ≡ names_in files.now order.now file.now) }
+{
+    let found = definitions(alloc, &file.tree)?;
+    let views = found.as_slice();
+    Ok(FileNames {
+        definitions: NameTable::new(alloc, full_names(alloc, views)?)?,
+        sorts: sorts(alloc, views)?,
+        enumerators: NameTable::new(alloc, enumerator_names(alloc, views)?)?,
+        seen: seen(alloc, files, order, file)?,
+        fronts: module_fronts(alloc, &file.tree.module_statement)?,
+    })
+}
+
+/// The names of all files, where this is their resolved order.
+pub fn names_of(alloc: Global, files: &[NamedFile], order: &[u32]) -> Result<Names, AllocError>
+    ensures { IfOk result (λ names. names ≡ names_of files.now order.now) }
+{
+    let mut all = Vec::new(alloc);
+    for file in files {
+        all.push(names_in(alloc, files, order, file)?)?;
+    }
+    Ok(Names {
+        files: Items::from_vec(all),
+    })
+}
