@@ -1,0 +1,11 @@
+pub mod Known
+pub mod Things
+pub mod Origins
+pub mod Needs
+pub mod Meanings
+pub mod Consts
+pub mod Kinds
+pub mod Refused
+pub mod Evaluated
+pub mod Laws
+pub mod steps

@@ -1,0 +1,136 @@
+//! The defaults of fields.
+
+ghost use Rattle.std.specs.Prelude.{◌≡◌, IfOk, OnOk};
+ghost use Rattle.mojom_ast.specs.TypeTrees.{base_view};
+ghost use Rattle.mojom_files.specs.Refusals.{best_of};
+ghost use Rattle.const_eval.specs.Known.{known_view};
+ghost use Rattle.const_eval.specs.Refused.{meant_by_base, meant_by_value, is_enumerator_of, refused_enum_default, refused_default_as, refused_default};
+ghost use Rattle.const_eval.specs.steps.Views.{site_of};
+
+use crate::file_things::{FileThings, owner_of};
+use crate::here::Here;
+use crate::kinds::{check_value, refuse_literal};
+use crate::known::KnownView;
+use crate::places::place_of_value;
+use crate::trees::basic_of_base;
+use mj_base::Text;
+use module_resolver::Target;
+use mojom_ast::{BaseNode, Field, Value};
+use mojom_files::{Refusal, dotted};
+use std::alloc::{AllocError, Global};
+
+/// What the name of a type means; none of a type that is no name.
+fn meant_by_base(
+    alloc: Global,
+    here: &Here<'_>,
+    enclosing: &Option<Text>,
+    base: &BaseNode,
+) -> Result<Option<Target>, AllocError>
+    ensures { IfOk result (λ target. target ≡ meant_by_base (site_of here.now) enclosing.now (base_view base.now)) }
+{
+    match base {
+        BaseNode::Name(name) => {
+            let text = dotted(alloc, name.parts.as_slice())?;
+            here.names
+                .look_up(alloc, here.file, enclosing, text.as_str())
+        }
+        _ => Ok(None),
+    }
+}
+
+/// What the name of a value means; none of a value that is no name.
+fn meant_by_value(
+    alloc: Global,
+    here: &Here<'_>,
+    enclosing: &Option<Text>,
+    value: &Value,
+) -> Result<Option<Target>, AllocError>
+    ensures { IfOk result (λ target. target ≡ meant_by_value (site_of here.now) enclosing.now value.now) }
+{
+    match value {
+        Value::Name(name) => {
+            let text = dotted(alloc, name.parts.as_slice())?;
+            here.names
+                .look_up(alloc, here.file, enclosing, text.as_str())
+        }
+        _ => Ok(None),
+    }
+}
+
+/// Whether one name means an enum, and the other an enumerator of that very enum.
+fn is_enumerator_of(things: &[FileThings], kind: Option<Target>, value: Option<Target>) -> bool
+    ensures { result ≡ is_enumerator_of things.now kind value }
+{
+    match (kind, value) {
+        (
+            Some(Target::Definition { file, number }),
+            Some(
+                Target::Enumerator {
+                    file: other,
+                    number: enumerator,
+                },
+            ),
+        ) => file == other && owner_of(things, other, enumerator) == Some(number),
+        _ => false,
+    }
+}
+
+/// Tests a default of a kind that isn't basic.
+fn check_enum_default(
+    alloc: Global,
+    best: &mut Option<Refusal>,
+    here: &Here<'_>,
+    enclosing: &Option<Text>,
+    field: &Field,
+    value: &Value,
+) -> Result<(), AllocError>
+    ensures { OnOk result (best.new ≡ best_of best.old (refused_enum_default (site_of here.now) enclosing.now field.now value.now)) }
+{
+    let kind = meant_by_base(alloc, here, enclosing, &field.kind.node().base)?;
+    let meant = meant_by_value(alloc, here, enclosing, value)?;
+    if is_enumerator_of(here.consts.files.as_slice(), kind, meant) {
+        Ok(())
+    } else {
+        refuse_literal(alloc, best, here.file, &field.name)
+    }
+}
+
+/// Tests a default that has this value.
+fn check_default_as(
+    alloc: Global,
+    best: &mut Option<Refusal>,
+    here: &Here<'_>,
+    enclosing: &Option<Text>,
+    field: &Field,
+    value: &Value,
+    known: KnownView<'_>,
+) -> Result<(), AllocError>
+    ensures { OnOk result (best.new ≡ best_of best.old (refused_default_as (site_of here.now) enclosing.now field.now value.now (known_view known.entry))) }
+{
+    match basic_of_base(&field.kind.node().base) {
+        Some(kind) => {
+            let at = place_of_value(value);
+            check_value(alloc, best, here.file, &field.name, at, kind, known)
+        }
+        None => check_enum_default(alloc, best, here, enclosing, field, value),
+    }
+}
+
+/// Tests the default of a field, where it has one.
+pub fn check_default(
+    alloc: Global,
+    best: &mut Option<Refusal>,
+    here: &Here<'_>,
+    enclosing: &Option<Text>,
+    field: &Field,
+) -> Result<(), AllocError>
+    ensures { OnOk result (best.new ≡ best_of best.old (refused_default (site_of here.now) enclosing.now field.now field.now.default)) }
+{
+    let Some(value) = &field.default else {
+        return Ok(());
+    };
+    match here.value_of(alloc, enclosing, value)? {
+        Some(known) => check_default_as(alloc, best, here, enclosing, field, value, known),
+        None => Ok(()),
+    }
+}

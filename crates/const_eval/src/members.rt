@@ -1,0 +1,202 @@
+//! The members of definitions.
+
+ghost use Rattle.std.specs.Prelude.{◌≡◌, ◌++◌, OnOk};
+ghost use Rattle.std.specs.List.{flat_map};
+ghost use Rattle.mojom_files.specs.Refusals.{best_of};
+ghost use Rattle.module_resolver.specs.Uses.{response_of};
+ghost use Rattle.const_eval.specs.Things.{numbered};
+ghost use Rattle.const_eval.specs.Refused.{refused_struct_member, refused_union_field, refused_parameter};
+ghost use Rattle.const_eval.specs.steps.Views.{site_of};
+ghost use Rattle.const_eval.specs.Refused.{refused_parameters, refused_interface_member, refused_enumerator};
+
+use crate::defaults::check_default;
+use crate::here::Here;
+use crate::lengths::check_lengths;
+use crate::ordinals::{check_ordinals, parameter_members};
+use crate::things::behind;
+use crate::values::check_enumerator;
+use crate::versions::check_versions;
+use mj_base::{Items, Text};
+use mojom_ast::{
+    Enumerator, InterfaceItem, InterfaceMember, Parameter, StructItem, StructMember, UnionField,
+};
+use mojom_files::Refusal;
+use std::alloc::{AllocError, Global};
+
+/// Tests a field of a struct; constants and enums in it are definitions of their own.
+fn check_struct_member(
+    alloc: Global,
+    best: &mut Option<Refusal>,
+    here: &Here<'_>,
+    inside: &Option<Text>,
+    member: &StructMember,
+) -> Result<(), AllocError>
+    ensures { OnOk result (best.new ≡ best_of best.old (refused_struct_member (site_of here.now) inside.now member.now)) }
+{
+    let StructItem::Field(field) = &member.item else {
+        return Ok(());
+    };
+    let attributes = member.attributes.as_slice();
+    check_versions(alloc, best, here, inside, &field.name, attributes)?;
+    check_lengths(best, here.file, &field.kind);
+    check_default(alloc, best, here, inside, field)
+}
+
+/// Tests the members of a struct, but for their ordinals.
+pub fn check_struct_members(
+    alloc: Global,
+    best: &mut Option<Refusal>,
+    here: &Here<'_>,
+    inside: &Option<Text>,
+    members: &[StructMember],
+) -> Result<(), AllocError>
+    ensures { OnOk result (best.new ≡ best_of best.old (flat_map (refused_struct_member (site_of here.now) inside.now) members.now)) }
+{
+    for member in members {
+        check_struct_member(alloc, best, here, inside, member)?;
+    }
+    Ok(())
+}
+
+/// Tests a field of a union.
+fn check_union_field(
+    alloc: Global,
+    best: &mut Option<Refusal>,
+    here: &Here<'_>,
+    inside: &Option<Text>,
+    field: &UnionField,
+) -> Result<(), AllocError>
+    ensures { OnOk result (best.new ≡ best_of best.old (refused_union_field (site_of here.now) inside.now field.now)) }
+{
+    let attributes = field.attributes.as_slice();
+    check_versions(alloc, best, here, inside, &field.name, attributes)?;
+    check_lengths(best, here.file, &field.kind);
+    Ok(())
+}
+
+/// Tests the fields of a union, but for their ordinals.
+pub fn check_union_fields(
+    alloc: Global,
+    best: &mut Option<Refusal>,
+    here: &Here<'_>,
+    inside: &Option<Text>,
+    fields: &[UnionField],
+) -> Result<(), AllocError>
+    ensures { OnOk result (best.new ≡ best_of best.old (flat_map (refused_union_field (site_of here.now) inside.now) fields.now)) }
+{
+    for field in fields {
+        check_union_field(alloc, best, here, inside, field)?;
+    }
+    Ok(())
+}
+
+/// Tests a parameter.
+fn check_parameter(
+    alloc: Global,
+    best: &mut Option<Refusal>,
+    here: &Here<'_>,
+    inside: &Option<Text>,
+    parameter: &Parameter,
+) -> Result<(), AllocError>
+    ensures { OnOk result (best.new ≡ best_of best.old (refused_parameter (site_of here.now) inside.now parameter.now)) }
+{
+    let attributes = parameter.attributes.as_slice();
+    check_versions(alloc, best, here, inside, &parameter.name, attributes)?;
+    check_lengths(best, here.file, &parameter.kind);
+    Ok(())
+}
+
+/// Tests parameters, but for their ordinals.
+fn check_each_parameter(
+    alloc: Global,
+    best: &mut Option<Refusal>,
+    here: &Here<'_>,
+    inside: &Option<Text>,
+    parameters: &[Parameter],
+) -> Result<(), AllocError>
+    ensures { OnOk result (best.new ≡ best_of best.old (flat_map (refused_parameter (site_of here.now) inside.now) parameters.now)) }
+{
+    for parameter in parameters {
+        check_parameter(alloc, best, here, inside, parameter)?;
+    }
+    Ok(())
+}
+
+/// Tests a list of parameters.
+fn check_parameters(
+    alloc: Global,
+    best: &mut Option<Refusal>,
+    here: &Here<'_>,
+    inside: &Option<Text>,
+    parameters: &[Parameter],
+) -> Result<(), AllocError>
+    ensures { OnOk result (best.new ≡ best_of best.old (refused_parameters (site_of here.now) inside.now parameters.now)) }
+{
+    check_each_parameter(alloc, best, here, inside, parameters)?;
+    let members = parameter_members(alloc, parameters)?;
+    check_ordinals(best, here.file, members.as_slice());
+    Ok(())
+}
+
+/// The parameters of a response: none where there is no response.
+fn response_of(response: &Option<Items<Parameter>>) -> &[Parameter]
+    ensures { result.now ≡ response_of response.now }
+{
+    match response {
+        Some(parameters) => parameters.as_slice(),
+        None => &[],
+    }
+}
+
+/// Tests a method; constants and enums in an interface are definitions of their own.
+fn check_interface_member(
+    alloc: Global,
+    best: &mut Option<Refusal>,
+    here: &Here<'_>,
+    inside: &Option<Text>,
+    member: &InterfaceMember,
+) -> Result<(), AllocError>
+    ensures { OnOk result (best.new ≡ best_of best.old (refused_interface_member (site_of here.now) inside.now member.now)) }
+{
+    let InterfaceItem::Method(method) = &member.item else {
+        return Ok(());
+    };
+    let attributes = member.attributes.as_slice();
+    check_versions(alloc, best, here, inside, &method.name, attributes)?;
+    check_parameters(alloc, best, here, inside, method.request.as_slice())?;
+    check_parameters(alloc, best, here, inside, response_of(&method.response))
+}
+
+/// Tests the members of an interface, but for the ordinals of its methods.
+pub fn check_interface_members(
+    alloc: Global,
+    best: &mut Option<Refusal>,
+    here: &Here<'_>,
+    inside: &Option<Text>,
+    members: &[InterfaceMember],
+) -> Result<(), AllocError>
+    ensures { OnOk result (best.new ≡ best_of best.old (flat_map (refused_interface_member (site_of here.now) inside.now) members.now)) }
+{
+    for member in members {
+        check_interface_member(alloc, best, here, inside, member)?;
+    }
+    Ok(())
+}
+
+/// Tests the enumerators of an enum, the first of which is the thing of this number.
+pub fn check_enumerators(
+    alloc: Global,
+    best: &mut Option<Refusal>,
+    here: &Here<'_>,
+    inside: &Option<Text>,
+    first: usize,
+    enumerators: &[Enumerator],
+) -> Result<(), AllocError>
+    ensures { OnOk result (best.new ≡ best_of best.old (numbered (refused_enumerator (site_of here.now) inside.now) first enumerators.now)) }
+{
+    for (number, enumerator) in enumerators.iter().enumerate() {
+        let thing = behind(first, number)?;
+        check_enumerator(alloc, best, here, inside, thing, enumerator)?;
+    }
+    Ok(())
+}

@@ -1,0 +1,145 @@
+//! The values of constants and enumerators.
+
+ghost use Rattle.std.specs.Prelude.{◌≡◌, ◌++◌, OnOk};
+ghost use Rattle.std.specs.Option.{option_map_or};
+ghost use Rattle.mojom_files.specs.Refusals.{best_of};
+ghost use Rattle.const_eval.specs.Known.{known_view};
+ghost use Rattle.const_eval.specs.Refused.{place_of_value, refused_circle, refused_const_value, refused_known_const, refused_const};
+ghost use Rattle.const_eval.specs.steps.Views.{site_of};
+ghost use Rattle.const_eval.specs.Refused.{refused_known_enumerator, refused_enumerator};
+
+use crate::here::Here;
+use crate::kinds::{check_value, refuse_literal};
+use crate::known::KnownView;
+use crate::lengths::check_lengths;
+use crate::places::place_of_value;
+use crate::trees::basic_of_base;
+use crate::versions::check_versions;
+use mj_base::Text;
+use mojom_ast::{Const, Enumerator, Identifier};
+use mojom_files::{Basic, Cause, Refusal, keep};
+use std::alloc::{AllocError, Global};
+
+/// Tests whether the thing of this number and name needs itself.
+fn check_circle(
+    alloc: Global,
+    best: &mut Option<Refusal>,
+    here: &Here<'_>,
+    thing: usize,
+    name: &Identifier,
+) -> Result<(), AllocError>
+    ensures { OnOk result (best.new ≡ best_of best.old (refused_circle (site_of here.now) thing name.now)) }
+{
+    if !here.consts.is_circular(thing) {
+        return Ok(());
+    }
+    let cause = Cause::CircularConst(Text::from_str(alloc, name.text.as_str())?);
+    keep(
+        best,
+        Refusal {
+            file: here.file,
+            at: name.span.start,
+            cause,
+        },
+    );
+    Ok(())
+}
+
+/// Tests a value of a constant.
+fn check_const_value(
+    alloc: Global,
+    best: &mut Option<Refusal>,
+    file: u32,
+    constant: &Const,
+    value: KnownView<'_>,
+) -> Result<(), AllocError>
+    ensures { OnOk result (best.new ≡ best_of best.old (refused_const_value file constant.now (known_view value.entry))) }
+{
+    match basic_of_base(&constant.kind.node().base) {
+        Some(Basic::Float | Basic::Double) => Ok(()),
+        Some(kind) => {
+            let at = place_of_value(&constant.value);
+            check_value(alloc, best, file, &constant.name, at, kind, value)
+        }
+        None => refuse_literal(alloc, best, file, &constant.name),
+    }
+}
+
+/// Tests the value of the constant of this number, where it has one.
+fn check_known_const(
+    alloc: Global,
+    best: &mut Option<Refusal>,
+    here: &Here<'_>,
+    thing: usize,
+    constant: &Const,
+) -> Result<(), AllocError>
+    ensures { OnOk result (best.new ≡ best_of best.old (refused_known_const (site_of here.now) thing constant.now)) }
+{
+    match here.consts.value_at(thing) {
+        Some(value) => check_const_value(alloc, best, here.file, constant, value),
+        None => Ok(()),
+    }
+}
+
+/// Tests the constant of this number.
+pub fn check_const(
+    alloc: Global,
+    best: &mut Option<Refusal>,
+    here: &Here<'_>,
+    thing: usize,
+    constant: &Const,
+) -> Result<(), AllocError>
+    ensures { OnOk result (best.new ≡ best_of best.old (refused_const (site_of here.now) thing constant.now)) }
+{
+    check_circle(alloc, best, here, thing, &constant.name)?;
+    check_known_const(alloc, best, here, thing, constant)?;
+    check_lengths(best, here.file, &constant.kind);
+    Ok(())
+}
+
+/// Where the value of an enumerator stands: at its identifier where none is written.
+fn place_of_enumerator(enumerator: &Enumerator) -> u64
+    ensures { result ≡ option_map_or place_of_value enumerator.now.value enumerator.now.name.span.start }
+{
+    match &enumerator.value {
+        Some(value) => place_of_value(value),
+        None => enumerator.name.span.start,
+    }
+}
+
+/// Tests the value of the enumerator of this number, where it has one.
+fn check_known_enumerator(
+    alloc: Global,
+    best: &mut Option<Refusal>,
+    here: &Here<'_>,
+    thing: usize,
+    enumerator: &Enumerator,
+) -> Result<(), AllocError>
+    ensures { OnOk result (best.new ≡ best_of best.old (refused_known_enumerator (site_of here.now) thing enumerator.now)) }
+{
+    match here.consts.value_at(thing) {
+        Some(value) => {
+            let at = place_of_enumerator(enumerator);
+            let name = &enumerator.name;
+            check_value(alloc, best, here.file, name, at, Basic::Int32, value)
+        }
+        None => Ok(()),
+    }
+}
+
+/// Tests the enumerator of this number, within the enum of this full name.
+pub fn check_enumerator(
+    alloc: Global,
+    best: &mut Option<Refusal>,
+    here: &Here<'_>,
+    inside: &Option<Text>,
+    thing: usize,
+    enumerator: &Enumerator,
+) -> Result<(), AllocError>
+    ensures { OnOk result (best.new ≡ best_of best.old (refused_enumerator (site_of here.now) inside.now thing enumerator.now)) }
+{
+    check_circle(alloc, best, here, thing, &enumerator.name)?;
+    check_known_enumerator(alloc, best, here, thing, enumerator)?;
+    let attributes = enumerator.attributes.as_slice();
+    check_versions(alloc, best, here, inside, &enumerator.name, attributes)
+}
