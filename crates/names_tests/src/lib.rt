@@ -1,0 +1,16 @@
+//! Worked files for the stages on names: their order, what their names mean, what their constants
+//! are, and which kinds are refused. They stand apart, since a crate with tests is proved once more with them.
+#![tactic(auto)]
+
+#[cfg(test)]
+mod answers;
+#[cfg(test)]
+mod call_tests;
+#[cfg(test)]
+mod const_tests;
+#[cfg(test)]
+mod kind_tests;
+#[cfg(test)]
+mod order_tests;
+#[cfg(test)]
+mod resolve_tests;
