@@ -2,18 +2,30 @@
 #![tactic(auto)]
 
 mod along;
+mod check;
+mod counts;
+mod draft;
 mod enum_check;
+mod enum_row;
+mod error;
 mod file_check;
+mod interface_row;
+mod kind_of;
 mod limits;
 mod list_check;
 mod list_sort;
+mod literal;
 mod meant;
 mod member;
+mod member_row;
 mod ordinals;
 mod refuse;
+mod row_table;
 mod scope;
 mod type_check;
 mod versions;
 
-pub use file_check::kinds_refusal;
+pub use check::check_kinds;
+pub use draft::Draft;
+pub use error::KindError;
 pub use limits::{MAX_ENUMERATORS, MAX_UNION_FIELDS};

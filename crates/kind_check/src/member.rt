@@ -121,7 +121,7 @@ pub fn held(number: u64) -> u32
 }
 
 /// The ordinal of a member: the one that is written, or else the next.
-fn ordinal_at(next: u32, written: Option<Number>) -> u32
+pub fn ordinal_at(next: u32, written: Option<Number>) -> u32
     ensures { result ≡ ordinal_at next written }
 {
     match written {

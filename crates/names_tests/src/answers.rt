@@ -1,7 +1,7 @@
 //! Files from their texts, and what the stages on names answer to them.
 
 use const_eval::{ConstError, Consts, evaluate};
-use kind_check::kinds_refusal;
+use kind_check::{Draft, KindError, check_kinds};
 use mj_base::Text;
 use module_resolver::{Names, ResolveError, order, resolve};
 use mojom_files::{Basic, Cause, NamedFile, Refusal};
@@ -134,9 +134,10 @@ fn checked(
     names: &Names,
     consts: &Consts,
 ) -> Result<String, AllocError> {
-    match kinds_refusal(alloc, files, numbers, names, consts)? {
-        Some(refusal) => refusal_text(alloc, files, &refusal),
-        None => numbers_text(alloc, numbers),
+    match check_kinds(alloc, files, numbers, names, consts) {
+        Ok(_draft) => numbers_text(alloc, numbers),
+        Err(KindError::Refused(refusal)) => refusal_text(alloc, files, &refusal),
+        Err(KindError::Memory) => String::from_str(alloc, "Memory"),
     }
 }
 
@@ -172,4 +173,24 @@ pub(crate) fn answer(alloc: Global, pairs: &[(&str, &str)]) -> Result<String, Fa
         Ok(names) => Ok(evaluated(alloc, files, numbers, &names)?),
         Err(error) => Ok(error_text(alloc, files, &error)?),
     }
+}
+
+/// The tables of these files; none where anything is refused.
+pub(crate) fn tables(alloc: Global, pairs: &[(&str, &str)]) -> Result<Option<Draft>, Fail> {
+    let files = named_files(alloc, pairs)?;
+    let files = files.as_slice();
+    if files.len() > 8 {
+        return Ok(None);
+    }
+    let Ok(numbers) = order(alloc, files) else {
+        return Ok(None);
+    };
+    let numbers = numbers.as_slice();
+    let Ok(names) = resolve(alloc, files, numbers) else {
+        return Ok(None);
+    };
+    let Ok(consts) = evaluate(alloc, files, numbers, &names) else {
+        return Ok(None);
+    };
+    Ok(check_kinds(alloc, files, numbers, &names, &consts).ok())
 }

@@ -1,5 +1,5 @@
 //! Worked files for the stages on names: their order, what their names mean, what their constants
-//! are, and which kinds are refused. They stand apart, since a crate with tests is proved once more with them.
+//! are, which kinds are refused, and their tables. They stand apart, since a crate with tests is proved once more with them.
 #![tactic(auto)]
 
 #[cfg(test)]
@@ -9,7 +9,13 @@ mod call_tests;
 #[cfg(test)]
 mod const_tests;
 #[cfg(test)]
+mod draft_tests;
+#[cfg(test)]
+mod draft_text;
+#[cfg(test)]
 mod kind_tests;
+#[cfg(test)]
+mod kind_text;
 #[cfg(test)]
 mod order_tests;
 #[cfg(test)]

@@ -8,6 +8,10 @@ use Rattle.kind_check.specs.declared.member.NumberedView.{NumberedView}
 use Rattle.kind_check.specs.declared.scope.ScopeView.{ScopeView}
 use Rattle.kind_check.specs.declared.refuse.Rule.{Rule}
 use Rattle.kind_check.specs.declared.refuse.Rule.TheVariants as rules
+use Rattle.kind_check.specs.declared.enum_row.ValuedView.{ValuedView}
+use Rattle.kind_check.specs.declared.draft.Draft.{Draft}
+use Rattle.kind_check.specs.declared.draft.DraftLists.{DraftLists}
+use Rattle.kind_check.specs.Rows.{Valued}
 use Rattle.kind_check.specs.Members.{Member, Numbered}
 use Rattle.kind_check.specs.Scopes.{Scope}
 
@@ -43,3 +47,18 @@ cause_by (rules.OrdinalDouble ordinal) name = causes.OrdinalDouble name ordinal
 cause_by (rules.OrdinalGap ordinal) name = causes.OrdinalGap name ordinal
 cause_by (rules.VersionFalls before here) name = causes.VersionFalls name before here
 cause_by rules.LateNotNullable name = causes.LateNotNullable name
+
+-- what the code has of it
+abbrev pub valued_view : ValuedView → Valued
+valued_view v = record { enumerator = v.enumerator.now; number = v.number }
+
+-- what the code has of them
+abbrev pub lists_view : DraftLists → Draft
+lists_view l = record {
+  structs = l.structs.items;
+  unions = l.unions.items;
+  enums = l.enums.items;
+  interfaces = l.interfaces.items;
+  consts = l.consts.items;
+  order = l.order.items;
+}
