@@ -1,0 +1,4 @@
+pub mod Passed
+pub mod Refused
+pub mod Whole
+pub mod Kept
