@@ -36,7 +36,7 @@ pub fn text_of(alloc: Global, case: &Case) -> Result<Option<String>, AllocError>
     if mojom.len() > MOST_BYTES || script.len() > MOST_BYTES {
         return Ok(None);
     }
-    let Ok(schema) = mojom_compile::compile(alloc, mojom) else {
+    let Ok(schema) = mojom_compile::compile_narrow(alloc, mojom) else {
         return Ok(None);
     };
     let Ok(script) = call_script::read_script(alloc, &schema, script) else {

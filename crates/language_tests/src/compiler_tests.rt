@@ -1,12 +1,12 @@
 //! Files with a schema, and files that are refused.
 
-use mojom_compile::{Cause, CompileError, FileRefusal, compile};
+use mojom_compile::{Cause, CompileError, FileRefusal, compile_narrow};
 use std::test::Fail;
 
 #[test]
 fn one_interface(rt: HostRuntime) {
     let file = b"module t; /* P */ interface P { Ping(uint32 n); };";
-    let schema = compile(rt.alloc(), file.as_slice()).expect(&rt, "a schema");
+    let schema = compile_narrow(rt.alloc(), file.as_slice()).expect(&rt, "a schema");
     assert_eq!(rt; schema.find_interface("t.P"), Some(0));
     let method = schema.method(0, 0).expect(&rt, "a method");
     assert_eq!(rt; method.name.as_str(), "Ping");
@@ -42,7 +42,7 @@ fn files_that_are_refused(rt: HostRuntime) -> Result<(), Fail> {
             at: *at,
             cause: *cause,
         });
-        match compile(alloc, text.as_bytes()) {
+        match compile_narrow(alloc, text.as_bytes()) {
             Ok(_) => assert!(rt; false, "{text}"),
             Err(error) => assert_eq!(rt; error, wanted, "{text}"),
         }

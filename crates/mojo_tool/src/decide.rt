@@ -60,7 +60,7 @@ fn read_schema<'a>(alloc: Global, name: &'a str, bytes: &[u8]) -> Result<NarrowS
     ensures stop { IfErr result (NotCompiled (IsRefusedFile bytes.now) name.now) }
     ensures named { IfErr result (IsOf (λ named. named ≡ name.now)) }
 {
-    match mojom_compile::compile(alloc, bytes) {
+    match mojom_compile::compile_narrow(alloc, bytes) {
         Ok(schema) => Ok(schema),
         Err(CompileError::Refused(refusal)) => {
             Err(Stop::Refused(ToolRefusal::Refused(name, refusal)))

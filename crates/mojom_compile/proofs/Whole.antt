@@ -65,7 +65,7 @@ heads : (d e : DraftStruct) (ds es : List DraftStruct) → (d ∷ ds) ≡ (e ∷
 heads d e ds es h = (cc, cc)
 
 -- structs of the same names and kinds have one layout
-same_structs : (ss ts : List StructRow) → AllByRecursion IsLaidOut ss → AllByRecursion IsLaidOut ts → map draft_of ss ≡ map draft_of ts → ss ≡ ts
+pub same_structs : (ss ts : List StructRow) → AllByRecursion IsLaidOut ss → AllByRecursion IsLaidOut ts → map draft_of ss ≡ map draft_of ts → ss ≡ ts
 same_structs [] [] l m e = refl
 same_structs [] (t ∷ ts) l m e = absurd cc
 same_structs (s ∷ ss) [] l m e = absurd cc

@@ -3,4 +3,6 @@ pub mod Narrow
 pub mod Causes
 pub mod Rows
 pub mod Compiled
+pub mod Errors
+pub mod Schemas
 pub mod steps

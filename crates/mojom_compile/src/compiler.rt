@@ -72,9 +72,9 @@ pub fn read(alloc: Global, bytes: &[u8]) -> Result<File, CompileError>
     }
 }
 
-/// The schema of a file, or why it has none: lexical refusals come before those of the grammar, and
+/// The narrow schema of a file, or why it has none: lexical refusals come before those of the grammar, and
 /// these before what is beyond the narrow form.
-pub fn compile(alloc: Global, bytes: &[u8]) -> Result<NarrowSchema, CompileError>
+pub fn compile_narrow(alloc: Global, bytes: &[u8]) -> Result<NarrowSchema, CompileError>
     ensures ok { IfOk result (λ schema. IsSchemaOf bytes.now schema) }
     ensures refused { IfErr result (IsFor (IsRefusedFile bytes.now)) }
 {
@@ -88,7 +88,7 @@ pub fn one_tree()
     ensures { (bytes : List ℕ) → OneTree bytes }
 {}
 
-/// A file has one schema or one refusal, and never both: this is a law and does nothing.
-pub fn one_schema()
+/// A file has one narrow schema or one refusal, and never both: this is a law and does nothing.
+pub fn one_narrow_schema()
     ensures { (bytes : List ℕ) → OneSchema bytes }
 {}

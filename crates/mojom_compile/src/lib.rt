@@ -1,5 +1,5 @@
-//! Mojom files to their trees and, where they are of the narrow form (a module statement and interfaces
-//! whose parameters are `uint32`), to their schemas.
+//! Mojom files to their trees and to their schema. A file of the narrow form (a module statement and
+//! interfaces whose parameters are `uint32`) has a narrow schema besides, which is what can be run.
 #![tactic(auto)]
 
 mod compiler;
@@ -8,6 +8,13 @@ mod narrow;
 mod narrow_file;
 mod narrow_refusals;
 mod rows;
+mod schema_error;
+mod schemas;
+mod source;
+mod tables;
 
-pub use compiler::{compile, one_schema, one_tree, read};
+pub use compiler::{compile_narrow, one_narrow_schema, one_tree, read};
 pub use error::{Cause, CompileError, FileRefusal};
+pub use schema_error::SchemaError;
+pub use schemas::{compile, one_schema};
+pub use source::Source;
