@@ -10,3 +10,4 @@ mod types;
 mod words;
 
 pub use file::spell;
+pub use words::{push_number, push_string, push_text};

@@ -7,7 +7,7 @@ ghost use Rattle.mojom_print.specs.Words.{name_text, string_byte, string_text, v
 use mojom_ast::{Name, Number, Value};
 use std::alloc::AllocError;
 
-/// Writes the text.
+/// Adds the text at the end. The error is want of memory; then no promise is made of `out`.
 pub fn push_text(out: &mut Vec<u8>, text: &str) -> Result<(), AllocError>
     ensures { OnOk result (out.new.items ≡ out.old.items ++ text.now) }
 {
@@ -24,7 +24,7 @@ pub fn push_indent(out: &mut Vec<u8>, depth: usize) -> Result<(), AllocError>
     Ok(())
 }
 
-/// Writes a number in decimal.
+/// Adds the number at the end, in decimal. The error is as of `push_text`.
 pub fn push_number(out: &mut Vec<u8>, number: u64) -> Result<(), AllocError>
     ensures { OnOk result (out.new.items ≡ out.old.items ++ decimal number) }
 {
@@ -61,7 +61,8 @@ fn push_string_byte(out: &mut Vec<u8>, byte: u8) -> Result<(), AllocError>
     }
 }
 
-/// Writes the bytes between quotes.
+/// Adds the bytes at the end as a string of a printed file: between quotes, with a quote, a backslash,
+/// a line feed and a tab by their escapes. The error is as of `push_text`.
 #[tactic(auto, unfolding(crate::specs::Words::string_text))]
 pub fn push_string(out: &mut Vec<u8>, bytes: &[u8]) -> Result<(), AllocError>
     ensures { OnOk result (out.new.items ≡ out.old.items ++ string_text bytes.now) }

@@ -1,0 +1,2 @@
+pub mod KindTexts
+pub mod Listing
