@@ -1,7 +1,7 @@
 -- The commands, as `clap` defines the reading of words: a command has rules for its options and positional words.
 use Rattle.std.specs.Prelude.{true, Some, codes}
 use Rattle.clap.specs.Words.{App, Rule, Text, new_app, new_rule, with_rule, with_subcommand}
-use Rattle.clap.specs.declared.builder.action.ArgAction.TheVariants.{Set}
+use Rattle.clap.specs.declared.builder.action.ArgAction.TheVariants.{Append, Set}
 
 -- `--name VALUE` or `--name=VALUE`, just once
 abbrev pub option : Text → Rule
@@ -11,6 +11,10 @@ option name = record (new_rule name) { long = Some name; required = true; action
 abbrev pub one_file : Rule
 one_file = record (new_rule (codes "FILE")) { required = true; action = Some Set }
 
+-- one file or more
+abbrev pub files : Rule
+files = record (new_rule (codes "FILE")) { required = true; action = Some Append }
+
 -- `run --script SCRIPT FILE`
 abbrev pub run : App
 run = with_rule (with_rule (new_app (codes "run")) (option (codes "script"))) one_file
@@ -19,10 +23,14 @@ run = with_rule (with_rule (new_app (codes "run")) (option (codes "script"))) on
 abbrev pub print : App
 print = with_rule (new_app (codes "print")) one_file
 
+-- `check FILE..`
+abbrev pub check : App
+check = with_rule (new_app (codes "check")) files
+
 -- the program alone: a command is wanted
 abbrev pub bare : App
 bare = let app = new_app (codes "mojo") in record app { top = record app.top { subcommand_required = true } }
 
 -- the program with its commands
 abbrev pub tool : App
-tool = with_subcommand (with_subcommand bare run.top) print.top
+tool = with_subcommand (with_subcommand (with_subcommand bare run.top) print.top) check.top

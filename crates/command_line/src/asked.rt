@@ -6,12 +6,14 @@ ghost use Rattle.command_line.specs.declared.asked.WordsError.TheVariants.{Memor
 use std::alloc::AllocError;
 
 /// What the words ask for.
-#[derive(Clone, Copy)]
+#[derive(Drop)]
 pub enum Command<'a> {
     /// To run a script over a Mojom file.
     Run { script: &'a str, file: &'a str },
     /// The canonical text of a Mojom file.
     Print { file: &'a str },
+    /// The tables of Mojom files, in the order given.
+    Check { files: Vec<&'a str> },
 }
 
 /// Why the words ask for nothing.

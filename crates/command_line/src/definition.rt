@@ -3,7 +3,7 @@
 ghost use Rattle.std.specs.Prelude.{◌≡◌, IfOk, false};
 ghost use Rattle.clap.specs.Words.{app_of, rule_of};
 ghost use Rattle.clap.specs.declared.builder.command.Command.TheViews.{out-Command};
-ghost use Rattle.command_line.specs.Definition.{option, one_file, run, print, tool};
+ghost use Rattle.command_line.specs.Definition.{option, one_file, files, run, print, check, tool};
 
 use clap::{Arg, ArgAction, Command};
 use std::alloc::{AllocError, Global};
@@ -36,6 +36,17 @@ fn file_arg<'a>(alloc: Global, help: &'a str) -> Arg<'a>
         .help(help)
 }
 
+/// One file or more.
+fn files_arg<'a>(alloc: Global, help: &'a str) -> Arg<'a>
+    ensures rule { rule_of result ≡ files }
+    ensures local { result.global ≡ false }
+{
+    Arg::new(alloc, "FILE")
+        .required(true)
+        .action(ArgAction::Append)
+        .help(help)
+}
+
 /// `run --script SCRIPT FILE`.
 fn run_command<'a>(alloc: Global) -> Result<Command<'a>, AllocError>
     ensures app { IfOk result (λ command. app_of command ≡ run) }
@@ -57,6 +68,16 @@ fn print_command<'a>(alloc: Global) -> Result<Command<'a>, AllocError>
         .arg(file_arg(alloc, "The Mojom file"))
 }
 
+/// `check FILE..`.
+fn check_command<'a>(alloc: Global) -> Result<Command<'a>, AllocError>
+    ensures app { IfOk result (λ command. app_of command ≡ check) }
+    ensures local { IfOk result (λ command. (out-Command command).has_globals ≡ false) }
+{
+    Command::new(alloc, "check")
+        .about("Checks Mojom files, and prints their tables")
+        .arg(files_arg(alloc, "The Mojom files"))
+}
+
 /// The whole command line.
 pub fn tool_command<'a>(alloc: Global) -> Result<Command<'a>, AllocError>
     ensures app { IfOk result (λ command. app_of command ≡ tool) }
@@ -66,5 +87,6 @@ pub fn tool_command<'a>(alloc: Global) -> Result<Command<'a>, AllocError>
         .after_help(STATUSES)
         .subcommand_required(true)
         .subcommand(run_command(alloc)?)?
-        .subcommand(print_command(alloc)?)
+        .subcommand(print_command(alloc)?)?
+        .subcommand(check_command(alloc)?)
 }

@@ -2,19 +2,34 @@
 
 ghost use Rattle.std.specs.Prelude.{◌≡◌, IfErr, IfOk, None, Some, map, option_map, string_bytes};
 ghost use Rattle.clap.specs.Words.{found_of, kind_of, rows_of, subcommand_rows_of};
-ghost use Rattle.command_line.specs.Asked.{OnWrongUse, asked_of, command_in, command_of, text_at};
+ghost use Rattle.command_line.specs.Asked.{OnWrongUse, asked_of, command_in, command_of, text_at, texts, texts_at};
 
 use crate::asked::{Command, WordsError};
 use crate::definition::tool_command;
 use clap::error::ErrorKind;
 use clap::{ArgMatches, Error};
-use std::alloc::Global;
+use std::alloc::{AllocError, Global};
 
 /// The value under a name.
 fn text_of<'a>(matches: &ArgMatches<'a>, name: &str) -> &'a str
     ensures { result.now ≡ text_at name.now (rows_of (found_of matches.now)) }
 {
     matches.get_str(name).unwrap_or("")
+}
+
+/// The values under a name, in the order given.
+fn texts_of<'a>(
+    alloc: Global,
+    matches: &ArgMatches<'a>,
+    name: &str,
+) -> Result<Vec<&'a str>, AllocError>
+    ensures { IfOk result (λ found. texts found.items ≡ texts_at name.now (rows_of (found_of matches.now))) }
+{
+    let mut texts = Vec::new(alloc);
+    if let Some(found) = matches.get_raw(name) {
+        texts.extend_from_slice(found)?;
+    }
+    Ok(texts)
 }
 
 /// The command that `clap` found.
@@ -32,8 +47,13 @@ fn found_command<'a>(alloc: Global, matches: &ArgMatches<'a>) -> Result<Command<
             file: text_of(found, "FILE"),
         });
     }
-    Ok(Command::Print {
-        file: text_of(found, "FILE"),
+    if name == "print" {
+        return Ok(Command::Print {
+            file: text_of(found, "FILE"),
+        });
+    }
+    Ok(Command::Check {
+        files: texts_of(alloc, found, "FILE")?,
     })
 }
 
@@ -50,8 +70,8 @@ fn refusal(alloc: Global, error: Error) -> WordsError
     }
 }
 
-/// The command in the words, which begin with the program's name: `run --script SCRIPT FILE` or
-/// `print FILE`, in each spelling that `clap` takes.
+/// The command in the words, which begin with the program's name: `run --script SCRIPT FILE`,
+/// `print FILE` or `check FILE..`, in each spelling that `clap` takes.
 ///
 /// Words that are no command, or ask for help, are a wrong use, with `clap`'s text for it, which only
 /// tests look at. The other error is want of memory.

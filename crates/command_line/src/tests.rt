@@ -11,6 +11,7 @@ Usage: mojo <COMMAND>
 Commands:
   run    Runs a script of calls over a Mojom file, and prints its history
   print  Prints the canonical text of a Mojom file, without its comments
+  check  Checks Mojom files, and prints their tables
   help   Print this message or the help of the given subcommand(s)
 
 Options:
@@ -28,6 +29,14 @@ Usage: mojo run --script <script> <FILE>
 For more information, try '--help'.
 ";
 
+const NO_FILES: &str = "error: the following required arguments were not provided:
+  <FILE>...
+
+Usage: mojo check <FILE>...
+
+For more information, try '--help'.
+";
+
 /// The command in the words of the line, or the text for a wrong use.
 fn answer(alloc: Global, line: &str) -> Result<String, AllocError> {
     let mut words = Vec::new(alloc);
@@ -37,6 +46,14 @@ fn answer(alloc: Global, line: &str) -> Result<String, AllocError> {
     match read_words(alloc, words.as_slice()) {
         Ok(Command::Run { script, file }) => format!(in alloc; "run {script} over {file}"),
         Ok(Command::Print { file }) => format!(in alloc; "print {file}"),
+        Ok(Command::Check { files }) => {
+            let mut text = String::from_str(alloc, "check")?;
+            for file in files.as_slice() {
+                text.push_str(" then ")?;
+                text.push_str(file)?;
+            }
+            Ok(text)
+        }
         Err(WordsError::WrongUse(text)) => Ok(text),
         Err(WordsError::Memory) => Err(AllocError),
     }
@@ -56,6 +73,12 @@ fn each_spelling_is_taken(rt: HostRuntime) -> Result<(), Fail> {
         answer(rt.alloc(), "mojo print -- -f")?.as_str(),
         "print -f"
     );
+    for line in ["mojo check g f g", "mojo check g -- f g"] {
+        assert_eq!(rt;
+            answer(rt.alloc(), line)?.as_str(),
+            "check then g then f then g"
+        );
+    }
     Ok(())
 }
 
@@ -71,6 +94,9 @@ fn other_words_are_refused(rt: HostRuntime) -> Result<(), Fail> {
         "mojo run --script s --script s f",
         "mojo print f f",
         "mojo print --script s f",
+        "mojo check",
+        "mojo check --",
+        "mojo check --script s f",
         "mojo --version",
     ] {
         assert!(rt; answer(rt.alloc(), line)?.as_str().starts_with("error: "));
@@ -87,5 +113,6 @@ fn the_texts_are_those_of_clap(rt: HostRuntime) -> Result<(), Fail> {
         answer(rt.alloc(), "mojo run --script s")?.as_str(),
         NO_FILE
     );
+    assert_eq!(rt; answer(rt.alloc(), "mojo check")?.as_str(), NO_FILES);
     Ok(())
 }

@@ -1,6 +1,7 @@
 -- What is asked for, found out a file at a time.
 use Rattle.std.proofs.Common.{◌≡◌, ◌≤◌, ℕ, List, length, refl, sym, subst, arith, inl, inr, Some, None}
 use Rattle.std.specs.Prelude.{Option, Result, Ok, Err, IfOk, IfErr}
+use Rattle.std.specs.Result.{IsErrAnd}
 use Rattle.mj_base.specs.declared.limits.TheConstants.{MAX_FILE_BYTES}
 use Rattle.mj_io.specs.Outside.{Named, FilesState, FilesGoOn}
 use Rattle.command_line.specs.Asked.{RunWords, Run}
@@ -201,6 +202,11 @@ ok_goes (Err e) P Q f h = tt
 pub err_goes : {A E : Type 0} (r : Result A E) (P Q : E → Type 0) → ((e : E) → P e → Q e) → IfErr r P → IfErr r Q
 err_goes (Ok x) P Q f h = tt
 err_goes (Err e) P Q f h = f e h
+
+-- the error that `?` hands on
+pub handed_on : {A E : Type 0} (r : Result A E) (e : E) (P : E → Type 0) → IsErrAnd r (λ made. made ≡ e) → P e → IfErr r P
+handed_on (Ok x) e P h p = tt
+handed_on (Err made) e P h p = subst P (sym h) p
 
 -- a call comes to a script where the Mojom file has a schema
 pub comes_to_script : (held : Option (List Named)) (words : RunWords) (bytes : List ℕ) (schema : NarrowSchema) (stop : Stop) → HasBytes held words.file bytes

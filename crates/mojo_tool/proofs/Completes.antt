@@ -2,8 +2,8 @@
 use Rattle.std.proofs.Common.{◌≡◌, ℕ, List, Some, None, refl, sym, ap, ◌++◌, subst, inl, inr}
 use Rattle.std.specs.Prelude.{Option, ◌⊎◌, codes}
 use Rattle.mj_io.specs.Outside.{Named, Rose}
-use Rattle.command_line.specs.Asked.{Command, Run, Print, command_of}
-use Rattle.mojo_tool.specs.Work.{Work, WrongWords, Missing, TooLong, Refuses, Unreadable, Runs, Prints, AskedFor, IsWork}
+use Rattle.command_line.specs.Asked.{Command, Run, Print, Check, command_of}
+use Rattle.mojo_tool.specs.Work.{Work, WrongWords, Missing, TooLong, Refuses, Rejects, Unreadable, Runs, Prints, Checks, AskedFor, IsWork}
 use Rattle.mojo_tool.specs.Answers.{Seen, Answers, asked_by, IsRightText, ReadFailed, WroteOrFailed, refused_work}
 use Rattle.mojo_tool.specs.Lines.{refusal_text, error_line, read_text}
 use Rattle.mojo_tool.specs.Complete.{CanBeDone, CanBeServed, IsAsked, IsDoable, IsDoneOrShort, IsRefusedOrShort, IsUnreadOrShort, IsComplete}
@@ -25,6 +25,8 @@ not_refused s can (refusals.FileTooLong name) asked =
     can.short name.now (asked_of s.files_before.held can.files (asked_by s) (TooLong name.now) can.held asked)
 not_refused s can (refusals.Refused name refusal) asked =
     can.compiled name.now refusal (asked_of s.files_before.held can.files (asked_by s) (Refuses name.now refusal) can.held asked)
+not_refused s can (refusals.Rejected name at cause) asked =
+    can.checked name.now at cause (asked_of s.files_before.held can.files (asked_by s) (Rejects name.now at cause) can.held asked)
 
 -- a fetch that failed, though no file that is there did, is of a name that isn't there
 missed : (s : Seen) (files : List Named) (name : List ℕ) → s.files_before.held ≡ Some files → ¬ Rose s.files_before.faults_on_present s.files.faults_on_present
@@ -48,41 +50,53 @@ is_done s ReadFault a can = absurd (can.present a.name (missed s can.files a.nam
 is_done s WriteFault a can = absurd (can.written a.rose)
 is_done s NoMemory a can = inr refl
 
--- a text that is right is that of a run or a tree that is asked for
+-- a text that is right is that of a run, a tree or a schema that is asked for
 text_work : (command : Option Command) (held : Option (List Named)) (files : List Named) (ask : List Named → Work → Type 0) (text : List ℕ) → held ≡ Some files
     → IsRightText command held ask text → (work : Work) × IsDoable work × ask files work
 text_work None held files ask text e right = absurd right
 text_work (Some (Run words)) held files ask text e right =
     (Runs right.schema right.script, tt, asked_of held files ask (Runs right.schema right.script) e right.asked)
 text_work (Some (Print file)) held files ask text e right = (Prints right.tree, tt, asked_of held files ask (Prints right.tree) e right.asked)
+text_work (Some (Check names)) held files ask text e right = (Checks right.schema, tt, asked_of held files ask (Checks right.schema) e right.asked)
 
 -- equal refusals have one line
 same_text : (a b : ToolRefusal) → refused_work a ≡ refused_work b → refusal_text a ≡ refusal_text b
 same_text (refusals.Unsupported n) (refusals.Unsupported m) e = let f : n.now ≡ m.now = cc in ap (λ (name : List ℕ). codes "Unsupported " ++ name) f
 same_text (refusals.Unsupported n) (refusals.FileTooLong m) e = absurd cc
 same_text (refusals.Unsupported n) (refusals.Refused m r) e = absurd cc
+same_text (refusals.Unsupported n) (refusals.Rejected m b d) e = absurd cc
 same_text (refusals.FileTooLong n) (refusals.Unsupported m) e = absurd cc
 same_text (refusals.FileTooLong n) (refusals.FileTooLong m) e = let f : n.now ≡ m.now = cc in ap (λ (name : List ℕ). codes "FileTooLong " ++ name) f
 same_text (refusals.FileTooLong n) (refusals.Refused m r) e = absurd cc
+same_text (refusals.FileTooLong n) (refusals.Rejected m b d) e = absurd cc
 same_text (refusals.Refused n q) (refusals.Unsupported m) e = absurd cc
 same_text (refusals.Refused n q) (refusals.FileTooLong m) e = absurd cc
 same_text (refusals.Refused n q) (refusals.Refused m r) e = let f : n.now ≡ m.now = cc in let g : q ≡ r = cc in rw (f, g) refl
+same_text (refusals.Refused n q) (refusals.Rejected m b d) e = absurd cc
+same_text (refusals.Rejected n a c) (refusals.Unsupported m) e = absurd cc
+same_text (refusals.Rejected n a c) (refusals.FileTooLong m) e = absurd cc
+same_text (refusals.Rejected n a c) (refusals.Refused m r) e = absurd cc
+same_text (refusals.Rejected n a c) (refusals.Rejected m b d) e =
+    let f : n.now ≡ m.now = cc in let g : a ≡ b = cc in let h : c ≡ d = cc in rw (f, g, h) refl
 
 -- a refusal is none of the other works
 not_doable : (refusal : ToolRefusal) → IsDoable (refused_work refusal) → ⊥
 not_doable (refusals.Unsupported name) doable = doable
 not_doable (refusals.FileTooLong name) doable = doable
 not_doable (refusals.Refused name refusal) doable = doable
+not_doable (refusals.Rejected name at cause) doable = doable
 
 not_missing : (refusal : ToolRefusal) (name : List ℕ) → Missing name ≡ refused_work refusal → ⊥
 not_missing (refusals.Unsupported other) name e = absurd cc
 not_missing (refusals.FileTooLong other) name e = absurd cc
 not_missing (refusals.Refused other refusal) name e = absurd cc
+not_missing (refusals.Rejected other at cause) name e = absurd cc
 
 not_wrong : (refusal : ToolRefusal) → WrongWords ≡ refused_work refusal → ⊥
 not_wrong (refusals.Unsupported other) e = absurd cc
 not_wrong (refusals.FileTooLong other) e = absurd cc
 not_wrong (refusals.Refused other refusal) e = absurd cc
+not_wrong (refusals.Rejected other at cause) e = absurd cc
 
 module _ (s : Seen) (work : Work) (is : IsAsked s work) where
   -- whatever else is asked for is that work
@@ -92,7 +106,7 @@ module _ (s : Seen) (work : Work) (is : IsAsked s work) where
   asked_here : (other : Work) → AskedFor s.files_before.held (asked_by s) other → other ≡ work
   asked_here other asked = one other (asked_of s.files_before.held is.files (asked_by s) other is.held asked)
 
-  -- a work that has a text is a run or a tree
+  -- a work that has a text is a run, a tree or a schema
   has_text : (text : List ℕ) → IsRightText (command_of s.words) s.files_before.held (asked_by s) text → IsDoable work
   has_text text right =
       let t = text_work (command_of s.words) s.files_before.held is.files (asked_by s) text is.held right in
@@ -130,7 +144,7 @@ is_unread s ReadFault a name is =
 is_unread s WriteFault a name is = absurd (has_text s (Missing name) is a.text a.right)
 is_unread s NoMemory a name is = inr refl
 
--- where a run or a text is asked for, nothing is refused or missing
+-- where a run, a text or tables are asked for, nothing is refused or missing
 can_be_done : (s : Seen) → CanBeServed s → CanBeDone s
 can_be_done s can = record {
   files = can.asked.files;
@@ -139,6 +153,7 @@ can_be_done s can = record {
   present = λ name. only (Missing name);
   short = λ name. only (TooLong name);
   compiled = λ name refusal. only (Refuses name refusal);
+  checked = λ name at cause. only (Rejects name at cause);
   readable = λ name. only (Unreadable name);
   steady = can.asked.steady;
   written = can.written;

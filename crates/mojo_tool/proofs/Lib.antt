@@ -1,4 +1,6 @@
 pub mod Asking
+pub mod Fetching
+pub mod Texts
 pub mod OneWork
 pub mod Completes
 pub mod Reporting

@@ -1,17 +1,19 @@
 -- What each status says of the words, the files and the sinks, before the call and after it.
 use Rattle.std.specs.Prelude.{ℕ, ◌≡◌, List, reverse, Option, Some, None, ◌⊎◌}
 use Rattle.mj_io.specs.Outside.{Named, FilesState, SinkState, Rose, Wrote, WroteSome}
-use Rattle.command_line.specs.Asked.{Command, Run, Print, command_of}
+use Rattle.command_line.specs.Asked.{Command, Run, Print, Check, command_of}
 use Rattle.mj_schema.specs.declared.narrow_schema.NarrowSchema.{NarrowSchema}
+use Rattle.mj_schema.specs.declared.schema.Schema.{Schema}
 use Rattle.bind_model.specs.declared.event.Event.{Event}
 use Rattle.bind_model.specs.Machine.{Legal}
 use Rattle.bind_model.specs.Laws.{InOrder, AsSaid, AreTight, AreGood, OnePlace}
 use Rattle.mojom_ast.specs.declared.file.File.{File}
 use Rattle.mojom_print.specs.FileText.{file_text}
+use Rattle.schema_text.specs.Listing.{listing}
 use Rattle.call_script.specs.declared.script.Script.{Script}
 use Rattle.call_script.specs.Text.{output}
 use Rattle.script_run.specs.OfScript.{OfScript}
-use Rattle.mojo_tool.specs.Work.{Work, Missing, TooLong, Refuses, Unreadable, Runs, Prints, ComesTo, IsWork, AskedFor}
+use Rattle.mojo_tool.specs.Work.{Work, Missing, TooLong, Refuses, Rejects, Unreadable, Runs, Prints, Checks, ComesTo, IsWork, AskedFor}
 use Rattle.mojo_tool.specs.Lines.{refusal_text, error_line, read_text}
 use Rattle.mojo_tool.specs.declared.refusal.ToolRefusal.{ToolRefusal}
 use Rattle.mojo_tool.specs.declared.refusal.ToolRefusal.TheVariants as refusals
@@ -75,23 +77,32 @@ pub record IsPrintText (held : Option (List Named)) (ask : List Named → Work �
   pub asked : AskedFor held ask (Prints tree)
   pub text_of : text ≡ file_text tree
 
+-- the text is that of the tables of a schema that is asked for
+pub record IsCheckText (held : Option (List Named)) (ask : List Named → Work → Type 0) (text : List ℕ) : Type 0 where
+  pub schema : Schema
+  pub asked : AskedFor held ask (Checks schema)
+  pub text_of : text ≡ listing schema
+
 -- the text is one that the words and the files ask for
 abbrev pub IsRightText : Option Command → Option (List Named) → (List Named → Work → Type 0) → List ℕ → Type 0
 IsRightText None held ask text = ⊥
 IsRightText (Some (Run words)) held ask text = IsRunText held ask text
 IsRightText (Some (Print file)) held ask text = IsPrintText held ask text
+IsRightText (Some (Check names)) held ask text = IsCheckText held ask text
 
 -- the work that a refusal is the answer to
 abbrev pub refused_work : ToolRefusal → Work
 refused_work (refusals.Unsupported name) = Unreadable name.now
 refused_work (refusals.FileTooLong name) = TooLong name.now
 refused_work (refusals.Refused name refusal) = Refuses name.now refusal
+refused_work (refusals.Rejected name at cause) = Rejects name.now at cause
 
 -- the file that it names
 abbrev pub refused_name : ToolRefusal → List ℕ
 refused_name (refusals.Unsupported name) = name.now
 refused_name (refusals.FileTooLong name) = name.now
 refused_name (refusals.Refused name refusal) = name.now
+refused_name (refusals.Rejected name at cause) = name.now
 
 -- the whole text was taken, or a front of it where a fault was counted
 abbrev pub WroteOrFailed : SinkState → SinkState → List ℕ → Type 0

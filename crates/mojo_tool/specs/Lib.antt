@@ -1,5 +1,6 @@
 pub mod Work
 pub mod Answers
 pub mod Complete
+pub mod LanguageCauses
 pub mod Lines
 pub mod steps

@@ -14,6 +14,7 @@ ghost use Rattle.mojo_tool.specs.Work.{ComesTo, IsWork, Scripting, Running, Prin
 ghost use Rattle.mojo_tool.specs.Answers.{IsTextOf, IsRunText, IsPrintText, IsRightText};
 ghost use Rattle.mojo_tool.specs.steps.Stops.{Stops, IsOf, HasBytes, NotFetched, NotCompiled, NoScript};
 
+use crate::check::decide_check;
 use crate::refusal::ToolRefusal;
 use call_script::{Script, ScriptError};
 use command_line::Command;
@@ -27,7 +28,7 @@ use std::alloc::Global;
 use std::sync::Arc;
 
 /// Why there is no text.
-#[derive(Clone, Copy)]
+#[derive(Drop)]
 pub enum Stop<'a> {
     Refused(ToolRefusal<'a>),
     /// The file of this name could not be read.
@@ -36,7 +37,7 @@ pub enum Stop<'a> {
 }
 
 /// The bytes of the file of that name.
-fn fetch<'a, F: Files>(alloc: Global, files: &mut F, name: &'a str) -> Result<Vec<u8>, Stop<'a>>
+pub fn fetch<'a, F: Files>(alloc: Global, files: &mut F, name: &'a str) -> Result<Vec<u8>, Stop<'a>>
     ensures on { FilesGoOn (F.state files.old) (F.state files.new) }
     ensures bytes { IfOk result (λ bytes. HasBytes (F.state files.old).held name.now bytes.items) }
     ensures short { IfOk result (λ bytes. length bytes.items ≤ MAX_FILE_BYTES) }
@@ -214,5 +215,6 @@ pub fn decide<'a, F: Files>(
     match command {
         Command::Run { script, file } => decide_run(alloc, script, file, files),
         Command::Print { file } => decide_print(alloc, file, files),
+        Command::Check { files: names } => decide_check(alloc, names.as_slice(), files),
     }
 }

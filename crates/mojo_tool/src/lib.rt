@@ -1,6 +1,8 @@
 //! The program: words and files to a text and a status.
 #![tactic(auto)]
 
+mod cause_text;
+mod check;
 mod decide;
 mod refusal;
 mod status;

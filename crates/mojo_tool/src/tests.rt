@@ -1,4 +1,4 @@
-//! The worked example, and each fault once, over memory.
+//! The worked example, tables and a refusal of files, and each fault once, over memory.
 
 use crate::{mojo_alone, mojo_main};
 use mj_io::{MemoryFiles, MemorySink, NamedFile, OpenGate};
@@ -25,9 +25,32 @@ left e0.1
 done 5
 ";
 
+/// Two files that are checked, and their tables.
+const IMPORTING: &str = "module a.b; import \"b.mojom\"; struct S { T t; a.T u; U v; };";
+
+const IMPORTED: &str = "module a; struct T { }; union U { T t; };";
+
+const TABLES: &str = "struct a.T
+  version 0 0 8
+union a.U
+  field 0 t a.T
+struct a.b.S
+  field 0 t a.T 0 0 0
+  field 1 u a.T 8 0 0
+  field 2 v a.U 16 0 0
+  version 0 3 40
+";
+
+/// A file that is refused.
+const REFUSED: &str = "module a;
+import \"f0.mojom\";
+[Stable] struct S1 { map<uint32, int8?> f2@0; [] enum E3 { [Default] V4, V5, V6 }; };
+interface I7 { const uint8 N9 = S1.E3.V6; [Sync] m8(); };
+";
+
 /// What is said of words without a command, by the name that they begin with.
 const NO_COMMAND: &str = "error: 'mojo' requires a subcommand but one was not provided
-  [subcommands: run, print, help]
+  [subcommands: run, print, check, help]
 
 Usage: mojo <COMMAND>
 
@@ -36,9 +59,7 @@ For more information, try '--help'.
 
 /// Its first 100 bytes.
 const NO_COMMAND_IN_PART: &str = "error: 'mojo' requires a subcommand but one was not provided
-  [subcommands: run, print, help]
-
-Usag";
+  [subcommands: run, print, check, help";
 
 /// A file by its name and its text.
 fn named(alloc: Global, name: &str, text: &str) -> Result<NamedFile, AllocError> {
@@ -56,13 +77,18 @@ fn files(alloc: Global, failing: Vec<u64>) -> Result<MemoryFiles, AllocError> {
     Ok(MemoryFiles::new(files, failing))
 }
 
-/// The words of a run of the worked example.
-fn words(alloc: Global) -> Result<Vec<String>, AllocError> {
+/// The words as they are given to the program.
+fn given(alloc: Global, texts: &[&str]) -> Result<Vec<String>, AllocError> {
     let mut words = Vec::new(alloc);
-    for word in ["mojo_tool", "run", "--script", "s", "t.mojom"] {
-        words.push(String::from_str(alloc, word)?)?;
+    for text in texts {
+        words.push(String::from_str(alloc, text)?)?;
     }
     Ok(words)
+}
+
+/// The words of a run of the worked example.
+fn words(alloc: Global) -> Result<Vec<String>, AllocError> {
+    given(alloc, &["mojo_tool", "run", "--script", "s", "t.mojom"])
 }
 
 #[test]
@@ -133,5 +159,42 @@ fn a_wrong_use_is_said_even_where_it_is_lost(rt: HostRuntime) -> Result<(), Fail
         assert!(rt; out.text().is_empty());
         assert_eq!(rt; err.text(), said.as_bytes());
     }
+    Ok(())
+}
+
+#[test]
+fn tables_of_files_are_printed(rt: HostRuntime) -> Result<(), Fail> {
+    let alloc = rt.alloc();
+    let words = given(alloc, &["mojo_tool", "check", "a.mojom", "b.mojom"])?;
+    let mut files = Vec::new(alloc);
+    files.push(named(alloc, "a.mojom", IMPORTING)?)?;
+    files.push(named(alloc, "b.mojom", IMPORTED)?)?;
+    let mut files = MemoryFiles::new(files, Vec::new(alloc));
+    let mut out = MemorySink::new(alloc, 100, Vec::new(alloc));
+    let mut err = MemorySink::new(alloc, 100, Vec::new(alloc));
+    let status = mojo_alone(alloc, words.as_slice(), &mut files, &mut out, &mut err);
+    assert_eq!(rt; status, Some(0));
+    assert_eq!(rt; out.text(), TABLES.as_bytes());
+    assert!(rt; err.text().is_empty());
+    Ok(())
+}
+
+#[test]
+fn the_refused_file_is_named(rt: HostRuntime) -> Result<(), Fail> {
+    let alloc = rt.alloc();
+    let words = given(alloc, &["mojo_tool", "check", "f0.mojom", "f1.mojom"])?;
+    let mut files = Vec::new(alloc);
+    files.push(named(alloc, "f0.mojom", "")?)?;
+    files.push(named(alloc, "f1.mojom", REFUSED)?)?;
+    let mut files = MemoryFiles::new(files, Vec::new(alloc));
+    let mut out = MemorySink::new(alloc, 100, Vec::new(alloc));
+    let mut err = MemorySink::new(alloc, 100, Vec::new(alloc));
+    let status = mojo_alone(alloc, words.as_slice(), &mut files, &mut out, &mut err);
+    assert_eq!(rt; status, Some(1));
+    assert!(rt; out.text().is_empty());
+    assert_eq!(rt;
+        err.text(),
+        "error: f1.mojom:69: BadNullable f2\n".as_bytes()
+    );
     Ok(())
 }

@@ -14,10 +14,11 @@ ghost use Rattle.mojo_tool.specs.Work.{Work, IsWork};
 ghost use Rattle.mojo_tool.specs.declared.status.Status.{Status};
 
 use crate::decide::{Stop, decide};
-use crate::refusal::ToolRefusal;
+use crate::refusal::{ToolRefusal, push_refusal};
 use crate::status::Status;
 use command_line::{WordsError, read_words};
 use mj_io::{Files, Gate, Sink, write_all};
+use mojom_print::push_text;
 use std::alloc::{AllocError, Global};
 use std::sync::Wait;
 use std::thread::Threads;
@@ -42,10 +43,14 @@ fn print<O: Sink>(out: &mut O, text: &[u8]) -> Status
 }
 
 /// The line of a refusal.
-fn refusal_line(alloc: Global, refusal: ToolRefusal) -> Result<String, AllocError>
-    ensures { IfOk result (λ line. string_bytes line ≡ error_line (refusal_text refusal.entry)) }
+fn refusal_line(alloc: Global, refusal: &ToolRefusal) -> Result<Vec<u8>, AllocError>
+    ensures { IfOk result (λ line. line.items ≡ error_line (refusal_text refusal.now)) }
 {
-    format!(in alloc; "error: {refusal}\n")
+    let mut line = Vec::new(alloc);
+    push_text(&mut line, "error: ")?;
+    push_refusal(&mut line, refusal)?;
+    push_text(&mut line, "\n")?;
+    Ok(line)
 }
 
 /// The line of a file that could not be read.
@@ -60,9 +65,9 @@ fn report<E: Sink>(alloc: Global, err: &mut E, stop: Stop) -> Status
     ensures { Reported stop.entry (E.state err.old) (E.state err.new) result }
 {
     match stop {
-        Stop::Refused(refusal) => match refusal_line(alloc, refusal) {
+        Stop::Refused(refusal) => match refusal_line(alloc, &refusal) {
             Ok(line) => {
-                complain(err, line.as_bytes());
+                complain(err, line.as_slice());
                 Status::Refused
             }
             Err(_) => Status::NoMemory,

@@ -1,0 +1,319 @@
+-- What is asked for of several files, found out a file at a time.
+use Rattle.std.proofs.Common.{◌≡◌, ◌≤◌, ◌<◌, ◌+◌, ℕ, zero, suc, List, [], ◌∷◌, ◌++◌, length, map, get_or, take, drop, slice_get, Bor, refl, sym, subst, ap, ◌∙◌, append_assoc, append-nil, add-one, arith, inl, inr, Some, None}
+use Rattle.std.specs.Prelude.{Option, MatchOption}
+use Rattle.std.specs.Option.{option_map, option_copied}
+use Rattle.std.specs.List.{HoldsAt}
+use Rattle.std.proofs.lemmas.Option.{slice_get-map, slice_get-get_or}
+use Rattle.mj_base.specs.declared.limits.TheConstants.{MAX_FILE_BYTES}
+use Rattle.mj_io.specs.Outside.{Named, find_file, FilesState, FilesGoOn}
+use Rattle.mj_schema.specs.declared.schema.Schema.{Schema}
+use Rattle.mojom_compile.specs.declared.schema_error.SchemaError.{SchemaError}
+use Rattle.mojom_compile.specs.declared.schema_error.SchemaError.TheVariants as errors
+use Rattle.mojom_compile.specs.declared.error.FileRefusal.{FileRefusal}
+use Rattle.mojom_compile.specs.declared.source.Source.{Source}
+use Rattle.mojom_files.specs.declared.cause.Cause.{Cause}
+use Rattle.mojom_files.specs.declared.refusal.Refusal.{Refusal}
+use Rattle.mojom_compile.specs.Schemas.{IsSchemaOfFiles, IsRefusalOf, IsWhy}
+use Rattle.schema_text.specs.Listing.{listing}
+use Rattle.command_line.specs.Asked.{Check}
+use Rattle.mojo_tool.specs.Work.{Work, Missing, TooLong, Refuses, Rejects, Checks, FetchingAll, Leads, Tabling, Checking, AskedFor, ComesTo, IsAmong, name_at, unchecked}
+use Rattle.mojo_tool.specs.Answers.{ReadFailed, refused_work, refused_name, IsCheckText}
+use Rattle.mojo_tool.specs.steps.Stops.{Stops, IsOf, HasBytes, IsLonger, IsLost, NotFetched}
+use Rattle.mojo_tool.specs.steps.Fetches.{AreFetched, AreBytes, IsFirstUnfetched, NotAllFetched, NotTabled}
+use Rattle.mojo_tool.specs.declared.refusal.ToolRefusal.{ToolRefusal}
+use Rattle.mojo_tool.specs.declared.refusal.ToolRefusal.TheVariants as refusals
+use Rattle.mojo_tool.specs.declared.decide.Stop.{Stop}
+use Rattle.mojo_tool.specs.declared.decide.Stop.TheVariants.{Refused, ReadFault, NoMemory}
+use Rattle.mojo_tool.proofs.Asking.{stopped}
+
+-- files
+
+-- what a reference to an element of a list shows
+pub shown_at : {A B : Type 0} (f : A → B) (xs : List A) (i : ℕ) (d : A) → i < length xs → slice_get (map f xs) i ≡ Some (f (get_or xs i d))
+shown_at f xs i d within = slice_get-map f xs i ∙ ap (option_map f) (slice_get-get_or xs i d within)
+
+-- the names as far as one of them, and with it
+taken_more : (names : List (List ℕ)) (i : ℕ) (name : List ℕ) → slice_get names i ≡ Some name → take (i + 1) names ≡ take i names ++ name ∷ []
+taken_more names i name at = rw (add-one i) (go names i at)
+  where
+    go : (ns : List (List ℕ)) (k : ℕ) → slice_get ns k ≡ Some name → take (suc k) ns ≡ take k ns ++ name ∷ []
+    go [] k e = absurd cc
+    go (n ∷ ns) zero e = let f : n ≡ name = cc in rw f refl
+    go (n ∷ ns) (suc k) e = ap (λ (rest : List (List ℕ)). n ∷ rest) (go ns k e)
+
+split_at : (names : List (List ℕ)) (i : ℕ) (name : List ℕ) → slice_get names i ≡ Some name → names ≡ take i names ++ name ∷ drop (suc i) names
+split_at [] i name at = absurd cc
+split_at (n ∷ names) zero name at = let e : n ≡ name = cc in rw e refl
+split_at (n ∷ names) (suc i) name at = ap (λ (rest : List (List ℕ)). n ∷ rest) (split_at names i name at)
+
+-- with one more file behind
+fetched_more : (files : List Named) (names : List (List ℕ)) (sources : List Source) (name : List ℕ) (source : Source) → AreFetched files names sources
+    → source.name ≡ name → find_file files name ≡ Some source.bytes → length source.bytes ≤ MAX_FILE_BYTES
+    → AreFetched files (names ++ name ∷ []) (sources ++ source ∷ [])
+fetched_more files [] [] name source are named found short = (named, found, short, tt)
+fetched_more files [] (s ∷ sources) name source are named found short = absurd are
+fetched_more files (n ∷ names) [] name source are named found short = absurd are
+fetched_more files (n ∷ names) (s ∷ sources) name source are named found short =
+    (are.0, are.1, are.2, fetched_more files names sources name source are.3 named found short)
+
+bytes_more : (held : Option (List Named)) (names : List (List ℕ)) (sources : List Source) (name bytes : List ℕ) → AreBytes held names sources
+    → HasBytes held name bytes → length bytes ≤ MAX_FILE_BYTES
+    → AreBytes held (names ++ name ∷ []) (sources ++ record { name = name; bytes = bytes } ∷ [])
+bytes_more None names sources name bytes are found short = tt
+bytes_more (Some files) names sources name bytes are found short =
+    fetched_more files names sources name (record { name = name; bytes = bytes }) are refl found short
+
+-- a file by the name under which it was fetched
+renamed : (files : List Named) (names : List (List ℕ)) (before : List Source) (source : Source) (name : List ℕ) (next : List Source → Work → Type 0) (work : Work)
+    → source.name ≡ name → FetchingAll files names (before ++ source ∷ []) next work
+    → FetchingAll files names (before ++ record { name = name; bytes = source.bytes } ∷ []) next work
+renamed files names before source name next work named asked =
+    subst (λ (n : List ℕ). FetchingAll files names (before ++ record { name = n; bytes = source.bytes } ∷ []) next work) named asked
+
+-- the same along a list of names
+bytes_up_to : (held : Option (List Named)) (names : List (List ℕ)) (i : ℕ) (sources : List Source) (name bytes : List ℕ) → slice_get names i ≡ Some name
+    → AreBytes held (take i names) sources → HasBytes held name bytes → length bytes ≤ MAX_FILE_BYTES
+    → AreBytes held (take (i + 1) names) (sources ++ record { name = name; bytes = bytes } ∷ [])
+bytes_up_to held names i sources name bytes at are found short =
+    subst (λ (ns : List (List ℕ)). AreBytes held ns (sources ++ record { name = name; bytes = bytes } ∷ []))
+    (sym (taken_more names i name at)) (bytes_more held (take i names) sources name bytes are found short)
+
+pub fetched_up_to : (held : Option (List Named)) (names : List (List ℕ)) (i : ℕ) (name bytes : List ℕ) (sources all : List Source) (source : Source)
+    → slice_get names i ≡ Some name → AreBytes held (take i names) sources → HasBytes held name bytes → length bytes ≤ MAX_FILE_BYTES
+    → source ≡ record { name = name; bytes = bytes } → all ≡ sources ++ source ∷ [] → AreBytes held (take (i + 1) names) all
+fetched_up_to held names i name bytes sources all source at are found short is whole =
+    rw (whole, is) (bytes_up_to held names i sources name bytes at are found short)
+
+-- files that were fetched lead on to what is asked for behind them
+leads_all : (files : List Named) (first left : List (List ℕ)) (before sources : List Source) (next : List Source → Work → Type 0) (work : Work)
+    → AreFetched files first sources → FetchingAll files left (before ++ sources) next work → FetchingAll files (first ++ left) before next work
+leads_all files [] left before [] next work are asked = subst (λ (ss : List Source). FetchingAll files left ss next work) (append-nil before) asked
+leads_all files [] left before (s ∷ sources) next work are asked = absurd are
+leads_all files (n ∷ names) left before [] next work are asked = absurd are
+leads_all files (n ∷ names) left before (s ∷ sources) next work are asked =
+    subst
+    (λ (found : Option (List ℕ)). Leads n
+    (λ (bytes : List ℕ) w. FetchingAll files (names ++ left) (before ++ record { name = n; bytes = bytes } ∷ []) next w) found work)
+    (sym are.1)
+    (inr (
+      are.2,
+      renamed files (names ++ left) before s n next work are.0
+          (leads_all files names left (before ++ s ∷ []) sources next work are.3
+          (subst (λ (ss : List Source). FetchingAll files left ss next work) (sym (append_assoc before (s ∷ []) sources)) asked)),
+    ))
+
+asked_behind : (held : Option (List Named)) (first left : List (List ℕ)) (sources : List Source) (work : Work) → AreBytes held first sources
+    → AskedFor held (λ files w. FetchingAll files left sources Tabling w) work → AskedFor held (λ files w. Checking files (first ++ left) w) work
+asked_behind None first left sources work are asked = tt
+asked_behind (Some files) first left sources work are asked = leads_all files first left [] sources Tabling work are asked
+
+lost_behind : (held : Option (List Named)) (first left : List (List ℕ)) (sources : List Source) (name : List ℕ) (before now : ℕ) → AreBytes held first sources
+    → ReadFailed held (λ files w. FetchingAll files left sources Tabling w) name before now
+    → ReadFailed held (λ files w. Checking files (first ++ left) w) name before now
+lost_behind None first left sources name before now are failed = tt
+lost_behind (Some files) first left sources name before now are (inl asked) = inl (leads_all files first left [] sources Tabling (Missing name) are asked)
+lost_behind (Some files) first left sources name before now are (inr rose) = inr rose
+
+-- why there is no text behind files that were fetched
+behind : (before now : FilesState) (first left : List (List ℕ)) (sources : List Source) (stop : Stop) → AreBytes before.held first sources
+    → Stops before now (λ files w. FetchingAll files left sources Tabling w) stop → Stops before now (λ files w. Checking files (first ++ left) w) stop
+behind before now first left sources (Refused refusal) are stops = asked_behind before.held first left sources (refused_work refusal) are stops
+behind before now first left sources (ReadFault name) are stops = record {
+  rose = stops.rose;
+  failed = lost_behind before.held first left sources name.now before.faults_on_present now.faults_on_present are stops.failed;
+}
+behind before now first left sources NoMemory are stops = tt
+
+-- names
+
+among_append : (first left : List (List ℕ)) (name : List ℕ) → IsAmong (first ++ name ∷ left) name
+among_append [] left name = inl refl
+among_append (n ∷ first) left name = inr (among_append first left name)
+
+among_at : (names : List (List ℕ)) (i : ℕ) (name : List ℕ) → slice_get names i ≡ Some name → IsAmong names name
+among_at [] i name at = absurd cc
+among_at (n ∷ names) zero name at = inl cc
+among_at (n ∷ names) (suc i) name at = inr (among_at names i name at)
+
+-- a file stands under its name
+name_there : (files : List Named) (names : List (List ℕ)) (sources : List Source) (i : ℕ) (name : List ℕ) → AreFetched files names sources
+    → slice_get names i ≡ Some name → name_at sources i ≡ name
+name_there files [] sources i name are at = absurd cc
+name_there files (n ∷ names) [] i name are at = absurd are
+name_there files (n ∷ names) (s ∷ sources) zero name are at = let e = are.0 in cc
+name_there files (n ∷ names) (s ∷ sources) (suc i) name are at = name_there files names sources i name are.3 at
+
+-- what a refusal names is in its work
+
+too_long_name : (refusal : ToolRefusal) (name : List ℕ) → refused_work refusal ≡ TooLong name → refused_name refusal ≡ name
+too_long_name (refusals.Unsupported other) name e = absurd cc
+too_long_name (refusals.FileTooLong other) name e = cc
+too_long_name (refusals.Refused other why) name e = absurd cc
+too_long_name (refusals.Rejected other at cause) name e = absurd cc
+
+refuses_name : (refusal : ToolRefusal) (name : List ℕ) (why : FileRefusal) → refused_work refusal ≡ Refuses name why → refused_name refusal ≡ name
+refuses_name (refusals.Unsupported other) name why e = absurd cc
+refuses_name (refusals.FileTooLong other) name why e = absurd cc
+refuses_name (refusals.Refused other refusal) name why e = cc
+refuses_name (refusals.Rejected other at cause) name why e = absurd cc
+
+rejects_name : (refusal : ToolRefusal) (name : List ℕ) (at : ℕ) (cause : Cause) → refused_work refusal ≡ Rejects name at cause → refused_name refusal ≡ name
+rejects_name (refusals.Unsupported other) name at cause e = absurd cc
+rejects_name (refusals.FileTooLong other) name at cause e = absurd cc
+rejects_name (refusals.Refused other refusal) name at cause e = absurd cc
+rejects_name (refusals.Rejected other place why) name at cause e = cc
+
+-- states of files
+
+pub goes_on : (before mid now : FilesState) → FilesGoOn before mid → FilesGoOn mid now → FilesGoOn before now
+goes_on before mid now first second = record {
+  same = second.same ∙ first.same;
+  faults = omega (arith, first.faults, second.faults);
+  faults_on_present = omega (arith, first.faults_on_present, second.faults_on_present);
+}
+
+-- a name that was not fetched
+
+-- what holds since later holds since before
+since : (before mid now : FilesState) (name : List ℕ) (stop : Stop) → FilesGoOn before mid → NotFetched mid now name stop → NotFetched before now name stop
+since before mid now name (Refused refusal) on why = (subst (λ (held : Option (List Named)). IsLonger held name) on.same why.0, why.1)
+since before mid now name (ReadFault other) on why = (
+  why.0,
+  omega (arith, why.1, on.faults),
+  weaker before.held (subst (λ (held : Option (List Named)). IsLost held name mid.faults_on_present now.faults_on_present) on.same why.2),
+)
+  where
+    weaker : (held : Option (List Named)) → IsLost held name mid.faults_on_present now.faults_on_present
+        → IsLost held name before.faults_on_present now.faults_on_present
+    weaker None lost = tt
+    weaker (Some files) (inl none) = inl none
+    weaker (Some files) (inr rose) = inr (omega (arith, rose, on.faults_on_present))
+since before mid now name NoMemory on why = tt
+
+-- it comes behind those that were fetched
+unfetched : (before mid now : FilesState) (first left : List (List ℕ)) (sources : List Source) (name : List ℕ) (stop : Stop)
+    → AreBytes before.held first sources → FilesGoOn before mid → NotFetched mid now name stop → NotAllFetched before now (first ++ name ∷ left) stop
+unfetched before mid now first left sources name (Refused refusal) are on why = record {
+  fetched = sources;
+  first = first;
+  name = name;
+  left = left;
+  all = refl;
+  are = are;
+  not = since before mid now name (Refused refusal) on why;
+}
+unfetched before mid now first left sources name (ReadFault other) are on why = record {
+  fetched = sources;
+  first = first;
+  name = name;
+  left = left;
+  all = refl;
+  are = are;
+  not = since before mid now name (ReadFault other) on why;
+}
+unfetched before mid now first left sources name NoMemory are on why = tt
+
+-- the name of this number comes behind those below it
+pub unfetched_at : (before mid now : FilesState) (names : List (List ℕ)) (i : ℕ) (sources : List Source) (name : List ℕ) (stop : Stop)
+    → slice_get names i ≡ Some name → AreBytes before.held (take i names) sources → FilesGoOn before mid → NotFetched mid now name stop
+    → NotAllFetched before now names stop
+unfetched_at before mid now names i sources name stop at are on why =
+    subst (λ (ns : List (List ℕ)). NotAllFetched before now ns stop) (sym (split_at names i name at))
+    (unfetched before mid now (take i names) (drop (suc i) names) sources name stop are on why)
+
+stopped_first : (before now : FilesState) (names : List (List ℕ)) (stop : Stop) → IsFirstUnfetched before now names stop
+    → Stops before now (λ files w. Checking files names w) stop
+stopped_first before now names stop why =
+    subst (λ (ns : List (List ℕ)). Stops before now (λ files w. Checking files ns w) stop) (sym why.all)
+    (behind before now why.first (why.name ∷ why.left) why.fetched stop why.are
+    (stopped before now why.name
+    (λ files bytes w. FetchingAll files why.left (why.fetched ++ record { name = why.name; bytes = bytes } ∷ []) Tabling w) stop why.not))
+
+-- where not all were fetched there is no text
+pub not_all_stops : (before now : FilesState) (names : List (List ℕ)) (stop : Stop) → NotAllFetched before now names stop
+    → Stops before now (λ files w. Checking files names w) stop
+not_all_stops before now names (Refused refusal) why = stopped_first before now names (Refused refusal) why
+not_all_stops before now names (ReadFault name) why = stopped_first before now names (ReadFault name) why
+not_all_stops before now names NoMemory why = tt
+
+-- and the name is one of these
+pub not_all_reached : (before now : FilesState) (names : List (List ℕ)) (stop : Stop) → NotAllFetched before now names stop
+    → IsOf (ComesTo (Some (Check names)) before.held) stop
+not_all_reached before now names (Refused refusal) why =
+    rw (why.all, too_long_name refusal why.name why.not.1) (among_append why.first why.left why.name)
+not_all_reached before now names (ReadFault name) why = rw (why.all, why.not.0) (among_append why.first why.left why.name)
+not_all_reached before now names NoMemory why = tt
+
+-- files without a schema
+
+asked_of_all : (held : Option (List Named)) (names : List (List ℕ)) (sources : List Source) (work : Work) → AreBytes held names sources
+    → Tabling sources work → AskedFor held (λ files w. Checking files names w) work
+asked_of_all held names sources work are tabled =
+    subst (λ (ns : List (List ℕ)). AskedFor held (λ files w. Checking files ns w) work) (append-nil names)
+    (asked_behind held names [] sources work are (asked held))
+  where
+    asked : (o : Option (List Named)) → AskedFor o (λ files w. FetchingAll files [] sources Tabling w) work
+    asked None = tt
+    asked (Some files) = tabled
+
+-- the text of the tables
+pub tables_text : (held : Option (List Named)) (names : List (List ℕ)) (sources : List Source) (schema : Schema) (text : List ℕ) → AreBytes held names sources
+    → IsSchemaOfFiles sources schema → text ≡ listing schema → IsCheckText held (λ files w. Checking files names w) text
+tables_text held names sources schema text are is e = record {
+  schema = schema;
+  asked = asked_of_all held names sources (Checks schema) are (inl (schema, is, refl));
+  text_of = e;
+}
+
+refused_so : (held : Option (List Named)) (names : List (List ℕ)) (sources : List Source) (error : SchemaError) (work : Work) → AreBytes held names sources
+    → IsRefusalOf sources error
+    → ((files : List Named) → AreFetched files names sources → work ≡ unchecked sources error) → AskedFor held (λ files w. Checking files names w) work
+refused_so None names sources error work are is e = tt
+refused_so (Some files) names sources error work are is e = asked_of_all (Some files) names sources work are (inr (error, is, e files are))
+
+-- a refusal, where it isn't want of memory
+is_refusal : (sources : List Source) (error : SchemaError) → (error ≡ errors.Memory → ⊥) → IsWhy sources error → IsRefusalOf sources error
+is_refusal sources error other (inl memory) = absurd (other memory)
+is_refusal sources error other (inr is) = is
+
+-- where they have no schema there is no text
+pub not_tabled_stops : (before now : FilesState) (names : List (List ℕ)) (sources : List Source) (error : SchemaError) (stop : Stop)
+    → AreBytes before.held names sources → IsWhy sources error → NotTabled names error stop → Stops before now (λ files w. Checking files names w) stop
+not_tabled_stops before now names sources (errors.Unread file why) (Refused refusal) are is not =
+    refused_so before.held names sources (errors.Unread file why) (refused_work refusal) are
+    (is_refusal sources (errors.Unread file why) (λ e. cc) is)
+    (λ files fetched. not.2 ∙ ap (λ (n : List ℕ). Refuses n why) (sym (name_there files names sources file not.0 fetched not.1)))
+not_tabled_stops before now names sources (errors.Refused why) (Refused refusal) are is not =
+    refused_so before.held names sources (errors.Refused why) (refused_work refusal) are
+    (is_refusal sources (errors.Refused why) (λ e. cc) is)
+    (λ files fetched. not.2 ∙ ap (λ (n : List ℕ). Rejects n why.at why.cause) (sym (name_there files names sources why.file not.0 fetched not.1)))
+not_tabled_stops before now names sources errors.Memory (Refused refusal) are is not = absurd not
+not_tabled_stops before now names sources error (ReadFault name) are is not = absurd not
+not_tabled_stops before now names sources error NoMemory are is not = tt
+
+-- and the name is one of these
+pub not_tabled_reached : (held : Option (List Named)) (names : List (List ℕ)) (error : SchemaError) (stop : Stop) → NotTabled names error stop
+    → IsOf (ComesTo (Some (Check names)) held) stop
+not_tabled_reached held names (errors.Unread file why) (Refused refusal) not = rw (refuses_name refusal not.0 why not.2) (among_at names file not.0 not.1)
+not_tabled_reached held names (errors.Refused why) (Refused refusal) not =
+    rw (rejects_name refusal not.0 why.at why.cause not.2) (among_at names why.file not.0 not.1)
+not_tabled_reached held names errors.Memory (Refused refusal) not = absurd not
+not_tabled_reached held names error (ReadFault name) not = absurd not
+not_tabled_reached held names error NoMemory not = tt
+
+-- why the file of this number has no schema
+
+-- what was copied of a list stands there
+pub copied_at : {A B : Type 0} (f : A → B) (r : Option (Bor A)) (xs : List A) (i : ℕ) (x : A)
+    → MatchOption r (length xs ≤ i) (λ y. (i < length xs) × HoldsAt (λ z. y.now ≡ z) xs i) → option_copied r ≡ Some x → slice_get (map f xs) i ≡ Some (f x)
+copied_at f None xs i x found is = absurd cc
+copied_at f (Some y) xs i x found is =
+    shown_at f xs i y.now found.0 ∙ ap (λ z. Some (f z)) (sym (found.1 y.now)) ∙ ap (option_map f) is
+
+pub unread_at : (names : List (List ℕ)) (error : SchemaError) (file : ℕ) (why : FileRefusal) (name : List ℕ) (refusal : ToolRefusal)
+    → error ≡ errors.Unread file why → slice_get names file ≡ Some name → refused_work refusal ≡ Refuses name why → NotTabled names error (Refused refusal)
+unread_at names error file why name refusal is at work = rw is (name, at, work)
+
+pub refused_at : (names : List (List ℕ)) (error : SchemaError) (why : Refusal) (name : List ℕ) (refusal : ToolRefusal) → error ≡ errors.Refused why
+    → slice_get names why.file ≡ Some name → refused_work refusal ≡ Rejects name why.at why.cause → NotTabled names error (Refused refusal)
+refused_at names error why name refusal is at work = rw is (name, at, work)

@@ -1,0 +1,51 @@
+-- What is fetched of several names, and why it isn't.
+use Rattle.std.specs.Prelude.{ℕ, ◌≡◌, ◌≤◌, List, [], ◌∷◌, ◌++◌, length, slice_get, Option, Some, None}
+use Rattle.mj_base.specs.declared.limits.TheConstants.{MAX_FILE_BYTES}
+use Rattle.mj_io.specs.Outside.{Named, find_file, FilesState}
+use Rattle.mojom_compile.specs.declared.schema_error.SchemaError.{SchemaError}
+use Rattle.mojom_compile.specs.declared.schema_error.SchemaError.TheVariants as schema
+use Rattle.mojom_compile.specs.declared.source.Source.{Source}
+use Rattle.mojo_tool.specs.Work.{Refuses, Rejects}
+use Rattle.mojo_tool.specs.Answers.{refused_work}
+use Rattle.mojo_tool.specs.declared.decide.Stop.{Stop}
+use Rattle.mojo_tool.specs.declared.decide.Stop.TheVariants.{Refused, ReadFault, NoMemory}
+use Rattle.mojo_tool.specs.steps.Stops.{NotFetched}
+
+-- the files of these names have these bytes
+abbrev pub AreFetched : List Named → List (List ℕ) → List Source → Type 0
+AreFetched files [] [] = Unit {0}
+AreFetched files [] (source ∷ sources) = ⊥
+AreFetched files (name ∷ names) [] = ⊥
+AreFetched files (name ∷ names) (source ∷ sources) =
+    (source.name ≡ name) × (find_file files name ≡ Some source.bytes) × (length source.bytes ≤ MAX_FILE_BYTES) × AreFetched files names sources
+
+-- the same over files that say what they hold
+abbrev pub AreBytes : Option (List Named) → List (List ℕ) → List Source → Type 0
+AreBytes None names sources = Unit {0}
+AreBytes (Some files) names sources = AreFetched files names sources
+
+-- a name was not fetched, but those before it were
+pub record IsFirstUnfetched (before now : FilesState) (names : List (List ℕ)) (stop : Stop) : Type 0 where
+  pub fetched : List Source
+  pub first : List (List ℕ)
+  pub name : List ℕ
+  pub left : List (List ℕ)
+  pub all : names ≡ first ++ name ∷ left
+  pub are : AreBytes before.held first fetched
+  pub not : NotFetched before now name stop
+
+-- not all were fetched, or there was no memory
+abbrev pub NotAllFetched : FilesState → FilesState → List (List ℕ) → Stop → Type 0
+NotAllFetched before now names (Refused refusal) = IsFirstUnfetched before now names (Refused refusal)
+NotAllFetched before now names (ReadFault name) = IsFirstUnfetched before now names (ReadFault name)
+NotAllFetched before now names NoMemory = Unit {0}
+
+-- files have no schema: the refusal names the one that is refused, which is one of these
+abbrev pub NotTabled : List (List ℕ) → SchemaError → Stop → Type 0
+NotTabled names (schema.Unread file why) (Refused refusal) =
+    (name : List ℕ) × (slice_get names file ≡ Some name) × (refused_work refusal ≡ Refuses name why)
+NotTabled names (schema.Refused why) (Refused refusal) =
+    (name : List ℕ) × (slice_get names why.file ≡ Some name) × (refused_work refusal ≡ Rejects name why.at why.cause)
+NotTabled names schema.Memory (Refused refusal) = ⊥
+NotTabled names error (ReadFault name) = ⊥
+NotTabled names error NoMemory = Unit {0}
