@@ -1,6 +1,7 @@
-//! Times the packing of structs and the reading and printing of files, in processor time.
+//! Times the packing of structs, the reading and printing of files, and their check, in processor time.
 #![tactic(auto)]
 
+mod checking;
 mod packing;
 mod reading;
 
@@ -13,12 +14,13 @@ use std::{env, io};
 fn run<R: Print + Env + AllocGlobal + CpuClock>(rt: &R) -> io::Result<()> {
     for what in env::args(rt)?.skip(1) {
         match what.as_str() {
+            "checking" => return checking::time_all(rt),
             "packing" => return packing::time_all(rt),
             "reading" => return reading::time_all(rt),
             _ => {}
         }
     }
-    println!(rt; "usage: benchmarks packing | reading")
+    println!(rt; "usage: benchmarks packing | reading | checking")
 }
 
 fn main(rt: HostRuntime) -> io::Result<()> {
