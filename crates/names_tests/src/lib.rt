@@ -17,6 +17,10 @@ mod kind_tests;
 #[cfg(test)]
 mod kind_text;
 #[cfg(test)]
+mod literal_rows;
+#[cfg(test)]
+mod literal_tests;
+#[cfg(test)]
 mod order_tests;
 #[cfg(test)]
 mod resolve_tests;
