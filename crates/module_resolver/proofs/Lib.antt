@@ -10,3 +10,6 @@ pub mod Leading
 pub mod OneOrder
 pub mod Counts
 pub mod Frees
+pub mod Owned
+pub mod Cuts
+pub mod MarkedLengths

@@ -1,7 +1,7 @@
 -- Files and those that they import, by their numbers: the order in which files can be taken, each behind its imports, and the circle
 -- in which imports go where not all files can be. Here `imports` has for each file, by its number, the files that it imports.
-use Rattle.std.specs.Prelude.{ℕ, ◌≡◌, ◌<◌, ◌+◌, ◌==◌, Bool, false, not, ◌&&◌, if◌then◌else◌, List, [], ◌∷◌, ◌++◌, length, take, get_or, find, Option, Some, None, is_none, count_by}
-use Rattle.std.specs.List.{All, list_any, range_with_len}
+use Rattle.std.specs.Prelude.{ℕ, ◌≡◌, ◌<◌, ◌+◌, ◌==◌, Bool, not, ◌&&◌, List, [], ◌∷◌, ◌++◌, length, take, get_or, find, Option, Some, None, is_none}
+use Rattle.std.specs.List.{list_any, range_with_len}
 
 -- the number is one of these
 abbrev pub has : List ℕ → ℕ → Bool

@@ -1,8 +1,8 @@
 -- The resolved order of files, in which each comes after those that it imports; and why files have none (Mojom IDL, "Imports").
 use Rattle.std.specs.Prelude.{ℕ, ◌≡◌, ◌==◌, ◌⊎◌, Bool, false, List, [], ◌++◌, map, take, drop, length, get_or, slice_get, find, Option, Some, None, is_none, option_and_then}
-use Rattle.std.specs.List.{All, flat_map, list_any, range_with_len}
+use Rattle.std.specs.List.{flat_map, list_any, range_with_len}
 use Rattle.std.specs.Option.{option_map, option_map_or, option_to_list}
-use Rattle.std.specs.Str.{IsUtf8, bytes_eq}
+use Rattle.std.specs.Str.{bytes_eq}
 use Rattle.mojom_ast.specs.declared.file.Import.{Import}
 use Rattle.mojom_files.specs.declared.named_file.NamedFile.{NamedFile}
 use Rattle.mojom_files.specs.declared.cause.Cause.TheVariants.{NoFile, CircularImport, DuplicateName}

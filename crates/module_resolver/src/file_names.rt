@@ -1,6 +1,8 @@
 //! The names of files.
 
-use crate::name_table::NameTable;
+use crate::fronts::Fronts;
+use crate::indexed_files::IndexedFiles;
+use crate::seen::Seen;
 use crate::target::DefinitionSort;
 use mj_base::{Items, Text};
 
@@ -9,19 +11,19 @@ use mj_base::{Items, Text};
 #[derive(Drop)]
 pub struct FileNames {
     /// The full names of its definitions, by their numbers.
-    pub definitions: NameTable,
+    pub definitions: Items<Text>,
     /// What each definition is.
     pub sorts: Items<DefinitionSort>,
     /// The full names of its enumerators, by their numbers.
-    pub enumerators: NameTable,
+    pub enumerators: Items<Text>,
     /// The numbers of the file itself and of those that it imports, in resolved order.
-    pub seen: Items<u32>,
+    pub seen: Seen,
     /// The module's name and each shorter front of it, the longest first.
-    pub fronts: Items<Text>,
+    pub fronts: Fronts,
 }
 
 /// The names of all files, in the order in which these were given.
 #[derive(Drop)]
 pub struct Names {
-    pub files: Items<FileNames>,
+    pub files: IndexedFiles,
 }

@@ -1,88 +1,77 @@
 //! The look-up of a name.
 
 ghost use Rattle.std.specs.Prelude.{◌≡◌, IfOk};
-ghost use Rattle.module_resolver.specs.LookUp.{defined_in, enumerated_in, meant_by, look_up_from};
+ghost use Rattle.mojom_files.specs.Names.{within};
 ghost use Rattle.mojom_files.specs.Refusals.{first_of};
+ghost use Rattle.indexmap.specs.IndexMap.{get_by_text};
+ghost use Rattle.module_resolver.specs.Imports.{has};
+ghost use Rattle.module_resolver.specs.LookUp.{candidates};
+ghost use Rattle.module_resolver.specs.steps.Owners.{owner, HaveLengths};
 
 use crate::file_names::{FileNames, Names};
+use crate::lengths::has_length;
+use crate::owners::Owners;
+use crate::seen::Seen;
 use crate::target::{DefinitionSort, Target};
+use indexmap::IndexMap;
 use mj_base::Text;
 use mojom_files::within;
 use std::alloc::{AllocError, Global};
 
-/// The first definition of this full name in a file.
-fn defined_in(files: &[FileNames], full: &str, file: u32) -> Option<Target>
-    ensures { result ≡ defined_in files.now full.now file }
-{
-    let number = files.get(file as usize)?.definitions.find(full)?;
-    Some(Target::Definition { file, number })
-}
-
-/// The first enumerator of this full name in a file.
-fn enumerated_in(files: &[FileNames], full: &str, file: u32) -> Option<Target>
-    ensures { result ≡ enumerated_in files.now full.now file }
-{
-    let number = files.get(file as usize)?.enumerators.find(full)?;
-    Some(Target::Enumerator { file, number })
-}
-
-/// The first definition of this full name in the files that are seen.
-fn defined(files: &[FileNames], seen: &[u32], full: &str) -> Option<Target>
-    ensures { result ≡ first_of (defined_in files.now full.now) seen.now }
-{
-    for file in seen {
-        let found = defined_in(files, full, *file);
-        if found.is_some() {
-            return found;
-        }
-    }
-    None
-}
-
-/// The first enumerator of this full name in the files that are seen.
-fn enumerated(files: &[FileNames], seen: &[u32], full: &str) -> Option<Target>
-    ensures { result ≡ first_of (enumerated_in files.now full.now) seen.now }
-{
-    for file in seen {
-        let found = enumerated_in(files, full, *file);
-        if found.is_some() {
-            return found;
-        }
-    }
-    None
-}
-
 /// What has this full name in the files that are seen: a definition, or else an enumerator.
-fn meant_by(files: &[FileNames], seen: &[u32], full: &str) -> Option<Target>
-    ensures { result ≡ meant_by files.now seen.now full.now }
+fn meant_by(index: &IndexMap<String, Owners>, seen: &Seen, full: &str) -> Option<Target>
+    ensures { result ≡ owner (get_by_text index.now) (has seen.now) full.now }
 {
-    defined(files, seen, full).or_else(|| enumerated(files, seen, full))
+    index.get(full)?.first_seen(seen)
+}
+
+/// What has the full name of this in that in the files that are seen. The full name is made only
+/// where anything has one of its length.
+fn meant_within(
+    alloc: Global,
+    index: &IndexMap<String, Owners>,
+    lengths: &[bool],
+    seen: &Seen,
+    outer: &str,
+    name: &str,
+) -> Result<Option<Target>, AllocError>
+    requires { HaveLengths lengths.now (get_by_text index.now) }
+    ensures { IfOk result (λ target. target ≡ owner (get_by_text index.now) (has seen.now) (within outer.now name.now)) }
+{
+    if !has_length(lengths, outer, name) {
+        return Ok(None);
+    }
+    let full = within(alloc, outer, name)?;
+    Ok(meant_by(index, seen, full.as_str()))
 }
 
 /// What a name means in a file.
-fn look_up_from(
+pub(crate) fn look_up_from(
     alloc: Global,
-    files: &[FileNames],
+    index: &IndexMap<String, Owners>,
+    lengths: &[bool],
     here: &FileNames,
     enclosing: &Option<Text>,
     name: &str,
 ) -> Result<Option<Target>, AllocError>
-    ensures { IfOk result (λ target. target ≡ look_up_from files.now here.now enclosing.now name.now) }
+    requires { HaveLengths lengths.now (get_by_text index.now) }
+    ensures { IfOk result (λ target. target
+        ≡ first_of (owner (get_by_text index.now) (has here.now.seen)) (candidates enclosing.now here.now.fronts name.now)) }
 {
-    let seen = here.seen.as_slice();
+    let seen = &here.seen;
     if let Some(outer) = enclosing {
-        let found = meant_by(files, seen, within(alloc, outer.as_str(), name)?.as_str());
+        let found = meant_within(alloc, index, lengths, seen, outer.as_str(), name)?;
         if found.is_some() {
             return Ok(found);
         }
     }
-    for outer in here.fronts.as_slice() {
-        let found = meant_by(files, seen, within(alloc, outer.as_str(), name)?.as_str());
+    for number in 0..here.fronts.len() {
+        let found = meant_within(alloc, index, lengths, seen, here.fronts.at(number), name)?;
         if found.is_some() {
             return Ok(found);
         }
     }
-    Ok(meant_by(files, seen, name))
+    Ok(meant_by(index, seen, name))
 }
 
 impl Names {
@@ -100,11 +89,7 @@ impl Names {
     ) -> Result<Option<Target>, AllocError>
         ensures { IfOk result (λ target. target ≡ look_up self.now.files file enclosing.now name.now) }
     {
-        let files = self.files.as_slice();
-        match files.get(file as usize) {
-            Some(here) => look_up_from(alloc, files, here, enclosing, name),
-            None => Ok(None),
-        }
+        self.files.look_up(alloc, file, enclosing, name)
     }
 
     /// What the definition is that a name means; none exactly where it means no definition.

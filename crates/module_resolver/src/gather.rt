@@ -6,13 +6,15 @@ ghost use Rattle.std.specs.Str.{bytes_eq};
 ghost use Rattle.mojom_files.specs.Names.{within};
 ghost use Rattle.mojom_files.specs.Definitions.{enumerator_names};
 ghost use Rattle.mojom_files.specs.Views.{item_view};
-ghost use Rattle.module_resolver.specs.NamesOf.{sort_of_item, fronts_of, module_fronts, sees, sees_number, names_in, names_of};
+ghost use Rattle.module_resolver.specs.NamesOf.{sort_of_item, module_fronts, sees, sees_number, names_in, names_of};
 
 use crate::file_names::{FileNames, Names};
-use crate::name_table::NameTable;
+use crate::fronts::Fronts;
+use crate::indexed_files::IndexedFiles;
+use crate::seen::Seen;
 use crate::target::DefinitionSort;
 use mj_base::{Items, Text};
-use mojom_ast::{Enumerator, Identifier, Import, ModuleStatement};
+use mojom_ast::{Enumerator, Import, ModuleStatement};
 use mojom_files::{DefinitionView, ItemView, NamedFile, definitions, within};
 use std::alloc::{AllocError, Global};
 
@@ -143,35 +145,13 @@ fn seen(
     Ok(Items::from_vec(seen))
 }
 
-/// The text of a name and of each shorter front of it, the longest first.
-fn fronts_of(alloc: Global, parts: &[Identifier]) -> Result<Items<Text>, AllocError>
-    ensures { IfOk result (λ fronts. fronts ≡ fronts_of parts.now) }
-{
-    let [first, rest @ ..] = parts else {
-        return Ok(Items::new(alloc));
-    };
-    let mut fronts = Vec::new(alloc);
-    let mut front = Text::from_str(alloc, first.text.as_str())?;
-    for part in rest {
-        let longer = within(alloc, front.as_str(), part.text.as_str())?;
-        fronts.push(front)?;
-        front = longer;
-    }
-    fronts.push(front)?;
-    fronts.as_mut_slice().reverse();
-    Ok(Items::from_vec(fronts))
-}
-
 /// The name of a file's module and each shorter front of it, the longest first.
-fn module_fronts(
-    alloc: Global,
-    statement: &Option<ModuleStatement>,
-) -> Result<Items<Text>, AllocError>
+fn module_fronts(alloc: Global, statement: &Option<ModuleStatement>) -> Result<Fronts, AllocError>
     ensures { IfOk result (λ fronts. fronts ≡ module_fronts statement.now) }
 {
     match statement {
-        Some(statement) => fronts_of(alloc, statement.name.parts.as_slice()),
-        None => Ok(Items::new(alloc)),
+        Some(statement) => Fronts::new(alloc, statement.name.parts.as_slice()),
+        None => Ok(Fronts::none(alloc)),
     }
 }
 
@@ -187,10 +167,10 @@ fn names_in(
     let found = definitions(alloc, &file.tree)?;
     let views = found.as_slice();
     Ok(FileNames {
-        definitions: NameTable::new(alloc, full_names(alloc, views)?)?,
+        definitions: full_names(alloc, views)?,
         sorts: sorts(alloc, views)?,
-        enumerators: NameTable::new(alloc, enumerator_names(alloc, views)?)?,
-        seen: seen(alloc, files, order, file)?,
+        enumerators: enumerator_names(alloc, views)?,
+        seen: Seen::new(alloc, seen(alloc, files, order, file)?)?,
         fronts: module_fronts(alloc, &file.tree.module_statement)?,
     })
 }
@@ -204,6 +184,6 @@ pub fn names_of(alloc: Global, files: &[NamedFile], order: &[u32]) -> Result<Nam
         all.push(names_in(alloc, files, order, file)?)?;
     }
     Ok(Names {
-        files: Items::from_vec(all),
+        files: IndexedFiles::new(alloc, Items::from_vec(all), order)?,
     })
 }

@@ -1,8 +1,8 @@
 //! Each public call once, on `module m; enum E { A }; struct S { E f; };`.
 
 use crate::answers::named_files;
-use mj_base::{Items, Text};
-use module_resolver::{DefinitionSort, NameTable, Target, resolve};
+use mj_base::Text;
+use module_resolver::{DefinitionSort, Target, resolve};
 use mojom_files::{Basic, definitions, dotted, within};
 use std::test::Fail;
 
@@ -26,17 +26,6 @@ fn names_are_looked_up(rt: HostRuntime) -> Result<(), Fail> {
     assert_eq!(rt; names.look_up(alloc, 0, &None, "S")?, Some(structure));
     assert_eq!(rt; names.look_up(alloc, 1, &None, "S")?, None);
     assert_eq!(rt; names.sort_of(structure), Some(DefinitionSort::Struct));
-    Ok(())
-}
-
-#[test]
-fn names_have_numbers(rt: HostRuntime) -> Result<(), Fail> {
-    let alloc = rt.alloc();
-    let names = vec![in alloc; Text::from_str(alloc, "a")?, Text::from_str(alloc, "b")?]?;
-    let table = NameTable::new(alloc, Items::from_vec(names))?;
-    for (text, number) in [("a", Some(0)), ("b", Some(1)), ("c", None)] {
-        assert_eq!(rt; table.find(text), number, "at {text}");
-    }
     Ok(())
 }
 

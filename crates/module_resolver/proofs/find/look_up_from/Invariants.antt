@@ -1,10 +1,13 @@
 use Rattle.std.proofs.Common.{◌≡◌, drop, map, [], ◌∷◌, ◌++◌}
 use Rattle.mojom_files.specs.Names.{within}
 use Rattle.mojom_files.specs.Refusals.{first_of}
-use Rattle.module_resolver.specs.LookUp.{meant_by, look_up_from}
+use Rattle.indexmap.specs.IndexMap.{get_by_text}
+use Rattle.module_resolver.specs.Imports.{has}
+use Rattle.module_resolver.specs.LookUp.{candidates}
+use Rattle.module_resolver.specs.steps.Owners.{owner}
 use Rattle.module_resolver.proofs.find.look_up_from.Given as goal
 
-abbrev pub invariant-loop-outer : goal.invariant-loop-outer
-invariant-loop-outer l =
-    look_up_from l.files l.here l.enclosing l.name
-    ≡ first_of (meant_by l.files l.here.seen) (map (λ outer. within outer l.name) (drop l.outer-index l.here.fronts) ++ l.name ∷ [])
+abbrev pub invariant-loop-number : goal.invariant-loop-number
+invariant-loop-number l =
+    first_of (owner (get_by_text l.index) (has l.here.seen)) (candidates l.enclosing l.here.fronts l.name)
+    ≡ first_of (owner (get_by_text l.index) (has l.here.seen)) (map (λ outer. within outer l.name) (drop l.number l.here.fronts) ++ l.name ∷ [])

@@ -17,8 +17,8 @@ pub returns : goal.returns
 returns c =
     let views = c.as_slice-views.ensures.value ∙ c.in_ok-found.ensures in
     same _ _ _ _ _ _ _ _ _ _
-    (c.in_ok-new.ensures ∙ c.in_ok-full_names.ensures ∙ ap (map (λ (d : Defined). d.full)) views)
+    (c.in_ok-full_names.ensures ∙ ap (map (λ (d : Defined). d.full)) views)
     (c.in_ok-sorts.ensures ∙ ap (map (λ (d : Defined). sort_of_item d.item)) views)
-    (c.in_ok-new-2.ensures ∙ c.in_ok-enumerator_names.ensures ∙ ap (flat_map enumerator_names) views)
-    c.in_ok-seen.ensures
+    (c.in_ok-enumerator_names.ensures ∙ ap (flat_map enumerator_names) views)
+    (c.in_ok-new.ensures ∙ c.in_ok-seen.ensures)
     c.in_ok-module_fronts.ensures

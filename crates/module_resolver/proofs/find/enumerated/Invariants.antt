@@ -1,7 +1,0 @@
-use Rattle.std.proofs.Common.{◌≡◌, drop}
-use Rattle.mojom_files.specs.Refusals.{first_of}
-use Rattle.module_resolver.specs.LookUp.{enumerated_in}
-use Rattle.module_resolver.proofs.find.enumerated.Given as goal
-
-abbrev pub invariant-loop-file : goal.invariant-loop-file
-invariant-loop-file l = first_of (enumerated_in l.files l.full) l.seen ≡ first_of (enumerated_in l.files l.full) (drop l.file-index l.seen)

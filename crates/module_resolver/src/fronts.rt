@@ -1,0 +1,85 @@
+//! The fronts of a module's name.
+
+ghost use Rattle.std.specs.Prelude.{◌≡◌, reverse};
+
+use mojom_ast::Identifier;
+use std::alloc::{AllocError, Global};
+use std::marker::Model;
+
+/// The text of a name and of each shorter front of it, the longest first: the text itself, and where
+/// in it each of them ends.
+#[derive(Drop)]
+pub struct Fronts {
+    whole: String,
+    ends: Vec<usize>,
+}
+
+/// These numbers, the last first.
+fn reversed(mut ends: Vec<usize>) -> Vec<usize>
+    ensures { result.items ≡ reverse ends.items }
+{
+    ends.as_mut_slice().reverse();
+    ends
+}
+
+impl Model for Fronts {
+    ghost use Rattle.std.specs.Prelude.{List, ℕ, string_bytes};
+    ghost use Rattle.module_resolver.specs.steps.Cuts.{cut_at, AreCuts};
+
+    ghost Value = { List (List ℕ) };
+
+    ghost view = { λ f. cut_at (string_bytes f.whole) f.ends.items };
+
+    ghost invariant = { λ f. AreCuts (string_bytes f.whole) f.ends.items };
+}
+
+impl Fronts {
+    ghost use Rattle.std.specs.Prelude.{◌≡◌, ◌<◌, [], length, get_or, IfOk};
+    ghost use Rattle.module_resolver.specs.NamesOf.{fronts_of};
+
+    /// No fronts. Takes no memory.
+    pub(crate) fn none(alloc: Global) -> Fronts
+        ensures { result ≡ [] }
+    {
+        Fronts {
+            whole: String::new(alloc),
+            ends: Vec::new(alloc),
+        }
+    }
+
+    /// The fronts of the name with these parts.
+    pub(crate) fn new(alloc: Global, parts: &[Identifier]) -> Result<Fronts, AllocError>
+        ensures { IfOk result (λ fronts. fronts ≡ fronts_of parts.now) }
+    {
+        let [first, rest @ ..] = parts else {
+            return Ok(Fronts::none(alloc));
+        };
+        let mut whole = String::from_str(alloc, first.text.as_str())?;
+        let mut ends = Vec::new(alloc);
+        for part in rest {
+            ends.push(whole.as_str().len())?;
+            whole.push_str(".")?;
+            whole.push_str(part.text.as_str())?;
+        }
+        ends.push(whole.as_str().len())?;
+        Ok(Fronts {
+            whole,
+            ends: reversed(ends),
+        })
+    }
+
+    /// How many fronts there are.
+    pub fn len(&self) -> usize
+        ensures { result ≡ length self.now }
+    {
+        self.ends.len()
+    }
+
+    /// The front of this number.
+    pub(crate) fn at(&self, number: usize) -> &str
+        requires { number < length self.now }
+        ensures { result.now ≡ get_or self.now number [] }
+    {
+        &self.whole.as_str()[..self.ends[number]]
+    }
+}
