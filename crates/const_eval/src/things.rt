@@ -1,6 +1,6 @@
 //! Where the things of files stand.
 
-ghost use Rattle.std.specs.Prelude.{◌≡◌, ◌+◌, ◌++◌, IfOk, OnOk};
+ghost use Rattle.std.specs.Prelude.{◌≡◌, ◌+◌, ◌++◌, ◌≤◌, ◌^◌, IfOk, OnOk, IsErr};
 ghost use Rattle.mojom_files.specs.Definitions.{definitions_of};
 ghost use Rattle.const_eval.specs.Things.{owners_in, owners, things_at, things_of_files};
 
@@ -36,9 +36,10 @@ fn owners(alloc: Global, definitions: &[DefinitionView<'_>]) -> Result<Vec<usize
     Ok(owners)
 }
 
-/// The place that is so far behind another, or want of memory for so many things.
+/// The place that is so far behind another; there is no memory for 2^64 things.
 pub fn behind(first: usize, count: usize) -> Result<usize, AllocError>
-    ensures { IfOk result (λ end. end ≡ first + count) }
+    ensures value { IfOk result (λ end. end ≡ first + count) }
+    ensures held { IsErr result → 2 ^ 64 ≤ first + count }
 {
     first.checked_add(count).ok_or(AllocError)
 }

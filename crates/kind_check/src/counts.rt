@@ -2,7 +2,7 @@
 
 ghost use Rattle.std.specs.Prelude.{◌≡◌, ◌+◌, ◌++◌, map, IfOk, OnOk};
 ghost use Rattle.mojom_files.specs.Views.{item_view};
-ghost use Rattle.kind_check.specs.RowCounts.{methods_in, structs_of, structs_of_all, after, after_all, counts_before, definitions_at, rows_of};
+ghost use Rattle.kind_check.specs.RowCounts.{row_number, methods_in, structs_of, structs_of_all, after, after_all, counts_before, definitions_at, rows_of};
 
 use mj_base::Items;
 use mojom_ast::{InterfaceItem, InterfaceMember, Method};
@@ -51,11 +51,11 @@ pub fn methods_in<'a>(
     Ok(found)
 }
 
-/// So many more; there is no memory for 2^32 rows.
-pub fn more(count: u32, by: u32) -> Result<u32, AllocError>
-    ensures { IfOk result (λ sum. sum ≡ count + by) }
+/// So many rows and so many more; none exactly where 32 bits don't hold their number.
+pub fn more(count: u32, by: u32) -> Option<u32>
+    ensures { result ≡ row_number (count + by) }
 {
-    count.checked_add(by).ok_or(AllocError)
+    count.checked_add(by)
 }
 
 /// How many structs a method has: one for the request, and one for the response where there is one.
@@ -68,32 +68,32 @@ pub fn structs_of(method: &Method) -> u32
     }
 }
 
-/// So many structs, and those of methods.
-fn with_structs(count: u32, methods: &[&Method]) -> Result<u32, AllocError>
-    ensures { IfOk result (λ sum. sum ≡ count + structs_of_all (map (λ m. m.now) methods.now)) }
+/// So many structs, and those of methods; none exactly where 32 bits don't hold their number.
+fn with_structs(count: u32, methods: &[&Method]) -> Option<u32>
+    ensures { result ≡ row_number (count + structs_of_all (map (λ m. m.now) methods.now)) }
 {
     let mut sum = count;
     for method in methods {
         sum = more(sum, structs_of(method))?;
     }
-    Ok(sum)
+    Some(sum)
 }
 
-/// So many rows, and those of a definition.
+/// So many rows, and those of a definition; there is no memory for 2^32 rows.
 pub fn after(alloc: Global, counts: Counts, item: ItemView<'_>) -> Result<Counts, AllocError>
     ensures { IfOk result (λ made. made ≡ after counts (item_view item.entry)) }
 {
     let mut made = counts;
     match item {
-        ItemView::Struct(_) => made.structs = more(counts.structs, 1)?,
-        ItemView::Union(_) => made.unions = more(counts.unions, 1)?,
-        ItemView::Enum(_) => made.enums = more(counts.enums, 1)?,
+        ItemView::Struct(_) => made.structs = more(counts.structs, 1).ok_or(AllocError)?,
+        ItemView::Union(_) => made.unions = more(counts.unions, 1).ok_or(AllocError)?,
+        ItemView::Enum(_) => made.enums = more(counts.enums, 1).ok_or(AllocError)?,
         ItemView::Interface(item) => {
             let methods = methods_in(alloc, item.members.as_slice())?;
-            made.structs = with_structs(counts.structs, methods.as_slice())?;
-            made.interfaces = more(counts.interfaces, 1)?;
+            made.structs = with_structs(counts.structs, methods.as_slice()).ok_or(AllocError)?;
+            made.interfaces = more(counts.interfaces, 1).ok_or(AllocError)?;
         }
-        ItemView::Const(_) => made.consts = more(counts.consts, 1)?,
+        ItemView::Const(_) => made.consts = more(counts.consts, 1).ok_or(AllocError)?,
     }
     Ok(made)
 }

@@ -100,7 +100,7 @@ fn add_method_order(
 {
     add_row(order, RowSort::Struct, first)?;
     match &method.response {
-        Some(_) => add_row(order, RowSort::Struct, more(first, 1)?),
+        Some(_) => add_row(order, RowSort::Struct, more(first, 1).ok_or(AllocError)?),
         None => Ok(()),
     }
 }
@@ -116,7 +116,7 @@ fn add_methods_order(
     let mut number = first;
     for method in methods {
         add_method_order(order, number, method)?;
-        number = more(number, structs_of(method))?;
+        number = more(number, structs_of(method)).ok_or(AllocError)?;
     }
     Ok(())
 }

@@ -27,7 +27,7 @@ fn method_row(
 {
     let name = Text::from_str(alloc, method.name.text.as_str())?;
     let response = match &method.response {
-        Some(_) => Some(more(first, 1)?),
+        Some(_) => Some(more(first, 1).ok_or(AllocError)?),
         None => None,
     };
     Ok(MethodRow {
@@ -53,7 +53,7 @@ fn method_rows(
         let ordinal = ordinal_at(next, method.ordinal);
         made.push(method_row(alloc, ordinal, number, method)?)?;
         next = held(u64::from(ordinal) + 1);
-        number = more(number, structs_of(method))?;
+        number = more(number, structs_of(method)).ok_or(AllocError)?;
     }
     Ok(Items::from_vec(made))
 }

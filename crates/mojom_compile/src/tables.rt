@@ -4,6 +4,7 @@ ghost use Rattle.std.specs.Prelude.{◌≡◌, ◌+◌, IfOk, map};
 ghost use Rattle.std.specs.List.{AllByRecursion};
 ghost use Rattle.mj_schema.specs.Layout.{IsLaidOut, draft_of};
 ghost use Rattle.schema_laws.specs.Whole.{CanBeLaidOut, IsWhole};
+ghost use Rattle.kind_check.specs.RowCounts.{row_number};
 ghost use Rattle.mojom_compile.specs.Schemas.{IsLayoutOf};
 
 use kind_check::Draft;
@@ -25,14 +26,31 @@ fn lay_out_all(alloc: Global, drafts: Vec<DraftStruct>) -> Result<Vec<StructRow>
     Ok(rows)
 }
 
-/// So many rows and so many more; there is no memory for 2^32 rows.
-fn more(count: u32, by: usize) -> Result<u32, AllocError>
-    ensures { IfOk result (λ sum. sum ≡ count + by) }
+/// So many rows and so many more; none exactly where 32 bits don't hold their number.
+fn more(count: u32, by: usize) -> Option<u32>
+    ensures { result ≡ row_number (count + by) }
 {
     match u32::try_from(by) {
-        Ok(by) => count.checked_add(by).ok_or(AllocError),
-        Err(_) => Err(AllocError),
+        Ok(by) => count.checked_add(by),
+        Err(_) => None,
     }
+}
+
+/// How many rows a schema with these tables has; none exactly where 32 bits don't hold their number.
+fn row_count(
+    structs: usize,
+    unions: usize,
+    enums: usize,
+    interfaces: usize,
+    consts: usize,
+) -> Option<u32>
+    ensures { result ≡ row_number (structs + unions + enums + interfaces + consts) }
+{
+    let rows = more(0, structs)?;
+    let rows = more(rows, unions)?;
+    let rows = more(rows, enums)?;
+    let rows = more(rows, interfaces)?;
+    more(rows, consts)
 }
 
 /// The schema that has these tables, with the fields of structs at their places.
@@ -49,11 +67,15 @@ pub fn schema_of(alloc: Global, draft: Draft) -> Result<Schema, AllocError>
         order,
     } = draft;
     let structs = lay_out_all(alloc, structs.into_vec())?;
-    let rows = more(0, structs.len())?;
-    let rows = more(rows, unions.len())?;
-    let rows = more(rows, enums.len())?;
-    let rows = more(rows, interfaces.len())?;
-    more(rows, consts.len())?;
+    // There is no memory for 2^32 rows.
+    row_count(
+        structs.len(),
+        unions.len(),
+        enums.len(),
+        interfaces.len(),
+        consts.len(),
+    )
+    .ok_or(AllocError)?;
     Ok(Schema {
         structs: Items::from_vec(structs),
         unions,
