@@ -18,19 +18,16 @@ use module_resolver::Names;
 use mojom_files::{NamedFile, Refusal};
 use std::alloc::{AllocError, Global};
 
-/// More files or things than this are want of memory.
-const MOST: usize = 0xffff_ffff;
-
-/// What the constants and enumerators of files mean.
+/// What the constants and enumerators of files mean. There is no memory for 2^32 files or things.
 fn consts(alloc: Global, files: &[NamedFile], names: &Names) -> Result<Consts, AllocError>
     ensures { IfOk result (AreConsts files.now names.now.files) }
 {
-    if files.len() > MOST {
+    if u32::try_from(files.len()).is_err() {
         return Err(AllocError);
     }
     let things = things_of_files(alloc, files)?;
     let origins = origins(alloc, files, things.as_slice(), names)?;
-    if origins.len() > MOST {
+    if u32::try_from(origins.len()).is_err() {
         return Err(AllocError);
     }
     let meanings = meanings(alloc, origins.as_slice())?;

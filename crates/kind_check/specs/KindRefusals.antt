@@ -3,7 +3,7 @@ use Rattle.std.specs.Prelude.{ℕ, Bool, true, false, nat_lt, codes, if◌then�
 use Rattle.std.specs.List.{flat_map, list_any}
 use Rattle.std.specs.Option.{option_map_or}
 use Rattle.std.specs.Str.{bytes_eq}
-use Rattle.mj_base.specs.declared.limits.TheConstants.{MAX_FIELDS, MAX_METHODS, MAX_PARAMETERS}
+use Rattle.mj_base.specs.declared.limits.TheConstants.{MAX_FIELDS, MAX_METHODS, MAX_PARAMETERS, MAX_UNION_FIELDS, MAX_ENUMERATORS}
 use Rattle.mojom_ast.specs.declared.names.Identifier.{Identifier}
 use Rattle.mojom_ast.specs.declared.attributes.Attribute.{Attribute}
 use Rattle.mojom_ast.specs.declared.definitions.DefinitionItem.{DefinitionItem}
@@ -21,7 +21,6 @@ use Rattle.mojom_files.specs.Definitions.{Defined, definitions_of}
 use Rattle.mojom_files.specs.Refusals.{where_true, first_refusal}
 use Rattle.module_resolver.specs.declared.file_names.FileNames.{FileNames}
 use Rattle.const_eval.specs.declared.consts.Consts.{Consts}
-use Rattle.kind_check.specs.declared.limits.TheConstants.{MAX_UNION_FIELDS, MAX_ENUMERATORS}
 use Rattle.kind_check.specs.declared.list_sort.ListSort.{ListSort}
 use Rattle.kind_check.specs.declared.list_sort.ListSort.TheVariants.{Fields, UnionFields, Methods, Parameters}
 use Rattle.kind_check.specs.Scopes.{Scope, refused}

@@ -1,5 +1,5 @@
 -- The numbers of rows: how many rows of each sort stand before a definition.
-use Rattle.std.specs.Prelude.{ℕ, ◌+◌, ◌^◌, nat_lt, if◌then◌else◌, List, [], ◌∷◌, slice_get, find, ◌==◌, Option, Some, None, option_and_then}
+use Rattle.std.specs.Prelude.{ℕ, ◌+◌, List, [], ◌∷◌, slice_get, find, ◌==◌, Option, Some, None, option_and_then}
 use Rattle.std.specs.List.{fold, flat_map, sum_by}
 use Rattle.std.specs.Option.{option_map_or}
 use Rattle.mojom_ast.specs.declared.definitions.DefinitionItem.{DefinitionItem}
@@ -39,10 +39,6 @@ abbrev pub structs_of_all : List Method → ℕ
 structs_of_all methods = sum_by structs_of methods
 
 -- counts
-
--- a number of rows, where 32 bits hold it
-abbrev pub row_number : ℕ → Option ℕ
-row_number n = if nat_lt n (2 ^ 32) then Some n else None
 
 -- so many rows, and those of a definition
 abbrev pub after : Counts → DefinitionItem → Counts

@@ -2,7 +2,8 @@
 
 ghost use Rattle.std.specs.Prelude.{◌≡◌, ◌+◌, ◌++◌, map, IfOk, OnOk};
 ghost use Rattle.mojom_files.specs.Views.{item_view};
-ghost use Rattle.kind_check.specs.RowCounts.{row_number, methods_in, structs_of, structs_of_all, after, after_all, counts_before, definitions_at, rows_of};
+ghost use Rattle.kind_check.specs.steps.RowNumbers.{row_number, numbered};
+ghost use Rattle.kind_check.specs.RowCounts.{methods_in, structs_of, structs_of_all, after, after_all, counts_before, definitions_at, rows_of};
 
 use mj_base::Items;
 use mojom_ast::{InterfaceItem, InterfaceMember, Method};
@@ -68,40 +69,41 @@ pub fn structs_of(method: &Method) -> u32
     }
 }
 
-/// So many structs, and those of methods; none exactly where 32 bits don't hold their number.
-fn with_structs(count: u32, methods: &[&Method]) -> Option<u32>
-    ensures { result ≡ row_number (count + structs_of_all (map (λ m. m.now) methods.now)) }
+/// So many structs, and those of the methods among members; none exactly where 32 bits don't hold their
+/// number.
+fn with_structs(count: u32, members: &[InterfaceMember]) -> Option<u32>
+    ensures { result ≡ row_number (count + structs_of_all (methods_in members.now)) }
 {
     let mut sum = count;
-    for method in methods {
-        sum = more(sum, structs_of(method))?;
+    for member in members {
+        if let InterfaceItem::Method(method) = &member.item {
+            sum = more(sum, structs_of(method))?;
+        }
     }
     Some(sum)
 }
 
-/// So many rows, and those of a definition; there is no memory for 2^32 rows.
-pub fn after(alloc: Global, counts: Counts, item: ItemView<'_>) -> Result<Counts, AllocError>
-    ensures { IfOk result (λ made. made ≡ after counts (item_view item.entry)) }
+/// So many rows, and those of a definition; none exactly where 32 bits don't hold a number of them.
+pub fn after(counts: Counts, item: ItemView<'_>) -> Option<Counts>
+    ensures { result ≡ numbered (after counts (item_view item.entry)) }
 {
     let mut made = counts;
     match item {
-        ItemView::Struct(_) => made.structs = more(counts.structs, 1).ok_or(AllocError)?,
-        ItemView::Union(_) => made.unions = more(counts.unions, 1).ok_or(AllocError)?,
-        ItemView::Enum(_) => made.enums = more(counts.enums, 1).ok_or(AllocError)?,
+        ItemView::Struct(_) => made.structs = more(counts.structs, 1)?,
+        ItemView::Union(_) => made.unions = more(counts.unions, 1)?,
+        ItemView::Enum(_) => made.enums = more(counts.enums, 1)?,
         ItemView::Interface(item) => {
-            let methods = methods_in(alloc, item.members.as_slice())?;
-            made.structs = with_structs(counts.structs, methods.as_slice()).ok_or(AllocError)?;
-            made.interfaces = more(counts.interfaces, 1).ok_or(AllocError)?;
+            made.structs = with_structs(counts.structs, item.members.as_slice())?;
+            made.interfaces = more(counts.interfaces, 1)?;
         }
-        ItemView::Const(_) => made.consts = more(counts.consts, 1).ok_or(AllocError)?,
+        ItemView::Const(_) => made.consts = more(counts.consts, 1)?,
     }
-    Ok(made)
+    Some(made)
 }
 
 /// Adds how many rows stand before each definition, where so many stand before the first; how many
-/// stand behind the last.
+/// stand behind the last. There is no memory for 2^32 rows.
 fn add_counts(
-    alloc: Global,
     before: &mut Vec<Counts>,
     counts: Counts,
     views: &[DefinitionView<'_>],
@@ -112,7 +114,7 @@ fn add_counts(
     let mut behind = counts;
     for view in views {
         before.push(behind)?;
-        behind = after(alloc, behind, view.item())?;
+        behind = after(behind, view.item()).ok_or(AllocError)?;
     }
     Ok(behind)
 }
@@ -144,7 +146,7 @@ pub fn rows_of(
     for number in order {
         let views = definitions_at(alloc, files, *number)?;
         let mut before = Vec::new(alloc);
-        counts = add_counts(alloc, &mut before, counts, views.as_slice())?;
+        counts = add_counts(&mut before, counts, views.as_slice())?;
         rows.push(FileRows {
             file: *number,
             before: Items::from_vec(before),

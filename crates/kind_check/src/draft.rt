@@ -217,7 +217,7 @@ fn add_all(
             enclosing: view.enclosing(),
         };
         add_item(alloc, lists, rows, &around, behind, view)?;
-        behind = after(alloc, behind, view.item())?;
+        behind = after(behind, view.item()).ok_or(AllocError)?;
     }
     Ok(behind)
 }

@@ -5,10 +5,10 @@ ghost use Rattle.mojom_files.specs.Refusals.{best_of};
 ghost use Rattle.kind_check.specs.steps.Views.{scope_view};
 ghost use Rattle.kind_check.specs.KindRefusals.{has_attribute, is_default, refused_default, refused_enum};
 
-use crate::limits::MAX_ENUMERATORS;
 use crate::list_check::check_count;
 use crate::refuse::{Rule, refuse};
 use crate::scope::ScopeView;
+use mj_base::limits::MAX_ENUMERATORS;
 use mojom_ast::{Attribute, Enum, Enumerator};
 use mojom_files::Refusal;
 use std::alloc::{AllocError, Global};

@@ -2,8 +2,7 @@
 
 ghost use Rattle.std.specs.Prelude.{◌≡◌};
 
-use crate::limits::MAX_UNION_FIELDS;
-use mj_base::limits::{MAX_FIELDS, MAX_METHODS, MAX_PARAMETERS};
+use mj_base::limits::{MAX_FIELDS, MAX_METHODS, MAX_PARAMETERS, MAX_UNION_FIELDS};
 
 /// What a list of members is of.
 #[derive(Clone, Copy, Debug, PartialEq, Eq)]

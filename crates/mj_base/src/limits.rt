@@ -9,6 +9,12 @@ pub const MAX_NESTED_TYPES: u32 = 32;
 /// The most fields of a struct.
 pub const MAX_FIELDS: usize = 4096;
 
+/// The most fields of a union.
+pub const MAX_UNION_FIELDS: usize = 4096;
+
+/// The most enumerators of an enum.
+pub const MAX_ENUMERATORS: usize = 4096;
+
 /// The most parameters in one list of a method.
 pub const MAX_PARAMETERS: usize = 4096;
 

@@ -2,7 +2,8 @@ use Rattle.std.proofs.Common.{◌≡◌, ℕ, ◌+◌, ◌^◌, ◌<◌, true, m
 use Rattle.std.specs.Prelude.{nat_lt}
 use Rattle.std.proofs.lemmas.Bool.{lt-ltb}
 use Rattle.std.proofs.lemmas.List.{drop_all}
-use Rattle.kind_check.specs.RowCounts.{row_number, structs_of_all}
+use Rattle.kind_check.specs.RowCounts.{structs_of_all, methods_in}
+use Rattle.kind_check.specs.steps.RowNumbers.{row_number}
 use Rattle.kind_check.proofs.counts.with_structs.Goals as goal
 
 -- 32 bits hold the number
@@ -13,5 +14,5 @@ held sum total e small =
 
 pub returns : goal.returns
 returns c =
-    let none = ap (λ ms. c.loop-method.sum + structs_of_all (map (λ m. m.now) ms)) (drop_all c.loop-method.method-index c.args.methods.now c.loop-method-test.false) in
-    held c.loop-method.sum _ (omega (arith, none, c.loop-method.invariant.rest)) c.loop-method.invariant.small
+    let none = ap (λ ms. c.loop-member.sum + structs_of_all (methods_in ms)) (drop_all c.loop-member.member-index c.args.members.now c.loop-member-test.false) in
+    held c.loop-member.sum _ (omega (arith, none, c.loop-member.invariant.rest)) c.loop-member.invariant.small
