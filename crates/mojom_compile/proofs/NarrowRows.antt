@@ -15,7 +15,7 @@ use Rattle.mj_schema.specs.declared.rows.DraftStruct.{DraftStruct}
 use Rattle.mj_schema.specs.declared.rows.FieldRow.{FieldRow}
 use Rattle.mj_schema.specs.declared.rows.Place.{Place}
 use Rattle.mj_schema.specs.declared.rows.StructRow.{StructRow}
-use Rattle.mj_schema.specs.Layout.{Slot, is_free, address_of, IsLeastPlace, ArePacked, kind_of, place_of, are_numbered, never_fall, IsLaidOut, draft_field, draft_of}
+use Rattle.mj_schema.specs.Layout.{Slot, is_free, address_of, IsLeastPlace, ArePacked, kind_of, place_of, are_numbered, never_fall, are_small, IsLaidOut, draft_field, draft_of}
 use Rattle.mj_schema.specs.Narrow.{narrow_field, is_narrow}
 use Rattle.mj_schema.specs.Versions.{version_rows}
 use Rattle.mj_schema.proofs.Apart.{free_cons, cons_free}
@@ -91,6 +91,10 @@ of_one_version : (k : ℕ) (names : List (List ℕ)) → never_fall 0 (map (λ (
 of_one_version k [] = refl
 of_one_version k (name ∷ names) = of_one_version (suc k) names
 
+of_small_versions : (k : ℕ) (names : List (List ℕ)) → are_small (map (λ (field : FieldRow). field.min_version) (fields_from k names)) ≡ true
+of_small_versions k [] = refl
+of_small_versions k (name ∷ names) = of_small_versions (suc k) names
+
 are_narrow : (name : List ℕ) (versions : List VersionRow) (k : ℕ) (names : List (List ℕ))
     → is_narrow (record { name = name; fields = fields_from k names; versions = versions }) ≡ true
 are_narrow name versions k [] = refl
@@ -117,6 +121,7 @@ row_laid_out interface method small = record {
   few = let same = as_many 0 method.parameters in let most = small.few in omega arith;
   numbered = are_in_order 0 method.parameters;
   rising = of_one_version 0 method.parameters;
+  small = of_small_versions 0 method.parameters;
   packed = are_packed 0 method.parameters;
   versions = refl;
 }

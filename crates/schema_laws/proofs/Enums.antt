@@ -15,7 +15,7 @@ use Rattle.mojom_files.specs.declared.cause.Cause.TheVariants.{EmptyEnum}
 use Rattle.mojom_files.specs.Refusals.{where_true}
 use Rattle.mj_schema.specs.WellFormed.{has_members}
 use Rattle.mj_schema.specs.declared.rows.MemberRow.{MemberRow}
-use Rattle.kind_check.specs.declared.limits.TheConstants.{MAX_ENUMERATORS}
+use Rattle.mj_base.specs.declared.limits.TheConstants.{MAX_ENUMERATORS}
 use Rattle.kind_check.specs.Scopes.{Scope, refused}
 use Rattle.kind_check.specs.KindRefusals.{is_empty, is_default, refused_count, refused_default, refused_enum}
 use Rattle.kind_check.specs.Rows.{Valued, valued, member_row, default_in, enum_row}

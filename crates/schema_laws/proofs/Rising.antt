@@ -1,22 +1,23 @@
 -- A struct of whose members nothing is refused can be laid out.
-use Rattle.std.proofs.Common.{◌≡◌, ◌≤◌, ◌+◌, ℕ, List, [], ◌∷◌, ◌++◌, length, map, refl, ap, arith}
+use Rattle.std.proofs.Common.{◌≡◌, ◌<◌, ◌≤◌, ◌+◌, ◌^◌, ℕ, pos, negsuc, List, [], ◌∷◌, ◌++◌, length, map, refl, ap, arith}
 use Rattle.std.specs.Prelude.{Bool, true, false, nat_lt, ◌==◌, Option, Some, None, if◌then◌else◌}
 use Rattle.std.specs.List.{fold, flat_map}
-use Rattle.std.specs.Option.{option_map, option_to_list}
+use Rattle.std.specs.Option.{option_map, option_map_or, option_and_then, option_to_list}
 use Rattle.std.specs.Cmp.Derive.{both_true}
-use Rattle.std.proofs.lemmas.Bool.{ltb-false, le-leb}
+use Rattle.std.proofs.lemmas.Bool.{ltb-false, le-leb, lt-ltb}
 use Rattle.mj_base.specs.declared.limits.TheConstants.{MAX_FIELDS}
 use Rattle.mojom_ast.specs.declared.names.Identifier.{Identifier}
 use Rattle.mojom_files.specs.declared.refusal.Refusal.{Refusal}
 use Rattle.mj_schema.specs.KindTrees.{KindTree}
-use Rattle.mj_schema.specs.Layout.{never_fall}
+use Rattle.mj_schema.specs.Layout.{never_fall, are_small}
 use Rattle.mj_schema.specs.declared.rows.DraftField.{DraftField}
 use Rattle.kind_check.specs.declared.counts.FileRows.{FileRows}
 use Rattle.kind_check.specs.declared.list_sort.ListSort.{ListSort}
+use Rattle.const_eval.specs.Known.{Known, TextValue, BoolValue, NumberValue, FloatValue}
 use Rattle.kind_check.specs.Scopes.{Scope}
 use Rattle.kind_check.specs.Members.{Member, Numbered, held, ordinal_at, numbered_from, numbered}
 use Rattle.kind_check.specs.TypeRefusals.{refused_in_member}
-use Rattle.kind_check.specs.OrdinalRefusals.{place, along_ordinals, version_of, refused_fall, refused_falls, refused_gap, lacking, refused_order, refused_late, doubled, refused_double, refused_doubles}
+use Rattle.kind_check.specs.OrdinalRefusals.{place, along_ordinals, min_version, known_in, version_of_known, version_of, refused_fall, refused_falls, refused_gap, lacking, refused_order, refused_late, doubled, refused_double, refused_doubles}
 use Rattle.kind_check.specs.KindRefusals.{limit_of, is_struct, is_empty, refused_count, refused_struct, refused_numbers, refused_list}
 use Rattle.kind_check.specs.Rows.{kind_in, field_with, field_row, found_of, struct_row}
 use Rattle.schema_laws.specs.Whole.{CanBeLaidOut}
@@ -86,6 +87,29 @@ rising rows scope (one ∷ others) before low under e =
     risen scope one (found_of (field_row rows scope) others) low (kind_in rows scope one.member.kind) above
     (rising rows scope others here low above parts.1) (rising rows scope others here here (omega arith) parts.1)
 
+-- each version is a number of 32 bits
+known_small : (known : Known) → version_of_known known < 2 ^ 32
+known_small (TextValue text) = omega arith
+known_small (BoolValue b) = omega arith
+known_small (NumberValue (pos n)) = omega arith
+known_small (NumberValue (negsuc n)) = omega arith
+known_small FloatValue = omega arith
+
+small_or_none : (known : Option Known) → option_map_or version_of_known known 0 < 2 ^ 32
+small_or_none None = omega arith
+small_or_none (Some known) = known_small known
+
+more_small : (scope : Scope) (one : Numbered) (fields : List DraftField) (found : Option KindTree) → are_small (versions fields) ≡ true
+    → are_small (versions (option_to_list (option_map (field_with scope one.member) found) ++ fields)) ≡ true
+more_small scope one fields None rest = rest
+more_small scope one fields (Some kind) rest =
+    both_true (lt-ltb (version_of scope one.member) (2 ^ 32) (small_or_none (option_and_then (known_in scope) (min_version one.member.attributes)))) rest
+
+all_small : (rows : List FileRows) (scope : Scope) (ones : List Numbered) → are_small (versions (found_of (field_row rows scope) ones)) ≡ true
+all_small rows scope [] = refl
+all_small rows scope (one ∷ others) =
+    more_small scope one (found_of (field_row rows scope) others) (kind_in rows scope one.member.kind) (all_small rows scope others)
+
 -- structs
 
 chosen : (b : Bool) (xs ys : List Refusal) → b ≡ true → (if b then xs else ys) ≡ [] → xs ≡ []
@@ -144,4 +168,5 @@ laid_out rows scope full owner sort members is limit e =
     record {
       few = omega arith;
       rising = rising rows scope (along_ordinals (numbered members)) 0 0 (omega arith) (none_falls scope owner sort members is e);
+      small = all_small rows scope (along_ordinals (numbered members));
     }

@@ -1,5 +1,5 @@
 -- The rows of a struct when it gets one field more.
-use Rattle.std.proofs.Common.{◌≡◌, ℕ, zero, suc, ◌+◌, ◌<◌, ◌≤◌, Bool, true, false, cond, List, [], ◌∷◌, ◌++◌, length, take, drop, get_or, add-one, length-take, ◌≢◌, refl, sym, ap, ◌∙◌, arith}
+use Rattle.std.proofs.Common.{◌≡◌, ℕ, zero, suc, ◌+◌, ◌^◌, ◌<◌, ◌≤◌, Bool, true, false, cond, List, [], ◌∷◌, ◌++◌, length, take, drop, get_or, add-one, length-take, ◌≢◌, refl, sym, ap, ◌∙◌, arith}
 use Rattle.std.specs.Prelude.{◌==◌, nat_le, nat_lt, max, map}
 use Rattle.std.specs.List.{list_all}
 use Rattle.std.proofs.lemmas.Bool.{and_parts, and_from, leb-true, le-leb, ltb-true, lt-ltb}
@@ -12,7 +12,7 @@ use Rattle.mj_schema.specs.declared.rows.DraftField.{DraftField}
 use Rattle.mj_schema.specs.declared.rows.FieldRow.{FieldRow}
 use Rattle.mj_schema.specs.declared.rows.Place.{Place}
 use Rattle.mj_schema.specs.declared.rows.VersionRow.{VersionRow}
-use Rattle.mj_schema.specs.Layout.{field_rows, never_fall}
+use Rattle.mj_schema.specs.Layout.{field_rows, never_fall, are_small}
 use Rattle.mj_schema.specs.Versions.{bytes_of, end_of, greatest, fields_up_to, version_row, versions_behind, version_rows}
 
 -- the version of the last field
@@ -212,6 +212,17 @@ falls_next v zero (f ∷ fs) d lt h =
     let parts = and_parts (nat_le v f.min_version) (never_fall f.min_version (map (λ (g : DraftField). g.min_version) fs)) h in
     (leb-true v f.min_version parts.0, parts.1)
 falls_next v (suc i) (f ∷ fs) d lt h = falls_next v i fs d (omega arith) h
+
+-- a field whose version has 32 bits, before those that are left: for the loop of `table`
+pub small_next : (i : ℕ) (fs : List DraftField) (f : DraftField) → i < length fs → f ≡ get_or fs i f → f.min_version < 2 ^ 32
+    → are_small (map (λ (d : DraftField). d.min_version) (drop (i + 1) fs)) ≡ are_small (map (λ (d : DraftField). d.min_version) (drop i fs))
+small_next i fs f lt is small = rw add-one (step i fs f lt (rw is at small))
+  where
+    step : (i : ℕ) (fs : List DraftField) (d : DraftField) → i < length fs → (get_or fs i d).min_version < 2 ^ 32
+        → are_small (map (λ (g : DraftField). g.min_version) (drop (suc i) fs)) ≡ are_small (map (λ (g : DraftField). g.min_version) (drop i fs))
+    step i [] d lt small = absurd (omega arith)
+    step zero (g ∷ gs) d lt small = let here : nat_lt g.min_version (2 ^ 32) ≡ true = lt-ltb _ _ small in rw here refl
+    step (suc i) (g ∷ gs) d lt small = step i gs d (omega arith) small
 
 -- one iteration: the next field has the last version, or a newer one
 pub record Next (fs : List DraftField) (ps : List Place) (i version end : ℕ) (rows : List VersionRow) : Type 0 where

@@ -10,7 +10,7 @@ use Rattle.mj_schema.specs.declared.rows.DraftStruct.{DraftStruct}
 use Rattle.mj_schema.specs.declared.rows.FieldRow.{FieldRow}
 use Rattle.mj_schema.specs.declared.rows.Place.{Place}
 use Rattle.mj_schema.specs.declared.rows.VersionRow.{VersionRow}
-use Rattle.mj_schema.specs.Layout.{Slot, slot_at, address_of, ArePacked, kind_of, place_of, are_numbered, never_fall, field_rows, draft_field, draft_of, IsLaidOut}
+use Rattle.mj_schema.specs.Layout.{Slot, slot_at, address_of, ArePacked, kind_of, place_of, are_numbered, never_fall, are_small, field_rows, draft_field, draft_of, IsLaidOut}
 use Rattle.mj_schema.specs.Versions.{version_rows}
 use Rattle.version_tables.proofs.Growing.{length-field_rows}
 
@@ -48,16 +48,17 @@ kept k (f ∷ fs) (p ∷ ps) same =
 
 -- the struct that `lay_out` gives is laid out, and has its draft
 pub laid_out : (name : List ℕ) (fs : List DraftField) (ps : List Place) (rows : List FieldRow) (versions : List VersionRow) → length fs ≤ MAX_FIELDS
-    → never_fall 0 (map (λ (f : DraftField). f.min_version) fs) ≡ true → ArePacked [] (map (λ (f : DraftField). f.kind) fs) ps → length ps ≡ length fs
+    → never_fall 0 (map (λ (f : DraftField). f.min_version) fs) ≡ true → are_small (map (λ (f : DraftField). f.min_version) fs) ≡ true → ArePacked [] (map (λ (f : DraftField). f.kind) fs) ps → length ps ≡ length fs
     → rows ≡ field_rows 0 fs ps → versions ≡ version_rows (field_rows 0 fs ps)
     → IsLaidOut (record { name = name; fields = rows; versions = versions }) × (draft_of (record { name = name; fields = rows; versions = versions })
     ≡ record { name = name; fields = fs })
-laid_out name fs ps rows versions few rising packed same rows-is versions-is =
+laid_out name fs ps rows versions few rising small packed same rows-is versions-is =
     let k = kept 0 fs ps same in
     let is : IsLaidOut (record { name = name; fields = field_rows 0 fs ps; versions = version_rows (field_rows 0 fs ps) }) = record {
       few = omega (arith, length-field_rows 0 fs ps same);
       numbered = numbered 0 fs ps;
       rising = rw k.versions rising;
+      small = rw k.versions small;
       packed = rw (k.kinds, k.places) packed;
       versions = refl;
     } in

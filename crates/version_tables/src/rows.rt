@@ -5,7 +5,7 @@ ghost use Rattle.mj_base.specs.Bytes.{rounded8};
 ghost use Rattle.mj_schema.specs.declared.rows.DraftField.{DraftField};
 ghost use Rattle.mj_schema.specs.declared.rows.Place.{Place};
 ghost use Rattle.mj_schema.specs.declared.rows.VersionRow.{VersionRow};
-ghost use Rattle.mj_schema.specs.Layout.{field_rows, never_fall};
+ghost use Rattle.mj_schema.specs.Layout.{are_small, field_rows, never_fall};
 ghost use Rattle.mj_schema.specs.Versions.{bytes_of, version_rows, is_table};
 ghost use Rattle.version_tables.specs.steps.Rows.{found_in};
 
@@ -26,20 +26,29 @@ pub fn table(
     requires places { length places.now ≡ length fields.now }
     requires near { All (λ (place : Place). place.offset < 2 ^ 17) places.now }
     requires rising { IsTrue (never_fall 0 (map (λ (field : DraftField). field.min_version) fields.now)) }
-    ensures { IfOk result (λ rows. rows.items ≡ version_rows (field_rows 0 fields.now places.now)) }
+    ensures rows { IfOk result (λ rows. rows.items ≡ version_rows (field_rows 0 fields.now places.now)) }
+    ensures small { IfOk result (λ _. IsTrue (are_small (map (λ (field : DraftField). field.min_version) fields.now))) }
 {
     let mut rows = Vec::new(alloc);
     let mut version = 0;
     let mut end = 0;
     for (count, field) in fields.iter().enumerate() {
-        if field.min_version != version {
+        let since = since(field);
+        if since != version {
             rows.push(row(version, count, end))?;
-            version = field.min_version;
+            version = since;
         }
         end = end.max(end_of(field, places[count]));
     }
     rows.push(row(version, fields.len(), end))?;
     Ok(rows)
+}
+
+/// The version since which the struct has a field.
+fn since(field: &DraftField) -> u32
+    ensures { result ≡ field.now.min_version }
+{
+    field.min_version
 }
 
 /// The byte behind a field, counted from the end of the struct's header.
