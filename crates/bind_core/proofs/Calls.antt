@@ -3,8 +3,8 @@ use Rattle.std.proofs.Common.{◌≡◌, ℕ, Bool, true, false, List, refl}
 use Rattle.std.specs.Prelude.{Option, Some, None, Result, Ok, Err, if◌then◌else◌, not, ◌==◌, nat_le, length}
 use Rattle.mj_base.specs.declared.limits.TheConstants.{MAX_UNREAD_MESSAGES}
 use Rattle.mj_base.specs.declared.ids.EndId.{EndId}
-use Rattle.wire_model.specs.declared.target.Target.{Target}
-use Rattle.wire_model.specs.Tight.{message_bytes}
+use Rattle.narrow_wire.specs.declared.target.Target.{Target}
+use Rattle.narrow_wire.specs.Tight.{message_bytes}
 use Rattle.bind_model.specs.declared.event.Binding.{Binding}
 use Rattle.bind_model.specs.declared.event.Event.{Event}
 use Rattle.bind_model.specs.declared.event.Told.{Told}

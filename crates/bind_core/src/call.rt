@@ -1,7 +1,7 @@
 //! Calling: a message to the other end.
 
 ghost use Rattle.std.specs.Prelude.{◌≡◌, Ok, IfOk, IfErr};
-ghost use Rattle.wire_model.specs.Tight.{message_bytes};
+ghost use Rattle.narrow_wire.specs.Tight.{message_bytes};
 ghost use Rattle.bind_model.specs.Machine as machine;
 ghost use Rattle.bind_core.specs.Plain.{asked_of};
 ghost use Rattle.bind_core.specs.Rows.{way, room_at, row_at};
@@ -14,8 +14,8 @@ use crate::table::Table;
 use bind_model::{Asked, Event, Message, Side, Told, Why};
 use mj_base::limits::MAX_UNREAD_MESSAGES;
 use mj_base::{EndId, Items, SeqId};
+use narrow_wire::{Head, MessageSide, Prepared, Target, seal};
 use std::alloc::{AllocError, Global};
-use wire_model::{Head, MessageSide, Prepared, Target, seal};
 
 /// Sends a prepared request to the other end of a bound one.
 pub fn call(

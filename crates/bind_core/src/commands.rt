@@ -3,7 +3,7 @@
 use crate::handle::{Ended, Handle, Handles};
 use bind_model::{Side, Taken, Why};
 use mj_base::{EndId, Items, SeqId};
-use wire_model::Prepared;
+use narrow_wire::Prepared;
 
 /// What a caller asks. It takes the handles with it.
 pub enum Command {

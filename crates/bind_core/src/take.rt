@@ -13,8 +13,8 @@ use crate::table::Table;
 use bind_model::{Asked, Binding, Event, Message, Side, Taken, Told, Why};
 use mj_base::{EndId, SeqId};
 use mj_schema::NarrowSchema;
+use narrow_wire::{MessageSide, Request, Target, read_request};
 use std::alloc::{AllocError, Global};
-use wire_model::{MessageSide, Request, Target, read_request};
 
 /// What is found at the front of an end's mail.
 enum Front {

@@ -5,7 +5,7 @@ use Rattle.std.proofs.lemmas.List.{append-nil, map-append}
 use Rattle.mj_base.specs.declared.ids.EndId.{EndId}
 use Rattle.mj_base.specs.declared.ids.SeqId.{SeqId}
 use Rattle.mj_schema.specs.declared.narrow_schema.NarrowSchema.{NarrowSchema}
-use Rattle.wire_model.specs.Tight.{message_bytes, IsPrepared}
+use Rattle.narrow_wire.specs.Tight.{message_bytes, IsPrepared}
 use Rattle.bind_model.specs.declared.event.Asked.{Asked}
 use Rattle.bind_model.specs.declared.event.Told.{Told}
 use Rattle.bind_model.specs.declared.event.Binding.{Binding}

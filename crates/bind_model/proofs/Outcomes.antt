@@ -6,8 +6,8 @@ use Rattle.mj_base.specs.declared.limits.TheConstants.{MAX_UNREAD_MESSAGES}
 use Rattle.mj_base.specs.declared.ids.EndId.{EndId}
 use Rattle.mj_base.specs.declared.ids.SeqId.{SeqId}
 use Rattle.mj_schema.specs.declared.narrow_schema.NarrowSchema.{NarrowSchema}
-use Rattle.wire_model.specs.declared.target.Target.{Target}
-use Rattle.wire_model.specs.Tight.{message_bytes}
+use Rattle.narrow_wire.specs.declared.target.Target.{Target}
+use Rattle.narrow_wire.specs.Tight.{message_bytes}
 use Rattle.bind_model.specs.declared.event.Side.{Side}
 use Rattle.bind_model.specs.declared.event.Binding.{Binding}
 use Rattle.bind_model.specs.declared.event.Event.{Event}

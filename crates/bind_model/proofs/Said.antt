@@ -4,10 +4,10 @@ use Rattle.std.specs.Prelude.{map, Option, Some, None, ◌^◌}
 use Rattle.mj_base.specs.declared.ids.EndId.{EndId}
 use Rattle.mj_base.specs.declared.ids.SeqId.{SeqId}
 use Rattle.mj_schema.specs.declared.narrow_schema.NarrowSchema.{NarrowSchema}
-use Rattle.wire_model.specs.declared.target.MessageSide.TheVariants as messages
-use Rattle.wire_model.specs.Tight.{message_bytes}
-use Rattle.wire_model.specs.Stands.{request_in}
-use Rattle.wire_model.proofs.RoundTrip.{request_in-message_bytes}
+use Rattle.narrow_wire.specs.declared.target.MessageSide.TheVariants as messages
+use Rattle.narrow_wire.specs.Tight.{message_bytes}
+use Rattle.narrow_wire.specs.Stands.{request_in}
+use Rattle.narrow_wire.proofs.RoundTrip.{request_in-message_bytes}
 use Rattle.bind_model.specs.declared.event.Asked.{Asked}
 use Rattle.bind_model.specs.declared.event.Told.{Told}
 use Rattle.bind_model.specs.declared.event.Side.{Side}

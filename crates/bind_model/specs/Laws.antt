@@ -2,7 +2,7 @@
 use Rattle.std.specs.Prelude.{ℕ, ◌≡◌, ◌≢◌, ◌+◌, ◌++◌, true, List, [], ◌∷◌, map, take, Option, Some, None, if◌then◌else◌, option_and_then}
 use Rattle.mj_base.specs.declared.ids.EndId.{EndId}
 use Rattle.mj_schema.specs.declared.narrow_schema.NarrowSchema.{NarrowSchema}
-use Rattle.wire_model.specs.Tight.{message_bytes, IsPrepared}
+use Rattle.narrow_wire.specs.Tight.{message_bytes, IsPrepared}
 use Rattle.bind_model.specs.declared.event.Asked.{Asked}
 use Rattle.bind_model.specs.declared.event.Asked.TheVariants.{Join, Bind, Call, Take}
 use Rattle.bind_model.specs.declared.event.Told.{Told}

@@ -6,12 +6,12 @@ use Rattle.mj_base.specs.declared.limits.TheConstants.{MAX_UNREAD_MESSAGES}
 use Rattle.mj_base.specs.declared.ids.EndId.{EndId}
 use Rattle.mj_base.specs.declared.ids.SeqId.{SeqId}
 use Rattle.mj_schema.specs.declared.narrow_schema.NarrowSchema.{NarrowSchema}
-use Rattle.wire_model.specs.declared.target.Target.{Target}
-use Rattle.wire_model.specs.declared.target.MessageSide.{MessageSide}
-use Rattle.wire_model.specs.declared.target.MessageSide.TheVariants as messages
-use Rattle.wire_model.specs.declared.wire_decoder.Request.{Request}
-use Rattle.wire_model.specs.Tight.{message_bytes}
-use Rattle.wire_model.specs.Stands.{request_in}
+use Rattle.narrow_wire.specs.declared.target.Target.{Target}
+use Rattle.narrow_wire.specs.declared.target.MessageSide.{MessageSide}
+use Rattle.narrow_wire.specs.declared.target.MessageSide.TheVariants as messages
+use Rattle.narrow_wire.specs.declared.wire_decoder.Request.{Request}
+use Rattle.narrow_wire.specs.Tight.{message_bytes}
+use Rattle.narrow_wire.specs.Stands.{request_in}
 use Rattle.bind_model.specs.declared.event.Side.{Side}
 use Rattle.bind_model.specs.declared.event.Side.TheVariants.{Remote, Receiver}
 use Rattle.bind_model.specs.declared.event.Why.TheVariants.{NoName, WrongSide, WrongMethod, Full, Empty}

@@ -1,7 +1,7 @@
 //! Events as plain data: who asked what, and what was told.
 
 use mj_base::{EndId, Items, SeqId};
-use wire_model::{Target, Value};
+use narrow_wire::{Target, Value};
 
 /// Which side of an interface an endpoint is: a remote calls, a receiver takes the calls.
 #[derive(Clone, Copy, Debug, PartialEq, Eq)]

@@ -3,8 +3,8 @@ use Rattle.std.specs.Prelude.{ℕ, decimal, ◌+◌, ◌/◌, ◌%◌, ◌++◌,
 use Rattle.std.specs.List.{flat_map, join_by, range_with_len}
 use Rattle.mj_base.specs.declared.ids.EndId.{EndId}
 use Rattle.mj_schema.specs.declared.narrow_schema.NarrowSchema.{NarrowSchema}
-use Rattle.wire_model.specs.declared.target.MessageSide.{MessageSide}
-use Rattle.wire_model.specs.declared.target.MessageSide.TheVariants.{Request, Response}
+use Rattle.narrow_wire.specs.declared.target.MessageSide.{MessageSide}
+use Rattle.narrow_wire.specs.declared.target.MessageSide.TheVariants.{Request, Response}
 use Rattle.bind_model.specs.declared.event.Side.{Side}
 use Rattle.bind_model.specs.declared.event.Side.TheVariants.{Remote, Receiver}
 use Rattle.bind_model.specs.declared.event.Why.{Why}

@@ -13,8 +13,8 @@ use crate::script::{Line, Pipe, PipeEnd};
 use crate::split::Words;
 use crate::words::value;
 use mj_schema::NarrowSchema;
+use narrow_wire::Value;
 use std::alloc::{AllocError, Global};
-use wire_model::Value;
 
 /// The pipe and the end that have this name.
 fn end_named(pipes: &[Pipe], name: &[u8]) -> Option<(u32, PipeEnd)>

@@ -1,7 +1,7 @@
 //! What a script says.
 
 use mj_base::{Items, Text};
-use wire_model::Value;
+use narrow_wire::Value;
 
 /// An end of a pipe of the script: the one that is named first, or the other.
 #[derive(Clone, Copy, Debug, PartialEq, Eq)]

@@ -7,8 +7,8 @@ use crate::methods::{name_of_interface, name_of_method};
 use crate::shown_lists::{ShownEnd, ShownEnds, ShownHex, ShownValue};
 use bind_model::{Asked, Side, Taken, Told, Why};
 use mj_schema::NarrowSchema;
+use narrow_wire::{MessageSide, Target};
 use std::fmt;
-use wire_model::{MessageSide, Target};
 
 /// The word for a side of a pipe.
 fn side(side: Side) -> &'static str

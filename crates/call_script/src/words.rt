@@ -7,8 +7,8 @@ ghost use Rattle.call_script.specs.Values.{SpellsNumber, SpellsValue, NoNumbers,
 
 use crate::split::split;
 use mj_base::Items;
+use narrow_wire::Value;
 use std::alloc::{AllocError, Global};
-use wire_model::Value;
 
 /// Whether the word is a name: a small letter, then small letters, digits and `_`, 32 at most in all.
 pub(crate) fn is_name(word: &[u8]) -> bool

@@ -5,8 +5,8 @@ use bind_model::{Asked, Binding, Event, Side, Taken, Told, Why};
 use mj_base::limits::MAX_UNREAD_MESSAGES;
 use mj_base::{EndId, Items, SeqId};
 use mj_schema::NarrowSchema;
+use narrow_wire::{MessageSide, Target};
 use std::alloc::{AllocError, Global};
-use wire_model::{MessageSide, Target};
 
 /// All ends that were made, in order.
 pub fn made(alloc: Global, past: &[Event]) -> Result<Vec<EndId>, AllocError> {

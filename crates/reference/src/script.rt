@@ -6,8 +6,8 @@ use bind_model::{Asked, Event, Side, Told};
 use call_script::{Line, Pipe, PipeEnd, Script};
 use mj_base::{EndId, SeqId};
 use mj_schema::NarrowSchema;
+use narrow_wire::{MessageSide, Target};
 use std::alloc::{AllocError, Global};
-use wire_model::{MessageSide, Target};
 
 /// The one sequence.
 const ONLY: SeqId = SeqId(0);

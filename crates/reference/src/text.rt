@@ -4,8 +4,8 @@ use crate::machine::made;
 use bind_model::{Asked, Event, Side, Taken, Told, Why};
 use mj_base::EndId;
 use mj_schema::NarrowSchema;
+use narrow_wire::MessageSide;
 use std::alloc::{AllocError, Global};
-use wire_model::MessageSide;
 
 /// The texts with a comma between each two, in brackets.
 fn listed(alloc: Global, open: &str, texts: &[String], close: &str) -> Result<String, AllocError> {

@@ -5,7 +5,7 @@ use Rattle.std.specs.Option.{option_map}
 use Rattle.mj_base.specs.declared.ids.EndId.{EndId}
 use Rattle.mj_base.specs.declared.ids.SeqId.{SeqId}
 use Rattle.mj_schema.specs.declared.narrow_schema.NarrowSchema.{NarrowSchema}
-use Rattle.wire_model.specs.declared.target.MessageSide.TheVariants.{Request}
+use Rattle.narrow_wire.specs.declared.target.MessageSide.TheVariants.{Request}
 use Rattle.bind_model.specs.declared.event.Asked.{Asked}
 use Rattle.bind_model.specs.declared.event.Asked.TheVariants as asks
 use Rattle.bind_model.specs.declared.event.Side.TheVariants.{Remote, Receiver}

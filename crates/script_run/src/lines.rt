@@ -2,8 +2,8 @@
 
 ghost use Rattle.std.specs.Prelude.{◌≡◌, ◌≤◌, List, length, Some, IfOk};
 ghost use Rattle.mj_schema.specs.Narrow.{narrow_struct_bytes};
-ghost use Rattle.wire_model.specs.Refusals.{parameter_count};
-ghost use Rattle.wire_model.specs.Tight.{HasTarget, IsPrepared};
+ghost use Rattle.narrow_wire.specs.Refusals.{parameter_count};
+ghost use Rattle.narrow_wire.specs.Tight.{HasTarget, IsPrepared};
 ghost use Rattle.bind_model.specs.declared.event.Asked.TheVariants as asks;
 ghost use Rattle.bind_core.specs.Plain.{asked_of};
 ghost use Rattle.bind_model.specs.Laws.{IsAllowed};
@@ -18,8 +18,8 @@ use call_script::{Line, Pipe, PipeEnd};
 use mj_base::EndId;
 use mj_base::limits::MAX_PAYLOAD_BYTES;
 use mj_schema::NarrowSchema;
+use narrow_wire::{MessageSide, PrepareError, Target, Value, prepare};
 use std::alloc::Global;
-use wire_model::{MessageSide, PrepareError, Target, Value, prepare};
 
 /// The end of a pipe, among the ends that the joins made in order.
 fn end_of(ends: &[EndId], pipe: u32, end: PipeEnd) -> EndId

@@ -6,7 +6,7 @@ use Rattle.std.proofs.lemmas.List.{length-map}
 use Rattle.mj_schema.specs.declared.rows.DraftStruct.{DraftStruct}
 use Rattle.mj_schema.specs.declared.narrow_schema.NarrowSchema.{NarrowSchema}
 use Rattle.mj_schema.specs.Layout.{draft_field}
-use Rattle.wire_model.specs.Tight.{HasTarget}
+use Rattle.narrow_wire.specs.Tight.{HasTarget}
 use Rattle.call_script.specs.declared.script.Pipe.{Pipe}
 use Rattle.call_script.specs.declared.script.Line.TheVariants.{Call}
 use Rattle.call_script.specs.declared.script.Script.{Script}

@@ -9,15 +9,15 @@ ghost use Rattle.bind_model.specs.Laws.{IsAllowed, SuitsPeer};
 ghost use Rattle.bind_model.specs.Machine.{binding, peer};
 ghost use Rattle.bind_model.specs.declared.event.Asked.{Asked};
 ghost use Rattle.bind_model.specs.declared.event.Told.{Told};
-ghost use Rattle.wire_model.specs.Tight.{HasTarget};
+ghost use Rattle.narrow_wire.specs.Tight.{HasTarget};
 
 use bind_core::{Command, Core, Handle, Reply};
 use bind_model::Side;
 use mj_base::{EndId, Items, SeqId};
 use mj_schema::NarrowSchema;
+use narrow_wire::{Target, prepare};
 use std::alloc::Global;
 use std::process::Abort;
-use wire_model::{Target, prepare};
 
 /// The one sequence.
 pub const ONLY: SeqId = SeqId(0);

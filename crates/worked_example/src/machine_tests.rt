@@ -1,7 +1,7 @@
 //! A take where nothing is unread, and a call that is taken at the other end.
 
 ghost use Rattle.std.specs.Prelude.{◌≡◌, ◌<◌};
-ghost use Rattle.wire_model.specs.Tight.{HasTarget};
+ghost use Rattle.narrow_wire.specs.Tight.{HasTarget};
 
 use super::*;
 use crate::core_steps::{ONLY, call, open, tell};

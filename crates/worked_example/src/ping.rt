@@ -2,7 +2,7 @@
 
 ghost use Rattle.std.specs.Prelude.{IfOk};
 ghost use Rattle.mj_schema.specs.declared.narrow_schema.NarrowSchema.{NarrowSchema};
-ghost use Rattle.wire_model.specs.Tight.{HasTarget};
+ghost use Rattle.narrow_wire.specs.Tight.{HasTarget};
 ghost use Rattle.call_script.specs.Spelling.{IsScript};
 ghost use Rattle.script_run.specs.Narrow.{IsNarrow};
 ghost use Rattle.worked_example.specs.Ping.{IsPing};
@@ -10,9 +10,9 @@ ghost use Rattle.worked_example.specs.Ping.{IsPing};
 use call_script::{Line, Pipe, Script};
 use mj_base::{Items, Text};
 use mj_schema::{InterfaceRow, MethodRow, NarrowSchema};
+use narrow_wire::{MessageSide, Target};
 use std::alloc::{AllocError, Global};
 use version_tables::lay_out_narrow;
-use wire_model::{MessageSide, Target};
 
 /// A request of the one method.
 pub const PING: Target = Target {

@@ -4,7 +4,7 @@ ghost use Rattle.std.specs.Prelude.{◌≡◌, ◌≤◌, length, reverse, None,
 ghost use Rattle.bind_model.specs.Machine.{binding, peer};
 ghost use Rattle.mj_schema.specs.Layout.{IsLaidOut};
 ghost use Rattle.mj_schema.specs.Narrow.{is_narrow};
-ghost use Rattle.wire_model.specs.Tight.{HasTarget};
+ghost use Rattle.narrow_wire.specs.Tight.{HasTarget};
 
 use crate::PING;
 use crate::core_steps::{ONLY, call, join, open, step, tell};
@@ -13,13 +13,13 @@ use bind_model::{Asked, Binding, Event, Side, Taken, Told, Why};
 use mj_base::limits::MAX_FIELDS;
 use mj_base::{EndId, Items, Text};
 use mj_schema::{InterfaceRow, MethodRow, NarrowSchema, StructRow};
+use narrow_wire::{MessageSide, Target};
 use reference::{binding, is_legal, message_bytes, outs, peer, request_in, taken, unread, written};
 use std::alloc::{AllocError, Global};
 use std::process::Abort;
 use std::sync::Arc;
 use std::test::Fail;
 use version_tables::lay_out_narrow;
-use wire_model::{MessageSide, Target};
 
 /// The method of two parameters.
 const MOVE: Target = Target {

@@ -2,9 +2,9 @@
 
 use super::*;
 use mj_base::Items;
+use narrow_wire::{Head, PrepareError, prepare, read_request, seal};
 use std::alloc::AllocError;
 use std::test::Fail;
-use wire_model::{Head, PrepareError, prepare, read_request, seal};
 
 #[test]
 fn a_request_is_sealed_and_read(rt: HostRuntime) -> Result<(), Fail> {

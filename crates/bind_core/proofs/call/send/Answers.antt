@@ -1,6 +1,6 @@
 use Rattle.std.proofs.Common.{◌∙◌, refl}
 use Rattle.std.specs.Prelude.{Ok}
-use Rattle.wire_model.specs.Tight.{message_bytes}
+use Rattle.narrow_wire.specs.Tight.{message_bytes}
 use Rattle.bind_core.proofs.Held.{finish, names-held, call-held, peer-held, send-held}
 use Rattle.bind_core.proofs.call.send.Goals as goal
 

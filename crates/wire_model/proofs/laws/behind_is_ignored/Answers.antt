@@ -1,5 +1,0 @@
-use Rattle.wire_model.proofs.Behind.{request_in-append}
-use Rattle.wire_model.proofs.laws.behind_is_ignored.Goals as goal
-
-pub returns : goal.returns
-returns c = λ schema interface bytes more request is. request_in-append bytes more schema interface request is
