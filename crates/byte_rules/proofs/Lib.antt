@@ -1,0 +1,10 @@
+pub mod Tells
+pub mod Finds
+pub mod Good
+pub mod Judging
+pub mod Gathers
+pub mod Loops
+pub mod Parts
+pub mod Shown
+pub mod Among
+pub mod Fronts

@@ -1,0 +1,4 @@
+pub mod Among
+pub mod Judged
+pub mod Lang
+pub mod Reading

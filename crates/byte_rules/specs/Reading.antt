@@ -1,0 +1,28 @@
+-- What a function that reads by a rule answers.
+use Rattle.std.specs.Prelude.{◌≡◌, ℕ, List, ◌++◌, Result, Ok, Err}
+use Rattle.std.specs.List.{flat_map}
+use Rattle.byte_rules.specs.Lang.{Read, ◌>>=◌}
+use Rattle.byte_rules.specs.declared.stop.Stop.{Stop}
+use Rattle.byte_rules.specs.declared.stop.Stop.TheVariants as stops
+
+-- why it stopped: at so many bytes from the end, or for want of memory
+abbrev pub Fails : {Y : Type 0} → Stop → Result Y ℕ → Type 0
+Fails stops.Memory read = Unit {0}
+Fails (stops.Left n) read = read ≡ Err n
+
+-- What was returned, seen by view, is what reading gives, unless memory ran out.
+abbrev pub Gives : {X Y : Type 0} → (X → Y) → Result X Stop → Result Y ℕ → Type 0
+Gives view (Ok x) read = read ≡ Ok (view x)
+Gives view (Err e) read = Fails e read
+
+-- what was read before, with what is still read
+abbrev pub gathered : {A F : Type 0} → (F → List A → F) → F → Read (List A) → Read F
+gathered add front read = read >>= λ x. Ok (add front x.0, x.1)
+
+-- what was read before, and what of each value is still read
+abbrev pub with_front : {A B : Type 0} → (A → List B) → List B → Read (List A) → Read (List B)
+with_front parts front read = read >>= λ x. Ok (front ++ flat_map parts x.0, x.1)
+
+-- what was read before, and what is still read
+abbrev pub behind : {B : Type 0} → List B → Read (List B) → Read (List B)
+behind front read = read >>= λ x. Ok (front ++ x.0, x.1)

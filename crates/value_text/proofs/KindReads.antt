@@ -1,0 +1,217 @@
+-- How the text of a kind is read, by cases as the functions make them.
+use Rattle.std.proofs.Common.{◌≡◌, ℕ, zero, suc, ◌-◌, ◌+◌, ◌<◌, ◌≤◌, List, [], ◌∷◌, ◌++◌, length, map, drop, take, Option, Some, Ok, Err, Bool, true}
+use Rattle.std.proofs.Common.{false, ◌==◌, refl, sym, ap, ◌∙◌, subst, append_assoc, arith, get_or, add-one, drop-cons}
+use Rattle.std.specs.List.{flat_map}
+use Rattle.std.proofs.lemmas.List.{append-nil}
+use Rattle.mj_schema.specs.KindTrees.{KindTree}
+use Rattle.wire_model.specs.Kinded.{is_nullable}
+use Rattle.wire_model.specs.Trees.{Tree}
+use Rattle.wire_model.specs.Trees as values
+use Rattle.mj_schema.specs.declared.schema.Schema.{Schema}
+use Rattle.mj_schema.specs.declared.rows.FieldRow.{FieldRow}
+use Rattle.mj_schema.specs.declared.rows.StructRow.{StructRow}
+use Rattle.mj_schema.specs.declared.rows.UnionRow.{UnionRow}
+use Rattle.byte_rules.specs.declared.stop.Stop.{Stop}
+use Rattle.byte_rules.specs.declared.stop.Stop.TheVariants as stops
+use Rattle.byte_rules.specs.Lang.{Lang, Read, ◌>>=◌, front_is, byte, closed, as_value, ◌then◌, ◌▸◌, never, listed, exactly, rest_of}
+use Rattle.byte_rules.specs.Reading.{Fails, with_front}
+use Rattle.value_text.specs.Rules.{null_word, opened, has_room, inside, array, structure, fields, fields_after, union, base_at, or_null, value}
+use Rattle.value_text.specs.Rules.{fields_of, pair, pair_of, pairs_of, fields_kinds}
+
+value_is : (schema : Schema) (left : ℕ) (k : KindTree) (bs : List ℕ)
+    → (value schema left k).read bs ≡ (or_null (is_nullable k) (base_at schema left k)).read bs
+unfolding value
+value_is schema zero k bs = refl
+value_is schema (suc left) k bs = refl
+
+null_at : (n : Bool) (one : Lang Tree) (bs : List ℕ) → n ≡ true → front_is (λ b. b == 110) bs ≡ true → (or_null n one).read bs ≡ null_word.read bs
+null_at true one bs e f = rw f refl
+null_at false one bs e f = absurd (cc)
+
+none_at : (n : Bool) (one : Lang Tree) (bs : List ℕ) → n ≡ false → (or_null n one).read bs ≡ one.read bs
+none_at true one bs e = absurd (cc)
+none_at false one bs e = refl
+
+other_at : (n : Bool) (one : Lang Tree) (bs : List ℕ) → front_is (λ b. b == 110) bs ≡ false → (or_null n one).read bs ≡ one.read bs
+other_at true one bs e = rw e refl
+other_at false one bs e = refl
+
+pub value_null : (schema : Schema) (left : ℕ) (k : KindTree) (bs : List ℕ) → is_nullable k ≡ true → front_is (λ b. b == 110) bs ≡ true
+    → (value schema left k).read bs ≡ null_word.read bs
+value_null schema left k bs e f = value_is schema left k bs ∙ null_at (is_nullable k) (base_at schema left k) bs e f
+
+pub value_never_null : (schema : Schema) (left : ℕ) (k : KindTree) (bs : List ℕ) → is_nullable k ≡ false
+    → (value schema left k).read bs ≡ (base_at schema left k).read bs
+value_never_null schema left k bs e = value_is schema left k bs ∙ none_at (is_nullable k) (base_at schema left k) bs e
+
+pub value_other : (schema : Schema) (left : ℕ) (k : KindTree) (bs : List ℕ) → front_is (λ b. b == 110) bs ≡ false
+    → (value schema left k).read bs ≡ (base_at schema left k).read bs
+value_other schema left k bs e = value_is schema left k bs ∙ other_at (is_nullable k) (base_at schema left k) bs e
+
+pub never_read : {A : Type 0} (x : A) (bs : List ℕ) → (never x).read bs ≡ Err (length bs)
+never_read x [] = refl
+never_read x (b ∷ bs) = refl
+
+-- no bracket may be opened
+pub opened_full : (c left : ℕ) (one : Lang Tree) (bs : List ℕ) → left ≡ 0 → (opened (has_room left) c one).read bs ≡ Err (length bs)
+opened_full c zero one bs e = never_read values.Null bs
+opened_full c (suc left) one bs e = absurd (cc)
+
+-- one may
+pub array_room : (schema : Schema) (left : ℕ) (of : KindTree) (count : Option ℕ) (bs : List ℕ) → 0 < left
+    → (opened (has_room left) 91 (array (inside schema left of) count)).read bs ≡ (91 ▸ array (value schema (left - 1) of) count).read bs
+array_room schema zero of count bs h = absurd (omega (arith, h))
+array_room schema (suc left) of count bs h = let e : suc left - 1 ≡ left = omega arith in rw e refl
+
+pub map_room : (schema : Schema) (left : ℕ) (key one : KindTree) (bs : List ℕ) → 0 < left
+    → (opened (has_room left) 123 (as_value pairs_of (listed 125 (pair (inside schema left key) (inside schema left one))))).read bs
+    ≡ (123 ▸ as_value pairs_of (listed 125 (pair_of schema (left - 1) key one))).read bs
+map_room schema zero key one bs h = absurd (omega (arith, h))
+map_room schema (suc left) key one bs h = let e : suc left - 1 ≡ left = omega arith in rw e refl
+
+pub struct_room : (schema : Schema) (left : ℕ) (row : Option StructRow) (bs : List ℕ) → 0 < left
+    → (opened (has_room left) 40 (structure (inside schema left) row)).read bs ≡ (40 ▸ structure (value schema (left - 1)) row).read bs
+struct_room schema zero row bs h = absurd (omega (arith, h))
+struct_room schema (suc left) row bs h = let e : suc left - 1 ≡ left = omega arith in rw e refl
+
+pub union_room : (schema : Schema) (left : ℕ) (row : Option UnionRow) (bs : List ℕ) → 0 < left
+    → (opened (has_room left) 60 (union (inside schema left) row)).read bs ≡ (60 ▸ union (value schema (left - 1)) row).read bs
+union_room schema zero row bs h = absurd (omega (arith, h))
+union_room schema (suc left) row bs h = let e : suc left - 1 ≡ left = omega arith in rw e refl
+
+-- values in a vector
+singles : (xs : List Tree) → flat_map (λ t. t ∷ []) xs ≡ xs
+singles [] = refl
+singles (x ∷ xs) = ap (λ (l : List Tree). x ∷ l) (singles xs)
+
+pub first_and_more : (x : Tree) (r : Read (List Tree)) → with_front (λ t. t ∷ []) (x ∷ []) r ≡ (r >>= λ y. Ok (x ∷ y.0, y.1))
+first_and_more x (Ok y) = ap (λ (l : List Tree). Ok (x ∷ l, y.1)) (singles y.0)
+first_and_more x (Err n) = refl
+
+-- fields, one after the other
+module _ (within : KindTree → Lang Tree) where
+  after_one : (front : List Tree) (x : Tree) (r : Read (List Tree))
+      → with_front (λ t. t ∷ []) front (r >>= λ y. Ok (x ∷ y.0, y.1)) ≡ with_front (λ t. t ∷ []) (front ++ x ∷ []) r
+  after_one front x (Ok y) = ap (λ (xs : List Tree). Ok (xs, y.1)) (sym (append_assoc front (x ∷ []) (flat_map (λ t. t ∷ []) y.0)))
+  after_one front x (Err n) = refl
+
+  regrouped : {A B : Type 0} (one : Lang A) (f : A → Lang B) (ts : List ℕ) → (44 ▸ one then f).read ts ≡ ((44 ▸ one).read ts >>= λ x. (f x.0).read x.1)
+  regrouped {A} {B} one f ts = of ((byte 44).read ts)
+    where
+      of : (r : Read ℕ) → (r >>= λ x. (one.read x.1 >>= λ y. (f y.0).read y.1)) ≡ ((r >>= λ x. one.read x.1) >>= λ x. (f x.0).read x.1)
+      of (Ok x) = refl
+      of (Err n) = refl
+
+  pub field_on : (front : List Tree) (k : KindTree) (ks : List KindTree) (ts next : List ℕ) (x : Tree) (total : Read (List Tree))
+      → (44 ▸ within k).read ts ≡ Ok (x, next) → with_front (λ t. t ∷ []) front ((fields_after within (k ∷ ks)).read ts) ≡ total
+      → with_front (λ t. t ∷ []) (front ++ x ∷ []) ((fields_after within ks).read next) ≡ total
+  unfolding fields_after
+  field_on front k ks ts next x total a so_far =
+      let here : (fields_after within (k ∷ ks)).read ts ≡ ((fields_after within ks).read next >>= λ y. Ok (x ∷ y.0, y.1)) =
+      regrouped (within k) (λ v. as_value (λ vs. v ∷ vs) (fields_after within ks)) ts
+      ∙ ap (λ (r : Read Tree). r >>= λ x. (as_value (λ vs. x.0 ∷ vs) (fields_after within ks)).read x.1) a in
+      sym (after_one front x ((fields_after within ks).read next)) ∙ ap (with_front (λ t. t ∷ []) front) (sym here) ∙ so_far
+
+  pub no_field : (e : Stop) (front : List Tree) (k : KindTree) (ks : List KindTree) (ts : List ℕ) (total : Read (List Tree))
+      → Fails e ((44 ▸ within k).read ts) → with_front (λ t. t ∷ []) front ((fields_after within (k ∷ ks)).read ts) ≡ total → Fails e total
+  unfolding fields_after
+  no_field stops.Memory front k ks ts total a so_far = tt
+  no_field (stops.Left n) front k ks ts total a so_far =
+      let here : (fields_after within (k ∷ ks)).read ts ≡ Err n = regrouped (within k) (λ v. as_value (λ vs. v ∷ vs) (fields_after within ks)) ts
+      ∙ ap (λ (r : Read Tree). r >>= λ x. (as_value (λ vs. x.0 ∷ vs) (fields_after within ks)).read x.1) a in
+      sym so_far ∙ ap (with_front (λ t. t ∷ []) front) here
+
+  pub fields_end : (front : List Tree) (ts next : List ℕ) (total : Read (List Tree)) → (byte 41).read ts ≡ Ok (41, next)
+      → with_front (λ t. t ∷ []) front ((fields_after within []).read ts) ≡ total → total ≡ Ok (front, next)
+  unfolding fields_after
+  fields_end front ts next total a so_far = let here : (fields_after within []).read ts ≡ Ok ([], next) = rw a refl in sym so_far
+      ∙ ap (with_front (λ t. t ∷ []) front) here ∙ ap (λ (l : List Tree). Ok (l, next)) (append-nil front)
+
+  pub no_end : (e : Stop) (front : List Tree) (ts : List ℕ) (total : Read (List Tree)) → Fails e ((byte 41).read ts)
+      → with_front (λ t. t ∷ []) front ((fields_after within []).read ts) ≡ total → Fails e total
+  unfolding fields_after
+  no_end stops.Memory front ts total a so_far = tt
+  no_end (stops.Left n) front ts total a so_far = let here : (fields_after within []).read ts ≡ Err n = rw a refl in sym so_far
+      ∙ ap (with_front (λ t. t ∷ []) front) here
+
+pub pushed : {A B : Type 0} (f : A → B) (xs : List A) (x : A) (new : List A) → new ≡ xs ++ x ∷ [] → map f new ≡ map f xs ++ f x ∷ []
+pushed {A} {B} f xs x new e = ap (map f) e ∙ of xs
+  where
+    of : (xs : List A) → map f (xs ++ x ∷ []) ≡ map f xs ++ f x ∷ []
+    of [] = refl
+    of (y ∷ ys) = ap (λ (l : List B). f y ∷ l) (of ys)
+
+-- a struct that is there
+pub structure_ok : (inside : KindTree → Lang Tree) (found : Option StructRow) (row : StructRow) (bs : List ℕ) (vs : List Tree) (rest : List ℕ)
+    → Some row ≡ found → (fields inside (map (λ (f : FieldRow). f.kind) row.fields)).read bs ≡ Ok (vs, rest)
+    → (structure inside found).read bs ≡ Ok (fields_of vs, rest)
+structure_ok inside found row bs vs rest e r = subst (λ (o : Option StructRow). (structure inside o).read bs ≡ Ok (fields_of vs, rest)) e (rw r refl)
+
+pub structure_err : (inside : KindTree → Lang Tree) (found : Option StructRow) (row : StructRow) (bs : List ℕ) (stop : Stop) → Some row ≡ found
+    → Fails stop ((fields inside (map (λ (f : FieldRow). f.kind) row.fields)).read bs) → Fails stop ((structure inside found).read bs)
+structure_err inside found row bs stops.Memory e r = tt
+structure_err inside found row bs (stops.Left n) e r = subst (λ (o : Option StructRow). (structure inside o).read bs ≡ Err n) e (rw r refl)
+
+-- the first field of some
+pub first_field : (inside : KindTree → Lang Tree) (k : KindTree) (ks : List KindTree) (bs rest : List ℕ) (x : Tree) → (inside k).read bs ≡ Ok (x, rest)
+    → (fields inside (k ∷ ks)).read bs ≡ with_front (λ t. t ∷ []) (x ∷ []) ((fields_after inside ks).read rest)
+unfolding fields
+first_field inside k ks bs rest x r = rw r (sym (first_and_more x ((fields_after inside ks).read rest)))
+
+-- the kinds of fields from a place on
+pub kinds_at : (row : List FieldRow) (i : ℕ) (f : FieldRow) → i < length row → f ≡ get_or row i f
+    → fields_kinds (drop i row) ≡ f.kind ∷ fields_kinds (drop (i + 1) row)
+kinds_at row i f lt e =
+    let cut : drop i row ≡ get_or row i f ∷ drop (i + 1) row = rw (add-one, drop-cons row i f) refl in
+    ap fields_kinds cut ∙ ap (λ (g : FieldRow). g.kind ∷ fields_kinds (drop (i + 1) row)) (sym e)
+
+pub kinds_end : (row : List FieldRow) (i : ℕ) → length row ≤ i → fields_kinds (drop i row) ≡ []
+kinds_end [] zero le = refl
+kinds_end [] (suc i) le = refl
+kinds_end (f ∷ fs) zero le = absurd (omega (arith, le))
+kinds_end (f ∷ fs) (suc i) le = kinds_end fs i (omega (arith, le))
+
+pub fields_first : (inside : KindTree → Lang Tree) (row : List FieldRow) (f : FieldRow) (k : KindTree) (bs rest : List ℕ) (x : Tree) (vs : List Tree)
+    → 1 ≤ length row → f ≡ get_or row 0 f → k ≡ f.kind → (inside k).read bs ≡ Ok (x, rest) → vs ≡ x ∷ []
+    → (fields inside (fields_kinds row)).read bs ≡ with_front (λ t. t ∷ []) vs ((fields_after inside (fields_kinds (drop 1 row))).read rest)
+fields_first inside row f k bs rest x vs le e same r v =
+    ap (λ (ks : List KindTree). (fields inside ks).read bs) (kinds_at row 0 f (omega (arith, le)) e)
+    ∙ first_field inside f.kind (fields_kinds (drop 1 row)) bs rest x (subst (λ (k : KindTree). (inside k).read bs ≡ Ok (x, rest)) same r)
+    ∙ ap (λ (l : List Tree). with_front (λ t. t ∷ []) l ((fields_after inside (fields_kinds (drop 1 row))).read rest)) (sym v)
+
+all_taken : {A : Type 0} (xs : List A) → take (length xs) xs ≡ xs
+all_taken [] = refl
+all_taken (x ∷ xs) = ap (λ l. x ∷ l) (all_taken xs)
+
+-- a slice's rest behind its first
+pub rest_is : {A : Type 0} (xs : List A) → take (length xs - 1) (drop 1 xs) ≡ drop 1 xs
+rest_is [] = all_taken []
+rest_is (x ∷ xs) = let e : suc (length xs) - 1 ≡ length xs = omega arith in ap (λ (n : ℕ). take n xs) e ∙ all_taken xs
+
+-- so many values: none, and the first of some
+pub none_exactly : (one : Lang Tree) (bs : List ℕ) (count : ℕ) → count ≡ 0 → (exactly 93 count one).read bs ≡ (closed {A = List Tree} 93 []).read bs
+unfolding exactly
+none_exactly one bs zero e = refl
+none_exactly one bs (suc n) e = absurd (cc)
+
+pub first_exactly : (one : Lang Tree) (count : ℕ) (bs rest : List ℕ) (x : Tree) (vs : List Tree) → 0 < count → one.read bs ≡ Ok (x, rest) → vs ≡ x ∷ []
+    → (exactly 93 count one).read bs ≡ with_front (λ t. t ∷ []) vs ((rest_of 93 (count - 1) one).read rest)
+unfolding exactly
+first_exactly one zero bs rest x vs h r v = absurd (omega (arith, h))
+first_exactly one (suc n) bs rest x vs h r v =
+    let e : suc n - 1 ≡ n = omega arith in
+    rw (r, v, e) (sym (first_and_more x ((rest_of 93 n one).read rest)))
+
+pub fails_exactly : (e : Stop) (one : Lang Tree) (count : ℕ) (bs : List ℕ) → 0 < count → Fails e (one.read bs) → Fails e ((exactly 93 count one).read bs)
+unfolding exactly
+fails_exactly stops.Memory one count bs h r = tt
+fails_exactly (stops.Left m) one zero bs h r = absurd (omega (arith, h))
+fails_exactly (stops.Left m) one (suc n) bs h r = rw r refl
+
+pub none_ok : (one : Lang Tree) (count : ℕ) (bs rest : List ℕ) (vs : List Tree) → count ≡ 0 → (byte 93).read bs ≡ Ok (93, rest) → vs ≡ []
+    → (exactly 93 count one).read bs ≡ Ok (vs, rest)
+none_ok one count bs rest vs e r v = none_exactly one bs count e ∙ rw (r, v) refl
+
+pub none_err : (e : Stop) (one : Lang Tree) (count : ℕ) (bs : List ℕ) → count ≡ 0 → Fails e ((byte 93).read bs) → Fails e ((exactly 93 count one).read bs)
+none_err stops.Memory one count bs e r = tt
+none_err (stops.Left n) one count bs e r = none_exactly one bs count e ∙ rw r refl

@@ -1,0 +1,16 @@
+pub mod NumberLaws
+pub mod ListedNumbers
+pub mod ListedReads
+pub mod CharacterLaws
+pub mod KindLaws
+pub mod KindReads
+pub mod PairReads
+pub mod Whole
+pub mod Utf8Lengths
+pub mod TextShows
+pub mod KindShows
+pub mod Shows
+pub mod TextParts
+pub mod OneText
+pub mod Printed
+pub mod RoundTrip

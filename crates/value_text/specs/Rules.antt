@@ -1,0 +1,150 @@
+-- The text of a value, kind by kind.
+use Rattle.std.specs.Prelude.{ℕ, zero, suc, ◌==◌, ◌++◌, Bool, true, false, List, [], ◌∷◌, Option, Some, None, map, codes, slice_get}
+use Rattle.mj_schema.specs.KindTrees as kinds
+use Rattle.mj_schema.specs.KindTrees.{KindTree}
+use Rattle.mj_schema.specs.declared.schema.Schema.{Schema}
+use Rattle.mj_schema.specs.declared.rows.StructRow.{StructRow}
+use Rattle.mj_schema.specs.declared.rows.UnionRow.{UnionRow}
+use Rattle.mj_schema.specs.declared.rows.FieldRow.{FieldRow}
+use Rattle.wire_model.specs.Kinded.{is_nullable}
+use Rattle.wire_model.specs.Rows.{kind_of_tag}
+use Rattle.wire_model.specs.Trees.{Tree, trees}
+use Rattle.wire_model.specs.Trees as values
+use Rattle.byte_rules.specs.Lang.{Lang, choice, as_value, never, closed, ◌then◌, ◌▸◌, many, listed, exactly}
+use Rattle.value_text.specs.Numbers.{whole, index, number_of, fields_tags, tag_of}
+use Rattle.value_text.specs.Characters.{text}
+
+-- these letters
+abbrev pub letters : {A : Type 0} → List ℕ → A → Lang A
+letters [] x = never x
+letters (c ∷ []) x = closed c x
+letters (c ∷ d ∷ ds) x = c ▸ letters (d ∷ ds) x
+
+-- a bool
+unfoldable pub boolean : Lang Tree
+boolean = choice (λ b. b == 116) (letters (codes "true") (values.Flag true)) (letters (codes "false") (values.Flag false))
+
+-- null
+unfoldable pub null_word : Lang Tree
+null_word = letters (codes "null") values.Null
+
+-- a bracket, where one more may be open
+abbrev pub opened : Bool → ℕ → Lang Tree → Lang Tree
+opened false c one = never values.Null
+opened true c one = c ▸ one
+
+-- one value for each field, each behind a comma, and the bracket that ends them
+unfoldable pub fields_after : (KindTree → Lang Tree) → List KindTree → Lang (List Tree)
+fields_after inside [] = closed 41 []
+fields_after inside (k ∷ ks) = 44 ▸ inside k then λ v. as_value (λ vs. v ∷ vs) (fields_after inside ks)
+
+-- one value for each field with commas between, and the bracket that ends them
+unfoldable pub fields : (KindTree → Lang Tree) → List KindTree → Lang (List Tree)
+fields inside [] = closed 41 []
+fields inside (k ∷ ks) = inside k then λ v. as_value (λ vs. v ∷ vs) (fields_after inside ks)
+
+-- the array of these elements, and the struct of these fields
+abbrev pub items_of : List Tree → Tree
+items_of vs = values.Items (trees vs)
+
+abbrev pub fields_of : List Tree → Tree
+fields_of vs = values.Fields (trees vs)
+
+-- the elements of an array, of any number or so many, and the bracket that ends them
+abbrev pub elements : Lang Tree → Option ℕ → Lang (List Tree)
+elements one None = listed 93 one
+elements one (Some n) = exactly 93 n one
+
+abbrev pub array : Lang Tree → Option ℕ → Lang Tree
+array one count = as_value items_of (elements one count)
+
+-- the kinds of a struct's fields
+abbrev pub fields_kinds : List FieldRow → List KindTree
+fields_kinds row = map (λ (field : FieldRow). field.kind) row
+
+-- the fields of a struct; of one that isn't there no byte goes on
+abbrev pub structure : (KindTree → Lang Tree) → Option StructRow → Lang Tree
+structure inside None = never values.Null
+structure inside (Some row) = as_value fields_of (fields inside (fields_kinds row.fields))
+
+-- a key and its value
+unfoldable pub pair : Lang Tree → Lang Tree → Lang (Tree × Tree)
+pair key one = key then λ k. 58 ▸ as_value (λ v. (k, v)) one
+
+-- the keys of pairs, and their values
+abbrev pub keys_of : List (Tree × Tree) → List Tree
+keys_of ps = map (λ (p : Tree × Tree). p.0) ps
+
+abbrev pub values_of : List (Tree × Tree) → List Tree
+values_of ps = map (λ (p : Tree × Tree). p.1) ps
+
+-- the map of these keys and values
+abbrev pub map_of : List Tree → List Tree → Tree
+map_of ks vs = values.Pairs (values.more (values.Items (trees ks)) (values.more (values.Items (trees vs)) values.none))
+
+abbrev pub pairs_of : List (Tree × Tree) → Tree
+pairs_of ps = map_of (keys_of ps) (values_of ps)
+
+-- what stands behind a tag
+abbrev pub member : (KindTree → Lang Tree) → ℕ → Option KindTree → Lang Tree
+member inside tag None = closed 62 (values.Unknown tag)
+member inside tag (Some k) = 58 ▸ inside k then λ v. closed 62 (values.Member tag v)
+
+-- a tag and what stands behind it; of a union that isn't there no byte goes on
+abbrev pub union : (KindTree → Lang Tree) → Option UnionRow → Lang Tree
+union inside None = never values.Null
+union inside (Some row) = tag_of row.extensible (fields_tags row.fields) then λ tag. member inside tag (kind_of_tag row.fields tag)
+
+-- a value that isn't null; `inside` are the values between its brackets, of which it has some where `room` says so
+abbrev pub base : Schema → Bool → (KindTree → Lang Tree) → KindTree → Lang Tree
+base schema room inside kinds.BoolKind = boolean
+base schema room inside (kinds.IntKind w signed) = as_value values.Whole (whole w signed)
+base schema room inside (kinds.EnumKind n) = as_value values.Whole (number_of (slice_get schema.enums n))
+base schema room inside (kinds.TextKind nullable) = as_value values.Text text
+base schema room inside (kinds.HandleKind sort nullable) = 37 ▸ as_value values.Handle index
+base schema room inside (kinds.ArrayKind of count nullable) = opened room 91 (array (inside of) count)
+base schema room inside (kinds.MapKind key one nullable) = opened room 123 (as_value pairs_of (listed 125 (pair (inside key) (inside one))))
+base schema room inside (kinds.StructKind n nullable) = opened room 40 (structure inside (slice_get schema.structs n))
+base schema room inside (kinds.UnionKind n nullable) = opened room 60 (union inside (slice_get schema.unions n))
+base schema room inside (kinds.RemoteKind interface nullable) = 37 ▸ index then λ i. 64 ▸ as_value (values.Remote i) index
+base schema room inside (kinds.ReceiverKind interface nullable) = 37 ▸ as_value values.Handle index
+base schema room inside (kinds.AssociatedRemoteKind interface nullable) = 94 ▸ index then λ i. 64 ▸ as_value (values.EndpointRemote i) index
+base schema room inside (kinds.AssociatedReceiverKind interface nullable) = 94 ▸ as_value values.Endpoint index
+
+-- null too, where the kind may be null
+abbrev pub or_null : Bool → Lang Tree → Lang Tree
+or_null false one = one
+or_null true one = choice (λ b. b == 110) null_word one
+
+-- the values of a kind, where so many brackets may be open at once
+unfoldable pub value : Schema → ℕ → KindTree → Lang Tree
+value schema zero k = or_null (is_nullable k) (base schema false (λ k. never values.Null) k)
+value schema (suc left) k = or_null (is_nullable k) (base schema true (value schema left) k)
+
+-- whether a bracket may be opened, and the values inside it
+abbrev pub has_room : ℕ → Bool
+has_room zero = false
+has_room (suc left) = true
+
+abbrev pub inside : Schema → ℕ → KindTree → Lang Tree
+inside schema zero = λ k. never values.Null
+inside schema (suc left) = value schema left
+
+-- a value that isn't null, where so many brackets may be open at once
+abbrev pub base_at : Schema → ℕ → KindTree → Lang Tree
+base_at schema left k = base schema (has_room left) (inside schema left) k
+
+-- what follows in an array, behind its first element
+abbrev pub more_of : Schema → ℕ → KindTree → Lang (List Tree)
+more_of schema left k = many 93 (44 ▸ value schema left k)
+
+-- a key and its value, and what follows in a map, behind its first pair
+abbrev pub pair_of : Schema → ℕ → KindTree → KindTree → Lang (Tree × Tree)
+pair_of schema left key one = pair (value schema left key) (value schema left one)
+
+abbrev pub more_pairs_of : Schema → ℕ → KindTree → KindTree → Lang (List (Tree × Tree))
+more_pairs_of schema left key one = many 125 (44 ▸ pair_of schema left key one)
+
+-- keys and values with those of more pairs behind them
+abbrev pub add_pairs : List Tree × List Tree → List (Tree × Tree) → List Tree × List Tree
+add_pairs (ks, vs) ps = (ks ++ keys_of ps, vs ++ values_of ps)

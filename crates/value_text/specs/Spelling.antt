@@ -1,0 +1,101 @@
+-- The one text of a value.
+use Rattle.std.specs.Prelude.{ℕ, ◌++◌, Bool, true, false, List, [], ◌∷◌, Option, Some, None, codes, decimal, unwrap_or}
+use Rattle.std.specs.Fmt.{signed_decimal}
+use Rattle.mj_schema.specs.KindTrees as kinds
+use Rattle.mj_schema.specs.KindTrees.{KindTree}
+use Rattle.mj_schema.specs.declared.rows.StructRow.{StructRow}
+use Rattle.mj_schema.specs.declared.schema.Schema.{Schema}
+use Rattle.wire_model.specs.Rows.{member_kind, row_of}
+use Rattle.wire_model.specs.Trees.{Tree, Trees, none, more}
+use Rattle.wire_model.specs.Trees as values
+use Rattle.value_text.specs.Escapes.{quoted}
+use Rattle.value_text.specs.Rules.{fields_kinds}
+
+-- a bool
+abbrev pub flag_text : Bool → List ℕ
+flag_text true = codes "true"
+flag_text false = codes "false"
+
+-- the kind of an array's elements; those of a map's keys and values
+abbrev pub element_of : KindTree → KindTree
+element_of (kinds.ArrayKind of count nullable) = of
+element_of k = k
+
+abbrev pub key_of : KindTree → KindTree
+key_of (kinds.MapKind key one nullable) = key
+key_of k = k
+
+abbrev pub value_of : KindTree → KindTree
+value_of (kinds.MapKind key one nullable) = one
+value_of k = k
+
+-- the kinds of a struct's fields; none where there is no such struct
+abbrev pub row_kinds : Option StructRow → List KindTree
+row_kinds None = []
+row_kinds (Some row) = fields_kinds row.fields
+
+abbrev pub field_kinds : Schema → KindTree → List KindTree
+field_kinds schema k = row_kinds (row_of schema k)
+
+-- the kind that a union holds under a tag
+abbrev pub held : Schema → KindTree → ℕ → KindTree
+held schema k tag = unwrap_or (member_kind schema k tag) k
+
+-- texts of keys and of values as pairs, each behind a comma, and the bracket
+abbrev pub next_pairs : List (List ℕ) → List (List ℕ) → List ℕ
+next_pairs [] vs = 125 ∷ []
+next_pairs (k ∷ ks) [] = 125 ∷ []
+next_pairs (k ∷ ks) (v ∷ vs) = 44 ∷ (k ++ 58 ∷ (v ++ next_pairs ks vs))
+
+-- with commas between, and the bracket
+abbrev pub first_pair : List (List ℕ) → List (List ℕ) → List ℕ
+first_pair [] vs = 125 ∷ []
+first_pair (k ∷ ks) [] = 125 ∷ []
+first_pair (k ∷ ks) (v ∷ vs) = k ++ 58 ∷ (v ++ next_pairs ks vs)
+
+unfoldable mutual
+  -- the text of a value of a kind; the kind says which kinds the parts have
+  pub spell : Schema → KindTree → Tree → List ℕ
+  spell schema k values.Null = codes "null"
+  spell schema k (values.Flag b) = flag_text b
+  spell schema k (values.Whole z) = signed_decimal z
+  spell schema k (values.Text bytes) = quoted bytes
+  spell schema k (values.Items ts) = 91 ∷ first_item schema (element_of k) ts
+  spell schema k (values.Pairs ts) = 123 ∷ both_lists schema (key_of k) (value_of k) ts
+  spell schema k (values.Fields ts) = 40 ∷ first_field schema (field_kinds schema k) ts
+  spell schema k (values.Member tag t) = 60 ∷ (decimal tag ++ 58 ∷ (spell schema (held schema k tag) t ++ 62 ∷ []))
+  spell schema k (values.Unknown tag) = 60 ∷ (decimal tag ++ 62 ∷ [])
+  spell schema k (values.Handle i) = 37 ∷ decimal i
+  spell schema k (values.Remote i v) = 37 ∷ (decimal i ++ 64 ∷ decimal v)
+  spell schema k (values.Endpoint i) = 94 ∷ decimal i
+  spell schema k (values.EndpointRemote i v) = 94 ∷ (decimal i ++ 64 ∷ decimal v)
+
+  -- elements with commas between, and the bracket
+  pub first_item : Schema → KindTree → Trees → List ℕ
+  first_item schema k none = 93 ∷ []
+  first_item schema k (more t ts) = spell schema k t ++ next_items schema k ts
+
+  pub next_items : Schema → KindTree → Trees → List ℕ
+  next_items schema k none = 93 ∷ []
+  next_items schema k (more t ts) = 44 ∷ (spell schema k t ++ next_items schema k ts)
+
+  -- the pairs of two lists
+  pub both_lists : Schema → KindTree → KindTree → Trees → List ℕ
+  both_lists schema key one (more (values.Items ks) (more (values.Items vs) none)) = first_pair (each_text schema key ks) (each_text schema one vs)
+  both_lists schema key one ts = 125 ∷ []
+
+  -- the texts of values, each by itself
+  pub each_text : Schema → KindTree → Trees → List (List ℕ)
+  each_text schema k none = []
+  each_text schema k (more t ts) = spell schema k t ∷ each_text schema k ts
+
+  -- fields with commas between, and the bracket
+  pub first_field : Schema → List KindTree → Trees → List ℕ
+  first_field schema [] ts = 41 ∷ []
+  first_field schema (k ∷ ks) none = 41 ∷ []
+  first_field schema (k ∷ ks) (more t ts) = spell schema k t ++ next_fields schema ks ts
+
+  pub next_fields : Schema → List KindTree → Trees → List ℕ
+  next_fields schema [] ts = 41 ∷ []
+  next_fields schema (k ∷ ks) none = 41 ∷ []
+  next_fields schema (k ∷ ks) (more t ts) = 44 ∷ (spell schema k t ++ next_fields schema ks ts)

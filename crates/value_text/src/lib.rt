@@ -1,0 +1,19 @@
+//! Values as text.
+#![tactic(auto)]
+
+mod characters;
+mod entries;
+mod laws;
+mod numbers;
+mod printing;
+mod reading;
+mod rows;
+mod scalars;
+mod text_error;
+mod values;
+mod writing;
+
+pub use laws::{one_text, texts_are_read_back};
+pub use printing::write_value;
+pub use reading::read_value;
+pub use text_error::TextError;

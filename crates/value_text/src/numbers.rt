@@ -1,0 +1,169 @@
+//! Numbers.
+
+ghost use Rattle.std.specs.Prelude.{◌≡◌, ◌≤◌, ◌<◌, ◌^◌, ◌-◌, Ok, pos, IfOk, decimal};
+ghost use Rattle.std.specs.Fmt.{signed_decimal};
+ghost use Rattle.byte_rules.specs.Lang.{as_value};
+ghost use Rattle.byte_rules.specs.Among.{among};
+ghost use Rattle.byte_rules.specs.Reading.{Gives};
+ghost use Rattle.value_text.specs.Numbers.{is_digit, scan_on, number, integer, whole, index, members_numbers, fields_tags};
+
+use byte_rules::{Stop, expect, is_next, nearer};
+use mj_schema::{EnumRow, MemberRow, UnionFieldRow, Width};
+use std::alloc::Global;
+
+/// Whether the byte is a decimal digit.
+pub fn is_digit(byte: u8) -> bool
+    ensures { result ≡ is_digit byte }
+{
+    48 <= byte && byte <= 57
+}
+
+/// The value of the digits behind those of `first`, as long as it is at most `high`, and the bytes after them.
+#[tactic(auto, using(crate::proofs::NumberLaws::goes_at, crate::proofs::NumberLaws::stops_at, crate::proofs::NumberLaws::full_at, crate::proofs::NumberLaws::done_at))]
+fn digits(high: u64, first: u64, bytes: &[u8]) -> (u64, &[u8])
+    requires { first ≤ high }
+    ensures read { scan_on high first bytes.now ≡ Ok (result.0, result.1.now) }
+    ensures high { result.0 ≤ high }
+{
+    let mut value = first;
+    for (i, byte) in bytes.iter().enumerate() {
+        if !is_digit(*byte) {
+            return (value, &bytes[i..]);
+        }
+        let next = u128::from(value) * 10 + u128::from(*byte - 48);
+        if next > u128::from(high) {
+            return (value, &bytes[i..]);
+        }
+        value = next as u64;
+    }
+    (value, &[])
+}
+
+/// A number from `low`, which is 0 or 1, to `high`, and the bytes after it.
+pub fn number(low: u64, high: u64, bytes: &[u8]) -> Result<(u64, &[u8]), Stop>
+    ensures read { Gives (λ x. (x.0, x.1.now)) result ((number low high).read bytes.now) }
+    ensures high { IfOk result (λ x. x.0 ≤ high) }
+{
+    match bytes {
+        [first, rest @ ..] => {
+            if *first == 48 {
+                if low == 0 {
+                    return Ok((0, rest));
+                }
+                return Err(Stop::Left(bytes.len()));
+            }
+            if !is_digit(*first) {
+                return Err(Stop::Left(bytes.len()));
+            }
+            let first = u64::from(*first - 48);
+            if first > high {
+                return Err(Stop::Left(bytes.len()));
+            }
+            Ok(digits(high, first, rest))
+        }
+        [] => Err(Stop::Left(0)),
+    }
+}
+
+/// A number from `-low` to `high`, and the bytes after it.
+pub fn integer(low: u64, high: u64, bytes: &[u8]) -> Result<(i128, &[u8]), Stop>
+    ensures { Gives (λ x. (x.0, x.1.now)) result ((integer low high).read bytes.now) }
+{
+    if is_next(bytes, 45) {
+        let rest = expect(bytes, 45)?;
+        let (number, rest) = number(1, low, rest)?;
+        return Ok((-i128::from(number), rest));
+    }
+    let (number, rest) = number(0, high, bytes)?;
+    Ok((i128::from(number), rest))
+}
+
+/// A number that is not below zero, and the bytes after it.
+fn natural(high: u64, bytes: &[u8]) -> Result<(i128, &[u8]), Stop>
+    ensures { Gives (λ x. (x.0, x.1.now)) result ((as_value pos (number 0 high)).read bytes.now) }
+{
+    let (number, rest) = number(0, high, bytes)?;
+    Ok((i128::from(number), rest))
+}
+
+/// An integer of so many bits, and the bytes after it.
+pub fn whole(width: Width, signed: bool, bytes: &[u8]) -> Result<(i128, &[u8]), Stop>
+    ensures { Gives (λ x. (x.0, x.1.now)) result ((whole width signed).read bytes.now) }
+{
+    if signed {
+        return match width {
+            Width::Bits8 => integer(1 << 7, (1 << 7) - 1, bytes),
+            Width::Bits16 => integer(1 << 15, (1 << 15) - 1, bytes),
+            Width::Bits32 => integer(1 << 31, (1 << 31) - 1, bytes),
+            Width::Bits64 => integer(1 << 63, (1 << 63) - 1, bytes),
+        };
+    }
+    match width {
+        Width::Bits8 => natural(u64::from(u8::MAX), bytes),
+        Width::Bits16 => natural(u64::from(u16::MAX), bytes),
+        Width::Bits32 => natural(u64::from(u32::MAX), bytes),
+        Width::Bits64 => natural(u64::MAX, bytes),
+    }
+}
+
+/// An index or a version, and the bytes after it.
+pub fn index(bytes: &[u8]) -> Result<(u32, &[u8]), Stop>
+    ensures { Gives (λ x. (x.0, x.1.now)) result (index.read bytes.now) }
+{
+    let (number, rest) = number(0, u64::from(u32::MAX), bytes)?;
+    Ok((number as u32, rest))
+}
+
+/// The number of a member.
+fn number_in(member: &MemberRow) -> i32
+    ensures { result ≡ member.now.number }
+{
+    member.number
+}
+
+/// The tag of a field.
+fn tag_in(field: &UnionFieldRow) -> u32
+    ensures { result ≡ field.now.tag }
+{
+    field.tag
+}
+
+/// The number of a member, and the bytes after it.
+pub fn member_number<'a>(
+    alloc: Global,
+    members: &[MemberRow],
+    bytes: &'a [u8],
+) -> Result<(i128, &'a [u8]), Stop>
+    ensures { Gives (λ x. (x.0, x.1.now)) result ((among (pos 0) signed_decimal (members_numbers members.now)).read bytes.now) }
+{
+    let mut near = (0, None);
+    for member in members {
+        let number = number_in(member);
+        let word = number.to_string(alloc)?;
+        near = nearer(near, number, word.as_bytes(), bytes);
+    }
+    match near.1 {
+        Some(number) => Ok((i128::from(number), &bytes[near.0..])),
+        None => Err(Stop::Left(bytes.len() - near.0)),
+    }
+}
+
+/// The tag of a field, and the bytes after it.
+pub fn field_tag<'a>(
+    alloc: Global,
+    fields: &[UnionFieldRow],
+    bytes: &'a [u8],
+) -> Result<(u32, &'a [u8]), Stop>
+    ensures { Gives (λ x. (x.0, x.1.now)) result ((among 0 decimal (fields_tags fields.now)).read bytes.now) }
+{
+    let mut near = (0, None);
+    for field in fields {
+        let tag = tag_in(field);
+        let word = tag.to_string(alloc)?;
+        near = nearer(near, tag, word.as_bytes(), bytes);
+    }
+    match near.1 {
+        Some(tag) => Ok((tag, &bytes[near.0..])),
+        None => Err(Stop::Left(bytes.len() - near.0)),
+    }
+}

@@ -1,0 +1,238 @@
+//! The text of a value.
+
+ghost use Rattle.std.specs.Prelude.{◌≡◌, ◌++◌, ◌∷◌, [], List, ℕ, OnOk, IfOk, ◌≤◌, map, decimal};
+ghost use Rattle.mj_schema.specs.KindTrees.{kind_view};
+ghost use Rattle.wire_model.specs.Depth.{IsOfKind};
+ghost use Rattle.wire_model.specs.Trees.{view, trees};
+ghost use Rattle.byte_rules.specs.Judged.{Spells};
+ghost use Rattle.value_text.specs.Brackets.{brackets};
+ghost use Rattle.value_text.specs.Rules as rules;
+ghost use Rattle.value_text.specs.Rules.{fields_kinds};
+ghost use Rattle.value_text.specs.Spelling.{spell, first_item, each_text, first_pair, first_field, element_of, key_of, value_of, field_kinds, held};
+
+use crate::rows::{find_struct, find_union, kind_of_tag};
+use crate::writing::{push_index, push_text, push_versioned, push_whole};
+use mj_schema::{FieldRow, Kind, KindNode, Schema};
+use std::alloc::{AllocError, Global};
+use wire_model::Value;
+
+/// The kind of an array's elements.
+fn element_of(kind: &KindNode) -> &KindNode
+    ensures { kind_view result.now ≡ element_of (kind_view kind.now) }
+{
+    match kind {
+        KindNode::Array { of, .. } => of,
+        _ => kind,
+    }
+}
+
+/// The kind of a map's keys.
+fn key_of(kind: &KindNode) -> &KindNode
+    ensures { kind_view result.now ≡ key_of (kind_view kind.now) }
+{
+    match kind {
+        KindNode::Map { key, .. } => key,
+        _ => kind,
+    }
+}
+
+/// The kind of a map's values.
+fn value_of(kind: &KindNode) -> &KindNode
+    ensures { kind_view result.now ≡ value_of (kind_view kind.now) }
+{
+    match kind {
+        KindNode::Map { value, .. } => value,
+        _ => kind,
+    }
+}
+
+/// The fields of a struct; none where there is no such struct.
+fn fields_of<'a>(schema: &'a Schema, kind: &KindNode) -> &'a [FieldRow]
+    ensures { fields_kinds result.now ≡ field_kinds schema.now (kind_view kind.now) }
+{
+    match kind {
+        KindNode::Struct { number, .. } => match find_struct(schema, *number) {
+            Some(row) => row.fields.as_slice(),
+            None => &[],
+        },
+        _ => &[],
+    }
+}
+
+/// What a union holds under a tag; the kind itself where it holds nothing there.
+#[tactic(auto, using(crate::proofs::Printed::held_in))]
+fn held<'a>(schema: &'a Schema, kind: &'a KindNode, tag: u32) -> &'a KindNode
+    ensures { kind_view result.now ≡ held schema.now (kind_view kind.now) tag }
+{
+    let KindNode::Union { number, .. } = kind else {
+        return kind;
+    };
+    let Some(row) = find_union(schema, *number) else {
+        return kind;
+    };
+    match kind_of_tag(row.fields.as_slice(), tag) {
+        Some(held) => held.node(),
+        None => kind,
+    }
+}
+
+/// Adds the text of a value.
+#[cycle(push)]
+#[tactic(auto, unfolding(crate::specs::Spelling::spell, crate::specs::Spelling::both_lists))]
+pub fn push_value(
+    value: &Value,
+    kind: &KindNode,
+    alloc: Global,
+    schema: &Schema,
+    out: &mut Vec<u8>,
+) -> Result<(), AllocError>
+    ensures { OnOk result (out.new.items ≡ out.old.items ++ spell schema.now (kind_view kind.now) (view value.now)) }
+{
+    match value {
+        Value::Null => out.extend_from_slice(b"null"),
+        Value::Bool(true) => out.extend_from_slice(b"true"),
+        Value::Bool(false) => out.extend_from_slice(b"false"),
+        Value::Whole(number) => push_whole(alloc, out, *number),
+        Value::Text(text) => push_text(out, text),
+        Value::List(items) => push_list(items, element_of(kind), alloc, schema, out),
+        Value::Map { keys, values } => push_map(keys, values, kind, alloc, schema, out),
+        Value::Struct(fields) => push_struct(fields, fields_of(schema, kind), alloc, schema, out),
+        Value::Union { tag, value } => push_member(value, *tag, kind, alloc, schema, out),
+        Value::Unknown(tag) => push_unknown(alloc, *tag, out),
+        Value::Handle(index) => push_index(alloc, out, 37, *index),
+        Value::Remote { index, version } => push_versioned(alloc, out, 37, *index, *version),
+        Value::Endpoint(index) => push_index(alloc, out, 94, *index),
+        Value::EndpointRemote { index, version } => push_versioned(
+            alloc, out, 94, *index, *version,
+        ),
+    }
+}
+
+/// Adds elements between brackets.
+#[cycle(push)]
+#[tactic(auto, using(crate::proofs::Printed::brackets_at))]
+fn push_list(
+    items: &[Value],
+    of: &KindNode,
+    alloc: Global,
+    schema: &Schema,
+    out: &mut Vec<u8>,
+) -> Result<(), AllocError>
+    ensures { OnOk result (out.new.items ≡ out.old.items ++ 91 ∷ first_item schema.now (kind_view of.now) (trees (map view items.now))) }
+{
+    out.push(91)?;
+    for (i, item) in items.iter().enumerate() {
+        if i > 0 {
+            out.push(44)?;
+        }
+        push_value(item, of, alloc, schema, out)?;
+    }
+    out.push(93)?;
+    Ok(())
+}
+
+/// Adds the pairs of keys and values between brackets.
+#[cycle(push)]
+#[tactic(auto, using(crate::proofs::Printed::brackets_at))]
+fn push_map(
+    keys: &[Value],
+    values: &[Value],
+    kind: &KindNode,
+    alloc: Global,
+    schema: &Schema,
+    out: &mut Vec<u8>,
+) -> Result<(), AllocError>
+    ensures { OnOk result
+        (out.new.items ≡ out.old.items ++ 123 ∷ first_pair (each_text schema.now (key_of (kind_view kind.now)) (trees (map view keys.now)))
+        (each_text schema.now (value_of (kind_view kind.now)) (trees (map view values.now)))) }
+{
+    out.push(123)?;
+    let mut i = 0;
+    while i < keys.len() && i < values.len() {
+        if i > 0 {
+            out.push(44)?;
+        }
+        push_value(&keys[i], key_of(kind), alloc, schema, out)?;
+        out.push(58)?;
+        push_value(&values[i], value_of(kind), alloc, schema, out)?;
+        i += 1;
+    }
+    out.push(125)?;
+    Ok(())
+}
+
+/// Adds the fields of a struct between brackets.
+#[cycle(push)]
+#[tactic(auto, using(crate::proofs::Printed::brackets_at))]
+fn push_struct(
+    values: &[Value],
+    row: &[FieldRow],
+    alloc: Global,
+    schema: &Schema,
+    out: &mut Vec<u8>,
+) -> Result<(), AllocError>
+    ensures { OnOk result (out.new.items ≡ out.old.items ++ 40 ∷ first_field schema.now (fields_kinds row.now) (trees (map view values.now))) }
+{
+    out.push(40)?;
+    let mut i = 0;
+    while i < values.len() && i < row.len() {
+        if i > 0 {
+            out.push(44)?;
+        }
+        push_value(&values[i], row[i].kind.node(), alloc, schema, out)?;
+        i += 1;
+    }
+    out.push(41)?;
+    Ok(())
+}
+
+/// Adds a tag and what a union holds between brackets.
+#[cycle(push)]
+fn push_member(
+    value: &Value,
+    tag: u32,
+    kind: &KindNode,
+    alloc: Global,
+    schema: &Schema,
+    out: &mut Vec<u8>,
+) -> Result<(), AllocError>
+    ensures { OnOk result
+        (out.new.items ≡ out.old.items ++ 60 ∷
+        (decimal tag ++ 58 ∷ (spell schema.now (held schema.now (kind_view kind.now) tag) (view value.now) ++ 62 ∷ []))) }
+{
+    push_index(alloc, out, 60, tag)?;
+    out.push(58)?;
+    push_value(value, held(schema, kind, tag), alloc, schema, out)?;
+    out.push(62)?;
+    Ok(())
+}
+
+/// Adds a tag that the union lacks between brackets.
+fn push_unknown(alloc: Global, tag: u32, out: &mut Vec<u8>) -> Result<(), AllocError>
+    ensures { OnOk result (out.new.items ≡ out.old.items ++ 60 ∷ (decimal tag ++ 62 ∷ [])) }
+{
+    push_index(alloc, out, 60, tag)?;
+    out.push(62)?;
+    Ok(())
+}
+
+/// The text of the value as one of the kind. It is the one text of the value: where the value is of
+/// the kind, with at most 512 brackets open at once, the text spells it, and no other bytes do.
+/// Fails only where memory runs out.
+#[tactic(auto, using(crate::proofs::Shows::spelled, crate::proofs::OneText::one_text))]
+pub fn write_value(
+    alloc: Global,
+    schema: &Schema,
+    kind: &Kind,
+    value: &Value,
+) -> Result<Vec<u8>, AllocError>
+    ensures text { IfOk result (λ text. text.items ≡ spell schema.now kind.now (view value.now)) }
+    ensures spells { IfOk result
+        (λ text. IsOfKind schema.now kind.now (view value.now) → brackets (view value.now) ≤ 512
+        → Spells (rules.value schema.now 512 kind.now) (view value.now) text.items) }
+    ensures one { IfOk result (λ text. (bytes : List ℕ) → Spells (rules.value schema.now 512 kind.now) (view value.now) bytes → bytes ≡ text.items) }
+{
+    let mut out = Vec::new(alloc);
+    push_value(value, kind.node(), alloc, schema, &mut out)?;
+    Ok(out)
+}

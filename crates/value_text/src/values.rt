@@ -1,0 +1,490 @@
+//! Values of every kind.
+
+ghost use Rattle.std.specs.Prelude.{◌≡◌, ◌∷◌, [], ◌<◌, ◌-◌, List, map, slice_get, Some, None, true, false};
+ghost use Rattle.mj_schema.specs.KindTrees.{kind_view};
+ghost use Rattle.wire_model.specs.Trees.{view};
+ghost use Rattle.wire_model.specs.Trees as values;
+ghost use Rattle.byte_rules.specs.Lang.{as_value, closed, listed, exactly, rest_of, ◌▸◌};
+ghost use Rattle.byte_rules.specs.Reading.{Gives, gathered, with_front};
+ghost use Rattle.value_text.specs.Rules.{value, inside, has_room, opened, base_at, elements, array, more_of};
+ghost use Rattle.value_text.specs.Rules.{fields, fields_after, fields_kinds, structure, union, member};
+ghost use Rattle.value_text.specs.Rules.{pair, pair_of, pairs_of, more_pairs_of, add_pairs};
+
+use crate::entries::{Entries, map_of, struct_of};
+use crate::rows::{find_struct, find_union, is_nullable, kind_of_tag};
+use crate::scalars::{
+    boolean, endpoint, endpoint_remote, enum_value, handle, int, null, remote, string, tag,
+};
+use byte_rules::{Stop, expect, is_next};
+use mj_schema::{FieldRow, KindNode, Schema};
+use std::alloc::Global;
+use wire_model::Value;
+
+/// A value of the kind, with so many brackets at most, and the bytes after it.
+#[cycle(value)]
+#[tactic(auto, using(crate::proofs::KindReads::value_null, crate::proofs::KindReads::value_never_null, crate::proofs::KindReads::value_other))]
+pub fn value<'a>(
+    alloc: Global,
+    schema: &Schema,
+    left: u32,
+    kind: &KindNode,
+    bytes: &'a [u8],
+) -> Result<(Value, &'a [u8]), Stop>
+    ensures { Gives (λ x. (view x.0, x.1.now)) result ((value schema.now left (kind_view kind.now)).read bytes.now) }
+{
+    if is_nullable(kind) && is_next(bytes, 110) {
+        return null(bytes);
+    }
+    base(alloc, schema, left, kind, bytes)
+}
+
+/// A value of the kind that isn't null, and the bytes after it.
+#[cycle(value)]
+fn base<'a>(
+    alloc: Global,
+    schema: &Schema,
+    left: u32,
+    kind: &KindNode,
+    bytes: &'a [u8],
+) -> Result<(Value, &'a [u8]), Stop>
+    ensures { Gives (λ x. (view x.0, x.1.now)) result ((base_at schema.now left (kind_view kind.now)).read bytes.now) }
+{
+    match kind {
+        KindNode::Bool => boolean(bytes),
+        KindNode::Int { width, signed } => int(*width, *signed, bytes),
+        KindNode::Enum { number } => enum_value(alloc, schema, *number, bytes),
+        KindNode::Text { .. } => string(alloc, bytes),
+        KindNode::Handle { .. } | KindNode::Receiver { .. } => handle(bytes),
+        KindNode::Array { of, count, .. } => array(alloc, schema, left, of, *count, bytes),
+        KindNode::Map { key, value, .. } => dictionary(alloc, schema, left, key, value, bytes),
+        KindNode::Struct { number, .. } => structure(alloc, schema, left, *number, bytes),
+        KindNode::Union { number, .. } => union(alloc, schema, left, *number, bytes),
+        KindNode::Remote { .. } => remote(bytes),
+        KindNode::AssociatedRemote { .. } => endpoint_remote(bytes),
+        KindNode::AssociatedReceiver { .. } => endpoint(bytes),
+    }
+}
+
+/// An array, and the bytes after it.
+#[cycle(value)]
+#[tactic(auto, using(crate::proofs::KindReads::opened_full, crate::proofs::KindReads::array_room))]
+fn array<'a>(
+    alloc: Global,
+    schema: &Schema,
+    left: u32,
+    of: &KindNode,
+    count: Option<u32>,
+    bytes: &'a [u8],
+) -> Result<(Value, &'a [u8]), Stop>
+    ensures { Gives (λ x. (view x.0, x.1.now)) result
+        ((opened (has_room left) 91 (array (inside schema.now left (kind_view of.now)) count)).read bytes.now) }
+{
+    if left == 0 {
+        return Err(Stop::Left(bytes.len()));
+    }
+    let rest = expect(bytes, 91)?;
+    let (items, rest) = elements(alloc, schema, left - 1, of, count, rest)?;
+    Ok((Value::List(items), rest))
+}
+
+/// The elements of an array up to the bracket, and the bytes after it.
+#[cycle(value)]
+fn elements<'a>(
+    alloc: Global,
+    schema: &Schema,
+    left: u32,
+    of: &KindNode,
+    count: Option<u32>,
+    bytes: &'a [u8],
+) -> Result<(Vec<Value>, &'a [u8]), Stop>
+    ensures { Gives (λ x. (map view x.0.items, x.1.now)) result ((elements (value schema.now left (kind_view of.now)) count).read bytes.now) }
+{
+    match count {
+        Some(count) => so_many(alloc, schema, left, of, count, bytes),
+        None => list(alloc, schema, left, of, bytes),
+    }
+}
+
+/// Values of a kind with commas between up to the bracket, and the bytes after it.
+#[cycle(value)]
+#[tactic(auto, using(crate::proofs::KindReads::first_and_more))]
+fn list<'a>(
+    alloc: Global,
+    schema: &Schema,
+    left: u32,
+    of: &KindNode,
+    bytes: &'a [u8],
+) -> Result<(Vec<Value>, &'a [u8]), Stop>
+    ensures { Gives (λ x. (map view x.0.items, x.1.now)) result ((listed 93 (value schema.now left (kind_view of.now))).read bytes.now) }
+{
+    let mut items = Vec::new(alloc);
+    if is_next(bytes, 93) {
+        let rest = expect(bytes, 93)?;
+        return Ok((items, rest));
+    }
+    let (first, rest) = value(alloc, schema, left, of, bytes)?;
+    items.push(first)?;
+    more(alloc, schema, left, of, items, rest)
+}
+
+/// So many values of a kind with commas between up to the bracket, and the bytes after it.
+#[cycle(value)]
+fn so_many<'a>(
+    alloc: Global,
+    schema: &Schema,
+    left: u32,
+    of: &KindNode,
+    count: u32,
+    bytes: &'a [u8],
+) -> Result<(Vec<Value>, &'a [u8]), Stop>
+    ensures { Gives (λ x. (map view x.0.items, x.1.now)) result ((exactly 93 count (value schema.now left (kind_view of.now))).read bytes.now) }
+{
+    let mut items = Vec::new(alloc);
+    if count == 0 {
+        let rest = expect(bytes, 93)?;
+        return Ok((items, rest));
+    }
+    let (first, rest) = value(alloc, schema, left, of, bytes)?;
+    items.push(first)?;
+    as_many(alloc, schema, left, of, count - 1, items, rest)
+}
+
+/// A comma and a value.
+#[cycle(value)]
+fn next<'a>(
+    alloc: Global,
+    schema: &Schema,
+    left: u32,
+    of: &KindNode,
+    bytes: &'a [u8],
+) -> Result<(Value, &'a [u8]), Stop>
+    ensures { Gives (λ x. (view x.0, x.1.now)) result ((44 ▸ value schema.now left (kind_view of.now)).read bytes.now) }
+{
+    let rest = expect(bytes, 44)?;
+    value(alloc, schema, left, of, rest)
+}
+
+/// Values, each after a comma, behind those of `items`, up to the bracket, and the bytes after it.
+#[cycle(value)]
+fn more<'a>(
+    alloc: Global,
+    schema: &Schema,
+    left: u32,
+    of: &KindNode,
+    items: Vec<Value>,
+    bytes: &'a [u8],
+) -> Result<(Vec<Value>, &'a [u8]), Stop>
+    ensures { Gives (λ x. (map view x.0.items, x.1.now)) result
+        (with_front (λ t. t ∷ []) (map view items.items) ((more_of schema.now left (kind_view of.now)).read bytes.now)) }
+{
+    let mut items = items;
+    let mut rest = bytes;
+    for _ in 0..bytes.len() {
+        if is_next(rest, 93) {
+            let rest = expect(rest, 93)?;
+            return Ok((items, rest));
+        }
+        let (item, after) = next(alloc, schema, left, of, rest)?;
+        items.push(item)?;
+        rest = after;
+    }
+    let rest = expect(rest, 93)?;
+    Ok((items, rest))
+}
+
+/// So many values, each after a comma, behind those of `items`, and the bytes after the bracket.
+#[cycle(value)]
+fn as_many<'a>(
+    alloc: Global,
+    schema: &Schema,
+    left: u32,
+    of: &KindNode,
+    count: u32,
+    items: Vec<Value>,
+    bytes: &'a [u8],
+) -> Result<(Vec<Value>, &'a [u8]), Stop>
+    ensures { Gives (λ x. (map view x.0.items, x.1.now)) result
+        (with_front (λ t. t ∷ []) (map view items.items) ((rest_of 93 count (value schema.now left (kind_view of.now))).read bytes.now)) }
+{
+    let mut items = items;
+    let mut rest = bytes;
+    for _ in 0..count {
+        let (item, after) = next(alloc, schema, left, of, rest)?;
+        items.push(item)?;
+        rest = after;
+    }
+    let rest = expect(rest, 93)?;
+    Ok((items, rest))
+}
+
+/// A map, and the bytes after it.
+#[cycle(value)]
+#[tactic(auto, using(crate::proofs::KindReads::opened_full))]
+fn dictionary<'a>(
+    alloc: Global,
+    schema: &Schema,
+    left: u32,
+    key: &KindNode,
+    one: &KindNode,
+    bytes: &'a [u8],
+) -> Result<(Value, &'a [u8]), Stop>
+    ensures { Gives (λ x. (view x.0, x.1.now)) result
+        ((opened (has_room left) 123
+        (as_value pairs_of (listed 125 (pair (inside schema.now left (kind_view key.now)) (inside schema.now left (kind_view one.now)))))).read bytes.now) }
+{
+    if left == 0 {
+        return Err(Stop::Left(bytes.len()));
+    }
+    let rest = expect(bytes, 123)?;
+    let (pairs, rest) = pairs(alloc, schema, left - 1, key, one, rest)?;
+    Ok((map_of(pairs), rest))
+}
+
+/// Pairs with commas between up to the bracket, and the bytes after it.
+#[cycle(value)]
+fn pairs<'a>(
+    alloc: Global,
+    schema: &Schema,
+    left: u32,
+    key: &KindNode,
+    one: &KindNode,
+    bytes: &'a [u8],
+) -> Result<(Entries, &'a [u8]), Stop>
+    ensures { Gives (λ x. ((map view x.0.keys.items, map view x.0.values.items), x.1.now)) result
+        (gathered add_pairs ([], []) ((listed 125 (pair_of schema.now left (kind_view key.now) (kind_view one.now))).read bytes.now)) }
+{
+    let mut pairs = Entries {
+        keys: Vec::new(alloc),
+        values: Vec::new(alloc),
+    };
+    if is_next(bytes, 125) {
+        let rest = expect(bytes, 125)?;
+        return Ok((pairs, rest));
+    }
+    let (first, second, rest) = pair(alloc, schema, left, key, one, bytes)?;
+    pairs.push(first, second)?;
+    more_pairs(alloc, schema, left, key, one, pairs, rest)
+}
+
+/// A key and its value, and the bytes after them.
+#[cycle(value)]
+#[tactic(auto, unfolding(crate::specs::Rules::pair))]
+fn pair<'a>(
+    alloc: Global,
+    schema: &Schema,
+    left: u32,
+    key: &KindNode,
+    one: &KindNode,
+    bytes: &'a [u8],
+) -> Result<(Value, Value, &'a [u8]), Stop>
+    ensures { Gives (λ x. ((view x.0, view x.1), x.2.now)) result ((pair_of schema.now left (kind_view key.now) (kind_view one.now)).read bytes.now) }
+{
+    let (first, rest) = value(alloc, schema, left, key, bytes)?;
+    let rest = expect(rest, 58)?;
+    let (second, rest) = value(alloc, schema, left, one, rest)?;
+    Ok((first, second, rest))
+}
+
+/// A comma, a key and its value.
+#[cycle(value)]
+fn next_pair<'a>(
+    alloc: Global,
+    schema: &Schema,
+    left: u32,
+    key: &KindNode,
+    one: &KindNode,
+    bytes: &'a [u8],
+) -> Result<(Value, Value, &'a [u8]), Stop>
+    ensures { Gives (λ x. ((view x.0, view x.1), x.2.now)) result ((44 ▸ pair_of schema.now left (kind_view key.now) (kind_view one.now)).read bytes.now) }
+{
+    let rest = expect(bytes, 44)?;
+    pair(alloc, schema, left, key, one, rest)
+}
+
+/// Pairs, each after a comma, behind those of `pairs`, up to the bracket, and the bytes after it.
+#[cycle(value)]
+fn more_pairs<'a>(
+    alloc: Global,
+    schema: &Schema,
+    left: u32,
+    key: &KindNode,
+    one: &KindNode,
+    pairs: Entries,
+    bytes: &'a [u8],
+) -> Result<(Entries, &'a [u8]), Stop>
+    ensures { Gives (λ x. ((map view x.0.keys.items, map view x.0.values.items), x.1.now)) result
+        (gathered add_pairs (map view pairs.keys.items, map view pairs.values.items)
+        ((more_pairs_of schema.now left (kind_view key.now) (kind_view one.now)).read bytes.now)) }
+{
+    let mut pairs = pairs;
+    let mut rest = bytes;
+    for _ in 0..bytes.len() {
+        if is_next(rest, 125) {
+            let rest = expect(rest, 125)?;
+            return Ok((pairs, rest));
+        }
+        let (first, second, after) = next_pair(alloc, schema, left, key, one, rest)?;
+        pairs.push(first, second)?;
+        rest = after;
+    }
+    let rest = expect(rest, 125)?;
+    Ok((pairs, rest))
+}
+
+/// A struct, and the bytes after it.
+#[cycle(value)]
+#[tactic(auto, using(crate::proofs::KindReads::opened_full, crate::proofs::KindReads::struct_room))]
+fn structure<'a>(
+    alloc: Global,
+    schema: &Schema,
+    left: u32,
+    number: u32,
+    bytes: &'a [u8],
+) -> Result<(Value, &'a [u8]), Stop>
+    ensures { Gives (λ x. (view x.0, x.1.now)) result
+        ((opened (has_room left) 40 (structure (inside schema.now left) (slice_get schema.now.structs number))).read bytes.now) }
+{
+    if left == 0 {
+        return Err(Stop::Left(bytes.len()));
+    }
+    let rest = expect(bytes, 40)?;
+    all_fields(alloc, schema, left - 1, number, rest)
+}
+
+/// The fields of a struct up to the bracket, and the bytes after it.
+#[cycle(value)]
+#[tactic(auto, using(crate::proofs::KindReads::never_read))]
+fn all_fields<'a>(
+    alloc: Global,
+    schema: &Schema,
+    left: u32,
+    number: u32,
+    bytes: &'a [u8],
+) -> Result<(Value, &'a [u8]), Stop>
+    ensures { Gives (λ x. (view x.0, x.1.now)) result ((structure (value schema.now left) (slice_get schema.now.structs number)).read bytes.now) }
+{
+    let Some(row) = find_struct(schema, number) else {
+        return Err(Stop::Left(bytes.len()));
+    };
+    let (values, rest) = fields(alloc, schema, left, row.fields.as_slice(), bytes)?;
+    Ok((struct_of(values), rest))
+}
+
+/// A value for each field, and the bytes after the bracket.
+#[cycle(value)]
+#[tactic(auto, unfolding(crate::specs::Rules::fields), using(crate::proofs::KindReads::first_and_more))]
+fn fields<'a>(
+    alloc: Global,
+    schema: &Schema,
+    left: u32,
+    row: &[FieldRow],
+    bytes: &'a [u8],
+) -> Result<(Vec<Value>, &'a [u8]), Stop>
+    ensures { Gives (λ x. (map view x.0.items, x.1.now)) result ((fields (value schema.now left) (fields_kinds row.now)).read bytes.now) }
+{
+    let mut values = Vec::new(alloc);
+    match row {
+        [field, others @ ..] => {
+            let (first, rest) = value(alloc, schema, left, field.kind.node(), bytes)?;
+            values.push(first)?;
+            fields_after(alloc, schema, left, others, values, rest)
+        }
+        [] => {
+            let rest = expect(bytes, 41)?;
+            Ok((values, rest))
+        }
+    }
+}
+
+/// A comma and a value for each field, behind `values`, and the bytes after the bracket.
+#[cycle(value)]
+fn fields_after<'a>(
+    alloc: Global,
+    schema: &Schema,
+    left: u32,
+    row: &[FieldRow],
+    values: Vec<Value>,
+    bytes: &'a [u8],
+) -> Result<(Vec<Value>, &'a [u8]), Stop>
+    ensures { Gives (λ x. (map view x.0.items, x.1.now)) result
+        (with_front (λ t. t ∷ []) (map view values.items) ((fields_after (value schema.now left) (fields_kinds row.now)).read bytes.now)) }
+{
+    let mut values = values;
+    let mut rest = bytes;
+    for field in row {
+        let (value, after) = next(alloc, schema, left, field.kind.node(), rest)?;
+        values.push(value)?;
+        rest = after;
+    }
+    let rest = expect(rest, 41)?;
+    Ok((values, rest))
+}
+
+/// A union, and the bytes after it.
+#[cycle(value)]
+#[tactic(auto, using(crate::proofs::KindReads::opened_full, crate::proofs::KindReads::union_room))]
+fn union<'a>(
+    alloc: Global,
+    schema: &Schema,
+    left: u32,
+    number: u32,
+    bytes: &'a [u8],
+) -> Result<(Value, &'a [u8]), Stop>
+    ensures { Gives (λ x. (view x.0, x.1.now)) result
+        ((opened (has_room left) 60 (union (inside schema.now left) (slice_get schema.now.unions number))).read bytes.now) }
+{
+    if left == 0 {
+        return Err(Stop::Left(bytes.len()));
+    }
+    let rest = expect(bytes, 60)?;
+    tagged(alloc, schema, left - 1, number, rest)
+}
+
+/// A tag and what stands behind it, and the bytes after the bracket.
+#[cycle(value)]
+#[tactic(auto, using(crate::proofs::KindReads::never_read))]
+fn tagged<'a>(
+    alloc: Global,
+    schema: &Schema,
+    left: u32,
+    number: u32,
+    bytes: &'a [u8],
+) -> Result<(Value, &'a [u8]), Stop>
+    ensures { Gives (λ x. (view x.0, x.1.now)) result ((union (value schema.now left) (slice_get schema.now.unions number)).read bytes.now) }
+{
+    let Some(row) = find_union(schema, number) else {
+        return Err(Stop::Left(bytes.len()));
+    };
+    let (tag, rest) = tag(alloc, row, bytes)?;
+    match kind_of_tag(row.fields.as_slice(), tag) {
+        Some(kind) => member(alloc, schema, left, tag, kind.node(), rest),
+        None => unknown(tag, rest),
+    }
+}
+
+/// A colon and the value of this kind that a union holds, and the bytes after the bracket.
+#[cycle(value)]
+fn member<'a>(
+    alloc: Global,
+    schema: &Schema,
+    left: u32,
+    tag: u32,
+    kind: &KindNode,
+    bytes: &'a [u8],
+) -> Result<(Value, &'a [u8]), Stop>
+    ensures { Gives (λ x. (view x.0, x.1.now)) result ((member (value schema.now left) tag (Some (kind_view kind.now))).read bytes.now) }
+{
+    let rest = expect(bytes, 58)?;
+    let (held, rest) = value(alloc, schema, left, kind, rest)?;
+    let rest = expect(rest, 62)?;
+    let value = Box::new(alloc, held)?;
+    Ok((Value::Union { tag, value }, rest))
+}
+
+/// The bracket behind a tag that the union lacks, and the bytes after it.
+fn unknown(tag: u32, bytes: &[u8]) -> Result<(Value, &[u8]), Stop>
+    ensures { Gives (λ x. (view x.0, x.1.now)) result ((closed 62 (values.Unknown tag)).read bytes.now) }
+{
+    let rest = expect(bytes, 62)?;
+    Ok((Value::Unknown(tag), rest))
+}
