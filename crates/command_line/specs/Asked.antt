@@ -1,11 +1,16 @@
 -- What the words of the command line ask for.
-use Rattle.std.specs.Prelude.{ℕ, List, [], ◌∷◌, map, Option, None, unwrap_or, option_map, codes, if◌then◌else◌}
+use Rattle.std.specs.Prelude.{ℕ, List, [], ◌∷◌, map, Option, Some, None, unwrap_or, option_and_then, option_map, codes, if◌then◌else◌}
+use Rattle.std.specs.Prelude.{◌≡◌, ◌&&◌, nat_le}
 use Rattle.std.specs.Borrow.{Bor}
+use Rattle.std.specs.Fmt.{decimal}
 use Rattle.std.specs.Str.{bytes_eq}
+use Rattle.clap.specs.Walk.{byte_or_zero}
 use Rattle.clap.specs.Words.{Kinds, Row, Text, all_of, fault_of, first_of, subcommand_of}
 use Rattle.command_line.specs.Definition.{tool}
 use Rattle.command_line.specs.declared.asked.Command.{Command as Read}
 use Rattle.command_line.specs.declared.asked.Command.TheVariants as read
+use Rattle.command_line.specs.declared.asked.Side.{Side}
+use Rattle.command_line.specs.declared.asked.Side.TheVariants.{Request, Response}
 use Rattle.command_line.specs.declared.asked.WordsError.{WordsError}
 use Rattle.command_line.specs.declared.asked.WordsError.TheVariants.{WrongUse, Memory}
 
@@ -18,11 +23,39 @@ pub record RunWords : Type 0 where
 abbrev pub run_words : List ℕ → List ℕ → RunWords
 run_words script file = record { script = script; file = file }
 
--- what the words ask for: a run, the text of a file, `print FILE`, or the tables of files, `check FILE..`
+-- the method, which of its messages, and the names of files in `encode --method METHOD [--response] --value VALUE FILE..`
+pub record EncodeWords : Type 0 where
+  pub method : List ℕ
+  pub side : Side
+  pub value : List ℕ
+  pub files : List (List ℕ)
+
+-- these words of `encode`
+abbrev pub encode_words : List ℕ → Side → List ℕ → List (List ℕ) → EncodeWords
+encode_words method side value files = record { method = method; side = side; value = value; files = files }
+
+-- the interface, which side's message, the number of its handles, and the names of files in
+-- `decode --interface INTERFACE [--response] --handles HANDLES --message MESSAGE FILE..`
+pub record DecodeWords : Type 0 where
+  pub interface : List ℕ
+  pub side : Side
+  pub handles : ℕ
+  pub message : List ℕ
+  pub files : List (List ℕ)
+
+-- these words of `decode`
+abbrev pub decode_words : List ℕ → Side → ℕ → List ℕ → List (List ℕ) → DecodeWords
+decode_words interface side handles message files =
+    record { interface = interface; side = side; handles = handles; message = message; files = files }
+
+-- what the words ask for: a run, the text of a file, `print FILE`, the tables of files, `check FILE..`, the message of a
+-- value, or the value of a message
 pub data Command : Type 0 where
   Run : RunWords → Command
   Print : (file : List ℕ) → Command
   Check : (files : List (List ℕ)) → Command
+  Encode : EncodeWords → Command
+  Decode : DecodeWords → Command
 
 -- the value under a name; each that is asked for below is there, so the empty text stands for none
 abbrev pub text_at : Text → List Row → Text
@@ -32,12 +65,41 @@ text_at name rows = unwrap_or (first_of name rows) []
 abbrev pub texts_at : Text → List Row → List Text
 texts_at name rows = unwrap_or (all_of name rows) []
 
--- the command of this name with these values; there are three
-abbrev pub command_in : Text × List Row → Command
+-- the response where `--response` stands, else the request
+abbrev pub side_in : List Row → Side
+side_in rows = if bytes_eq (text_at (codes "response") rows) (codes "true") then Response else Request
+
+-- the number from 0 to 64 whose decimal digits, with no sign and no leading zero, are the text
+abbrev pub handles_of : Text → Option ℕ
+handles_of text = let n = byte_or_zero text in if bytes_eq (decimal n) text && nat_le n 64 then Some n else None
+
+-- the number of handles among these values, where it is one
+abbrev pub handles_in : List Row → Option ℕ
+handles_in rows = handles_of (text_at (codes "handles") rows)
+
+-- `encode` with these values
+abbrev pub encode_in : List Row → Command
+encode_in rows =
+    Encode (encode_words (text_at (codes "method") rows) (side_in rows) (text_at (codes "value") rows) (texts_at (codes "FILE") rows))
+
+-- `decode` with these values and this number of handles
+abbrev pub decode_with : List Row → ℕ → Command
+decode_with rows handles =
+    Decode (decode_words (text_at (codes "interface") rows) (side_in rows) handles (text_at (codes "message") rows)
+    (texts_at (codes "FILE") rows))
+
+-- `decode` with these values, where the number of handles is one
+abbrev pub decode_in : List Row → Option Command
+decode_in rows = option_map (decode_with rows) (handles_in rows)
+
+-- the command of this name with these values; there are five, and `decode` alone can be none, by its number of handles
+abbrev pub command_in : Text × List Row → Option Command
 command_in (name, rows) =
-    if bytes_eq name (codes "run") then Run (run_words (text_at (codes "script") rows) (text_at (codes "FILE") rows))
-    else if bytes_eq name (codes "print") then Print (text_at (codes "FILE") rows)
-    else Check (texts_at (codes "FILE") rows)
+    if bytes_eq name (codes "run") then Some (Run (run_words (text_at (codes "script") rows) (text_at (codes "FILE") rows)))
+    else if bytes_eq name (codes "print") then Some (Print (text_at (codes "FILE") rows))
+    else if bytes_eq name (codes "check") then Some (Check (texts_at (codes "FILE") rows))
+    else if bytes_eq name (codes "encode") then Some (encode_in rows)
+    else decode_in rows
 
 -- where `clap` finds a fault in the words, or a call for help, they ask for nothing
 abbrev pub unless_fault : Kinds → Option Command → Option Command
@@ -46,7 +108,12 @@ unless_fault (fault ∷ faults) asked = None
 
 -- what the words, the program's name first, ask for
 abbrev pub command_of : List (List ℕ) → Option Command
-command_of words = unless_fault (fault_of tool words) (option_map command_in (subcommand_of tool words))
+command_of words = unless_fault (fault_of tool words) (option_and_then command_in (subcommand_of tool words))
+
+-- the words are `decode` with a number of handles that is no number from 0 to 64
+abbrev pub HasWrongNumber : Option (Text × List Row) → Type 0
+HasWrongNumber None = ⊥
+HasWrongNumber (Some (name, rows)) = (name ≡ codes "decode") × (handles_in rows ≡ None)
 
 -- what these borrowed texts say
 abbrev pub texts : List (Bor Text) → List Text
@@ -57,6 +124,9 @@ abbrev pub asked_of : Read → Command
 asked_of (read.Run script file) = Run (run_words script.now file.now)
 asked_of (read.Print file) = Print file.now
 asked_of (read.Check files) = Check (texts files.items)
+asked_of (read.Encode method side value files) = Encode (encode_words method.now side value.now (texts files.items))
+asked_of (read.Decode interface side handles message files) =
+    Decode (decode_words interface.now side handles message.now (texts files.items))
 
 -- an error other than want of memory comes only where this holds
 abbrev pub OnWrongUse : Type 0 → WordsError → Type 0

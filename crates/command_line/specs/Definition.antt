@@ -1,11 +1,19 @@
 -- The commands, as `clap` defines the reading of words: a command has rules for its options and positional words.
 use Rattle.std.specs.Prelude.{true, Some, codes}
 use Rattle.clap.specs.Words.{App, Rule, Text, new_app, new_rule, with_rule, with_subcommand}
-use Rattle.clap.specs.declared.builder.action.ArgAction.TheVariants.{Append, Set}
+use Rattle.clap.specs.declared.builder.action.ArgAction.TheVariants.{Append, Set, SetTrue}
+
+-- an argument that `--name` stands for
+abbrev pub long : Text → Rule
+long name = record (new_rule name) { long = Some name }
 
 -- `--name VALUE` or `--name=VALUE`, just once
 abbrev pub option : Text → Rule
-option name = record (new_rule name) { long = Some name; required = true; action = Some Set }
+option name = record (long name) { required = true; action = Some Set }
+
+-- `--name`, once or not at all
+abbrev pub flag : Text → Rule
+flag name = record (long name) { action = Some SetTrue }
 
 -- just one file
 abbrev pub one_file : Rule
@@ -27,10 +35,24 @@ print = with_rule (new_app (codes "print")) one_file
 abbrev pub check : App
 check = with_rule (new_app (codes "check")) files
 
+-- `encode --method METHOD [--response] --value VALUE FILE..`
+abbrev pub encode : App
+encode =
+    with_rule (with_rule (with_rule (with_rule (new_app (codes "encode"))
+    (option (codes "method"))) (flag (codes "response"))) (option (codes "value"))) files
+
+-- `decode --interface INTERFACE [--response] --handles HANDLES --message MESSAGE FILE..`
+abbrev pub decode : App
+decode =
+    with_rule (with_rule (with_rule (with_rule (with_rule (new_app (codes "decode"))
+    (option (codes "interface"))) (flag (codes "response"))) (option (codes "handles"))) (option (codes "message"))) files
+
 -- the program alone: a command is wanted
 abbrev pub bare : App
 bare = let app = new_app (codes "mojo") in record app { top = record app.top { subcommand_required = true } }
 
 -- the program with its commands
 abbrev pub tool : App
-tool = with_subcommand (with_subcommand (with_subcommand bare run.top) print.top) check.top
+tool =
+    with_subcommand (with_subcommand (with_subcommand (with_subcommand (with_subcommand bare
+    run.top) print.top) check.top) encode.top) decode.top

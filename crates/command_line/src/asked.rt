@@ -5,15 +5,47 @@ ghost use Rattle.command_line.specs.declared.asked.WordsError.TheVariants.{Memor
 
 use std::alloc::AllocError;
 
+/// Which message of a method is meant.
+#[derive(Clone, Copy, PartialEq, Eq)]
+pub enum Side {
+    /// The one that the remote sends.
+    Request,
+    /// The one that answers it.
+    Response,
+}
+
 /// What the words ask for.
 #[derive(Drop)]
 pub enum Command<'a> {
     /// To run a script over a Mojom file.
-    Run { script: &'a str, file: &'a str },
+    Run {
+        script: &'a str,
+        file: &'a str,
+    },
     /// The canonical text of a Mojom file.
-    Print { file: &'a str },
+    Print {
+        file: &'a str,
+    },
     /// The tables of Mojom files, in the order given.
-    Check { files: Vec<&'a str> },
+    Check {
+        files: Vec<&'a str>,
+    },
+    /// The message of a method, in hexadecimal, that holds the value whose text is in the file `value`.
+    Encode {
+        method: &'a str,
+        side: Side,
+        value: &'a str,
+        files: Vec<&'a str>,
+    },
+    /// The method, request id and value of an interface's message, which is in hexadecimal in the file
+    /// `message` and has `handles` handles, from 0 to 64.
+    Decode {
+        interface: &'a str,
+        side: Side,
+        handles: u32,
+        message: &'a str,
+        files: Vec<&'a str>,
+    },
 }
 
 /// Why the words ask for nothing.

@@ -3,7 +3,7 @@
 ghost use Rattle.std.specs.Prelude.{◌≡◌, IfOk, false};
 ghost use Rattle.clap.specs.Words.{app_of, rule_of};
 ghost use Rattle.clap.specs.declared.builder.command.Command.TheViews.{out-Command};
-ghost use Rattle.command_line.specs.Definition.{option, one_file, files, run, print, check, tool};
+ghost use Rattle.command_line.specs.Definition.{long, option, flag, one_file, files, run, print, check, encode, decode, tool};
 
 use clap::{Arg, ArgAction, Command};
 use std::alloc::{AllocError, Global};
@@ -13,16 +13,30 @@ const STATUSES: &str =
     "Exit status: 0 all was done; 1 a file is refused; 2 the words are no command, or ask for help;
 3 a file could not be read; 4 standard output failed; 5 want of memory.";
 
+/// An argument that `--name` stands for.
+fn long_arg<'a>(alloc: Global, name: &'a str, help: &'a str) -> Arg<'a>
+    ensures rule { rule_of result ≡ long name.entry.now }
+    ensures local { result.global ≡ false }
+{
+    Arg::new(alloc, name).long(name).help(help)
+}
+
 /// An option that stands once, with its value.
 fn option_arg<'a>(alloc: Global, name: &'a str, help: &'a str) -> Arg<'a>
     ensures rule { rule_of result ≡ option name.entry.now }
     ensures local { result.global ≡ false }
 {
-    Arg::new(alloc, name)
-        .long(name)
+    long_arg(alloc, name, help)
         .required(true)
         .action(ArgAction::Set)
-        .help(help)
+}
+
+/// A flag, which stands once or not at all.
+fn flag_arg<'a>(alloc: Global, name: &'a str, help: &'a str) -> Arg<'a>
+    ensures rule { rule_of result ≡ flag name.entry.now }
+    ensures local { result.global ≡ false }
+{
+    long_arg(alloc, name, help).action(ArgAction::SetTrue)
 }
 
 /// One file.
@@ -78,6 +92,45 @@ fn check_command<'a>(alloc: Global) -> Result<Command<'a>, AllocError>
         .arg(files_arg(alloc, "The Mojom files"))
 }
 
+/// `encode --method METHOD [--response] --value VALUE FILE..`.
+fn encode_command<'a>(alloc: Global) -> Result<Command<'a>, AllocError>
+    ensures app { IfOk result (λ command. app_of command ≡ encode) }
+    ensures local { IfOk result (λ command. (out-Command command).has_globals ≡ false) }
+{
+    Command::new(alloc, "encode")
+        .about("Encodes the text of a value, and prints the message in hexadecimal")
+        .arg(option_arg(alloc, "method", "The method, by its full name"))?
+        .arg(flag_arg(
+            alloc,
+            "response",
+            "The message is the response, not the request",
+        ))?
+        .arg(option_arg(alloc, "value", "The file of the value's text"))?
+        .arg(files_arg(alloc, "The Mojom files, of which one has the method"))
+}
+
+/// `decode --interface INTERFACE [--response] --handles HANDLES --message MESSAGE FILE..`.
+fn decode_command<'a>(alloc: Global) -> Result<Command<'a>, AllocError>
+    ensures app { IfOk result (λ command. app_of command ≡ decode) }
+    ensures local { IfOk result (λ command. (out-Command command).has_globals ≡ false) }
+{
+    Command::new(alloc, "decode")
+        .about("Decodes a message in hexadecimal, and prints its method, request id and value")
+        .arg(option_arg(alloc, "interface", "The interface, by its full name"))?
+        .arg(flag_arg(
+            alloc,
+            "response",
+            "The message is a response, not a request",
+        ))?
+        .arg(option_arg(
+            alloc,
+            "handles",
+            "How many handles come with it, from 0 to 64",
+        ))?
+        .arg(option_arg(alloc, "message", "The file of the message"))?
+        .arg(files_arg(alloc, "The Mojom files, of which one has the interface"))
+}
+
 /// The whole command line.
 pub fn tool_command<'a>(alloc: Global) -> Result<Command<'a>, AllocError>
     ensures app { IfOk result (λ command. app_of command ≡ tool) }
@@ -88,5 +141,7 @@ pub fn tool_command<'a>(alloc: Global) -> Result<Command<'a>, AllocError>
         .subcommand_required(true)
         .subcommand(run_command(alloc)?)?
         .subcommand(print_command(alloc)?)?
-        .subcommand(check_command(alloc)?)
+        .subcommand(check_command(alloc)?)?
+        .subcommand(encode_command(alloc)?)?
+        .subcommand(decode_command(alloc)?)
 }

@@ -8,6 +8,6 @@ mod read;
 #[cfg(test)]
 mod tests;
 
-pub use asked::{Command, WordsError};
-pub use law::taken_words_have_a_command;
+pub use asked::{Command, Side, WordsError};
+pub use law::{handles_are_digits, taken_words_have_a_command};
 pub use read::read_words;

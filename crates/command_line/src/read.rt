@@ -1,10 +1,11 @@
 //! Reads the words of the command line.
 
-ghost use Rattle.std.specs.Prelude.{◌≡◌, IfErr, IfOk, None, Some, map, option_map, string_bytes};
+ghost use Rattle.std.specs.Prelude.{◌≡◌, IfErr, IfOk, None, Some, map, option_and_then, string_bytes};
 ghost use Rattle.clap.specs.Words.{found_of, kind_of, rows_of, subcommand_rows_of};
-ghost use Rattle.command_line.specs.Asked.{OnWrongUse, asked_of, command_in, command_of, text_at, texts, texts_at};
+ghost use Rattle.command_line.specs.Asked.{OnWrongUse, asked_of, command_in, command_of, decode_in, encode_in};
+ghost use Rattle.command_line.specs.Asked.{handles_of, side_in, text_at, texts, texts_at};
 
-use crate::asked::{Command, WordsError};
+use crate::asked::{Command, Side, WordsError};
 use crate::definition::tool_command;
 use clap::error::ErrorKind;
 use clap::{ArgMatches, Error};
@@ -32,10 +33,78 @@ fn texts_of<'a>(
     Ok(texts)
 }
 
+/// The response where `--response` stands.
+fn side_of(matches: &ArgMatches<'_>) -> Side
+    ensures { result ≡ side_in (rows_of (found_of matches.now)) }
+{
+    if text_of(matches, "response") == "true" {
+        Side::Response
+    } else {
+        Side::Request
+    }
+}
+
+/// The number from 0 to 64 that the text is, in decimal digits without a sign or a leading zero.
+///
+/// The integers that `clap` reads may have both, so it takes any text here.
+#[tactic(auto, using(clap::proofs::WalkLemmas::byte_read))]
+fn read_handles(alloc: Global, text: &str) -> Result<Option<u32>, AllocError>
+    ensures { IfOk result (λ handles. handles ≡ handles_of text.now) }
+{
+    let number = text.parse::<u8>().unwrap_or(0);
+    let spelled = format!(in alloc; "{number}")?;
+    if spelled.as_str() == text && number <= 64 {
+        Ok(Some(u32::from(number)))
+    } else {
+        Ok(None)
+    }
+}
+
+/// The refusal of a number of handles.
+fn wrong_handles(alloc: Global, text: &str) -> Result<WordsError, AllocError> {
+    let line = format!(in alloc;
+        "error: invalid value '{text}' for '--handles <handles>': a number from 0 to 64
+
+For more information, try '--help'.
+"
+    )?;
+    Ok(WordsError::WrongUse(line))
+}
+
+/// `encode` with the values that `clap` found.
+fn found_encode<'a>(alloc: Global, found: &ArgMatches<'a>) -> Result<Command<'a>, AllocError>
+    ensures { IfOk result (λ command. asked_of command ≡ encode_in (rows_of (found_of found.now))) }
+{
+    Ok(Command::Encode {
+        method: text_of(found, "method"),
+        side: side_of(found),
+        value: text_of(found, "value"),
+        files: texts_of(alloc, found, "FILE")?,
+    })
+}
+
+/// `decode` with the values that `clap` found.
+fn found_decode<'a>(alloc: Global, found: &ArgMatches<'a>) -> Result<Command<'a>, WordsError>
+    ensures ok { IfOk result (λ command. Some (asked_of command) ≡ decode_in (rows_of (found_of found.now))) }
+    ensures wrong_use { IfErr result (OnWrongUse (decode_in (rows_of (found_of found.now)) ≡ None)) }
+{
+    let text = text_of(found, "handles");
+    let Some(handles) = read_handles(alloc, text)? else {
+        return Err(wrong_handles(alloc, text)?);
+    };
+    Ok(Command::Decode {
+        interface: text_of(found, "interface"),
+        side: side_of(found),
+        handles,
+        message: text_of(found, "message"),
+        files: texts_of(alloc, found, "FILE")?,
+    })
+}
+
 /// The command that `clap` found.
 fn found_command<'a>(alloc: Global, matches: &ArgMatches<'a>) -> Result<Command<'a>, WordsError>
-    ensures ok { IfOk result (λ command. Some (asked_of command) ≡ option_map command_in (subcommand_rows_of matches.now)) }
-    ensures wrong_use { IfErr result (OnWrongUse (option_map command_in (subcommand_rows_of matches.now) ≡ None)) }
+    ensures ok { IfOk result (λ command. Some (asked_of command) ≡ option_and_then command_in (subcommand_rows_of matches.now)) }
+    ensures wrong_use { IfErr result (OnWrongUse (option_and_then command_in (subcommand_rows_of matches.now) ≡ None)) }
 {
     let Some((name, found)) = matches.subcommand() else {
         // Not reached: words without a fault have a command.
@@ -52,9 +121,15 @@ fn found_command<'a>(alloc: Global, matches: &ArgMatches<'a>) -> Result<Command<
             file: text_of(found, "FILE"),
         });
     }
-    Ok(Command::Check {
-        files: texts_of(alloc, found, "FILE")?,
-    })
+    if name == "check" {
+        return Ok(Command::Check {
+            files: texts_of(alloc, found, "FILE")?,
+        });
+    }
+    if name == "encode" {
+        return Ok(found_encode(alloc, found)?);
+    }
+    found_decode(alloc, found)
 }
 
 /// What stands for an error of `clap`: its text, or want of memory.
@@ -71,10 +146,12 @@ fn refusal(alloc: Global, error: Error) -> WordsError
 }
 
 /// The command in the words, which begin with the program's name: `run --script SCRIPT FILE`,
-/// `print FILE` or `check FILE..`, in each spelling that `clap` takes.
+/// `print FILE`, `check FILE..`, `encode --method METHOD [--response] --value VALUE FILE..` or
+/// `decode --interface INTERFACE [--response] --handles HANDLES --message MESSAGE FILE..`, in each
+/// spelling that `clap` takes, where HANDLES is a number from 0 to 64 without a sign or a leading zero.
 ///
-/// Words that are no command, or ask for help, are a wrong use, with `clap`'s text for it, which only
-/// tests look at. The other error is want of memory.
+/// Words that are no command, or ask for help, are a wrong use, with the text for it, `clap`'s own but
+/// for a wrong number, which only tests look at. The other error is want of memory.
 pub fn read_words<'a>(alloc: Global, words: &'a [String]) -> Result<Command<'a>, WordsError>
     ensures ok { IfOk result (λ command. Some (asked_of command) ≡ command_of (map string_bytes words.now)) }
     ensures wrong_use { IfErr result (OnWrongUse (command_of (map string_bytes words.now) ≡ None)) }

@@ -1,6 +1,6 @@
 //! Spellings that are taken, words that are not, and what is said of them.
 
-use crate::{Command, WordsError, read_words};
+use crate::{Command, Side, WordsError, read_words};
 use std::alloc::{AllocError, Global};
 use std::test::Fail;
 
@@ -9,10 +9,12 @@ const HELP: &str = "Reads Mojom files
 Usage: mojo <COMMAND>
 
 Commands:
-  run    Runs a script of calls over a Mojom file, and prints its history
-  print  Prints the canonical text of a Mojom file, without its comments
-  check  Checks Mojom files, and prints their tables
-  help   Print this message or the help of the given subcommand(s)
+  run     Runs a script of calls over a Mojom file, and prints its history
+  print   Prints the canonical text of a Mojom file, without its comments
+  check   Checks Mojom files, and prints their tables
+  encode  Encodes the text of a value, and prints the message in hexadecimal
+  decode  Decodes a message in hexadecimal, and prints its method, request id and value
+  help    Print this message or the help of the given subcommand(s)
 
 Options:
   -h, --help  Print help
@@ -37,6 +39,70 @@ Usage: mojo check <FILE>...
 For more information, try '--help'.
 ";
 
+const NO_VALUE: &str = "error: the following required arguments were not provided:
+  --value <value>
+
+Usage: mojo encode --method <method> --value <value> <FILE>...
+
+For more information, try '--help'.
+";
+
+const NO_NUMBER: &str = "error: invalid value '65' for '--handles <handles>': a number from 0 to 64
+
+For more information, try '--help'.
+";
+
+/// The line that the names of files end.
+fn with_files(mut line: String, files: &[&str]) -> Result<String, AllocError> {
+    for file in files {
+        line.push_str(" then ")?;
+        line.push_str(file)?;
+    }
+    Ok(line)
+}
+
+/// The word for a side.
+fn side_word(side: Side) -> &'static str {
+    match side {
+        Side::Request => "request",
+        Side::Response => "response",
+    }
+}
+
+/// What the command asks for.
+fn command_line(alloc: Global, command: Command<'_>) -> Result<String, AllocError> {
+    match command {
+        Command::Run { script, file } => format!(in alloc; "run {script} over {file}"),
+        Command::Print { file } => format!(in alloc; "print {file}"),
+        Command::Check { files } => {
+            with_files(String::from_str(alloc, "check")?, files.as_slice())
+        }
+        Command::Encode {
+            method,
+            side,
+            value,
+            files,
+        } => {
+            let side = side_word(side);
+            let line = format!(in alloc; "encode {value} as {side} of {method}")?;
+            with_files(line, files.as_slice())
+        }
+        Command::Decode {
+            interface,
+            side,
+            handles,
+            message,
+            files,
+        } => {
+            let side = side_word(side);
+            let line = format!(in alloc;
+                "decode {message} as {side} of {interface} with {handles}"
+            )?;
+            with_files(line, files.as_slice())
+        }
+    }
+}
+
 /// The command in the words of the line, or the text for a wrong use.
 fn answer(alloc: Global, line: &str) -> Result<String, AllocError> {
     let mut words = Vec::new(alloc);
@@ -44,16 +110,7 @@ fn answer(alloc: Global, line: &str) -> Result<String, AllocError> {
         words.push(String::from_str(alloc, word)?)?;
     }
     match read_words(alloc, words.as_slice()) {
-        Ok(Command::Run { script, file }) => format!(in alloc; "run {script} over {file}"),
-        Ok(Command::Print { file }) => format!(in alloc; "print {file}"),
-        Ok(Command::Check { files }) => {
-            let mut text = String::from_str(alloc, "check")?;
-            for file in files.as_slice() {
-                text.push_str(" then ")?;
-                text.push_str(file)?;
-            }
-            Ok(text)
-        }
+        Ok(command) => command_line(alloc, command),
         Err(WordsError::WrongUse(text)) => Ok(text),
         Err(WordsError::Memory) => Err(AllocError),
     }
@@ -83,6 +140,54 @@ fn each_spelling_is_taken(rt: HostRuntime) -> Result<(), Fail> {
 }
 
 #[test]
+fn each_spelling_of_encode_is_taken(rt: HostRuntime) -> Result<(), Fail> {
+    for line in [
+        "mojo encode --method t.A.Add --value v f g",
+        "mojo encode --value=v f --method=t.A.Add g",
+        "mojo encode --method t.A.Add --value v -- f g",
+    ] {
+        assert_eq!(rt;
+            answer(rt.alloc(), line)?.as_str(),
+            "encode v as request of t.A.Add then f then g"
+        );
+    }
+    for line in [
+        "mojo encode --method t.A.Add --response --value v f",
+        "mojo encode f --value v --method t.A.Add --response",
+    ] {
+        assert_eq!(rt;
+            answer(rt.alloc(), line)?.as_str(),
+            "encode v as response of t.A.Add then f"
+        );
+    }
+    Ok(())
+}
+
+#[test]
+fn each_spelling_of_decode_is_taken(rt: HostRuntime) -> Result<(), Fail> {
+    for line in [
+        "mojo decode --interface t.A --handles 64 --message m f g",
+        "mojo decode f --message=m --handles=64 --interface=t.A g",
+        "mojo decode --interface t.A --handles 64 --message m -- f g",
+    ] {
+        assert_eq!(rt;
+            answer(rt.alloc(), line)?.as_str(),
+            "decode m as request of t.A with 64 then f then g"
+        );
+    }
+    for line in [
+        "mojo decode --interface t.A --response --handles 0 --message m f",
+        "mojo decode f --response --message m --handles=0 --interface t.A",
+    ] {
+        assert_eq!(rt;
+            answer(rt.alloc(), line)?.as_str(),
+            "decode m as response of t.A with 0 then f"
+        );
+    }
+    Ok(())
+}
+
+#[test]
 fn other_words_are_refused(rt: HostRuntime) -> Result<(), Fail> {
     for line in [
         "mojo",
@@ -97,6 +202,22 @@ fn other_words_are_refused(rt: HostRuntime) -> Result<(), Fail> {
         "mojo check",
         "mojo check --",
         "mojo check --script s f",
+        "mojo encode --method t.A.Add f",
+        "mojo encode --method t.A.Add --value v",
+        "mojo encode --method t.A.Add --method t.A.Add --value v f",
+        "mojo encode --method t.A.Add --response --response --value v f",
+        "mojo encode --method t.A.Add --response=true --value v f",
+        "mojo decode --interface t.A --message m f",
+        "mojo decode --interface t.A --handles 1 --message m",
+        "mojo decode --interface t.A --message m f --handles",
+        "mojo decode --interface t.A --message m f --handles=",
+        "mojo decode --interface t.A --message m f --handles 65",
+        "mojo decode --interface t.A --message m f --handles 07",
+        "mojo decode --interface t.A --message m f --handles +7",
+        "mojo decode --interface t.A --message m f --handles -1",
+        "mojo decode --interface t.A --message m f --handles=-1",
+        "mojo decode --interface t.A --message m f --handles 257",
+        "mojo decode --interface t.A --message m f --handles x",
         "mojo --version",
     ] {
         assert!(rt; answer(rt.alloc(), line)?.as_str().starts_with("error: "));
@@ -114,5 +235,11 @@ fn the_texts_are_those_of_clap(rt: HostRuntime) -> Result<(), Fail> {
         NO_FILE
     );
     assert_eq!(rt; answer(rt.alloc(), "mojo check")?.as_str(), NO_FILES);
+    assert_eq!(rt;
+        answer(rt.alloc(), "mojo encode --method t.A.Add f")?.as_str(),
+        NO_VALUE
+    );
+    let line = "mojo decode --interface t.A --handles 65 --message m f";
+    assert_eq!(rt; answer(rt.alloc(), line)?.as_str(), NO_NUMBER);
     Ok(())
 }

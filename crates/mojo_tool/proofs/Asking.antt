@@ -12,11 +12,13 @@ use Rattle.mojom_compile.specs.Compiled.{IsParsed, IsSchemaOf, IsUnread, IsRefus
 use Rattle.mojom_print.specs.FileText.{file_text}
 use Rattle.call_script.specs.declared.script.Script.{Script}
 use Rattle.call_script.specs.Spelling.{IsScriptOf}
-use Rattle.mojo_tool.specs.Work.{Work, Missing, TooLong, Refuses, Unreadable, Runs, Prints, Fetching, Leads, Compiling, Parsing, Reading, Scripting, Running, Printing, AskedFor, HasSchema, HasSchemaAt, ComesTo}
+use Rattle.mojo_tool.specs.Work.{Work, Missing, TooLong, Refuses, Unreadable, Runs, Prints, Fetching, Leads, Compiling, Parsing, Reading}
+use Rattle.mojo_tool.specs.Work.{Scripting, Running, Printing, AskedFor, HasSchema, HasSchemaAt, ComesTo}
 use Rattle.mojo_tool.specs.Answers.{ReadFailed, refused_work, IsTextOf, IsRunText, IsPrintText}
 use Rattle.mojo_tool.specs.steps.Stops.{Stops, IsOf, HasBytes, IsLonger, IsLost, NotFetched, NotCompiled, NoScript}
 use Rattle.mojo_tool.specs.declared.decide.Stop.{Stop}
 use Rattle.mojo_tool.specs.declared.decide.Stop.TheVariants.{Refused, ReadFault, NoMemory}
+use Rattle.mojo_tool.proofs.Messages.{of_stops}
 
 asked_longer : (held : Option (List Named)) (name : List ℕ) (next : List Named → List ℕ → Work → Type 0) (work : Work) → IsLonger held name
     → work ≡ TooLong name → AskedFor held (λ files w. Fetching files name (next files) w) work
@@ -211,6 +213,6 @@ handed_on (Err made) e P h p = subst P (sym h) p
 -- a call comes to a script where the Mojom file has a schema
 pub comes_to_script : (held : Option (List Named)) (words : RunWords) (bytes : List ℕ) (schema : NarrowSchema) (stop : Stop) → HasBytes held words.file bytes
     → length bytes ≤ MAX_FILE_BYTES → IsSchemaOf bytes schema → IsOf (λ name. name ≡ words.script) stop → IsOf (ComesTo (Some (Run words)) held) stop
-comes_to_script held words bytes schema (Refused refusal) has short is named = inr (named, has_schema held words.file bytes schema has short is)
-comes_to_script held words bytes schema (ReadFault name) has short is named = inr (named, has_schema held words.file bytes schema has short is)
-comes_to_script held words bytes schema NoMemory has short is named = tt
+comes_to_script held words bytes schema stop has short is named =
+    of_stops (λ name. name ≡ words.script) (ComesTo (Some (Run words)) held) stop
+    (λ name e. inr (e, has_schema held words.file bytes schema has short is)) named

@@ -1,11 +1,14 @@
 -- Which status comes where nothing failed.
-use Rattle.std.proofs.Common.{◌≡◌, ℕ, List, Some, None, refl, sym, ap, ◌++◌, subst, inl, inr}
-use Rattle.std.specs.Prelude.{Option, ◌⊎◌, codes}
+use Rattle.std.proofs.Common.{◌≡◌, ℕ, List, [], Some, None, refl, sym, ap, ◌∙◌, ◌++◌, subst, inl, inr}
+use Rattle.std.specs.Prelude.{Option, ◌⊎◌, codes, decimal}
 use Rattle.mj_io.specs.Outside.{Named, Rose}
-use Rattle.command_line.specs.Asked.{Command, Run, Print, Check, command_of}
-use Rattle.mojo_tool.specs.Work.{Work, WrongWords, Missing, TooLong, Refuses, Rejects, Unreadable, Runs, Prints, Checks, AskedFor, IsWork}
-use Rattle.mojo_tool.specs.Answers.{Seen, Answers, asked_by, IsRightText, ReadFailed, WroteOrFailed, refused_work}
-use Rattle.mojo_tool.specs.Lines.{refusal_text, error_line, read_text}
+use Rattle.command_line.specs.Asked.{Command, Run, Print, Check, Encode, Decode, command_of}
+use Rattle.mojom_compile.specs.Causes.{cause_text}
+use Rattle.mojo_tool.specs.LanguageCauses.{language_text}
+use Rattle.mojo_tool.specs.Work.{Work, WrongWords, Missing, TooLong, Refuses, Rejects, Unreadable, UnknownName, BadText, Unfit, BadHex, Faulty}
+use Rattle.mojo_tool.specs.Work.{Runs, Prints, Checks, Encodes, Decodes, AskedFor, IsWork}
+use Rattle.mojo_tool.specs.Answers.{Seen, Answers, asked_by, IsTextFor, IsRightText, ReadFailed, WroteOrFailed, refused_work}
+use Rattle.mojo_tool.specs.Lines.{refusal_text, unfit_text, fault_name, error_line, read_text}
 use Rattle.mojo_tool.specs.Complete.{CanBeDone, CanBeServed, IsAsked, IsDoable, IsDoneOrShort, IsRefusedOrShort, IsUnreadOrShort, IsComplete}
 use Rattle.mojo_tool.proofs.OneWork.{one_work}
 use Rattle.mojo_tool.specs.declared.refusal.ToolRefusal.{ToolRefusal}
@@ -27,6 +30,16 @@ not_refused s can (refusals.Refused name refusal) asked =
     can.compiled name.now refusal (asked_of s.files_before.held can.files (asked_by s) (Refuses name.now refusal) can.held asked)
 not_refused s can (refusals.Rejected name at cause) asked =
     can.checked name.now at cause (asked_of s.files_before.held can.files (asked_by s) (Rejects name.now at cause) can.held asked)
+not_refused s can (refusals.UnknownName name) asked =
+    can.known name.now (asked_of s.files_before.held can.files (asked_by s) (UnknownName name.now) can.held asked)
+not_refused s can (refusals.BadText at) asked =
+    can.spelled at (asked_of s.files_before.held can.files (asked_by s) (BadText at) can.held asked)
+not_refused s can (refusals.Unfit why) asked =
+    can.fit why (asked_of s.files_before.held can.files (asked_by s) (Unfit why) can.held asked)
+not_refused s can refusals.BadHex asked =
+    can.hexadecimal (asked_of s.files_before.held can.files (asked_by s) BadHex can.held asked)
+not_refused s can (refusals.Faulty fault) asked =
+    can.sound fault (asked_of s.files_before.held can.files (asked_by s) (Faulty fault) can.held asked)
 
 -- a fetch that failed, though no file that is there did, is of a name that isn't there
 missed : (s : Seen) (files : List Named) (name : List ℕ) → s.files_before.held ≡ Some files → ¬ Rose s.files_before.faults_on_present s.files.faults_on_present
@@ -50,7 +63,26 @@ is_done s ReadFault a can = absurd (can.present a.name (missed s can.files a.nam
 is_done s WriteFault a can = absurd (can.written a.rose)
 is_done s NoMemory a can = inr refl
 
--- a text that is right is that of a run, a tree or a schema that is asked for
+-- what has the text of a message or of its value is one of these
+message_doable : (work : Work) (text : List ℕ) → IsTextFor work text → IsDoable work
+message_doable WrongWords text is = absurd is
+message_doable (Missing name) text is = absurd is
+message_doable (TooLong name) text is = absurd is
+message_doable (Refuses name refusal) text is = absurd is
+message_doable (Rejects name at cause) text is = absurd is
+message_doable (Unreadable name) text is = absurd is
+message_doable (UnknownName name) text is = absurd is
+message_doable (BadText at) text is = absurd is
+message_doable (Unfit why) text is = absurd is
+message_doable BadHex text is = absurd is
+message_doable (Faulty fault) text is = absurd is
+message_doable (Checks schema) text is = absurd is
+message_doable (Prints tree) text is = absurd is
+message_doable (Runs schema script) text is = absurd is
+message_doable (Encodes message) text is = tt
+message_doable (Decodes interface method request value) text is = tt
+
+-- a text that is right is that of a run, a tree, a schema, a message or its value that is asked for
 text_work : (command : Option Command) (held : Option (List Named)) (files : List Named) (ask : List Named → Work → Type 0) (text : List ℕ) → held ≡ Some files
     → IsRightText command held ask text → (work : Work) × IsDoable work × ask files work
 text_work None held files ask text e right = absurd right
@@ -58,26 +90,44 @@ text_work (Some (Run words)) held files ask text e right =
     (Runs right.schema right.script, tt, asked_of held files ask (Runs right.schema right.script) e right.asked)
 text_work (Some (Print file)) held files ask text e right = (Prints right.tree, tt, asked_of held files ask (Prints right.tree) e right.asked)
 text_work (Some (Check names)) held files ask text e right = (Checks right.schema, tt, asked_of held files ask (Checks right.schema) e right.asked)
+text_work (Some (Encode words)) held files ask text e right =
+    (right.work, message_doable right.work text right.text_of, asked_of held files ask right.work e right.asked)
+text_work (Some (Decode words)) held files ask text e right =
+    (right.work, message_doable right.work text right.text_of, asked_of held files ask right.work e right.asked)
+
+-- the line of a refusal that is asked for
+abbrev line_of : Work → List ℕ
+line_of WrongWords = []
+line_of (Missing name) = []
+line_of (TooLong name) = codes "FileTooLong " ++ name
+line_of (Refuses name refusal) = name ++ (codes ":" ++ (decimal refusal.at ++ (codes ": " ++ cause_text refusal.cause)))
+line_of (Rejects name at cause) = name ++ (codes ":" ++ (decimal at ++ (codes ": " ++ language_text cause)))
+line_of (Unreadable name) = codes "Unsupported " ++ name
+line_of (UnknownName name) = codes "UnknownName " ++ name
+line_of (BadText at) = codes "BadText " ++ decimal at
+line_of (Unfit why) = unfit_text why
+line_of BadHex = codes "BadHex"
+line_of (Faulty fault) = fault_name fault.kind ++ (codes " " ++ decimal fault.at)
+line_of (Checks schema) = []
+line_of (Prints tree) = []
+line_of (Runs schema script) = []
+line_of (Encodes message) = []
+line_of (Decodes interface method request value) = []
+
+its_line : (refusal : ToolRefusal) → refusal_text refusal ≡ line_of (refused_work refusal)
+its_line (refusals.Unsupported name) = refl
+its_line (refusals.FileTooLong name) = refl
+its_line (refusals.Refused name refusal) = refl
+its_line (refusals.Rejected name at cause) = refl
+its_line (refusals.UnknownName name) = refl
+its_line (refusals.BadText at) = refl
+its_line (refusals.Unfit why) = refl
+its_line refusals.BadHex = refl
+its_line (refusals.Faulty fault) = refl
 
 -- equal refusals have one line
 same_text : (a b : ToolRefusal) → refused_work a ≡ refused_work b → refusal_text a ≡ refusal_text b
-same_text (refusals.Unsupported n) (refusals.Unsupported m) e = let f : n.now ≡ m.now = cc in ap (λ (name : List ℕ). codes "Unsupported " ++ name) f
-same_text (refusals.Unsupported n) (refusals.FileTooLong m) e = absurd cc
-same_text (refusals.Unsupported n) (refusals.Refused m r) e = absurd cc
-same_text (refusals.Unsupported n) (refusals.Rejected m b d) e = absurd cc
-same_text (refusals.FileTooLong n) (refusals.Unsupported m) e = absurd cc
-same_text (refusals.FileTooLong n) (refusals.FileTooLong m) e = let f : n.now ≡ m.now = cc in ap (λ (name : List ℕ). codes "FileTooLong " ++ name) f
-same_text (refusals.FileTooLong n) (refusals.Refused m r) e = absurd cc
-same_text (refusals.FileTooLong n) (refusals.Rejected m b d) e = absurd cc
-same_text (refusals.Refused n q) (refusals.Unsupported m) e = absurd cc
-same_text (refusals.Refused n q) (refusals.FileTooLong m) e = absurd cc
-same_text (refusals.Refused n q) (refusals.Refused m r) e = let f : n.now ≡ m.now = cc in let g : q ≡ r = cc in rw (f, g) refl
-same_text (refusals.Refused n q) (refusals.Rejected m b d) e = absurd cc
-same_text (refusals.Rejected n a c) (refusals.Unsupported m) e = absurd cc
-same_text (refusals.Rejected n a c) (refusals.FileTooLong m) e = absurd cc
-same_text (refusals.Rejected n a c) (refusals.Refused m r) e = absurd cc
-same_text (refusals.Rejected n a c) (refusals.Rejected m b d) e =
-    let f : n.now ≡ m.now = cc in let g : a ≡ b = cc in let h : c ≡ d = cc in rw (f, g, h) refl
+same_text a b e = its_line a ∙ ap line_of e ∙ sym (its_line b)
 
 -- a refusal is none of the other works
 not_doable : (refusal : ToolRefusal) → IsDoable (refused_work refusal) → ⊥
@@ -85,18 +135,33 @@ not_doable (refusals.Unsupported name) doable = doable
 not_doable (refusals.FileTooLong name) doable = doable
 not_doable (refusals.Refused name refusal) doable = doable
 not_doable (refusals.Rejected name at cause) doable = doable
+not_doable (refusals.UnknownName name) doable = doable
+not_doable (refusals.BadText at) doable = doable
+not_doable (refusals.Unfit why) doable = doable
+not_doable refusals.BadHex doable = doable
+not_doable (refusals.Faulty fault) doable = doable
 
 not_missing : (refusal : ToolRefusal) (name : List ℕ) → Missing name ≡ refused_work refusal → ⊥
 not_missing (refusals.Unsupported other) name e = absurd cc
 not_missing (refusals.FileTooLong other) name e = absurd cc
 not_missing (refusals.Refused other refusal) name e = absurd cc
 not_missing (refusals.Rejected other at cause) name e = absurd cc
+not_missing (refusals.UnknownName other) name e = absurd cc
+not_missing (refusals.BadText at) name e = absurd cc
+not_missing (refusals.Unfit why) name e = absurd cc
+not_missing refusals.BadHex name e = absurd cc
+not_missing (refusals.Faulty fault) name e = absurd cc
 
 not_wrong : (refusal : ToolRefusal) → WrongWords ≡ refused_work refusal → ⊥
 not_wrong (refusals.Unsupported other) e = absurd cc
 not_wrong (refusals.FileTooLong other) e = absurd cc
 not_wrong (refusals.Refused other refusal) e = absurd cc
 not_wrong (refusals.Rejected other at cause) e = absurd cc
+not_wrong (refusals.UnknownName other) e = absurd cc
+not_wrong (refusals.BadText at) e = absurd cc
+not_wrong (refusals.Unfit why) e = absurd cc
+not_wrong refusals.BadHex e = absurd cc
+not_wrong (refusals.Faulty fault) e = absurd cc
 
 module _ (s : Seen) (work : Work) (is : IsAsked s work) where
   -- whatever else is asked for is that work
@@ -106,7 +171,7 @@ module _ (s : Seen) (work : Work) (is : IsAsked s work) where
   asked_here : (other : Work) → AskedFor s.files_before.held (asked_by s) other → other ≡ work
   asked_here other asked = one other (asked_of s.files_before.held is.files (asked_by s) other is.held asked)
 
-  -- a work that has a text is a run, a tree or a schema
+  -- a work that has a text is a run, a tree, a schema, a message or its value
   has_text : (text : List ℕ) → IsRightText (command_of s.words) s.files_before.held (asked_by s) text → IsDoable work
   has_text text right =
       let t = text_work (command_of s.words) s.files_before.held is.files (asked_by s) text is.held right in
@@ -144,7 +209,7 @@ is_unread s ReadFault a name is =
 is_unread s WriteFault a name is = absurd (has_text s (Missing name) is a.text a.right)
 is_unread s NoMemory a name is = inr refl
 
--- where a run, a text or tables are asked for, nothing is refused or missing
+-- where a run, a text, tables, a message or its value are asked for, nothing is refused or missing
 can_be_done : (s : Seen) → CanBeServed s → CanBeDone s
 can_be_done s can = record {
   files = can.asked.files;
@@ -155,6 +220,11 @@ can_be_done s can = record {
   compiled = λ name refusal. only (Refuses name refusal);
   checked = λ name at cause. only (Rejects name at cause);
   readable = λ name. only (Unreadable name);
+  known = λ name. only (UnknownName name);
+  spelled = λ at. only (BadText at);
+  fit = λ why. only (Unfit why);
+  hexadecimal = only BadHex;
+  sound = λ fault. only (Faulty fault);
   steady = can.asked.steady;
   written = can.written;
 }

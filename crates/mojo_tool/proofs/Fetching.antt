@@ -1,5 +1,6 @@
 -- What is asked for of several files, found out a file at a time.
-use Rattle.std.proofs.Common.{◌≡◌, ◌≤◌, ◌<◌, ◌+◌, ℕ, zero, suc, List, [], ◌∷◌, ◌++◌, length, map, get_or, take, drop, slice_get, Bor, refl, sym, subst, ap, ◌∙◌, append_assoc, append-nil, add-one, arith, inl, inr, Some, None}
+use Rattle.std.proofs.Common.{◌≡◌, ◌≤◌, ◌<◌, ◌+◌, ℕ, zero, suc, List, [], ◌∷◌, ◌++◌, length, map, get_or, take, drop, slice_get, Bor, refl}
+use Rattle.std.proofs.Common.{sym, subst, ap, ◌∙◌, append_assoc, append-nil, add-one, arith, inl, inr, Some, None}
 use Rattle.std.specs.Prelude.{Option, MatchOption}
 use Rattle.std.specs.Option.{option_map, option_copied}
 use Rattle.std.specs.List.{HoldsAt}
@@ -15,16 +16,18 @@ use Rattle.mojom_files.specs.declared.cause.Cause.{Cause}
 use Rattle.mojom_files.specs.declared.refusal.Refusal.{Refusal}
 use Rattle.mojom_compile.specs.Schemas.{IsSchemaOfFiles, IsRefusalOf, IsWhy}
 use Rattle.schema_text.specs.Listing.{listing}
-use Rattle.command_line.specs.Asked.{Check}
-use Rattle.mojo_tool.specs.Work.{Work, Missing, TooLong, Refuses, Rejects, Checks, FetchingAll, Leads, Tabling, Checking, AskedFor, ComesTo, IsAmong, name_at, unchecked}
+use Rattle.mojo_tool.specs.Work.{Work, Missing, TooLong, Refuses, Rejects, Checks, FetchingAll, Leads, Tabling, Gathering, Listing, Checking, AskedFor}
+use Rattle.mojo_tool.specs.Work.{AreFetched, HaveSchema, IsAmong, name_at, unchecked}
 use Rattle.mojo_tool.specs.Answers.{ReadFailed, refused_work, refused_name, IsCheckText}
 use Rattle.mojo_tool.specs.steps.Stops.{Stops, IsOf, HasBytes, IsLonger, IsLost, NotFetched}
-use Rattle.mojo_tool.specs.steps.Fetches.{AreFetched, AreBytes, IsFirstUnfetched, NotAllFetched, NotTabled}
+use Rattle.mojo_tool.specs.steps.Fetches.{AreBytes, HaveSchemaOver, IsFirstUnfetched, NotAllFetched, NotTabled, IsRefusedSet, NoSchema}
+use Rattle.mojo_tool.specs.steps.Messages.{Passes}
 use Rattle.mojo_tool.specs.declared.refusal.ToolRefusal.{ToolRefusal}
 use Rattle.mojo_tool.specs.declared.refusal.ToolRefusal.TheVariants as refusals
 use Rattle.mojo_tool.specs.declared.decide.Stop.{Stop}
 use Rattle.mojo_tool.specs.declared.decide.Stop.TheVariants.{Refused, ReadFault, NoMemory}
 use Rattle.mojo_tool.proofs.Asking.{stopped}
+use Rattle.mojo_tool.proofs.Messages.{passed}
 
 -- files
 
@@ -64,8 +67,8 @@ bytes_more (Some files) names sources name bytes are found short =
     fetched_more files names sources name (record { name = name; bytes = bytes }) are refl found short
 
 -- a file by the name under which it was fetched
-renamed : (files : List Named) (names : List (List ℕ)) (before : List Source) (source : Source) (name : List ℕ) (next : List Source → Work → Type 0) (work : Work)
-    → source.name ≡ name → FetchingAll files names (before ++ source ∷ []) next work
+renamed : (files : List Named) (names : List (List ℕ)) (before : List Source) (source : Source) (name : List ℕ) (next : List Source → Work → Type 0)
+    (work : Work) → source.name ≡ name → FetchingAll files names (before ++ source ∷ []) next work
     → FetchingAll files names (before ++ record { name = name; bytes = source.bytes } ∷ []) next work
 renamed files names before source name next work named asked =
     subst (λ (n : List ℕ). FetchingAll files names (before ++ record { name = n; bytes = source.bytes } ∷ []) next work) named asked
@@ -102,27 +105,31 @@ leads_all files (n ∷ names) left before (s ∷ sources) next work are asked =
           (subst (λ (ss : List Source). FetchingAll files left ss next work) (sym (append_assoc before (s ∷ []) sources)) asked)),
     ))
 
-asked_behind : (held : Option (List Named)) (first left : List (List ℕ)) (sources : List Source) (work : Work) → AreBytes held first sources
-    → AskedFor held (λ files w. FetchingAll files left sources Tabling w) work → AskedFor held (λ files w. Checking files (first ++ left) w) work
-asked_behind None first left sources work are asked = tt
-asked_behind (Some files) first left sources work are asked = leads_all files first left [] sources Tabling work are asked
+asked_behind : (held : Option (List Named)) (first left : List (List ℕ)) (sources : List Source) (next : List Named → Schema → Work → Type 0) (work : Work)
+    → AreBytes held first sources → AskedFor held (λ files w. FetchingAll files left sources (Tabling (next files)) w) work
+    → AskedFor held (λ files w. Gathering files (first ++ left) (next files) w) work
+asked_behind None first left sources next work are asked = tt
+asked_behind (Some files) first left sources next work are asked = leads_all files first left [] sources (Tabling (next files)) work are asked
 
-lost_behind : (held : Option (List Named)) (first left : List (List ℕ)) (sources : List Source) (name : List ℕ) (before now : ℕ) → AreBytes held first sources
-    → ReadFailed held (λ files w. FetchingAll files left sources Tabling w) name before now
-    → ReadFailed held (λ files w. Checking files (first ++ left) w) name before now
-lost_behind None first left sources name before now are failed = tt
-lost_behind (Some files) first left sources name before now are (inl asked) = inl (leads_all files first left [] sources Tabling (Missing name) are asked)
-lost_behind (Some files) first left sources name before now are (inr rose) = inr rose
+lost_behind : (held : Option (List Named)) (first left : List (List ℕ)) (sources : List Source) (next : List Named → Schema → Work → Type 0) (name : List ℕ)
+    (before now : ℕ) → AreBytes held first sources
+    → ReadFailed held (λ files w. FetchingAll files left sources (Tabling (next files)) w) name before now
+    → ReadFailed held (λ files w. Gathering files (first ++ left) (next files) w) name before now
+lost_behind None first left sources next name before now are failed = tt
+lost_behind (Some files) first left sources next name before now are (inl asked) =
+    inl (leads_all files first left [] sources (Tabling (next files)) (Missing name) are asked)
+lost_behind (Some files) first left sources next name before now are (inr rose) = inr rose
 
 -- why there is no text behind files that were fetched
-behind : (before now : FilesState) (first left : List (List ℕ)) (sources : List Source) (stop : Stop) → AreBytes before.held first sources
-    → Stops before now (λ files w. FetchingAll files left sources Tabling w) stop → Stops before now (λ files w. Checking files (first ++ left) w) stop
-behind before now first left sources (Refused refusal) are stops = asked_behind before.held first left sources (refused_work refusal) are stops
-behind before now first left sources (ReadFault name) are stops = record {
+behind : (before now : FilesState) (first left : List (List ℕ)) (sources : List Source) (next : List Named → Schema → Work → Type 0) (stop : Stop)
+    → AreBytes before.held first sources → Stops before now (λ files w. FetchingAll files left sources (Tabling (next files)) w) stop
+    → Stops before now (λ files w. Gathering files (first ++ left) (next files) w) stop
+behind before now first left sources next (Refused refusal) are stops = asked_behind before.held first left sources next (refused_work refusal) are stops
+behind before now first left sources next (ReadFault name) are stops = record {
   rose = stops.rose;
-  failed = lost_behind before.held first left sources name.now before.faults_on_present now.faults_on_present are stops.failed;
+  failed = lost_behind before.held first left sources next name.now before.faults_on_present now.faults_on_present are stops.failed;
 }
-behind before now first left sources NoMemory are stops = tt
+behind before now first left sources next NoMemory are stops = tt
 
 -- names
 
@@ -145,23 +152,38 @@ name_there files (n ∷ names) (s ∷ sources) (suc i) name are at = name_there 
 
 -- what a refusal names is in its work
 
-too_long_name : (refusal : ToolRefusal) (name : List ℕ) → refused_work refusal ≡ TooLong name → refused_name refusal ≡ name
+too_long_name : (refusal : ToolRefusal) (name : List ℕ) → refused_work refusal ≡ TooLong name → refused_name refusal ≡ Some name
 too_long_name (refusals.Unsupported other) name e = absurd cc
-too_long_name (refusals.FileTooLong other) name e = cc
+too_long_name (refusals.FileTooLong other) name e = ap Some cc
 too_long_name (refusals.Refused other why) name e = absurd cc
-too_long_name (refusals.Rejected other at cause) name e = absurd cc
+too_long_name (refusals.Rejected other place cause) name e = absurd cc
+too_long_name (refusals.UnknownName other) name e = absurd cc
+too_long_name (refusals.BadText place) name e = absurd cc
+too_long_name (refusals.Unfit why) name e = absurd cc
+too_long_name refusals.BadHex name e = absurd cc
+too_long_name (refusals.Faulty fault) name e = absurd cc
 
-refuses_name : (refusal : ToolRefusal) (name : List ℕ) (why : FileRefusal) → refused_work refusal ≡ Refuses name why → refused_name refusal ≡ name
-refuses_name (refusals.Unsupported other) name why e = absurd cc
-refuses_name (refusals.FileTooLong other) name why e = absurd cc
-refuses_name (refusals.Refused other refusal) name why e = cc
-refuses_name (refusals.Rejected other at cause) name why e = absurd cc
+refuses_name : (refusal : ToolRefusal) (name : List ℕ) (is : FileRefusal) → refused_work refusal ≡ Refuses name is → refused_name refusal ≡ Some name
+refuses_name (refusals.Unsupported other) name is e = absurd cc
+refuses_name (refusals.FileTooLong other) name is e = absurd cc
+refuses_name (refusals.Refused other why) name is e = ap Some cc
+refuses_name (refusals.Rejected other place cause) name is e = absurd cc
+refuses_name (refusals.UnknownName other) name is e = absurd cc
+refuses_name (refusals.BadText place) name is e = absurd cc
+refuses_name (refusals.Unfit why) name is e = absurd cc
+refuses_name refusals.BadHex name is e = absurd cc
+refuses_name (refusals.Faulty fault) name is e = absurd cc
 
-rejects_name : (refusal : ToolRefusal) (name : List ℕ) (at : ℕ) (cause : Cause) → refused_work refusal ≡ Rejects name at cause → refused_name refusal ≡ name
-rejects_name (refusals.Unsupported other) name at cause e = absurd cc
-rejects_name (refusals.FileTooLong other) name at cause e = absurd cc
-rejects_name (refusals.Refused other refusal) name at cause e = absurd cc
-rejects_name (refusals.Rejected other place why) name at cause e = cc
+rejects_name : (refusal : ToolRefusal) (name : List ℕ) (at : ℕ) (is : Cause) → refused_work refusal ≡ Rejects name at is → refused_name refusal ≡ Some name
+rejects_name (refusals.Unsupported other) name at is e = absurd cc
+rejects_name (refusals.FileTooLong other) name at is e = absurd cc
+rejects_name (refusals.Refused other why) name at is e = absurd cc
+rejects_name (refusals.Rejected other place cause) name at is e = ap Some cc
+rejects_name (refusals.UnknownName other) name at is e = absurd cc
+rejects_name (refusals.BadText place) name at is e = absurd cc
+rejects_name (refusals.Unfit why) name at is e = absurd cc
+rejects_name refusals.BadHex name at is e = absurd cc
+rejects_name (refusals.Faulty fault) name at is e = absurd cc
 
 -- states of files
 
@@ -221,55 +243,46 @@ unfetched_at before mid now names i sources name stop at are on why =
     subst (λ (ns : List (List ℕ)). NotAllFetched before now ns stop) (sym (split_at names i name at))
     (unfetched before mid now (take i names) (drop (suc i) names) sources name stop are on why)
 
-stopped_first : (before now : FilesState) (names : List (List ℕ)) (stop : Stop) → IsFirstUnfetched before now names stop
-    → Stops before now (λ files w. Checking files names w) stop
-stopped_first before now names stop why =
-    subst (λ (ns : List (List ℕ)). Stops before now (λ files w. Checking files ns w) stop) (sym why.all)
-    (behind before now why.first (why.name ∷ why.left) why.fetched stop why.are
+stopped_first : (before now : FilesState) (names : List (List ℕ)) (next : List Named → Schema → Work → Type 0) (stop : Stop)
+    → IsFirstUnfetched before now names stop → Stops before now (λ files w. Gathering files names (next files) w) stop
+stopped_first before now names next stop why =
+    subst (λ (ns : List (List ℕ)). Stops before now (λ files w. Gathering files ns (next files) w) stop) (sym why.all)
+    (behind before now why.first (why.name ∷ why.left) why.fetched next stop why.are
     (stopped before now why.name
-    (λ files bytes w. FetchingAll files why.left (why.fetched ++ record { name = why.name; bytes = bytes } ∷ []) Tabling w) stop why.not))
+    (λ files bytes w. FetchingAll files why.left (why.fetched ++ record { name = why.name; bytes = bytes } ∷ []) (Tabling (next files)) w) stop why.not))
 
 -- where not all were fetched there is no text
-pub not_all_stops : (before now : FilesState) (names : List (List ℕ)) (stop : Stop) → NotAllFetched before now names stop
-    → Stops before now (λ files w. Checking files names w) stop
-not_all_stops before now names (Refused refusal) why = stopped_first before now names (Refused refusal) why
-not_all_stops before now names (ReadFault name) why = stopped_first before now names (ReadFault name) why
-not_all_stops before now names NoMemory why = tt
+not_all_stops : (before now : FilesState) (names : List (List ℕ)) (next : List Named → Schema → Work → Type 0) (stop : Stop)
+    → NotAllFetched before now names stop → Stops before now (λ files w. Gathering files names (next files) w) stop
+not_all_stops before now names next (Refused refusal) why = stopped_first before now names next (Refused refusal) why
+not_all_stops before now names next (ReadFault name) why = stopped_first before now names next (ReadFault name) why
+not_all_stops before now names next NoMemory why = tt
 
 -- and the name is one of these
-pub not_all_reached : (before now : FilesState) (names : List (List ℕ)) (stop : Stop) → NotAllFetched before now names stop
-    → IsOf (ComesTo (Some (Check names)) before.held) stop
+not_all_reached : (before now : FilesState) (names : List (List ℕ)) (stop : Stop) → NotAllFetched before now names stop → IsOf (IsAmong names) stop
 not_all_reached before now names (Refused refusal) why =
     rw (why.all, too_long_name refusal why.name why.not.1) (among_append why.first why.left why.name)
 not_all_reached before now names (ReadFault name) why = rw (why.all, why.not.0) (among_append why.first why.left why.name)
 not_all_reached before now names NoMemory why = tt
 
--- files without a schema
+-- what files mean
 
-asked_of_all : (held : Option (List Named)) (names : List (List ℕ)) (sources : List Source) (work : Work) → AreBytes held names sources
-    → Tabling sources work → AskedFor held (λ files w. Checking files names w) work
-asked_of_all held names sources work are tabled =
-    subst (λ (ns : List (List ℕ)). AskedFor held (λ files w. Checking files ns w) work) (append-nil names)
-    (asked_behind held names [] sources work are (asked held))
-  where
-    asked : (o : Option (List Named)) → AskedFor o (λ files w. FetchingAll files [] sources Tabling w) work
-    asked None = tt
-    asked (Some files) = tabled
+-- what the tables of files that were fetched ask for is asked for
+asked_of_all : (held : Option (List Named)) (names : List (List ℕ)) (sources : List Source) (next : List Named → Schema → Work → Type 0) (work : Work)
+    → AreBytes held names sources → AskedFor held (λ files w. Tabling (next files) sources w) work
+    → AskedFor held (λ files w. Gathering files names (next files) w) work
+asked_of_all None names sources next work are tabled = tt
+asked_of_all (Some files) names sources next work are tabled =
+    subst (λ (ns : List (List ℕ)). Gathering files ns (next files) work) (append-nil names)
+    (leads_all files names [] [] sources (Tabling (next files)) work are tabled)
 
--- the text of the tables
-pub tables_text : (held : Option (List Named)) (names : List (List ℕ)) (sources : List Source) (schema : Schema) (text : List ℕ) → AreBytes held names sources
-    → IsSchemaOfFiles sources schema → text ≡ listing schema → IsCheckText held (λ files w. Checking files names w) text
-tables_text held names sources schema text are is e = record {
-  schema = schema;
-  asked = asked_of_all held names sources (Checks schema) are (inl (schema, is, refl));
-  text_of = e;
-}
-
-refused_so : (held : Option (List Named)) (names : List (List ℕ)) (sources : List Source) (error : SchemaError) (work : Work) → AreBytes held names sources
-    → IsRefusalOf sources error
-    → ((files : List Named) → AreFetched files names sources → work ≡ unchecked sources error) → AskedFor held (λ files w. Checking files names w) work
-refused_so None names sources error work are is e = tt
-refused_so (Some files) names sources error work are is e = asked_of_all (Some files) names sources work are (inr (error, is, e files are))
+refused_so : (held : Option (List Named)) (names : List (List ℕ)) (sources : List Source) (next : List Named → Schema → Work → Type 0) (error : SchemaError)
+    (work : Work) → AreBytes held names sources → IsRefusalOf sources error
+    → ((files : List Named) → AreFetched files names sources → work ≡ unchecked sources error)
+    → AskedFor held (λ files w. Gathering files names (next files) w) work
+refused_so None names sources next error work are is e = tt
+refused_so (Some files) names sources next error work are is e =
+    asked_of_all (Some files) names sources next work are (inr (error, is, e files are))
 
 -- a refusal, where it isn't want of memory
 is_refusal : (sources : List Source) (error : SchemaError) → (error ≡ errors.Memory → ⊥) → IsWhy sources error → IsRefusalOf sources error
@@ -277,29 +290,73 @@ is_refusal sources error other (inl memory) = absurd (other memory)
 is_refusal sources error other (inr is) = is
 
 -- where they have no schema there is no text
-pub not_tabled_stops : (before now : FilesState) (names : List (List ℕ)) (sources : List Source) (error : SchemaError) (stop : Stop)
-    → AreBytes before.held names sources → IsWhy sources error → NotTabled names error stop → Stops before now (λ files w. Checking files names w) stop
-not_tabled_stops before now names sources (errors.Unread file why) (Refused refusal) are is not =
-    refused_so before.held names sources (errors.Unread file why) (refused_work refusal) are
+not_tabled_stops : (before now : FilesState) (names : List (List ℕ)) (sources : List Source) (next : List Named → Schema → Work → Type 0) (error : SchemaError)
+    (stop : Stop) → AreBytes before.held names sources → IsWhy sources error → NotTabled names error stop
+    → Stops before now (λ files w. Gathering files names (next files) w) stop
+not_tabled_stops before now names sources next (errors.Unread file why) (Refused refusal) are is not =
+    refused_so before.held names sources next (errors.Unread file why) (refused_work refusal) are
     (is_refusal sources (errors.Unread file why) (λ e. cc) is)
     (λ files fetched. not.2 ∙ ap (λ (n : List ℕ). Refuses n why) (sym (name_there files names sources file not.0 fetched not.1)))
-not_tabled_stops before now names sources (errors.Refused why) (Refused refusal) are is not =
-    refused_so before.held names sources (errors.Refused why) (refused_work refusal) are
+not_tabled_stops before now names sources next (errors.Refused why) (Refused refusal) are is not =
+    refused_so before.held names sources next (errors.Refused why) (refused_work refusal) are
     (is_refusal sources (errors.Refused why) (λ e. cc) is)
     (λ files fetched. not.2 ∙ ap (λ (n : List ℕ). Rejects n why.at why.cause) (sym (name_there files names sources why.file not.0 fetched not.1)))
-not_tabled_stops before now names sources errors.Memory (Refused refusal) are is not = absurd not
-not_tabled_stops before now names sources error (ReadFault name) are is not = absurd not
-not_tabled_stops before now names sources error NoMemory are is not = tt
+not_tabled_stops before now names sources next errors.Memory (Refused refusal) are is not = absurd not
+not_tabled_stops before now names sources next error (ReadFault name) are is not = absurd not
+not_tabled_stops before now names sources next error NoMemory are is not = tt
 
 -- and the name is one of these
-pub not_tabled_reached : (held : Option (List Named)) (names : List (List ℕ)) (error : SchemaError) (stop : Stop) → NotTabled names error stop
-    → IsOf (ComesTo (Some (Check names)) held) stop
-not_tabled_reached held names (errors.Unread file why) (Refused refusal) not = rw (refuses_name refusal not.0 why not.2) (among_at names file not.0 not.1)
-not_tabled_reached held names (errors.Refused why) (Refused refusal) not =
+not_tabled_reached : (names : List (List ℕ)) (error : SchemaError) (stop : Stop) → NotTabled names error stop → IsOf (IsAmong names) stop
+not_tabled_reached names (errors.Unread file why) (Refused refusal) not = rw (refuses_name refusal not.0 why not.2) (among_at names file not.0 not.1)
+not_tabled_reached names (errors.Refused why) (Refused refusal) not =
     rw (rejects_name refusal not.0 why.at why.cause not.2) (among_at names why.file not.0 not.1)
-not_tabled_reached held names errors.Memory (Refused refusal) not = absurd not
-not_tabled_reached held names error (ReadFault name) not = absurd not
-not_tabled_reached held names error NoMemory not = tt
+not_tabled_reached names errors.Memory (Refused refusal) not = absurd not
+not_tabled_reached names error (ReadFault name) not = absurd not
+not_tabled_reached names error NoMemory not = tt
+
+-- where there is no schema there is no text
+pub no_schema_stops : (before now : FilesState) (names : List (List ℕ)) (next : List Named → Schema → Work → Type 0) (stop : Stop)
+    → NoSchema before now names stop → Stops before now (λ files w. Gathering files names (next files) w) stop
+no_schema_stops before now names next stop (inl why) = not_all_stops before now names next stop why
+no_schema_stops before now names next stop (inr why) = not_tabled_stops before now names why.sources next why.error stop why.are why.why why.not
+
+-- and the name is one of these
+pub no_schema_reached : (before now : FilesState) (names : List (List ℕ)) (stop : Stop) → NoSchema before now names stop → IsOf (IsAmong names) stop
+no_schema_reached before now names stop (inl why) = not_all_reached before now names stop why
+no_schema_reached before now names stop (inr why) = not_tabled_reached names why.error stop why.not
+
+-- files that were fetched and have none
+pub refused_set : (held : Option (List Named)) (names : List (List ℕ)) (sources : List Source) (error : SchemaError) (stop : Stop)
+    → AreBytes held names sources → IsWhy sources error → NotTabled names error stop → IsRefusedSet held names stop
+refused_set held names sources error stop are why not = record { sources = sources; error = error; are = are; why = why; not = not }
+
+-- files that were fetched and have a schema
+pub have_schema : (held : Option (List Named)) (names : List (List ℕ)) (sources : List Source) (schema : Schema) → AreBytes held names sources
+    → IsSchemaOfFiles sources schema → HaveSchemaOver held names schema
+have_schema None names sources schema are is = tt
+have_schema (Some files) names sources schema are is = record { sources = sources; are = are; schema_of = is }
+
+-- their schema leads on
+pub schema_leads : (held : Option (List Named)) (names : List (List ℕ)) (schema : Schema) (next : List Named → Schema → Work → Type 0)
+    → HaveSchemaOver held names schema
+    → Passes held (λ files w. next files schema w) (λ files w. Gathering files names (next files) w)
+schema_leads None names schema next have = tt
+schema_leads (Some files) names schema next have =
+    λ work asked. asked_of_all (Some files) names have.sources next work have.are (inl (schema, have.schema_of, asked))
+
+-- the text of the tables
+pub tables_text : (held : Option (List Named)) (names : List (List ℕ)) (schema : Schema) (text : List ℕ) → HaveSchemaOver held names schema
+    → text ≡ listing schema → IsCheckText held (λ files w. Checking files names w) text
+tables_text held names schema text have e = record {
+  schema = schema;
+  asked = passed held (λ files w. Listing schema w) (λ files w. Checking files names w) (Checks schema)
+      (schema_leads held names schema (λ files. Listing) have) (same held);
+  text_of = e;
+}
+  where
+    same : (o : Option (List Named)) → AskedFor o (λ files w. Listing schema w) (Checks schema)
+    same None = tt
+    same (Some files) = refl
 
 -- why the file of this number has no schema
 

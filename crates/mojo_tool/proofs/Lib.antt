@@ -1,6 +1,12 @@
 pub mod Asking
+pub mod Messages
+pub mod Dots
+pub mod Sealed
+pub mod Shown
 pub mod Fetching
+pub mod Deciding
 pub mod Texts
+pub mod OneValue
 pub mod OneWork
 pub mod Completes
 pub mod Reporting

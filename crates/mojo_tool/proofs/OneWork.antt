@@ -1,14 +1,37 @@
 -- What words and files ask for is one work.
-use Rattle.std.proofs.Common.{◌≡◌, ℕ, List, [], ◌∷◌, ◌++◌, Some, None, sym, ap, ◌∙◌, subst, inl, inr, arith}
-use Rattle.std.specs.Prelude.{Option}
+use Rattle.std.proofs.Common.{◌≡◌, ℕ, List, [], ◌∷◌, ◌++◌, Some, None, Ok, Err, sym, ap, ◌∙◌, subst, inl, inr, arith}
+use Rattle.std.specs.Prelude.{Option, Result}
 use Rattle.mj_io.specs.Outside.{Named, find_file}
 use Rattle.mj_schema.specs.declared.narrow_schema.NarrowSchema.{NarrowSchema}
 use Rattle.mojom_compile.proofs.Readings.{one_tree}
 use Rattle.mojom_compile.proofs.Whole.{one_schema}
 use Rattle.mojom_compile.specs.declared.source.Source.{Source}
 use Rattle.call_script.proofs.OneScript.{one_script}
-use Rattle.command_line.specs.Asked.{RunWords, Command, Run, Print, Check}
-use Rattle.mojo_tool.specs.Work.{Work, Refuses, Prints, Runs, Checks, Leads, Compiling, Parsing, Reading, Scripting, FetchingAll, Tabling, unchecked, IsWork}
+use Rattle.command_line.specs.Asked.{RunWords, EncodeWords, DecodeWords, Command, Run, Print, Check, Encode, Decode}
+use Rattle.hex.specs.Hex.{decode_of}
+use Rattle.hex.specs.declared.error.FromHexError.{FromHexError}
+use Rattle.mj_schema.specs.Lookups.{interface_named}
+use Rattle.mj_schema.specs.declared.rows.MethodRow.{MethodRow}
+use Rattle.mj_schema.specs.declared.schema.Schema.{Schema}
+use Rattle.wire_model.specs.Message.{payload_start, request_read}
+use Rattle.wire_model.specs.Tight.{value_of}
+use Rattle.wire_model.specs.Trees.{Tree}
+use Rattle.mj_base.specs.declared.fault.Fault.{Fault}
+use Rattle.wire_model.specs.declared.target.Expected.{Expected}
+use Rattle.wire_model.specs.declared.target.Target.{Target}
+use Rattle.bounds_claims.specs.Runs.{first_fault}
+use Rattle.message_validator.specs.Before.{before_payload}
+use Rattle.wire_model.specs.Expected.{message_marks, struct_of}
+use Rattle.wire_encoder.specs.FirstFailed.{Met, Refusal}
+use Rattle.wire_encoder.specs.Prepared.{verdict}
+use Rattle.byte_rules.specs.Judged.{Spells, IsBad}
+use Rattle.value_text.specs.Rules.{value}
+use Rattle.value_text.specs.Spelling.{spell}
+use Rattle.mojo_tool.specs.Targets.{side_of, message_named, expected_of}
+use Rattle.mojo_tool.specs.Work.{Work, Refuses, Prints, Runs, Checks, BadText, Decodes, Leads, Compiling, Parsing, Reading, Scripting, FetchingAll, Tabling}
+use Rattle.mojo_tool.specs.Work.{Listing, Valuing, Sealing, Preparing, Writing, Finding, Encoding, Unhexing, IsShown, Judged, Judging, Showing, Decoding}
+use Rattle.mojo_tool.specs.Work.{parameters_kind, without_line_end, MAX_BRACKETS, unchecked, IsWork}
+use Rattle.mojo_tool.proofs.OneValue.{one_value}
 use Rattle.mojom_compile.proofs.OneSchemaOfFiles.{one_schema as one_schema_of_files}
 
 leads : (name : List ℕ) (next : List ℕ → Work → Type 0) (found : Option (List ℕ)) (w v : Work) → ((bytes : List ℕ) → next bytes w → next bytes v → w ≡ v)
@@ -46,18 +69,98 @@ running : (files : List Named) (words : RunWords) (bytes : List ℕ) (w v : Work
     → Compiling words.file (Scripting files words.script) bytes v → w ≡ v
 running files words bytes w v = compiling words.file (Scripting files words.script) bytes w v (λ s. scripting files words.script s w v)
 
-tabling : (sources : List Source) (w v : Work) → Tabling sources w → Tabling sources v → w ≡ v
-tabling sources w v (inl a) (inl b) = a.2 ∙ ap Checks ((one_schema_of_files sources).one_schema a.0 b.0 a.1 b.1) ∙ sym b.2
-tabling sources w v (inl a) (inr b) = absurd ((one_schema_of_files sources).never_both a.0 b.0 a.1 b.1)
-tabling sources w v (inr a) (inl b) = absurd ((one_schema_of_files sources).never_both b.0 a.0 b.1 a.1)
-tabling sources w v (inr a) (inr b) = a.2 ∙ ap (unchecked sources) ((one_schema_of_files sources).one_refusal a.0 b.0 a.1 b.1) ∙ sym b.2
+tabling : (next : Schema → Work → Type 0) (sources : List Source) (w v : Work) → ((schema : Schema) → next schema w → next schema v → w ≡ v)
+    → Tabling next sources w → Tabling next sources v → w ≡ v
+tabling next sources w v one (inl a) (inl b) =
+    one a.0 a.2 (subst (λ (schema : Schema). next schema v) ((one_schema_of_files sources).one_schema b.0 a.0 b.1 a.1) b.2)
+tabling next sources w v one (inl a) (inr b) = absurd ((one_schema_of_files sources).never_both a.0 b.0 a.1 b.1)
+tabling next sources w v one (inr a) (inl b) = absurd ((one_schema_of_files sources).never_both b.0 a.0 b.1 a.1)
+tabling next sources w v one (inr a) (inr b) =
+    a.2 ∙ ap (unchecked sources) ((one_schema_of_files sources).one_refusal a.0 b.0 a.1 b.1) ∙ sym b.2
 
-fetching_all : (files : List Named) (names : List (List ℕ)) (fetched : List Source) (w v : Work) → FetchingAll files names fetched Tabling w
-    → FetchingAll files names fetched Tabling v → w ≡ v
-fetching_all files [] fetched w v a b = tabling fetched w v a b
-fetching_all files (name ∷ names) fetched w v a b =
-    leads name (λ (bytes : List ℕ) u. FetchingAll files names (fetched ++ record { name = name; bytes = bytes } ∷ []) Tabling u) (find_file files name) w v
-    (λ bytes. fetching_all files names (fetched ++ record { name = name; bytes = bytes } ∷ []) w v) a b
+fetching_all : (files : List Named) (names : List (List ℕ)) (fetched : List Source) (next : Schema → Work → Type 0) (w v : Work)
+    → ((schema : Schema) → next schema w → next schema v → w ≡ v) → FetchingAll files names fetched (Tabling next) w
+    → FetchingAll files names fetched (Tabling next) v → w ≡ v
+fetching_all files [] fetched next w v one a b = tabling next fetched w v one a b
+fetching_all files (name ∷ names) fetched next w v one a b =
+    leads name (λ (bytes : List ℕ) u. FetchingAll files names (fetched ++ record { name = name; bytes = bytes } ∷ []) (Tabling next) u)
+    (find_file files name) w v
+    (λ bytes. fetching_all files names (fetched ++ record { name = name; bytes = bytes } ∷ []) next w v one) a b
+
+-- what a look-up found is one thing
+finding : {A : Type 0} (word : List ℕ) (next : A → Work → Type 0) (found : Option A) (w v : Work) → ((x : A) → next x w → next x v → w ≡ v)
+    → Finding word next found w → Finding word next found v → w ≡ v
+finding word next None w v one a b = a ∙ sym b
+finding word next (Some x) w v one a b = one x a b
+
+sealing : (schema : Schema) (target : Target) (tree : Tree) (r : Result Met Refusal) (w v : Work) → Sealing schema target tree r w
+    → Sealing schema target tree r v → w ≡ v
+sealing schema target tree (Err wrong) w v a b = a ∙ sym b
+sealing schema target tree (Ok met) w v (inl a) (inl b) = a.1 ∙ sym b.1
+sealing schema target tree (Ok met) w v (inl a) (inr b) = absurd (omega (arith, a.0, b.0))
+sealing schema target tree (Ok met) w v (inr a) (inl b) = absurd (omega (arith, a.0, b.0))
+sealing schema target tree (Ok met) w v (inr a) (inr b) = a.1 ∙ sym b.1
+
+valuing : (schema : Schema) (number : ℕ) (next : Tree → Work → Type 0) (text : List ℕ) (w v : Work) → ((tree : Tree) → next tree w → next tree v → w ≡ v)
+    → Valuing schema number next text w → Valuing schema number next text v → w ≡ v
+valuing schema number next text w v one (inl a) (inl b) =
+    one a.0 a.2 (subst (λ (tree : Tree). next tree v) ((one_value schema (parameters_kind number) text).one_tree b.0 a.0 b.1 a.1) b.2)
+valuing schema number next text w v one (inl a) (inr b) = absurd (b.1.none a.0 a.1)
+valuing schema number next text w v one (inr a) (inl b) = absurd (a.1.none b.0 b.1)
+valuing schema number next text w v one (inr a) (inr b) =
+    a.2 ∙ ap BadText ((one_value schema (parameters_kind number) text).one_place a.0 b.0 a.1 b.1) ∙ sym b.2
+
+writing : (schema : Schema) (found : Target × ℕ) (bytes : List ℕ) (w v : Work) → Writing schema found bytes w → Writing schema found bytes v → w ≡ v
+writing schema (target, number) bytes w v =
+    valuing schema number (Preparing schema target) (without_line_end bytes) w v (λ tree. sealing schema target tree (verdict schema target tree) w v)
+
+encoding : (files : List Named) (words : EncodeWords) (schema : Schema) (w v : Work) → Encoding files words schema w → Encoding files words schema v → w ≡ v
+encoding files words schema w v =
+    finding words.method (λ found u. Leads words.value (Writing schema found) (find_file files words.value) u)
+    (message_named schema (side_of words.side) words.method) w v
+    (λ found. leads words.value (Writing schema found) (find_file files words.value) w v (λ bytes. writing schema found bytes w v))
+
+-- what is shown of a message with this method and struct
+abbrev shown_as : Schema → List ℕ → List ℕ → MethodRow → ℕ → Work
+shown_as schema name bytes method number =
+    Decodes name method.name (request_read bytes) (spell schema (parameters_kind number) (value_of schema bytes (payload_start bytes) number))
+
+-- a message is shown in one way
+shown : (schema : Schema) (expected : Expected) (name bytes : List ℕ) (w v : Work) → IsShown schema expected name bytes w
+    → IsShown schema expected name bytes v → w ≡ v
+shown schema expected name bytes w v a b =
+    let methods : Some a.method ≡ Some b.method = sym a.named ∙ b.named in
+    let method : a.method ≡ b.method = cc in
+    let numbers : Some a.number ≡ Some b.number = sym a.parameters ∙ ap (struct_of expected.side) method ∙ b.parameters in
+    let number : a.number ≡ b.number = cc in
+    a.whole ∙ ap (λ (m : MethodRow). shown_as schema name bytes m a.number) method ∙ ap (shown_as schema name bytes b.method) number ∙ sym b.whole
+
+judged : (schema : Schema) (expected : Expected) (name : List ℕ) (handles : ℕ) (bytes : List ℕ) (fault : Option Fault) (w v : Work)
+    → Judged schema expected name handles bytes fault w → Judged schema expected name handles bytes fault v → w ≡ v
+judged schema expected name handles bytes None w v a b = shown schema expected name bytes w v a.1 b.1
+judged schema expected name handles bytes (Some fault) w v a b = a ∙ sym b
+
+unhexing : (next : List ℕ → Work → Type 0) (r : Result (List ℕ) FromHexError) (w v : Work) → ((bytes : List ℕ) → next bytes w → next bytes v → w ≡ v)
+    → Unhexing next r w → Unhexing next r v → w ≡ v
+unhexing next (Ok bytes) w v one a b = one bytes a b
+unhexing next (Err error) w v one a b = a ∙ sym b
+
+showing : (schema : Schema) (expected : Expected) (name : List ℕ) (handles : ℕ) (bytes : List ℕ) (w v : Work)
+    → Showing schema expected name handles bytes w → Showing schema expected name handles bytes v → w ≡ v
+showing schema expected name handles bytes w v =
+    unhexing (Judging schema expected name handles) (decode_of (without_line_end bytes)) w v
+    (λ message. judged schema expected name handles message
+    (first_fault (before_payload message handles) (message_marks schema expected message)) w v)
+
+decoding : (files : List Named) (words : DecodeWords) (schema : Schema) (w v : Work) → Decoding files words schema w → Decoding files words schema v → w ≡ v
+decoding files words schema w v =
+    finding words.interface
+    (λ interface u. Leads words.message (Showing schema (expected_of interface (side_of words.side)) words.interface words.handles)
+    (find_file files words.message) u)
+    (interface_named schema.interfaces words.interface) w v
+    (λ interface. leads words.message (Showing schema (expected_of interface (side_of words.side)) words.interface words.handles)
+    (find_file files words.message) w v
+    (λ bytes. showing schema (expected_of interface (side_of words.side)) words.interface words.handles bytes w v))
 
 -- two works that a command asks for over the same files are equal
 pub one_work : (command : Option Command) (files : List Named) (w v : Work) → IsWork command files w → IsWork command files v → w ≡ v
@@ -65,4 +168,8 @@ one_work None files w v a b = a ∙ sym b
 one_work (Some (Run words)) files w v a b =
     leads words.file (Compiling words.file (Scripting files words.script)) (find_file files words.file) w v (λ bytes. running files words bytes w v) a b
 one_work (Some (Print file)) files w v a b = leads file (Parsing file) (find_file files file) w v (λ bytes. parsing file bytes w v) a b
-one_work (Some (Check names)) files w v a b = fetching_all files names [] w v a b
+one_work (Some (Check names)) files w v a b = fetching_all files names [] Listing w v (λ schema x y. x ∙ sym y) a b
+one_work (Some (Encode words)) files w v a b =
+    fetching_all files words.files [] (Encoding files words) w v (λ schema. encoding files words schema w v) a b
+one_work (Some (Decode words)) files w v a b =
+    fetching_all files words.files [] (Decoding files words) w v (λ schema. decoding files words schema w v) a b

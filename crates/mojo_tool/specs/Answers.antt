@@ -1,7 +1,7 @@
 -- What each status says of the words, the files and the sinks, before the call and after it.
-use Rattle.std.specs.Prelude.{ℕ, ◌≡◌, List, reverse, Option, Some, None, ◌⊎◌}
+use Rattle.std.specs.Prelude.{ℕ, ◌≡◌, List, reverse, Option, Some, None, IfSome, ◌⊎◌}
 use Rattle.mj_io.specs.Outside.{Named, FilesState, SinkState, Rose, Wrote, WroteSome}
-use Rattle.command_line.specs.Asked.{Command, Run, Print, Check, command_of}
+use Rattle.command_line.specs.Asked.{Command, Run, Print, Check, Encode, Decode, command_of}
 use Rattle.mj_schema.specs.declared.narrow_schema.NarrowSchema.{NarrowSchema}
 use Rattle.mj_schema.specs.declared.schema.Schema.{Schema}
 use Rattle.bind_model.specs.declared.event.Event.{Event}
@@ -13,8 +13,9 @@ use Rattle.schema_text.specs.Listing.{listing}
 use Rattle.call_script.specs.declared.script.Script.{Script}
 use Rattle.call_script.specs.Text.{output}
 use Rattle.script_run.specs.OfScript.{OfScript}
-use Rattle.mojo_tool.specs.Work.{Work, Missing, TooLong, Refuses, Rejects, Unreadable, Runs, Prints, Checks, ComesTo, IsWork, AskedFor}
-use Rattle.mojo_tool.specs.Lines.{refusal_text, error_line, read_text}
+use Rattle.mojo_tool.specs.Work.{Work, Missing, TooLong, Refuses, Rejects, Unreadable, UnknownName, BadText, Unfit, BadHex, Faulty}
+use Rattle.mojo_tool.specs.Work.{Runs, Prints, Checks, Encodes, Decodes, ComesTo, IsWork, AskedFor}
+use Rattle.mojo_tool.specs.Lines.{refusal_text, error_line, read_text, hex_line, shown_line}
 use Rattle.mojo_tool.specs.declared.refusal.ToolRefusal.{ToolRefusal}
 use Rattle.mojo_tool.specs.declared.refusal.ToolRefusal.TheVariants as refusals
 use Rattle.mojo_tool.specs.declared.status.Status.{Status}
@@ -83,12 +84,26 @@ pub record IsCheckText (held : Option (List Named)) (ask : List Named → Work �
   pub asked : AskedFor held ask (Checks schema)
   pub text_of : text ≡ listing schema
 
+-- the text is that of a message or of its value
+abbrev pub IsTextFor : Work → List ℕ → Type 0
+IsTextFor (Encodes message) text = text ≡ hex_line message
+IsTextFor (Decodes interface method request value) text = text ≡ shown_line interface method request value
+IsTextFor _ text = ⊥
+
+-- the text is that of a message, or of the value of one, that is asked for
+pub record IsMessageText (held : Option (List Named)) (ask : List Named → Work → Type 0) (text : List ℕ) : Type 0 where
+  pub work : Work
+  pub asked : AskedFor held ask work
+  pub text_of : IsTextFor work text
+
 -- the text is one that the words and the files ask for
 abbrev pub IsRightText : Option Command → Option (List Named) → (List Named → Work → Type 0) → List ℕ → Type 0
 IsRightText None held ask text = ⊥
 IsRightText (Some (Run words)) held ask text = IsRunText held ask text
 IsRightText (Some (Print file)) held ask text = IsPrintText held ask text
 IsRightText (Some (Check names)) held ask text = IsCheckText held ask text
+IsRightText (Some (Encode words)) held ask text = IsMessageText held ask text
+IsRightText (Some (Decode words)) held ask text = IsMessageText held ask text
 
 -- the work that a refusal is the answer to
 abbrev pub refused_work : ToolRefusal → Work
@@ -96,13 +111,23 @@ refused_work (refusals.Unsupported name) = Unreadable name.now
 refused_work (refusals.FileTooLong name) = TooLong name.now
 refused_work (refusals.Refused name refusal) = Refuses name.now refusal
 refused_work (refusals.Rejected name at cause) = Rejects name.now at cause
+refused_work (refusals.UnknownName name) = UnknownName name.now
+refused_work (refusals.BadText at) = BadText at
+refused_work (refusals.Unfit why) = Unfit why
+refused_work refusals.BadHex = BadHex
+refused_work (refusals.Faulty fault) = Faulty fault
 
--- the file that it names
-abbrev pub refused_name : ToolRefusal → List ℕ
-refused_name (refusals.Unsupported name) = name.now
-refused_name (refusals.FileTooLong name) = name.now
-refused_name (refusals.Refused name refusal) = name.now
-refused_name (refusals.Rejected name at cause) = name.now
+-- the file that its line names, where it names one
+abbrev pub refused_name : ToolRefusal → Option (List ℕ)
+refused_name (refusals.Unsupported name) = Some name.now
+refused_name (refusals.FileTooLong name) = Some name.now
+refused_name (refusals.Refused name refusal) = Some name.now
+refused_name (refusals.Rejected name at cause) = Some name.now
+refused_name (refusals.UnknownName name) = None
+refused_name (refusals.BadText at) = None
+refused_name (refusals.Unfit why) = None
+refused_name refusals.BadHex = None
+refused_name (refusals.Faulty fault) = None
 
 -- the whole text was taken, or a front of it where a fault was counted
 abbrev pub WroteOrFailed : SinkState → SinkState → List ℕ → Type 0
@@ -120,10 +145,10 @@ pub record IsDone (s : Seen) : Type 0 where
   pub right : IsRightText (command_of s.words) s.files_before.held (asked_by s) text
   pub silent : s.err ≡ s.err_before
 
--- the first refusal that the files give, of a file that the words name, with its line
+-- the first refusal that the files give, with its line; a file that the line names is one that a call comes to
 pub record IsRefused (s : Seen) : Type 0 where
   pub refusal : ToolRefusal
-  pub reached : ComesTo (command_of s.words) s.files_before.held (refused_name refusal)
+  pub reached : IfSome (refused_name refusal) (ComesTo (command_of s.words) s.files_before.held)
   pub quiet : s.out ≡ s.out_before
   pub asked : AskedFor s.files_before.held (asked_by s) (refused_work refusal)
   pub wrote : WroteOrFailed s.err_before s.err (error_line (refusal_text refusal))

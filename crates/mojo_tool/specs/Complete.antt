@@ -5,7 +5,10 @@ use Rattle.mojo_tool.specs.Answers.{Seen, asked_by, refused_work, WroteOrFailed}
 use Rattle.mojo_tool.specs.Lines.{refusal_text, error_line, read_text}
 use Rattle.mojom_compile.specs.declared.error.FileRefusal.{FileRefusal}
 use Rattle.mojom_files.specs.declared.cause.Cause.{Cause}
-use Rattle.mojo_tool.specs.Work.{Work, WrongWords, Missing, TooLong, Refuses, Rejects, Unreadable, Runs, Prints, Checks}
+use Rattle.wire_encoder.specs.declared.refusal.PrepareError.{PrepareError}
+use Rattle.mj_base.specs.declared.fault.Fault.{Fault}
+use Rattle.mojo_tool.specs.Work.{Work, WrongWords, Missing, TooLong, Refuses, Rejects, Unreadable, UnknownName, BadText, Unfit, BadHex, Faulty}
+use Rattle.mojo_tool.specs.Work.{Runs, Prints, Checks, Encodes, Decodes}
 use Rattle.mojo_tool.specs.declared.refusal.ToolRefusal.{ToolRefusal}
 use Rattle.mojo_tool.specs.declared.status.Status.{Status}
 use Rattle.mojo_tool.specs.declared.status.Status.TheVariants.{Done, Refused, ReadFault, NoMemory}
@@ -21,14 +24,21 @@ pub record CanBeDone (s : Seen) : Type 0 where
   pub compiled : (name : List ℕ) (refusal : FileRefusal) → ¬ asked_by s files (Refuses name refusal)
   pub checked : (name : List ℕ) (at : ℕ) (cause : Cause) → ¬ asked_by s files (Rejects name at cause)
   pub readable : (name : List ℕ) → ¬ asked_by s files (Unreadable name)
+  pub known : (name : List ℕ) → ¬ asked_by s files (UnknownName name)
+  pub spelled : (at : ℕ) → ¬ asked_by s files (BadText at)
+  pub fit : (why : PrepareError) → ¬ asked_by s files (Unfit why)
+  pub hexadecimal : ¬ asked_by s files BadHex
+  pub sound : (fault : Fault) → ¬ asked_by s files (Faulty fault)
   pub steady : ¬ Rose s.files_before.faults_on_present s.files.faults_on_present
   pub written : ¬ Rose s.out_before.faults s.out.faults
 
--- a run, a text or tables
+-- a run, a text, tables, a message or its value
 abbrev pub IsDoable : Work → Type 0
 IsDoable (Runs schema script) = Unit {0}
 IsDoable (Prints tree) = Unit {0}
 IsDoable (Checks schema) = Unit {0}
+IsDoable (Encodes message) = Unit {0}
+IsDoable (Decodes interface method request value) = Unit {0}
 IsDoable _ = ⊥
 
 -- the words ask for this work over files that say what they hold, and no file that is there failed
@@ -38,7 +48,8 @@ pub record IsAsked (s : Seen) (work : Work) : Type 0 where
   pub asked : asked_by s files work
   pub steady : ¬ Rose s.files_before.faults_on_present s.files.faults_on_present
 
--- a run of a script, the text of a tree or the tables of a schema are asked for, and neither the files that are there nor standard output failed
+-- a run of a script, the text of a tree, the tables of a schema, a message or its value are asked for, and neither the files that are
+-- there nor standard output failed
 pub record CanBeServed (s : Seen) : Type 0 where
   pub work : Work
   pub doable : IsDoable work

@@ -4,7 +4,10 @@ use Rattle.std.specs.List.{flat_map}
 use Rattle.std.specs.Fmt.{signed_decimal}
 use Rattle.mojom_files.specs.Basics.{basic_name}
 use Rattle.mojom_files.specs.declared.cause.Cause.{Cause}
-use Rattle.mojom_files.specs.declared.cause.Cause.TheVariants.{NoFile, CircularImport, DuplicateName, UnknownName, WrongSort, CircularConst, WrongLiteral, OutOfRange, TooManyFields, EmptyEnum, DoubleDefault, FloatField, BadMapKey, NullableKey, BadNullable, ZeroLengthArray, OrdinalDouble, OrdinalGap, VersionFalls, LateNotNullable}
+use Rattle.mojom_files.specs.declared.cause.Cause.TheVariants.{NoFile, CircularImport, DuplicateName, UnknownName, WrongSort, CircularConst}
+use Rattle.mojom_files.specs.declared.cause.Cause.TheVariants.{WrongLiteral, OutOfRange, TooManyFields, EmptyEnum, DoubleDefault}
+use Rattle.mojom_files.specs.declared.cause.Cause.TheVariants.{FloatField, BadMapKey, NullableKey, BadNullable, ZeroLengthArray}
+use Rattle.mojom_files.specs.declared.cause.Cause.TheVariants.{OrdinalDouble, OrdinalGap, VersionFalls, LateNotNullable}
 
 -- names, with a blank before each
 abbrev pub names_text : List (List ℕ) → List ℕ

@@ -1,3 +1,4 @@
+pub mod Targets
 pub mod Work
 pub mod Answers
 pub mod Complete

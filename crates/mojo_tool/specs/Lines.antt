@@ -1,20 +1,71 @@
--- The lines on standard error.
+-- The lines on standard error, and those of a message and of its value.
 use Rattle.std.specs.Prelude.{ℕ, decimal, ◌++◌, List, [], ◌∷◌, codes}
+use Rattle.std.specs.List.{flat_map}
+use Rattle.hex.specs.Hex.{encode_lower}
+use Rattle.wire_encoder.specs.declared.refusal.PrepareError.{PrepareError}
+use Rattle.wire_encoder.specs.declared.refusal.PrepareError.TheVariants as unfit
+use Rattle.mj_base.specs.declared.fault.FaultKind.{FaultKind}
+use Rattle.mj_base.specs.declared.fault.FaultKind.TheVariants.{MisalignedObject, IllegalMemoryRange, UnexpectedStructHeader, UnexpectedArrayHeader}
+use Rattle.mj_base.specs.declared.fault.FaultKind.TheVariants.{IllegalHandle, UnexpectedInvalidHandle, IllegalPointer, UnexpectedNullPointer}
+use Rattle.mj_base.specs.declared.fault.FaultKind.TheVariants.{IllegalInterfaceId, UnexpectedInvalidInterfaceId, MessageHeaderInvalidFlags}
+use Rattle.mj_base.specs.declared.fault.FaultKind.TheVariants.{MessageHeaderMissingRequestId, MessageHeaderUnknownMethod, DifferentSizedArraysInMap}
+use Rattle.mj_base.specs.declared.fault.FaultKind.TheVariants.{UnexpectedNullUnion, UnknownUnionTag, UnknownEnumValue, MaxRecursionDepth, BadUtf8}
 use Rattle.mojom_compile.specs.Causes.{cause_text}
 use Rattle.mojo_tool.specs.declared.refusal.ToolRefusal.{ToolRefusal}
-use Rattle.mojo_tool.specs.declared.refusal.ToolRefusal.TheVariants.{Unsupported, FileTooLong, Refused, Rejected}
+use Rattle.mojo_tool.specs.declared.refusal.ToolRefusal.TheVariants.{Unsupported, FileTooLong, Refused, Rejected, UnknownName, BadText, Unfit, BadHex, Faulty}
 use Rattle.mojo_tool.specs.LanguageCauses.{language_text}
+use Rattle.mojo_tool.specs.Work.{line_feed}
 
--- a refusal of a file, by the file's name as it was given, and for a Mojom file the byte place
+-- the name of a fault, as Chromium has it where it has one
+abbrev pub fault_name : FaultKind → List ℕ
+fault_name MisalignedObject = codes "MISALIGNED_OBJECT"
+fault_name IllegalMemoryRange = codes "ILLEGAL_MEMORY_RANGE"
+fault_name UnexpectedStructHeader = codes "UNEXPECTED_STRUCT_HEADER"
+fault_name UnexpectedArrayHeader = codes "UNEXPECTED_ARRAY_HEADER"
+fault_name IllegalHandle = codes "ILLEGAL_HANDLE"
+fault_name UnexpectedInvalidHandle = codes "UNEXPECTED_INVALID_HANDLE"
+fault_name IllegalPointer = codes "ILLEGAL_POINTER"
+fault_name UnexpectedNullPointer = codes "UNEXPECTED_NULL_POINTER"
+fault_name IllegalInterfaceId = codes "ILLEGAL_INTERFACE_ID"
+fault_name UnexpectedInvalidInterfaceId = codes "UNEXPECTED_INVALID_INTERFACE_ID"
+fault_name MessageHeaderInvalidFlags = codes "MESSAGE_HEADER_INVALID_FLAGS"
+fault_name MessageHeaderMissingRequestId = codes "MESSAGE_HEADER_MISSING_REQUEST_ID"
+fault_name MessageHeaderUnknownMethod = codes "MESSAGE_HEADER_UNKNOWN_METHOD"
+fault_name DifferentSizedArraysInMap = codes "DIFFERENT_SIZED_ARRAYS_IN_MAP"
+fault_name UnexpectedNullUnion = codes "UNEXPECTED_NULL_UNION"
+fault_name UnknownUnionTag = codes "UNKNOWN_UNION_TAG"
+fault_name UnknownEnumValue = codes "UNKNOWN_ENUM_VALUE"
+fault_name MaxRecursionDepth = codes "MAX_RECURSION_DEPTH"
+fault_name BadUtf8 = codes "BAD_UTF8"
+
+-- steps behind the first of a path, with a dot before each
+abbrev pub steps_text : List ℕ → List ℕ
+steps_text steps = flat_map (λ (step : ℕ). codes "." ++ decimal step) steps
+
+-- the path to a value, with dots between its steps; none to the parameters themselves
+abbrev pub path_text : List ℕ → List ℕ
+path_text [] = []
+path_text (step ∷ steps) = decimal step ++ steps_text steps
+
+-- why a value isn't written; want of memory has no line
+abbrev pub unfit_text : PrepareError → List ℕ
+unfit_text (unfit.Misfit path) = codes "Misfit " ++ path_text path
+unfit_text (unfit.TooDeep path) = codes "TooDeep"
+unfit_text (unfit.TooManyHandles path) = codes "TooManyHandles"
+unfit_text unfit.TooLong = codes "TooLong"
+unfit_text unfit.Memory = []
+
+-- a refusal: of a file by the file's name as it was given, and for a Mojom file the byte place
 abbrev pub refusal_text : ToolRefusal → List ℕ
 refusal_text (Unsupported name) = codes "Unsupported " ++ name.now
 refusal_text (FileTooLong name) = codes "FileTooLong " ++ name.now
 refusal_text (Refused name refusal) = name.now ++ (codes ":" ++ (decimal refusal.at ++ (codes ": " ++ cause_text refusal.cause)))
 refusal_text (Rejected name at cause) = name.now ++ (codes ":" ++ (decimal at ++ (codes ": " ++ language_text cause)))
-
--- the byte that ends a line
-abbrev pub line_feed : ℕ
-line_feed = 10
+refusal_text (UnknownName name) = codes "UnknownName " ++ name.now
+refusal_text (BadText at) = codes "BadText " ++ decimal at
+refusal_text (Unfit why) = unfit_text why
+refusal_text BadHex = codes "BadHex"
+refusal_text (Faulty fault) = fault_name fault.kind ++ (codes " " ++ decimal fault.at)
 
 -- a line on standard error
 abbrev pub error_line : List ℕ → List ℕ
@@ -23,3 +74,12 @@ error_line text = codes "error: " ++ (text ++ line_feed ∷ [])
 -- a file that could not be read
 abbrev pub read_text : List ℕ → List ℕ
 read_text name = codes "read " ++ name
+
+-- a message in hexadecimal
+abbrev pub hex_line : List ℕ → List ℕ
+hex_line bytes = encode_lower bytes ++ line_feed ∷ []
+
+-- a message's method, request id and value
+abbrev pub shown_line : List ℕ → List ℕ → ℕ → List ℕ → List ℕ
+shown_line interface method request value =
+    interface ++ (codes "." ++ (method ++ (codes " " ++ (decimal request ++ (codes " " ++ (value ++ line_feed ∷ []))))))

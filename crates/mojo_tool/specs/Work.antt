@@ -1,10 +1,15 @@
--- What the command and the files ask for, in the order in which a call finds it out: the words, the Mojom files, the script, the run.
-use Rattle.std.specs.Prelude.{ℕ, ◌≡◌, ◌≤◌, ◌<◌, List, [], ◌∷◌, ◌++◌, length, slice_get, Option, Some, None, ◌⊎◌}
+-- What the command and the files ask for, in the order in which a call finds it out: the words, the Mojom files, and then the script
+-- and the run, or the method, the value and its message, or the interface, the message and its value.
+use Rattle.std.specs.Prelude.{ℕ, ◌≡◌, ◌≤◌, ◌<◌, ◌-◌, ◌==◌, ◌&&◌, Bool, false, List, [], ◌∷◌, ◌++◌, length, slice_get, slice_index, take}
+use Rattle.std.specs.Prelude.{nat_lt, Option, Some, None, IsSome, Result, Ok, Err, ◌⊎◌, if◌then◌else◌}
 use Rattle.std.specs.Option.{option_map_or}
 use Rattle.mj_base.specs.declared.limits.TheConstants.{MAX_FILE_BYTES}
 use Rattle.mj_io.specs.Outside.{Named, find_file}
-use Rattle.command_line.specs.Asked.{Command, RunWords, Run, Print, Check}
+use Rattle.command_line.specs.Asked.{Command, RunWords, EncodeWords, DecodeWords, Run, Print, Check, Encode, Decode}
+use Rattle.mj_schema.specs.KindTrees.{KindTree, StructKind}
+use Rattle.mj_schema.specs.Lookups.{interface_named}
 use Rattle.mj_schema.specs.declared.narrow_schema.NarrowSchema.{NarrowSchema}
+use Rattle.mj_schema.specs.declared.rows.MethodRow.{MethodRow}
 use Rattle.mj_schema.specs.declared.schema.Schema.{Schema}
 use Rattle.mojom_ast.specs.declared.file.File.{File}
 use Rattle.mojom_compile.specs.declared.error.FileRefusal.{FileRefusal}
@@ -16,6 +21,29 @@ use Rattle.mojom_compile.specs.Schemas.{IsSchemaOfFiles, IsRefusalOf}
 use Rattle.mojom_files.specs.declared.cause.Cause.{Cause}
 use Rattle.call_script.specs.declared.script.Script.{Script}
 use Rattle.call_script.specs.Spelling.{IsScriptOf}
+use Rattle.hex.specs.Hex.{decode_of}
+use Rattle.hex.specs.declared.error.FromHexError.{FromHexError}
+use Rattle.wire_model.specs.Expected.{Stands, message_marks, struct_of, method_named}
+use Rattle.wire_model.specs.Message.{Head, message, payload_start, request_read}
+use Rattle.wire_model.specs.Stands.{up_from}
+use Rattle.wire_model.specs.Tight.{MAX_PAYLOAD_BYTES, value_of}
+use Rattle.wire_model.specs.Trees.{Tree}
+use Rattle.mj_base.specs.declared.fault.Fault.{Fault}
+use Rattle.wire_model.specs.declared.target.Expected.{Expected}
+use Rattle.wire_model.specs.declared.target.MessageSide.{MessageSide}
+use Rattle.wire_model.specs.declared.target.Target.{Target}
+use Rattle.bounds_claims.specs.Runs.{first_fault}
+use Rattle.message_validator.specs.Before.{before_payload}
+use Rattle.wire_encoder.specs.FirstFailed.{Met, Refusal}
+use Rattle.wire_encoder.specs.Prepared.{method_of, flags_for, payload_for, verdict}
+use Rattle.wire_encoder.specs.declared.refusal.Flaw.{Flaw}
+use Rattle.wire_encoder.specs.declared.refusal.Flaw.TheVariants as flaws
+use Rattle.wire_encoder.specs.declared.refusal.PrepareError.{PrepareError}
+use Rattle.wire_encoder.specs.declared.refusal.PrepareError.TheVariants as unfit
+use Rattle.byte_rules.specs.Judged.{Spells, IsBad}
+use Rattle.value_text.specs.Rules.{value}
+use Rattle.value_text.specs.Spelling.{spell}
+use Rattle.mojo_tool.specs.Targets.{side_of, message_named, expected_of}
 
 -- the file is there, no longer than a file may be, and has a schema
 abbrev pub HasSchema : Option (List ℕ) → Type 0
@@ -32,12 +60,41 @@ abbrev pub IsAmong : List (List ℕ) → List ℕ → Type 0
 IsAmong [] name = ⊥
 IsAmong (other ∷ others) name = (other ≡ name) ⊎ IsAmong others name
 
--- the words name this file, and a call comes to it: to the script only where the Mojom file has a schema
+-- the files of these names have these bytes
+abbrev pub AreFetched : List Named → List (List ℕ) → List Source → Type 0
+AreFetched files [] [] = Unit {0}
+AreFetched files [] (source ∷ sources) = ⊥
+AreFetched files (name ∷ names) [] = ⊥
+AreFetched files (name ∷ names) (source ∷ sources) =
+    (source.name ≡ name) × (find_file files name ≡ Some source.bytes) × (length source.bytes ≤ MAX_FILE_BYTES) × AreFetched files names sources
+
+-- the files of these names are there, none too long, and have this schema
+pub record HaveSchema (files : List Named) (names : List (List ℕ)) (schema : Schema) : Type 0 where
+  pub sources : List Source
+  pub are : AreFetched files names sources
+  pub schema_of : IsSchemaOfFiles sources schema
+
+-- over files that say what they hold, those of the words have a schema with the message that is to be encoded
+abbrev pub HasMessageAt : Option (List Named) → EncodeWords → Type 0
+HasMessageAt None words = Unit {0}
+HasMessageAt (Some files) words =
+    (schema : Schema) × HaveSchema files words.files schema × IsSome (message_named schema (side_of words.side) words.method)
+
+-- over files that say what they hold, those of the words have a schema with the interface
+abbrev pub HasInterfaceAt : Option (List Named) → DecodeWords → Type 0
+HasInterfaceAt None words = Unit {0}
+HasInterfaceAt (Some files) words =
+    (schema : Schema) × HaveSchema files words.files schema × IsSome (interface_named schema.interfaces words.interface)
+
+-- the words name this file, and a call comes to it: to a script only where the Mojom file has a schema, to a value only where the
+-- Mojom files have one with the method, and to a message only where they have one with the interface
 abbrev pub ComesTo : Option Command → Option (List Named) → List ℕ → Type 0
 ComesTo None held name = ⊥
 ComesTo (Some (Run words)) held name = (name ≡ words.file) ⊎ ((name ≡ words.script) × HasSchemaAt held words.file)
 ComesTo (Some (Print file)) held name = name ≡ file
 ComesTo (Some (Check files)) held name = IsAmong files name
+ComesTo (Some (Encode words)) held name = IsAmong words.files name ⊎ ((name ≡ words.value) × HasMessageAt held words)
+ComesTo (Some (Decode words)) held name = IsAmong words.files name ⊎ ((name ≡ words.message) × HasInterfaceAt held words)
 
 -- what is asked for
 pub data Work : Type 0 where
@@ -53,12 +110,26 @@ pub data Work : Type 0 where
   Rejects : (name : List ℕ) → (at : ℕ) → (cause : Cause) → Work
   -- a script isn't of the narrow form that is read
   Unreadable : (name : List ℕ) → Work
+  -- the files have no interface of this name, or no method or response that it names
+  UnknownName : (name : List ℕ) → Work
+  -- a text is no value, at a place
+  BadText : (at : ℕ) → Work
+  -- a value isn't written as a message
+  Unfit : (why : PrepareError) → Work
+  -- a file isn't hexadecimal
+  BadHex : Work
+  -- a message stands for nothing: its first fault
+  Faulty : Fault → Work
   -- the tables of this schema
   Checks : (schema : Schema) → Work
   -- the text of this tree
   Prints : (tree : File) → Work
   -- a run of this script
   Runs : (schema : NarrowSchema) → (script : Script) → Work
+  -- the bytes of this message
+  Encodes : (message : List ℕ) → Work
+  -- the method, the request id and the text of the value of a message
+  Decodes : (interface method : List ℕ) (request : ℕ) (value : List ℕ) → Work
 
 -- the file is not there, or too long, or its bytes lead on
 abbrev pub Leads : List ℕ → (List ℕ → Work → Type 0) → Option (List ℕ) → Work → Type 0
@@ -109,10 +180,10 @@ unchecked sources (schema.Unread file refusal) = Refuses (name_at sources file) 
 unchecked sources (schema.Refused refusal) = Rejects (name_at sources refusal.file) refusal.at refusal.cause
 unchecked sources schema.Memory = WrongWords
 
--- the files have a schema, whose tables are printed, or are refused
-abbrev pub Tabling : List Source → Work → Type 0
-Tabling sources work =
-    ((schema : Schema) × IsSchemaOfFiles sources schema × (work ≡ Checks schema))
+-- the files have a schema, which leads on, or are refused
+abbrev pub Tabling : (Schema → Work → Type 0) → List Source → Work → Type 0
+Tabling next sources work =
+    ((schema : Schema) × IsSchemaOfFiles sources schema × next schema work)
     ⊎ ((error : SchemaError) × IsRefusalOf sources error × (work ≡ unchecked sources error))
 
 -- what the fetches of these names, one behind another, lead on to, behind files that were fetched
@@ -121,9 +192,122 @@ FetchingAll files [] fetched next work = next fetched work
 FetchingAll files (name ∷ names) fetched next work =
     Fetching files name (λ (bytes : List ℕ). FetchingAll files names (fetched ++ record { name = name; bytes = bytes } ∷ []) next) work
 
--- all Mojom files come first, in the order of the words
+-- all Mojom files come first, in the order of the words, and what they mean leads on
+abbrev pub Gathering : List Named → List (List ℕ) → (Schema → Work → Type 0) → Work → Type 0
+Gathering files names next work = FetchingAll files names [] (Tabling next) work
+
+-- a schema's tables are printed
+abbrev pub Listing : Schema → Work → Type 0
+Listing schema work = work ≡ Checks schema
+
+-- all Mojom files alone
 abbrev pub Checking : List Named → List (List ℕ) → Work → Type 0
-Checking files names work = FetchingAll files names [] Tabling work
+Checking files names work = Gathering files names Listing work
+
+-- the byte that ends a line
+abbrev pub line_feed : ℕ
+line_feed = 10
+
+-- the bytes end in a line feed
+abbrev pub ends_line : List ℕ → Bool
+ends_line bytes = nat_lt 0 (length bytes) && (slice_index bytes (length bytes - 1) == line_feed)
+
+-- the bytes without the one line feed that they may end in
+abbrev pub without_line_end : List ℕ → List ℕ
+without_line_end bytes = if ends_line bytes then take (length bytes - 1) bytes else bytes
+
+-- how many brackets may be open at once in the text of a value
+abbrev pub MAX_BRACKETS : ℕ
+MAX_BRACKETS = 512
+
+-- the kind of parameters: a struct, which is there
+abbrev pub parameters_kind : ℕ → KindTree
+parameters_kind number = StructKind number false
+
+-- the text spells a value, which leads on, or is bad at a place
+abbrev pub Valuing : Schema → ℕ → (Tree → Work → Type 0) → List ℕ → Work → Type 0
+Valuing schema number next text work =
+    ((tree : Tree) × Spells (value schema MAX_BRACKETS (parameters_kind number)) tree text × next tree work)
+    ⊎ ((at : ℕ) × IsBad (value schema MAX_BRACKETS (parameters_kind number)) text at × (work ≡ BadText at))
+
+-- why a value with this flaw isn't written
+abbrev pub flaw_at : Flaw → List ℕ → PrepareError
+flaw_at flaws.Misfit path = unfit.Misfit path
+flaw_at flaws.TooDeep path = unfit.TooDeep path
+flaw_at flaws.TooManyHandles path = unfit.TooManyHandles path
+
+-- the head of a message that is printed: the interface id 0, the request id 1, and the ids 1, 2, 3 and so on
+abbrev pub head_of : Schema → Target → Met → Head
+head_of schema target met = record {
+  interface = 0;
+  name = target.method;
+  flags = flags_for (method_of schema target) target;
+  nonce = 0;
+  request = 1;
+  ids = up_from 1 (length met.endpoints);
+}
+
+-- a value that passes all checks is printed as a message, unless its payload is too long; else its first flaw is said
+abbrev pub Sealing : Schema → Target → Tree → Result Met Refusal → Work → Type 0
+Sealing schema target tree (Err wrong) work = work ≡ Unfit (flaw_at wrong.flaw wrong.path)
+Sealing schema target tree (Ok met) work =
+    ((MAX_PAYLOAD_BYTES < length (payload_for schema target tree)) × (work ≡ Unfit unfit.TooLong))
+    ⊎ ((length (payload_for schema target tree) ≤ MAX_PAYLOAD_BYTES)
+    × (work ≡ Encodes (message (head_of schema target met) (payload_for schema target tree))))
+
+-- the value is checked for its target
+abbrev pub Preparing : Schema → Target → Tree → Work → Type 0
+Preparing schema target tree work = Sealing schema target tree (verdict schema target tree) work
+
+-- the text of a value without its line's end
+abbrev pub Writing : Schema → Target × ℕ → List ℕ → Work → Type 0
+Writing schema (target, number) bytes work = Valuing schema number (Preparing schema target) (without_line_end bytes) work
+
+-- what a look-up found leads on, or the word is unknown
+abbrev pub Finding : {A : Type 0} → List ℕ → (A → Work → Type 0) → Option A → Work → Type 0
+Finding word next None work = work ≡ UnknownName word
+Finding word next (Some found) work = next found work
+
+-- the value's file comes after the method
+abbrev pub Encoding : List Named → EncodeWords → Schema → Work → Type 0
+Encoding files words schema work =
+    Finding words.method (λ found w. Fetching files words.value (Writing schema found) w)
+    (message_named schema (side_of words.side) words.method) work
+
+-- the bytes of hexadecimal lead on, or it is none
+abbrev pub Unhexing : (List ℕ → Work → Type 0) → Result (List ℕ) FromHexError → Work → Type 0
+Unhexing next (Ok bytes) work = next bytes work
+Unhexing next (Err error) work = work ≡ BadHex
+
+-- a message that stands is shown: its method and the struct of its parameters are the ones that it names
+pub record IsShown (schema : Schema) (expected : Expected) (name bytes : List ℕ) (work : Work) : Type 0 where
+  pub method : MethodRow
+  pub number : ℕ
+  pub named : method_named schema expected bytes ≡ Some method
+  pub parameters : struct_of expected.side method ≡ Some number
+  pub whole : work ≡ Decodes name method.name (request_read bytes)
+      (spell schema (parameters_kind number) (value_of schema bytes (payload_start bytes) number))
+
+-- a message without a fault stands and is shown; else its first fault is said
+abbrev pub Judged : Schema → Expected → List ℕ → ℕ → List ℕ → Option Fault → Work → Type 0
+Judged schema expected name handles bytes None work = Stands schema expected bytes handles × IsShown schema expected name bytes work
+Judged schema expected name handles bytes (Some fault) work = work ≡ Faulty fault
+
+-- the tests of a message, in their order, as of one that came with so many handles
+abbrev pub Judging : Schema → Expected → List ℕ → ℕ → List ℕ → Work → Type 0
+Judging schema expected name handles bytes work =
+    Judged schema expected name handles bytes (first_fault (before_payload bytes handles) (message_marks schema expected bytes)) work
+
+-- the hexadecimal of a message without its line's end
+abbrev pub Showing : Schema → Expected → List ℕ → ℕ → List ℕ → Work → Type 0
+Showing schema expected name handles bytes work = Unhexing (Judging schema expected name handles) (decode_of (without_line_end bytes)) work
+
+-- the message's file comes after the interface
+abbrev pub Decoding : List Named → DecodeWords → Schema → Work → Type 0
+Decoding files words schema work =
+    Finding words.interface
+    (λ interface w. Fetching files words.message (Showing schema (expected_of interface (side_of words.side)) words.interface words.handles) w)
+    (interface_named schema.interfaces words.interface) work
 
 -- the work that a command asks for over these files
 abbrev pub IsWork : Option Command → List Named → Work → Type 0
@@ -131,6 +315,8 @@ IsWork None files work = work ≡ WrongWords
 IsWork (Some (Run words)) files work = Running files words work
 IsWork (Some (Print file)) files work = Printing files file work
 IsWork (Some (Check names)) files work = Checking files names work
+IsWork (Some (Encode words)) files work = Gathering files words.files (Encoding files words) work
+IsWork (Some (Decode words)) files work = Gathering files words.files (Decoding files words) work
 
 -- over files that say what they hold, this is what is asked for
 abbrev pub AskedFor : Option (List Named) → (List Named → Work → Type 0) → Work → Type 0

@@ -2,3 +2,4 @@
 pub mod Reports
 pub mod Stops
 pub mod Fetches
+pub mod Messages

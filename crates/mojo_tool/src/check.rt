@@ -1,18 +1,19 @@
-//! From the names and the files to the text of their tables, or to why there is none.
+//! From the names and the files to their schema and the text of its tables, or to why there is none.
 
 ghost use Rattle.std.specs.Prelude.{◌≡◌, Some, map, IfOk, IfErr};
 ghost use Rattle.mj_io.specs.Outside.{FilesGoOn};
 ghost use Rattle.schema_text.specs.Listing.{listing};
 ghost use Rattle.command_line.specs.Asked.{Check};
-ghost use Rattle.mojo_tool.specs.Work.{ComesTo, Checking};
+ghost use Rattle.mojo_tool.specs.Work.{ComesTo, Checking, IsAmong};
 ghost use Rattle.mojo_tool.specs.Answers.{IsCheckText};
 ghost use Rattle.mojo_tool.specs.steps.Stops.{Stops, IsOf};
-ghost use Rattle.mojo_tool.specs.steps.Fetches.{AreBytes, NotAllFetched, NotTabled};
+ghost use Rattle.mojo_tool.specs.steps.Fetches.{AreBytes, HaveSchemaOver, NotAllFetched, NotTabled, NoSchema};
 
 use crate::decide::{Stop, fetch};
 use crate::refusal::ToolRefusal;
 use mj_base::{Items, Text};
 use mj_io::Files;
+use mj_schema::Schema;
 use mojom_compile::{SchemaError, Source};
 use std::alloc::Global;
 
@@ -73,6 +74,26 @@ fn refused<'a>(names: &[&'a str], error: SchemaError) -> Stop<'a>
     }
 }
 
+/// The schema of the files of these names.
+pub fn fetch_schema<'a, F: Files>(
+    alloc: Global,
+    names: &[&'a str],
+    files: &mut F,
+) -> Result<Schema, Stop<'a>>
+    ensures on { FilesGoOn (F.state files.old) (F.state files.new) }
+    ensures schema { IfOk result (HaveSchemaOver (F.state files.old).held (map (λ name. name.now) names.now)) }
+    ensures stop { IfErr result (NoSchema (F.state files.old) (F.state files.new) (map (λ name. name.now) names.now)) }
+    ensures among { IfErr result (IsOf (IsAmong (map (λ name. name.now) names.now))) }
+{
+    match fetch_all(alloc, names, files) {
+        Err(stop) => Err(stop),
+        Ok(fetched) => match mojom_compile::compile(alloc, fetched.as_slice()) {
+            Ok(schema) => Ok(schema),
+            Err(error) => Err(refused(names, error)),
+        },
+    }
+}
+
 /// The text of the tables of the files of these names.
 pub fn decide_check<'a, F: Files>(
     alloc: Global,
@@ -85,13 +106,11 @@ pub fn decide_check<'a, F: Files>(
         (λ files work. Checking files (map (λ name. name.now) names.now) work) stop) }
     ensures reached { IfErr result (IsOf (ComesTo (Some (Check (map (λ name. name.now) names.now))) (F.state files.old).held)) }
 {
-    let sources = fetch_all(alloc, names, files)?;
-    let schema = match mojom_compile::compile(alloc, sources.as_slice()) {
-        Ok(schema) => schema,
-        Err(error) => return Err(refused(names, error)),
-    };
-    match schema_text::listing(alloc, &schema) {
-        Ok(text) => Ok(Items::from_vec(text)),
-        Err(_) => Err(Stop::NoMemory),
+    match fetch_schema(alloc, names, files) {
+        Err(stop) => Err(stop),
+        Ok(schema) => match schema_text::listing(alloc, &schema) {
+            Ok(text) => Ok(Items::from_vec(text)),
+            Err(_) => Err(Stop::NoMemory),
+        },
     }
 }

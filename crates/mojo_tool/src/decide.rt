@@ -15,6 +15,8 @@ ghost use Rattle.mojo_tool.specs.Answers.{IsTextOf, IsRunText, IsPrintText, IsRi
 ghost use Rattle.mojo_tool.specs.steps.Stops.{Stops, IsOf, HasBytes, NotFetched, NotCompiled, NoScript};
 
 use crate::check::decide_check;
+use crate::decode::decide_decode;
+use crate::encode::decide_encode;
 use crate::refusal::ToolRefusal;
 use call_script::{Script, ScriptError};
 use command_line::Command;
@@ -216,5 +218,26 @@ pub fn decide<'a, F: Files>(
         Command::Run { script, file } => decide_run(alloc, script, file, files),
         Command::Print { file } => decide_print(alloc, file, files),
         Command::Check { files: names } => decide_check(alloc, names.as_slice(), files),
+        Command::Encode {
+            method,
+            side,
+            value,
+            files: names,
+        } => decide_encode(alloc, method, side, value, names.as_slice(), files),
+        Command::Decode {
+            interface,
+            side,
+            handles,
+            message,
+            files: names,
+        } => decide_decode(
+            alloc,
+            interface,
+            side,
+            handles,
+            message,
+            names.as_slice(),
+            files,
+        ),
     }
 }

@@ -4,6 +4,10 @@
 mod cause_text;
 mod check;
 mod decide;
+mod decode;
+mod encode;
+mod line_end;
+mod lookup;
 mod refusal;
 mod status;
 #[cfg(test)]

@@ -1,15 +1,17 @@
-//! Why a file is refused.
+//! Why files, a value or a message are refused.
 
 ghost use Rattle.std.specs.Prelude.{◌≡◌, ◌++◌, codes, decimal, OnOk};
-ghost use Rattle.mojo_tool.specs.Lines.{refusal_text};
+ghost use Rattle.mojo_tool.specs.Lines.{refusal_text, unfit_text, path_text, steps_text, fault_name};
 
 use crate::cause_text::{push_cause, push_named};
+use mj_base::{Fault, FaultKind};
 use mojom_compile::FileRefusal;
 use mojom_files::Cause;
 use mojom_print::{push_number, push_text};
 use std::alloc::AllocError;
+use wire_encoder::PrepareError;
 
-/// Why a file is refused, with its name as it was given.
+/// Why a file is refused, with its name as it was given; or why a value or a message is.
 #[derive(Drop)]
 pub enum ToolRefusal<'a> {
     /// The script isn't of the narrow form that is read.
@@ -24,6 +26,16 @@ pub enum ToolRefusal<'a> {
         at: u64,
         cause: Cause,
     },
+    /// No interface has this name, or no method has it, or the method has no response.
+    UnknownName(&'a str),
+    /// The text is no value of the method's parameters: the place of its first wrong byte, from 0.
+    BadText(u64),
+    /// The value isn't written as a message.
+    Unfit(PrepareError),
+    /// The file isn't hexadecimal.
+    BadHex,
+    /// The message stands for nothing.
+    Faulty(Fault),
 }
 
 /// Writes the name of a file and a place there.
@@ -36,7 +48,82 @@ fn push_place(out: &mut Vec<u8>, name: &str, at: u64) -> Result<(), AllocError>
     push_text(out, ": ")
 }
 
-/// Writes why a file is refused.
+/// The name of a fault, as Chromium has it where it has one.
+fn fault_name(kind: FaultKind) -> &'static str
+    ensures { result.now ≡ fault_name kind }
+{
+    match kind {
+        FaultKind::MisalignedObject => "MISALIGNED_OBJECT",
+        FaultKind::IllegalMemoryRange => "ILLEGAL_MEMORY_RANGE",
+        FaultKind::UnexpectedStructHeader => "UNEXPECTED_STRUCT_HEADER",
+        FaultKind::UnexpectedArrayHeader => "UNEXPECTED_ARRAY_HEADER",
+        FaultKind::IllegalHandle => "ILLEGAL_HANDLE",
+        FaultKind::UnexpectedInvalidHandle => "UNEXPECTED_INVALID_HANDLE",
+        FaultKind::IllegalPointer => "ILLEGAL_POINTER",
+        FaultKind::UnexpectedNullPointer => "UNEXPECTED_NULL_POINTER",
+        FaultKind::IllegalInterfaceId => "ILLEGAL_INTERFACE_ID",
+        FaultKind::UnexpectedInvalidInterfaceId => "UNEXPECTED_INVALID_INTERFACE_ID",
+        FaultKind::MessageHeaderInvalidFlags => "MESSAGE_HEADER_INVALID_FLAGS",
+        FaultKind::MessageHeaderMissingRequestId => "MESSAGE_HEADER_MISSING_REQUEST_ID",
+        FaultKind::MessageHeaderUnknownMethod => "MESSAGE_HEADER_UNKNOWN_METHOD",
+        FaultKind::DifferentSizedArraysInMap => "DIFFERENT_SIZED_ARRAYS_IN_MAP",
+        FaultKind::UnexpectedNullUnion => "UNEXPECTED_NULL_UNION",
+        FaultKind::UnknownUnionTag => "UNKNOWN_UNION_TAG",
+        FaultKind::UnknownEnumValue => "UNKNOWN_ENUM_VALUE",
+        FaultKind::MaxRecursionDepth => "MAX_RECURSION_DEPTH",
+        FaultKind::BadUtf8 => "BAD_UTF8",
+    }
+}
+
+/// Writes steps, with a dot before each.
+fn push_steps(out: &mut Vec<u8>, steps: &[u64]) -> Result<(), AllocError>
+    ensures { OnOk result (out.new.items ≡ out.old.items ++ steps_text steps.now) }
+{
+    for step in steps {
+        push_text(out, ".")?;
+        push_number(out, *step)?;
+    }
+    Ok(())
+}
+
+/// Writes a path, with dots between its steps.
+fn push_path(out: &mut Vec<u8>, path: &[u64]) -> Result<(), AllocError>
+    ensures { OnOk result (out.new.items ≡ out.old.items ++ path_text path.now) }
+{
+    match path {
+        [step, steps @ ..] => {
+            push_number(out, *step)?;
+            push_steps(out, steps)
+        }
+        [] => Ok(()),
+    }
+}
+
+/// Writes why a value isn't written as a message.
+fn push_unfit(out: &mut Vec<u8>, why: &PrepareError) -> Result<(), AllocError>
+    ensures { OnOk result (out.new.items ≡ out.old.items ++ unfit_text why.now) }
+{
+    match why {
+        PrepareError::Misfit { path } => {
+            push_text(out, "Misfit ")?;
+            push_path(out, path.as_slice())
+        }
+        PrepareError::TooDeep { .. } => push_text(out, "TooDeep"),
+        PrepareError::TooManyHandles { .. } => push_text(out, "TooManyHandles"),
+        PrepareError::TooLong => push_text(out, "TooLong"),
+        PrepareError::Memory => Ok(()),
+    }
+}
+
+/// Writes a fault and its place.
+fn push_fault(out: &mut Vec<u8>, fault: &Fault) -> Result<(), AllocError>
+    ensures { OnOk result (out.new.items ≡ out.old.items ++ (fault_name fault.now.kind ++ (codes " " ++ decimal fault.now.at))) }
+{
+    push_named(out, fault_name(fault.kind), " ")?;
+    push_number(out, fault.at)
+}
+
+/// Writes why files, a value or a message are refused.
 pub fn push_refusal(out: &mut Vec<u8>, refusal: &ToolRefusal<'_>) -> Result<(), AllocError>
     ensures { OnOk result (out.new.items ≡ out.old.items ++ refusal_text refusal.now) }
 {
@@ -53,5 +140,13 @@ pub fn push_refusal(out: &mut Vec<u8>, refusal: &ToolRefusal<'_>) -> Result<(), 
             push_place(out, name, *at)?;
             push_cause(out, cause)
         }
+        ToolRefusal::UnknownName(name) => push_named(out, "UnknownName ", name),
+        ToolRefusal::BadText(at) => {
+            push_text(out, "BadText ")?;
+            push_number(out, *at)
+        }
+        ToolRefusal::Unfit(why) => push_unfit(out, why),
+        ToolRefusal::BadHex => push_text(out, "BadHex"),
+        ToolRefusal::Faulty(fault) => push_fault(out, fault),
     }
 }

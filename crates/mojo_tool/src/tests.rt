@@ -50,7 +50,7 @@ interface I7 { const uint8 N9 = S1.E3.V6; [Sync] m8(); };
 
 /// What is said of words without a command, by the name that they begin with.
 const NO_COMMAND: &str = "error: 'mojo' requires a subcommand but one was not provided
-  [subcommands: run, print, check, help]
+  [subcommands: run, print, check, encode, decode, help]
 
 Usage: mojo <COMMAND>
 
@@ -59,7 +59,7 @@ For more information, try '--help'.
 
 /// Its first 100 bytes.
 const NO_COMMAND_IN_PART: &str = "error: 'mojo' requires a subcommand but one was not provided
-  [subcommands: run, print, check, help";
+  [subcommands: run, print, check, enco";
 
 /// A file by its name and its text.
 fn named(alloc: Global, name: &str, text: &str) -> Result<NamedFile, AllocError> {

@@ -1,5 +1,5 @@
 -- Why there is no text.
-use Rattle.std.specs.Prelude.{ℕ, ◌≡◌, ◌<◌, ◌⊎◌, List, length, Option, Some, None}
+use Rattle.std.specs.Prelude.{ℕ, ◌≡◌, ◌<◌, ◌⊎◌, List, length, Option, Some, None, IfSome}
 use Rattle.mj_base.specs.declared.limits.TheConstants.{MAX_FILE_BYTES}
 use Rattle.mj_io.specs.Outside.{Named, find_file, FilesState, Rose}
 use Rattle.mj_schema.specs.declared.narrow_schema.NarrowSchema.{NarrowSchema}
@@ -55,8 +55,14 @@ NoScript schema bytes name (Refused refusal) = ((script : Script) → IsScriptOf
 NoScript schema bytes name (ReadFault other) = ⊥
 NoScript schema bytes name NoMemory = Unit {0}
 
--- the file that is named is such a one
+-- no text, though bytes that were fetched ask for this
+abbrev pub StopsAt : (Work → Type 0) → Stop → Type 0
+StopsAt ask (Refused refusal) = ask (refused_work refusal)
+StopsAt ask (ReadFault name) = ⊥
+StopsAt ask NoMemory = Unit {0}
+
+-- the file that is named, where one is, is such a one
 abbrev pub IsOf : (List ℕ → Type 0) → Stop → Type 0
-IsOf Such (Refused refusal) = Such (refused_name refusal)
+IsOf Such (Refused refusal) = IfSome (refused_name refusal) Such
 IsOf Such (ReadFault name) = Such name.now
 IsOf Such NoMemory = Unit {0}

@@ -1,5 +1,5 @@
-use Rattle.std.proofs.Common.{ap, sym, refl, true, inl, inr, map, List, [], ◌∷◌, Option, option_map, None, ◌≡◌, ◌∙◌}
-use Rattle.std.specs.Prelude.{string_bytes}
+use Rattle.std.proofs.Common.{ap, sym, refl, true, inl, inr, map, List, [], ◌∷◌, Option, None, ◌≡◌, ◌∙◌}
+use Rattle.std.specs.Prelude.{option_and_then, string_bytes}
 use Rattle.std.proofs.lemmas.Result.{IfErr-weaker, IfOk-weaker}
 use Rattle.clap.specs.Words.{App, HasKind, Kinds, Row, Text, fault_of, is_simple, is_simple_and_free, kind_of, subcommand_of}
 use Rattle.clap.specs.declared.error.Error.{Error}
@@ -22,10 +22,10 @@ free = refl
 
 -- without a fault, what was found is what the words ask for
 is_asked : (words : List Text) (found : Option (Text × List Row)) → found ≡ subcommand_of tool words → fault_of tool words ≡ []
-    → option_map command_in found ≡ command_of words
+    → option_and_then command_in found ≡ command_of words
 is_asked words found e f =
-    ap (option_map command_in) e
-    ∙ sym (ap (λ (k : Kinds). unless_fault k (option_map command_in (subcommand_of tool words))) f)
+    ap (option_and_then command_in) e
+    ∙ sym (ap (λ (k : Kinds). unless_fault k (option_and_then command_in (subcommand_of tool words))) f)
 
 -- an error that is no want of memory is a fault
 refused : (asked : Option Command) (kinds : Kinds) (e : Error) → HasKind kinds e → (kind_of e ≡ OutOfMemory → ⊥) → unless_fault kinds asked ≡ None
@@ -61,5 +61,5 @@ returns-in-Err-clause-wrong_use c =
     let app = c.in_ok-tool.ensures.app in
     let faults = ap (λ (a : App). fault_of a (map string_bytes c.args.words.now)) app in
     let kinds = c.in-Err.ensures.kinds (ap is_simple_and_free app ∙ free) in
-    let asked = option_map command_in (subcommand_of tool (map string_bytes c.args.words.now)) in
+    let asked = option_and_then command_in (subcommand_of tool (map string_bytes c.args.words.now)) in
     weaker c.refusal.result _ _ (λ n. sym (ap (λ (k : Kinds). unless_fault k asked) faults) ∙ refused asked _ c.in-Err.error kinds n) c.refusal.ensures

@@ -9,7 +9,8 @@ returns-in_err-bytes-clause-stop g c =
     let now : Bor (List ℕ) → List ℕ = λ name. name.now in
     handed_on _ _ _ c.from_residual.ensures.1
     (unfetched_at _ (g.F.Files.state c.loop-name.files) _ (map now c.args.names.now) c.loop-name.name-index c.loop-name.sources.items _ c.in_err-bytes.field-0.0
-    (shown_at now c.args.names.now c.loop-name.name-index _ c.loop-name-test.true) c.loop-name.invariant.are c.loop-name.invariant.on c.in_err-bytes.ensures.stop)
+    (shown_at now c.args.names.now c.loop-name.name-index _ c.loop-name-test.true) c.loop-name.invariant.are c.loop-name.invariant.on
+    c.in_err-bytes.ensures.stop)
 
 pub loop-name-preserved : goal.loop-name-preserved
 loop-name-preserved g c =

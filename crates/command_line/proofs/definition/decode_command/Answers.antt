@@ -1,0 +1,42 @@
+use Rattle.std.proofs.Common.{rules, ap, ap₂, Bool, false, codes, ◌≡◌, ◌∙◌, ◌||◌}
+use Rattle.std.proofs.lemmas.Result.{IfOk-weaker}
+use Rattle.clap.specs.Simple.{App, app_of, app_of_fields, new_app, with_rule}
+use Rattle.clap.specs.declared.builder.command.Command.TheViews.{out-Command}
+use Rattle.command_line.specs.Definition.{flag, option}
+use Rattle.command_line.proofs.definition.decode_command.Goals as goal
+
+abbrev either : Bool → Bool → Bool
+either a b = a || b
+
+-- `decode` with its first argument, its first two, and so on: the search is too long for five
+abbrev first : App
+first = with_rule (new_app (codes "decode")) (option (codes "interface"))
+
+abbrev second : App
+second = with_rule first (flag (codes "response"))
+
+abbrev third : App
+third = with_rule second (option (codes "handles"))
+
+pub returns-clause-app : goal.returns-clause-app
+returns-clause-app c =
+    let start : app_of c.about.result ≡ new_app (codes "decode") = ap app_of_fields c.about.ensures ∙ c.new.ensures.app in
+    let one : app_of c.in_ok-arg.field-0 ≡ first = c.in_ok-arg.ensures.shape c.option_arg.ensures.local ∙ ap₂ with_rule start c.option_arg.ensures.rule in
+    let two : app_of c.in_ok-arg-2.field-0 ≡ second =
+    c.in_ok-arg-2.ensures.shape c.flag_arg.ensures.local ∙ ap₂ with_rule one c.flag_arg.ensures.rule in
+    let three : app_of c.in_ok-arg-3.field-0 ≡ third =
+    c.in_ok-arg-3.ensures.shape c.option_arg-2.ensures.local ∙ ap₂ with_rule two c.option_arg-2.ensures.rule in
+    let four : app_of c.in_ok-arg-4.field-0 ≡ with_rule third (option (codes "message")) =
+    c.in_ok-arg-4.ensures.shape c.option_arg-3.ensures.local ∙ ap₂ with_rule three c.option_arg-3.ensures.rule in
+    IfOk-weaker c.arg-5.result _ _ (λ r h. h.shape c.files_arg.ensures.local ∙ ap₂ with_rule four c.files_arg.ensures.rule) c.arg-5.ensures
+
+pub returns-clause-local : goal.returns-clause-local
+returns-clause-local c =
+    let start : (out-Command c.about.result).has_globals ≡ false = search rules in
+    let one : (out-Command c.in_ok-arg.field-0).has_globals ≡ false = c.in_ok-arg.ensures.globals ∙ ap₂ either start c.option_arg.ensures.local in
+    let two : (out-Command c.in_ok-arg-2.field-0).has_globals ≡ false = c.in_ok-arg-2.ensures.globals ∙ ap₂ either one c.flag_arg.ensures.local in
+    let three : (out-Command c.in_ok-arg-3.field-0).has_globals ≡ false =
+    c.in_ok-arg-3.ensures.globals ∙ ap₂ either two c.option_arg-2.ensures.local in
+    let four : (out-Command c.in_ok-arg-4.field-0).has_globals ≡ false =
+    c.in_ok-arg-4.ensures.globals ∙ ap₂ either three c.option_arg-3.ensures.local in
+    IfOk-weaker c.arg-5.result _ _ (λ r h. h.globals ∙ ap₂ either four c.files_arg.ensures.local) c.arg-5.ensures

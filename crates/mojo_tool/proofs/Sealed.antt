@@ -1,0 +1,125 @@
+-- The message of a value that was prepared, and why a value isn't written.
+use Rattle.std.proofs.Common.{◌≡◌, ◌≤◌, ◌<◌, ◌+◌, ℕ, zero, suc, List, [], ◌∷◌, ◌++◌, length, Ok, Err, refl, sym, subst, ap, ◌∙◌, add-one, arith, inl, inr}
+use Rattle.std.specs.Prelude.{Result, IsTrue, is_ok}
+use Rattle.mj_base.specs.Bytes.{rounded8}
+use Rattle.mj_schema.specs.declared.schema.Schema.{Schema}
+use Rattle.wire_model.specs.HeaderMarks.{CONTROL_ID}
+use Rattle.wire_model.specs.Message.{AreIds, message}
+use Rattle.wire_model.specs.Stands.{up_from}
+use Rattle.wire_model.specs.Tight.{MAX_PAYLOAD_BYTES}
+use Rattle.wire_model.specs.Trees.{Tree, view}
+use Rattle.wire_model.specs.declared.target.Target.{Target}
+use Rattle.wire_encoder.specs.FirstFailed.{Met, Refusal}
+use Rattle.wire_encoder.specs.Prepared.{IsPrepared, IsPrepareRefusal, method_of, flags_for, payload_for, verdict, sealed_head}
+use Rattle.wire_encoder.specs.declared.prepared.Prepared.{Prepared}
+use Rattle.wire_encoder.specs.declared.refusal.PrepareError.{PrepareError}
+use Rattle.wire_encoder.specs.declared.refusal.PrepareError.TheVariants as unfit
+use Rattle.wire_encoder.specs.declared.sealing.Head as code
+use Rattle.wire_model.specs.declared.value.Value.{Value}
+use Rattle.byte_rules.specs.Judged.{Spells, IsBad}
+use Rattle.value_text.specs.Rules.{value}
+use Rattle.mojo_tool.specs.Lines.{hex_line}
+use Rattle.mojo_tool.specs.Work.{Work, BadText, Encodes, Unfit, Sealing, Preparing, Writing, MAX_BRACKETS, parameters_kind, without_line_end}
+use Rattle.mojo_tool.specs.steps.Messages.{IsTextOfWork, unfit_stop}
+use Rattle.mojo_tool.specs.steps.Stops.{StopsAt, IsOf}
+
+-- one id more
+up_end : (first n : ℕ) → up_from first (suc n) ≡ up_from first n ++ (first + n) ∷ []
+up_end first zero = let e : first ≡ first + 0 = omega arith in ap (λ (i : ℕ). i ∷ []) e
+up_end first (suc n) =
+    let e : first + 1 + n ≡ first + suc n = omega arith in
+    ap (λ (is : List ℕ). first ∷ is) (up_end (first + 1) n ∙ ap (λ (i : ℕ). up_from (first + 1) n ++ i ∷ []) e)
+
+pub up_more : (n : ℕ) (ids all : List ℕ) → ids ≡ up_from 1 n → all ≡ ids ++ (n + 1) ∷ [] → all ≡ up_from 1 (n + 1)
+up_more n ids all before more =
+    let e : 1 + n ≡ n + 1 = omega arith in
+    more ∙ ap (λ (is : List ℕ). is ++ (n + 1) ∷ []) before ∙ ap (λ (i : ℕ). up_from 1 n ++ i ∷ []) (sym e) ∙ sym (up_end 1 n)
+    ∙ ap (up_from 1) (sym (add-one n))
+
+up_length : (first n : ℕ) → length (up_from first n) ≡ n
+up_length first zero = refl
+up_length first (suc n) = ap suc (up_length (first + 1) n)
+
+-- there are so many ids
+pub ids_many : (ids : List ℕ) (n : ℕ) → ids ≡ up_from 1 n → length ids ≡ n
+ids_many ids n e = ap length e ∙ up_length 1 n
+
+up_ids : (first n : ℕ) → 0 < first → first + n ≤ CONTROL_ID → AreIds (up_from first n)
+up_ids first zero some few = tt
+up_ids first (suc n) some few = (some, (omega (arith, few), up_ids (first + 1) n (omega arith) (omega (arith, few))))
+
+-- and they are ids
+pub ids_are : (ids : List ℕ) (n : ℕ) → n ≤ 64 → ids ≡ up_from 1 n → AreIds ids
+ids_are ids n few e = subst AreIds (sym e) (up_ids 1 n (omega arith) (omega (arith, few)))
+
+-- a message by what its head tells
+abbrev made : (name : ℕ) (interface flags request : ℕ) (ids payload : List ℕ) → List ℕ
+made name interface flags request ids payload =
+    message (record { interface = interface; name = name; flags = flags; nonce = 0; request = request; ids = ids }) payload
+
+-- the message that was sealed is the one that the value asks for
+pub sealed_work : (schema : Schema) (p : Prepared) (head : code.Head) (bytes : List ℕ) → IsPrepared schema p → head.interface_id ≡ 0
+    → head.request_id ≡ 1 → head.ids.now ≡ up_from 1 (length p.endpoints.items)
+    → bytes ≡ message (sealed_head p head) p.payload.items → Preparing schema p.target (view p.value) (Encodes bytes)
+sealed_work schema p head bytes is interface request ids e =
+    let name : ℕ = p.target.method in
+    let i : bytes ≡ made name 0 p.flags head.request_id head.ids.now p.payload.items =
+    e ∙ ap (λ (n : ℕ). made name n p.flags head.request_id head.ids.now p.payload.items) interface in
+    let r : bytes ≡ made name 0 p.flags 1 head.ids.now p.payload.items =
+    i ∙ ap (λ (n : ℕ). made name 0 p.flags n head.ids.now p.payload.items) request in
+    let l : bytes ≡ made name 0 p.flags 1 (up_from 1 (length p.endpoints.items)) p.payload.items =
+    r ∙ ap (λ (is : List ℕ). made name 0 p.flags 1 is p.payload.items) ids in
+    let f = l ∙ ap (λ (n : ℕ). made name 0 n 1 (up_from 1 (length p.endpoints.items)) p.payload.items) is.flags in
+    let whole =
+    f ∙ ap (λ (bs : List ℕ). made name 0 (flags_for (method_of schema p.target) p.target) 1 (up_from 1 (length p.endpoints.items)) bs) is.payload in
+    let short : length (payload_for schema p.target (view p.value)) ≤ MAX_PAYLOAD_BYTES =
+    subst (λ (bs : List ℕ). length bs ≤ MAX_PAYLOAD_BYTES) is.payload p.short in
+    subst (λ (r : Result Met Refusal). Sealing schema p.target (view p.value) r (Encodes bytes)) (sym is.passes) (inr (short, ap Encodes whole))
+
+-- its text
+pub encoded_text : (schema : Schema) (p : Prepared) (target : Target) (value : Value) (bytes text : List ℕ) → p.target ≡ target → p.value ≡ value
+    → Preparing schema p.target (view p.value) (Encodes bytes) → text ≡ hex_line bytes → IsTextOfWork (Preparing schema target (view value)) text
+encoded_text schema p target value bytes text t v asked e = record {
+  work = Encodes bytes;
+  asked = subst (λ (x : Value). Preparing schema target (view x) (Encodes bytes)) v
+      (subst (λ (x : Target). Preparing schema x (view p.value) (Encodes bytes)) t asked);
+  text_of = e;
+}
+
+-- a value that isn't prepared isn't written
+pub unfit_stops : (schema : Schema) (target : Target) (tree : Tree) (why : PrepareError) → IsPrepareRefusal schema target tree why
+    → StopsAt (Preparing schema target tree) (unfit_stop why)
+unfit_stops schema target tree (unfit.Misfit path) is =
+    subst (λ (r : Result Met Refusal). Sealing schema target tree r (Unfit (unfit.Misfit path))) (sym is) refl
+unfit_stops schema target tree (unfit.TooDeep path) is =
+    subst (λ (r : Result Met Refusal). Sealing schema target tree r (Unfit (unfit.TooDeep path))) (sym is) refl
+unfit_stops schema target tree (unfit.TooManyHandles path) is =
+    subst (λ (r : Result Met Refusal). Sealing schema target tree r (Unfit (unfit.TooManyHandles path))) (sym is) refl
+unfit_stops schema target tree unfit.TooLong is = long (verdict schema target tree) is.0 (beyond (length (payload_for schema target tree)) is.1)
+  where
+    beyond : (n : ℕ) → MAX_PAYLOAD_BYTES < rounded8 n → MAX_PAYLOAD_BYTES < n
+    beyond n over = omega (arith, over)
+
+    long : (r : Result Met Refusal) → IsTrue (is_ok r) → MAX_PAYLOAD_BYTES < length (payload_for schema target tree)
+        → Sealing schema target tree r (Unfit unfit.TooLong)
+    long (Ok met) ok over = inl (over, refl)
+    long (Err wrong) ok over = absurd cc
+unfit_stops schema target tree unfit.Memory is = tt
+
+-- and no file is named
+pub unfit_names : (why : PrepareError) → IsOf (λ name. ⊥) (unfit_stop why)
+unfit_names (unfit.Misfit path) = tt
+unfit_names (unfit.TooDeep path) = tt
+unfit_names (unfit.TooManyHandles path) = tt
+unfit_names unfit.TooLong = tt
+unfit_names unfit.Memory = tt
+
+-- the text of a value leads on to the value, or is bad
+pub value_spelled : (schema : Schema) (found : Target × ℕ) (bytes : List ℕ) (tree : Tree)
+    → Spells (value schema MAX_BRACKETS (parameters_kind found.1)) tree (without_line_end bytes) → (work : Work) → Preparing schema found.0 tree work
+    → Writing schema found bytes work
+value_spelled schema (target, number) bytes tree spells work asked = inl (tree, spells, asked)
+
+pub value_bad : (schema : Schema) (found : Target × ℕ) (bytes : List ℕ) (at : ℕ)
+    → IsBad (value schema MAX_BRACKETS (parameters_kind found.1)) (without_line_end bytes) at → Writing schema found bytes (BadText at)
+value_bad schema (target, number) bytes at bad = inr (at, bad, refl)

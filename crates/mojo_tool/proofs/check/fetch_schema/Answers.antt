@@ -1,0 +1,24 @@
+use Rattle.std.proofs.Common.{inl, inr}
+use Rattle.mojo_tool.proofs.Fetching.{no_schema_reached, have_schema, refused_set}
+use Rattle.mojo_tool.proofs.check.fetch_schema.Goals as goal
+
+pub returns-in-Err-clause-stop : goal.returns-in-Err-clause-stop
+returns-in-Err-clause-stop g c = inl c.in-Err.ensures.stop
+
+pub returns-in-Err-clause-among : goal.returns-in-Err-clause-among
+returns-in-Err-clause-among g c = no_schema_reached _ _ _ c.in-Err.stop (inl c.in-Err.ensures.stop)
+
+pub returns-in-Ok-compile-clause-schema : goal.returns-in-Ok-compile-clause-schema
+returns-in-Ok-compile-clause-schema g c =
+    have_schema _ _ c.in-Ok.fetched.items c.in-Ok-compile.schema c.in-Ok.ensures.sources (rw c.as_slice.ensures.value at c.in-Ok-compile.ensures.schema)
+
+pub returns-clause-stop : goal.returns-clause-stop
+returns-clause-stop g c =
+    inr (refused_set _ _ c.in-Ok.fetched.items c.in-Err-compile.error c.refused.result c.in-Ok.ensures.sources
+    (rw c.as_slice.ensures.value at c.in-Err-compile.ensures.refused) c.refused.ensures)
+
+pub returns-clause-among : goal.returns-clause-among
+returns-clause-among g c =
+    no_schema_reached (g.F.Files.state c.args.files.now) (g.F.Files.state c.args.files.now) _ c.refused.result
+    (inr (refused_set _ _ c.in-Ok.fetched.items c.in-Err-compile.error c.refused.result c.in-Ok.ensures.sources
+    (rw c.as_slice.ensures.value at c.in-Err-compile.ensures.refused) c.refused.ensures))

@@ -1,0 +1,53 @@
+use Rattle.std.proofs.Common.{◌≡◌, List, ℕ, Bor, sym, refl, inl, inr, ◌∙◌}
+use Rattle.std.specs.Prelude.{map}
+use Rattle.command_line.specs.Asked.{decode_words}
+use Rattle.mojo_tool.specs.Work.{Decoding}
+use Rattle.mojo_tool.specs.declared.refusal.ToolRefusal.TheVariants as refusals
+use Rattle.mojo_tool.proofs.Asking.{ok_goes, err_goes}
+use Rattle.mojo_tool.proofs.Fetching.{no_schema_stops}
+use Rattle.mojo_tool.proofs.Messages.{of_stops}
+use Rattle.mojo_tool.proofs.Deciding.{decode_stops, decode_text, decode_unknown, has_interface}
+use Rattle.mojo_tool.proofs.decode.decide_decode.Goals as goal
+
+pub returns-in-Err-clause-stop : goal.returns-in-Err-clause-stop
+returns-in-Err-clause-stop g c =
+    let now : Bor (List ℕ) → List ℕ = λ name. name.now in
+    let words = decode_words c.args.interface.now c.args.side c.args.handles c.args.message.now (map now c.args.names.now) in
+    no_schema_stops _ _ _ (λ files. Decoding files words) c.in-Err.stop
+    c.in-Err.ensures.stop
+
+pub returns-in-Err-clause-reached : goal.returns-in-Err-clause-reached
+returns-in-Err-clause-reached g c = of_stops _ _ c.in-Err.stop (λ name among. inl among) c.in-Err.ensures.among
+
+pub returns-in-None-clause-stop : goal.returns-in-None-clause-stop
+returns-in-None-clause-stop g c =
+    let now : Bor (List ℕ) → List ℕ = λ name. name.now in
+    let words = decode_words c.args.interface.now c.args.side c.args.handles c.args.message.now (map now c.args.names.now) in
+    decode_unknown words c.in-Ok.schema
+    (g.F.Files.state c.args.files.now) (g.F.Files.state c.args.files.now) (refusals.UnknownName c.args.interface) c.in-Ok.ensures.schema
+    (sym c.find_interface.ensures ∙ c.in-None.is) refl
+
+pub returns-clause-text : goal.returns-clause-text
+returns-clause-text g c =
+    let now : Bor (List ℕ) → List ℕ = λ name. name.now in
+    let words = decode_words c.args.interface.now c.args.side c.args.handles c.args.message.now (map now c.args.names.now) in
+    ok_goes _ _ _
+    (λ text is. decode_text words c.in-Ok.schema _ _ c.in-Some.number text
+    c.in-Ok.ensures.on c.in-Ok.ensures.schema (sym c.find_interface.ensures ∙ c.in-Some.is) (rw c.side_of.ensures at is)) c.decode_file.ensures.text
+
+pub returns-clause-stop : goal.returns-clause-stop
+returns-clause-stop g c =
+    let now : Bor (List ℕ) → List ℕ = λ name. name.now in
+    let words = decode_words c.args.interface.now c.args.side c.args.handles c.args.message.now (map now c.args.names.now) in
+    err_goes _ _ _
+    (λ why is. decode_stops words c.in-Ok.schema _ _ _ c.in-Some.number why
+    c.in-Ok.ensures.on c.in-Ok.ensures.schema (sym c.find_interface.ensures ∙ c.in-Some.is) (rw c.side_of.ensures at is)) c.decode_file.ensures.stop
+
+pub returns-clause-reached : goal.returns-clause-reached
+returns-clause-reached g c =
+    let now : Bor (List ℕ) → List ℕ = λ name. name.now in
+    let words = decode_words c.args.interface.now c.args.side c.args.handles c.args.message.now (map now c.args.names.now) in
+    err_goes _ _ _
+    (λ why named. of_stops (λ name. name ≡ c.args.message.now) _ why
+    (λ name is. inr (is, has_interface words c.in-Ok.schema _ c.in-Some.number c.in-Ok.ensures.schema (sym c.find_interface.ensures ∙ c.in-Some.is))) named)
+    c.decode_file.ensures.named
