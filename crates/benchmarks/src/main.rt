@@ -1,9 +1,11 @@
-//! Times the packing of structs, the reading and printing of files, and their check, in processor time.
+//! Times the packing of structs, the reading and printing of files, their check, and messages, in processor
+//! time.
 #![tactic(auto)]
 
 mod checking;
 mod packing;
 mod reading;
+mod wire;
 
 use std::env::Env;
 use std::io::Print;
@@ -17,10 +19,11 @@ fn run<R: Print + Env + AllocGlobal + CpuClock>(rt: &R) -> io::Result<()> {
             "checking" => return checking::time_all(rt),
             "packing" => return packing::time_all(rt),
             "reading" => return reading::time_all(rt),
+            "wire" => return wire::time_all(rt),
             _ => {}
         }
     }
-    println!(rt; "usage: benchmarks packing | reading | checking")
+    println!(rt; "usage: benchmarks packing | reading | checking | wire")
 }
 
 fn main(rt: HostRuntime) -> io::Result<()> {

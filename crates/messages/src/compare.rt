@@ -1,0 +1,80 @@
+//! What the proved code makes of a message, beside what it literally is.
+
+use crate::same::are_same;
+use message_validator::{Checked, check};
+use mj_base::Fault;
+use mj_schema::Schema;
+use std::alloc::{AllocError, Global};
+use wire_decoder::decode;
+use wire_model::Expected;
+use wire_reference::{Outcome, read};
+
+/// A message's surroundings: what it is expected to be, and with how many handles it came.
+#[derive(Clone, Copy)]
+pub struct Setting<'a> {
+    pub schema: &'a Schema,
+    pub expected: Expected,
+    pub handles: u32,
+}
+
+/// How a comparison ended.
+#[derive(Clone, Copy, PartialEq, Eq)]
+pub enum Verdict {
+    /// Both say that it stands for the same.
+    Stands,
+    /// Both refuse it by the same fault.
+    Refused,
+    Differs,
+}
+
+/// Compares the value of a message that stands.
+fn compare_value(
+    alloc: Global,
+    checked: &Checked<'_>,
+    literal: &Outcome,
+) -> Result<Verdict, AllocError> {
+    let Outcome::Message(message) = literal else {
+        return Ok(Verdict::Differs);
+    };
+    let value = decode(alloc, checked)?;
+    let is_same = checked.method == message.method
+        && checked.request == message.request
+        && are_same(alloc, &value, &message.value)?;
+    if is_same {
+        Ok(Verdict::Stands)
+    } else {
+        Ok(Verdict::Differs)
+    }
+}
+
+/// Compares the fault of a message that is refused.
+fn compare_fault(fault: Fault, literal: &Outcome) -> Verdict {
+    match literal {
+        Outcome::Refused(wanted) => {
+            if fault == *wanted {
+                Verdict::Refused
+            } else {
+                Verdict::Differs
+            }
+        }
+        Outcome::Message(_) | Outcome::TooLarge => Verdict::Differs,
+    }
+}
+
+/// Compares what comes of a message.
+pub fn compare<'a>(
+    alloc: Global,
+    setting: Setting<'a>,
+    bytes: &'a [u8],
+) -> Result<Verdict, AllocError> {
+    let Setting {
+        schema,
+        expected,
+        handles,
+    } = setting;
+    let literal = read(alloc, schema, expected, bytes, handles)?;
+    match check(schema, expected, bytes, handles) {
+        Ok(checked) => compare_value(alloc, &checked, &literal),
+        Err(fault) => Ok(compare_fault(fault, &literal)),
+    }
+}

@@ -1,0 +1,107 @@
+//! Compares what the proved code makes of small messages with what they literally stand for: of each
+//! message of a file, all its cuts, and each word of it changed to a few telling others.
+#![tactic(auto)]
+
+mod case;
+mod compare;
+mod edits;
+mod same;
+
+use crate::case::{Case, cases};
+use crate::compare::{Setting, Verdict, compare};
+use crate::edits::{Tally, compare_cuts, compare_edits};
+use mj_io::{Fetched, Files, RealFiles};
+use std::alloc::{AllocError, Global};
+use std::env::Env;
+use std::io::Print;
+use std::process::ExitCode;
+use std::{env, io};
+
+/// The bytes that a file of messages has at most.
+const MOST_BYTES: u64 = 1_048_576;
+
+/// Compares a case; none where its definitions are refused or its message is.
+fn compare_case(alloc: Global, case: &mut Case) -> Result<Option<Tally>, AllocError> {
+    let Some(schema) = case.schema(alloc)? else {
+        return Ok(None);
+    };
+    let Some(expected) = case.expected(&schema) else {
+        return Ok(None);
+    };
+    let setting = Setting {
+        schema: &schema,
+        expected,
+        handles: case.handles,
+    };
+    if compare(alloc, setting, &case.bytes)? != Verdict::Stands {
+        return Ok(None);
+    }
+    let mut tally = compare_cuts(alloc, setting, &case.bytes)?;
+    tally.add(compare_edits(alloc, setting, &mut case.bytes)?);
+    Ok(Some(tally))
+}
+
+/// Compares the cases of a text, and prints what came of each.
+fn compare_text<R: Print + AllocGlobal>(rt: &R, text: &str, total: &mut Tally) -> io::Result<()> {
+    let mut cases = cases(rt.alloc(), text)?;
+    for case in &mut cases {
+        match compare_case(rt.alloc(), case)? {
+            Some(tally) => {
+                let compared = tally.compared();
+                println!(rt;
+                    "{}: {} compared, {} stand, {} refused, {} differ",
+                    case.name.as_str(),
+                    compared,
+                    tally.stand,
+                    tally.refused,
+                    tally.differ
+                )?;
+                Tally::add(total, tally);
+            }
+            None => {
+                total.differ = total.differ.saturating_add(1);
+                println!(rt; "{}: it doesn't stand", case.name.as_str())?;
+            }
+        }
+    }
+    Ok(())
+}
+
+/// The bytes of a file; none where it can't be read.
+fn bytes_of<F: Files>(alloc: Global, files: &mut F, name: &str) -> Option<Vec<u8>> {
+    let mut bytes = Vec::new(alloc);
+    match files.fetch(alloc, name, MOST_BYTES, &mut bytes) {
+        Ok(Fetched::Whole) => Some(bytes),
+        Ok(Fetched::Longer) | Err(_) => None,
+    }
+}
+
+/// Compares the cases of each file that the words name.
+fn run_files<R: std::rt::Files + Env + Print + AllocGlobal>(rt: &R) -> io::Result<Tally> {
+    let mut files = RealFiles::new(rt);
+    let mut tally = Tally::default();
+    for name in env::args(rt)?.skip(1) {
+        let bytes = bytes_of(rt.alloc(), &mut files, name.as_str());
+        match bytes.as_ref().map(|bytes| str::from_utf8(bytes.as_slice())) {
+            Some(Ok(text)) => compare_text(rt, text, &mut tally)?,
+            _ => {
+                tally.differ = tally.differ.saturating_add(1);
+                println!(rt; "{name}: it can't be read")?;
+            }
+        }
+    }
+    Ok(tally)
+}
+
+fn main(rt: HostRuntime) -> io::Result<ExitCode> {
+    let tally = run_files(&rt)?;
+    println!(rt;
+        "{} compared, {} differences",
+        tally.compared(),
+        tally.differ
+    )?;
+    if tally.differ > 0 {
+        return Ok(ExitCode::FAILURE);
+    }
+    Ok(ExitCode::SUCCESS)
+}
