@@ -1,0 +1,4 @@
+pub mod Contents
+pub mod Ends
+pub mod Mail
+pub mod steps
