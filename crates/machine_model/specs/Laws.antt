@@ -1,0 +1,108 @@
+-- What every legal history keeps.
+use Rattle.std.specs.Prelude.{ℕ, zero, suc, ◌≡◌, ◌≢◌, ◌+◌, ◌++◌, ◌==◌, ◌&&◌, Bool, true, false, not, List, [], ◌∷◌, map, length, slice_get, Some, Ok}
+use Rattle.std.specs.List.{list_any}
+use Rattle.mj_base.specs.declared.ids.EndId.{EndId}
+use Rattle.mj_base.specs.declared.ids.SeqId.{SeqId}
+use Rattle.handle_table.specs.declared.thing.Thing.{Thing}
+use Rattle.machine_model.specs.declared.event.Event.{Event}
+use Rattle.message_pipe.specs.declared.message.Message.{Message}
+use Rattle.machine_model.specs.declared.endpoint.Endpoint.{Endpoint}
+use Rattle.machine_model.specs.declared.told.Got.{Got}
+use Rattle.machine_model.specs.declared.endpoint.State.TheVariants as states
+use Rattle.machine_model.specs.declared.asked.Asked.{Asked}
+use Rattle.machine_model.specs.declared.asked.Asked.TheVariants.{Take}
+use Rattle.machine_model.specs.declared.told.Told.{Told}
+use Rattle.machine_model.specs.declared.told.Told.TheVariants.{Taken, Dropped, Control}
+use Rattle.handle_table.specs.Things.{times}
+use Rattle.wire_model.specs.HeaderMarks.{CONTROL_ID}
+use Rattle.machine_model.specs.Wire.{Wire, Header, Content}
+use Rattle.machine_model.specs.Machine.{made, out, gone, is_gone, held_unread, held_bound, written, endpoint_at, is_closed, unread, takes, consumed}
+use Rattle.machine_model.specs.Replies.{Drawn, drawn, answered, is_response, is_asked}
+
+-- each thing that was made has one place: with a caller, in an unread message, bound, or gone
+abbrev pub OnePlace : Wire → List Event → Type 0
+OnePlace wire past =
+    (z : Thing) → times z (out past) + (times z (held_unread wire past) + (times z (held_bound past) + times z (gone past))) ≡ times z (made past)
+
+-- ## Responses
+
+-- so many numbers, from this one on
+abbrev pub up_from : ℕ → ℕ → List ℕ
+up_from first zero = []
+up_from first (suc n) = first ∷ up_from (suc first) n
+
+abbrev pub has_number : List ℕ → ℕ → Bool
+has_number ns n = list_any (λ k. k == n) ns
+
+abbrev pub all_differ : List ℕ → Bool
+all_differ [] = true
+all_differ (n ∷ ns) = not (has_number ns n) && all_differ ns
+
+-- a got response was asked for: a request of its number and method was sent at its endpoint, and had no response yet
+abbrev pub IsAwaited : List Event → Told → Asked → Type 0
+IsAwaited past (Taken g) (Take y) = is_response g.target.side ≡ true → is_asked past y g.id g.request g.target.method ≡ true
+IsAwaited past told asked = Unit {0}
+
+abbrev pub AllAwaited : List Event → Type 0
+AllAwaited [] = Unit {0}
+AllAwaited (event ∷ past) = IsAwaited past event.told event.asked × AllAwaited past
+
+-- at each endpoint the requests have the numbers 1, 2, 3 and so on, no two responses that were got have one number, and each was asked for
+pub record OwnResponses (past : List Event) : Type 0 where
+  pub numbers : (x : EndId) (id : ℕ) → map (λ (d : Drawn). d.request) (drawn past x id) ≡ up_from 1 (length (drawn past x id))
+  pub once : (x : EndId) (id : ℕ) → all_differ (answered past x id) ≡ true
+  pub awaited : AllAwaited past
+
+-- ## Messages stay, and are consumed in order
+
+abbrev pub Stays : Wire → List Event → Type 0
+Stays wire past = (more : List Event) (x : EndId) → (rest : List Message) × (written wire (more ++ past) x ≡ written wire past x ++ rest)
+
+-- a take that consumed a message at x consumed the one of this number, of all that are ever written there, and neither end nor endpoint was gone
+abbrev pub ConsumesNext : Wire → List Event → EndId → Told → Asked → Type 0
+ConsumesNext wire past x told asked =
+    takes told asked x ≢ [] → (m : Message) × (slice_get (written wire past x) (consumed past x) ≡ Some m) × (is_gone past x ≡ false)
+
+abbrev pub InOrder : Wire → List Event → Type 0
+InOrder wire [] = Unit {0}
+InOrder wire (event ∷ past) = ((x : EndId) → ConsumesNext wire past x event.told event.asked) × InOrder wire past
+
+-- what is got is what its message stands for, at an endpoint that is bound on the sequence that takes
+pub record StandsFor (wire : Wire) (past : List Event) (seq : SeqId) (y : EndId) (g : Got) : Type 0 where
+  pub m : Message
+  pub r : Endpoint
+  pub c : Content
+  pub front : (rest : List Message) × (unread wire past y ≡ m ∷ rest)
+  pub header : (h : Header) × (wire.header m.bytes ≡ Ok h) × ((h.id == CONTROL_ID) ≡ false) × (g.id ≡ h.id)
+  pub at : endpoint_at wire past y g.id ≡ Some r
+  pub state : r.state ≡ states.Bound seq
+  pub stands : wire.stands r.side r.interface m.bytes (length m.handles) ≡ Ok c
+  pub value : (g.parameters ≡ c.parameters) × (g.target ≡ c.target) × (g.request ≡ c.request)
+
+-- a message was dropped: it is no control, and its endpoint isn't there or is closed
+pub record WasDropped (wire : Wire) (past : List Event) (y : EndId) (id : ℕ) (m : Message) : Type 0 where
+  pub h : Header
+  pub header : wire.header m.bytes ≡ Ok h
+  pub plain : (h.id == CONTROL_ID) ≡ false
+  pub is : id ≡ h.id
+  pub closed : (r : Endpoint) → endpoint_at wire past y h.id ≡ Some r → is_closed r ≡ true
+
+pub record WasControl (wire : Wire) (id : ℕ) (m : Message) : Type 0 where
+  pub h : Header
+  pub header : wire.header m.bytes ≡ Ok h
+  pub control : (h.id == CONTROL_ID) ≡ true
+  pub is : wire.closed_id m.bytes ≡ Ok id
+
+-- the oldest unread message at y, and what is known of it
+abbrev pub OfFront : Wire → List Event → EndId → (Message → Type 0) → Type 0
+OfFront wire past y holds = (m : Message) × (rest : List Message) × (unread wire past y ≡ m ∷ rest) × holds m
+
+abbrev pub GotStands : Wire → List Event → SeqId → Told → Asked → Type 0
+GotStands wire past seq (Taken g) (Take y) = StandsFor wire past seq y g
+GotStands wire past seq (Dropped id gone) (Take y) = OfFront wire past y (WasDropped wire past y id)
+GotStands wire past seq (Control id) (Take y) = OfFront wire past y (WasControl wire id)
+GotStands wire past seq told asked = Unit {0}
+
+abbrev pub AllStand : Wire → List Event → Type 0
+AllStand wire [] = Unit {0}
+AllStand wire (event ∷ past) = GotStands wire past event.seq event.told event.asked × AllStand wire past

@@ -1,0 +1,11 @@
+//! The limits of the machine.
+
+/// The most bytes that may be written raw as one message.
+pub const MAX_RAW_BYTES: u64 = 16_777_216;
+
+/// The most handles that may be written raw with one message.
+pub const MAX_RAW_HANDLES: usize = 64;
+
+/// The ids that an end makes for endpoints are 1, 2, 3 and so on, with this added where its endpoint 0
+/// is a remote, so that the two ends of a pipe never make the same.
+pub const REMOTE_IDS: u32 = 2_147_483_648;

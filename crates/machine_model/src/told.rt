@@ -1,0 +1,93 @@
+//! What a sequence may be told.
+
+use crate::endpoint::PendingId;
+use crate::parameters::Parameters;
+use handle_table::Thing;
+use mj_base::{EndId, Fault, Items, SeqId};
+use wire_model::Target;
+
+/// What a take got: the id of the endpoint that the message was for, its method and side, its
+/// parameters, its request id (0 where it has none), the handles and endpoints that these name in the
+/// order of their indexes, and what went with the handles that they don't name.
+#[derive(Drop)]
+pub struct Got {
+    pub id: u32,
+    pub target: Target,
+    pub parameters: Parameters,
+    pub request: u64,
+    pub handles: Items<Thing>,
+    pub pendings: Items<PendingId>,
+    pub gone: Items<Thing>,
+}
+
+/// Why a message is bad.
+#[derive(Clone, Copy, Debug, PartialEq, Eq)]
+pub enum BadWhy {
+    /// It stands for nothing.
+    Message(Fault),
+    /// It answers a request of this id, which was not made or is answered already.
+    Unasked(u64),
+    /// It carries this id, which the end has already or would make itself.
+    StrangeId(u32),
+}
+
+/// Why a command is refused.
+#[derive(Clone, Copy, Debug, PartialEq, Eq)]
+pub enum Why {
+    /// A named end, endpoint, interface or sequence isn't there, or a handle, a pending endpoint or a
+    /// responder isn't out here, or is named twice.
+    NoName,
+    /// The handle isn't an end of a message pipe.
+    NotPipe,
+    /// The end or the endpoint is closed, or that at the other side is.
+    Disconnected,
+    /// The endpoint of this id came with a message and isn't attached yet.
+    Unbound(u32),
+    /// The endpoint is bound on that sequence.
+    Elsewhere(SeqId),
+    /// The endpoint is a receiver: it makes no calls.
+    WrongSide,
+    /// What is sent is of another interface or method, or isn't a request (or a response).
+    WrongMethod,
+    /// The handles or endpoints aren't as many as the parameters name, or an endpoint is of another side
+    /// or interface.
+    WrongTokens,
+    /// The endpoint of this id is of another pipe, or was received (to attach: was made here).
+    WrongPipe(u32),
+    /// A handle is of the end that the message would go to.
+    SelfSend,
+    /// More than 16,777,216 bytes.
+    TooLong,
+    /// More than 64 handles.
+    TooManyHandles,
+    /// 4,096 unread messages stand at the other end.
+    Full,
+    /// Nothing is unread.
+    Empty,
+    /// Nothing is unread, and the other end is closed.
+    PeerClosed,
+}
+
+/// What it was told.
+#[derive(Drop)]
+pub enum Told {
+    /// The ends of a new pipe, or a new token.
+    Made(Items<Thing>),
+    Bound(EndId),
+    Associated(PendingId),
+    Attached(u32),
+    /// The request id (0 where no response is expected) and the bytes that were sent.
+    Sent(u64, Items<u8>),
+    Wrote(EndId),
+    Taken(Got),
+    /// A message for the endpoint of this id, which isn't there or is closed, and what went with it.
+    Dropped(u32, Items<Thing>),
+    /// The peer of the endpoint of this id is closed.
+    Control(u32),
+    /// The oldest message is bad; the end is closed with it, and all this went.
+    Bad(BadWhy, Items<Thing>),
+    /// All that went.
+    Closed(Items<Thing>),
+    Skipped,
+    No(Why),
+}
