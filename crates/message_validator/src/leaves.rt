@@ -27,7 +27,9 @@ pub fn check_text(bytes: &[u8], at: u64, claims: &mut Claims) -> Result<(), Faul
     ensures follows { Follows result claims.new (run claims.old (text_marks bytes.now at)) }
     ensures end { claims.new.end ≡ claims.old.end }
 {
-    let (size, count) = claims.header(bytes, at)?;
+    claims.check_start(at)?;
+    let size = le32(bytes, at);
+    let count = le32(bytes, at + 4);
     claims.claim_object(
         at,
         size as u64,
@@ -39,12 +41,16 @@ pub fn check_text(bytes: &[u8], at: u64, claims: &mut Claims) -> Result<(), Faul
     check_utf8(&bytes[base..base + count as usize], at + 8)
 }
 
-/// Bytes at a place, which are to be UTF-8. The fault stands at the first byte that isn't.
-#[tactic(auto, unfolding(bounds_claims::specs::Runs::run, bounds_claims::specs::Runs::step, wire_model::specs::Texts::valid_len), using(crate::proofs::Texts::whole, crate::proofs::Texts::short))]
+/// Bytes at a place, which are to be UTF-8. The fault stands at the first byte that isn't. ASCII is
+/// tested first, since most strings are of it.
+#[tactic(auto, unfolding(bounds_claims::specs::Runs::run, bounds_claims::specs::Runs::step, wire_model::specs::Texts::valid_len), using(crate::proofs::Texts::plain, crate::proofs::Texts::whole, crate::proofs::Texts::short))]
 fn check_utf8(text: &[u8], at: u64) -> Result<(), Fault>
     requires room { at + length text.now < 2 ^ 64 }
     ensures { (claims : Claims) → Follows result claims (run claims (Test (valid_len text.now == length text.now) BadUtf8 (at + valid_len text.now) ∷ [])) }
 {
+    if text.is_ascii() {
+        return Ok(());
+    }
     match from_utf8(text) {
         Ok(_) => Ok(()),
         Err(error) => Err(Fault {

@@ -1,13 +1,14 @@
 //! The walk through a payload: each object once, in the order in which the marks have them. Functions
 //! take the places of slots and objects in the message, and how many levels of objects may still come.
 
-ghost use Rattle.std.specs.Prelude.{◌≡◌, ◌+◌, ◌*◌, ◌/◌, ◌≤◌, length, map, false, All, None, IfOk};
+ghost use Rattle.std.specs.Prelude.{◌≡◌, ◌+◌, ◌*◌, ◌/◌, ◌≤◌, length, map, false, All, None, IfOk, IsTrue};
 ghost use Rattle.std.specs.Option.{option_copied};
 ghost use Rattle.bounds_claims.specs.Runs.{run, Follows};
 ghost use Rattle.message_validator.specs.steps.Fields.{EndsBefore};
 ghost use Rattle.message_validator.specs.steps.Pointed.{pointed_union_marks};
 ghost use Rattle.mj_schema.specs.KindTrees.{kind_view, ArrayKind};
 ghost use Rattle.mj_schema.specs.Sizes.{size_of};
+ghost use Rattle.mj_schema.specs.Versions.{is_table};
 ghost use Rattle.wire_model.specs.Bytes.{number32};
 ghost use Rattle.wire_model.specs.Marks.{visit, object_marks, struct_marks, map_marks, array_marks, content_marks, elements_marks};
 ghost use Rattle.wire_model.specs.Marks.{slots_marks, slot_marks, cell_marks, union_marks, member_marks, pointer_marks, count_at};
@@ -121,11 +122,14 @@ fn check_struct(
     claims: &mut Claims,
 ) -> Result<(), Fault>
     requires row { IsReadableRow row.now }
+    requires rising { IsTrue (is_table row.now.versions) }
     requires end { claims.old.end ≤ length bytes.now }
     ensures follows { Follows result claims.new (run claims.old (struct_marks (visit left schema.now bytes.now) schema.now bytes.now at row.now)) }
     ensures end { claims.new.end ≡ claims.old.end }
 {
-    let (size, version) = claims.header(bytes, at)?;
+    claims.check_start(at)?;
+    let size = le32(bytes, at);
+    let version = le32(bytes, at + 4);
     claims.claim_object(at, size as u64, 0, true, FaultKind::UnexpectedStructHeader)?;
     let Some(fields) = fields_of(row, version, size) else {
         return Err(Fault {
@@ -165,8 +169,9 @@ fn check_fields(
     Ok(())
 }
 
-/// A slot of a struct or of an array. Bools and integers, which need no test, are passed over here, since
-/// most fields are of them.
+/// A slot of a struct or of an array. Bools and integers, which need no test, and pointers are told apart
+/// here, since most fields are of them. It is inlined into the loops, so that those cost no call.
+#[inline(always)]
 #[cycle(walk)]
 #[tactic(auto, unfolding(wire_model::specs::Marks::slot_marks, wire_model::specs::Marks::cell_marks), using(bounds_claims::proofs::Steps::run_nil))]
 fn check_slot(
@@ -185,6 +190,12 @@ fn check_slot(
 {
     match kind {
         KindNode::Bool | KindNode::Int { .. } => Ok(()),
+        KindNode::Text { nullable }
+        | KindNode::Array { nullable, .. }
+        | KindNode::Map { nullable, .. }
+        | KindNode::Struct { nullable, .. } => {
+            check_pointer(schema, bytes, at, kind, *nullable, left, claims)
+        }
         KindNode::Union { number, nullable } => {
             check_union(schema, bytes, at, *number, *nullable, left, claims)
         }
@@ -315,7 +326,9 @@ fn check_map(
         (map_marks (visit left schema.now bytes.now) bytes.now at (kind_view key.now) (kind_view value.now))) }
     ensures end { claims.new.end ≡ claims.old.end }
 {
-    let (size, version) = claims.header(bytes, at)?;
+    claims.check_start(at)?;
+    let size = le32(bytes, at);
+    let version = le32(bytes, at + 4);
     claims.claim_object(at, size as u64, 0, true, FaultKind::UnexpectedStructHeader)?;
     if !is_map_header(size, version) {
         return Err(Fault {
@@ -353,7 +366,9 @@ fn check_array(
     ensures count { IfOk result (λ n. n ≡ number32 bytes.now (at + 4)) }
     ensures end { claims.new.end ≡ claims.old.end }
 {
-    let (size, count) = claims.header(bytes, at)?;
+    claims.check_start(at)?;
+    let size = le32(bytes, at);
+    let count = le32(bytes, at + 4);
     let extra = element_bytes(of, count);
     let fine = has_count(fixed, count);
     let header = FaultKind::UnexpectedArrayHeader;
@@ -431,7 +446,7 @@ fn check_pointed_union(
         (pointed_union_marks (visit left schema.now bytes.now) schema.now bytes.now at number nullable)) }
     ensures end { claims.new.end ≡ claims.old.end }
 {
-    claims.header(bytes, at)?;
+    claims.check_start(at)?;
     claims.claim_object(at, 16, 8, true, FaultKind::IllegalMemoryRange)?;
     check_union(schema, bytes, at, number, nullable, left, claims)
 }

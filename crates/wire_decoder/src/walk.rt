@@ -1,9 +1,9 @@
 //! The walk through a message that was checked, which makes its value.
 
-ghost use Rattle.std.specs.Prelude.{◌≡◌, ◌+◌, ◌*◌, ◌/◌, ◌<◌, ◌≤◌, length, map, take, drop, slice_get, false, true, All, IfOk, None, ℕ};
+ghost use Rattle.std.specs.Prelude.{◌≡◌, ◌+◌, ◌*◌, ◌/◌, ◌<◌, ◌≤◌, length, map, take, drop, slice_get, false, true, All, IfOk, IsTrue, None, ℕ};
 ghost use Rattle.mj_schema.specs.KindTrees.{kind_view, ArrayKind};
 ghost use Rattle.mj_schema.specs.Sizes.{size_of};
-ghost use Rattle.mj_schema.specs.Versions.{bytes_of};
+ghost use Rattle.mj_schema.specs.Versions.{bytes_of, is_table};
 ghost use Rattle.wire_model.specs.Bytes.{number32};
 ghost use Rattle.wire_model.specs.Marks.{visit, object_marks, struct_marks, map_marks, content_marks, slots_marks, slot_marks};
 ghost use Rattle.wire_model.specs.Marks.{cell_marks, found_union_marks, pointer_marks};
@@ -156,6 +156,7 @@ fn decode_struct(
     left: u32,
 ) -> Result<Value, AllocError>
     requires row { IsReadableRow row.now }
+    requires rising { IsTrue (is_table row.now.versions) }
     requires readable { AreReadable (length bytes.now) (struct_marks (visit left schema.now bytes.now) schema.now bytes.now at row.now) }
     ensures { IfOk result (λ made. view made ≡ struct_value (value left schema.now bytes.now) schema.now bytes.now at row.now (number32 bytes.now (at + 4))) }
 {
