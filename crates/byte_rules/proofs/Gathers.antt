@@ -3,7 +3,8 @@ use Rattle.std.proofs.Common.{◌≡◌, ℕ, zero, suc, ◌-◌, ◌+◌, ◌�
 use Rattle.byte_rules.specs.declared.stop.Stop.{Stop}
 use Rattle.byte_rules.specs.declared.stop.Stop.TheVariants as stops
 use Rattle.byte_rules.specs.Lang.{Lang, Read, ◌>>=◌, front_is, byte, closed, as_value, ◌then◌, ◌▸◌, until, rest_of}
-use Rattle.byte_rules.specs.Reading.{Fails, gathered}
+use Rattle.byte_rules.specs.Reading.{Fails}
+use Rattle.byte_rules.specs.steps.Reading.{gathered}
 
 module _ {A F : Type 0} (add : F → List A → F) (nothing : (front : F) → add front [] ≡ front)
     (one_more : (front : F) (x : A) (xs : List A) → add front (x ∷ xs) ≡ add (add front (x ∷ [])) xs) (c : ℕ) (one : Lang A) where

@@ -3,7 +3,8 @@ use Rattle.std.proofs.Common.{◌≡◌, ℕ, zero, suc, ◌-◌, ◌≤◌, Lis
 use Rattle.std.proofs.Common.{◌∙◌, subst, arith, length-append}
 use Rattle.std.proofs.lemmas.List.{append-nil}
 use Rattle.byte_rules.specs.Lang.{Lang, Read, Whole, Begun}
-use Rattle.byte_rules.specs.Judged.{Spells, Begins, IsBad, Judges, verdict}
+use Rattle.byte_rules.specs.Judged.{Spells, Begins, IsBad}
+use Rattle.byte_rules.specs.steps.Reading.{Judges, verdict}
 use Rattle.byte_rules.proofs.Tells.{Told}
 use Rattle.byte_rules.proofs.Finds.{Free, Outcome}
 use Rattle.byte_rules.proofs.Good.{Good}

@@ -5,7 +5,8 @@ use Rattle.std.proofs.lemmas.List.{append-nil}
 use Rattle.byte_rules.specs.declared.stop.Stop.{Stop}
 use Rattle.byte_rules.specs.declared.stop.Stop.TheVariants as stops
 use Rattle.byte_rules.specs.Lang.{Lang, Read, front_is, byte, ◌▸◌, until, rest_of}
-use Rattle.byte_rules.specs.Reading.{Fails, with_front, behind}
+use Rattle.byte_rules.specs.Reading.{Fails}
+use Rattle.byte_rules.specs.steps.Reading.{with_front, behind}
 use Rattle.byte_rules.proofs.Gathers as gathers
 
 module _ {A B : Type 0} (parts : A → List B) (c : ℕ) (one : Lang A) where

@@ -16,14 +16,3 @@ pub record IsBad {A : Type 0} (one : Lang A) (bytes : List ℕ) (at : ℕ) : Typ
   pub begins : (n : ℕ) → n ≤ at → Begins one (take n bytes)
   pub no_more : (n : ℕ) → n ≤ length bytes → Begins one (take n bytes) → n ≤ at
   pub none : (x : A) → Spells one x bytes → ⊥
-
--- what is said of bytes where this is the answer
-abbrev pub Judges : {A : Type 0} → Lang A → List ℕ → Result A ℕ → Type 0
-Judges one bytes (Ok x) = Spells one x bytes
-Judges one bytes (Err at) = IsBad one bytes at
-
--- the answer for so many bytes where this was read
-abbrev pub verdict : {A : Type 0} → ℕ → Read A → Result A ℕ
-verdict len (Ok (x, [])) = Ok x
-verdict len (Ok (x, b ∷ bs)) = Err (len - length (b ∷ bs))
-verdict len (Err left) = Err (len - left)

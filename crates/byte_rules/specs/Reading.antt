@@ -14,15 +14,3 @@ Fails (stops.Left n) read = read ≡ Err n
 abbrev pub Gives : {X Y : Type 0} → (X → Y) → Result X Stop → Result Y ℕ → Type 0
 Gives view (Ok x) read = read ≡ Ok (view x)
 Gives view (Err e) read = Fails e read
-
--- what was read before, with what is still read
-abbrev pub gathered : {A F : Type 0} → (F → List A → F) → F → Read (List A) → Read F
-gathered add front read = read >>= λ x. Ok (add front x.0, x.1)
-
--- what was read before, and what of each value is still read
-abbrev pub with_front : {A B : Type 0} → (A → List B) → List B → Read (List A) → Read (List B)
-with_front parts front read = read >>= λ x. Ok (front ++ flat_map parts x.0, x.1)
-
--- what was read before, and what is still read
-abbrev pub behind : {B : Type 0} → List B → Read (List B) → Read (List B)
-behind front read = read >>= λ x. Ok (front ++ x.0, x.1)

@@ -58,7 +58,8 @@ pointed_more (values.Endpoint i) = omega arith
 pointed_more (values.EndpointRemote i v) = omega arith
 pointed_more values.Null = omega arith
 
-module _ (schema : Schema) (bytes : List ℕ) (small : AreBytes bytes) (next : Next) (then_ : Behind) (most : ℕ) (behind : AreKindedBehind schema next then_ most) where
+module _ (schema : Schema) (bytes : List ℕ) (small : AreBytes bytes) (next : Next) (then_ : Behind) (most : ℕ)
+    (behind : AreKindedBehind schema next then_ most) where
   pub pointer_kinded : (p : ℕ) (k : KindTree) (nullable : Bool) → IsPointed k → IsThere schema k → is_nullable k ≡ nullable
       → IsFine (pointer_marks next bytes p k nullable) → IsValue schema false k (pointer_value then_ bytes p k) most
   unfolding pointer_marks pointer_value IsOfKind

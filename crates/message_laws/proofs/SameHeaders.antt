@@ -79,7 +79,17 @@ module _ (bytes other : List ℕ) (long : length bytes ≤ length other) where
       let one = same32 bytes other q (same_part bytes other q size q 4 same (omega arith) (omega (arith, room))) in
       let two = same32 bytes other (q + 4) (same_part bytes other q size (q + 4) 4 same (omega arith) (omega (arith, room))) in
       let each = same_part bytes other q size (q + 8) (4 * n) same (omega arith) (omega (arith, room)) in
-      record { marks = rw (one, two, id_marks_same (q + 8) n each, range_same (s + 8) q 8 fine.1.1.0, range_same (s + 8) q size fine.1.1.1.1.0) refl; ids = rw two (ids_from_same (q + 8) n each) }
+      record {
+        marks = rw (
+          one,
+          two,
+          id_marks_same (q + 8) n each,
+          range_same (s + 8) q 8 fine.1.1.0,
+          range_same
+              (s + 8) q size fine.1.1.1.1.0,
+        ) refl;
+        ids = rw two (ids_from_same (q + 8) n each);
+      }
 
   -- what the array of ids is where it may be null
   record SameAt (s t : ℕ) : Type 0 where

@@ -129,5 +129,6 @@ independent schema expected bytes other handle_count stands agrees =
       },
       λ number e.
           message_is (number32 bytes 12) (number32 other 12) (request_read bytes) (request_read other)
-          (value_of schema bytes (payload_start bytes) number) (value_of schema other (payload_start other) number) header.name header.request (h.value number e),
+          (value_of schema bytes (payload_start bytes) number) (value_of schema other (payload_start other) number) header.name header.request
+          (h.value number e),
     )

@@ -126,7 +126,8 @@ module _ (schema : Schema) (bytes other : List ℕ) (long : length bytes ≤ len
         let room = fine.0 in
         let one = same32 bytes other p (same_part bytes other p size p 4 a.0.0 (omega arith) (omega (arith, room))) in
         let two = same32 bytes other (p + 4) (same_part bytes other p size (p + 4) 4 a.0.0 (omega arith) (omega (arith, room))) in
-        let cut = cut_same bytes other (p + 8) n (omega (arith, room, a.0.1)) long (same_part bytes other p size (p + 8) n a.0.0 (omega arith) (omega (arith, room))) in
+        let cut = cut_same bytes other (p + 8) n (omega (arith, room, a.0.1)) long
+        (same_part bytes other p size (p + 8) n a.0.0 (omega arith) (omega (arith, room))) in
         record { marks = rw (one, two, cut) refl; value = rw (two, cut) refl }
 
     array_same : (p : ℕ) (of : KindTree) (fixed : Option ℕ) (nullable : Bool) → IsFine (array_marks next schema bytes p of fixed)

@@ -12,7 +12,8 @@ use Rattle.wire_model.specs.Bytes.{number32, number64}
 use Rattle.wire_model.specs.Marks as marks
 use Rattle.wire_model.specs.Marks.{Mark, Next, pointer_marks, index_marks, cell_marks, member_marks, found_union_marks, union_marks, slot_marks, slots_marks}
 use Rattle.wire_model.specs.Rows.{kind_of_tag}
-use Rattle.wire_model.specs.Slots.{Slot, cell_size}
+use Rattle.wire_model.specs.Slots.{Slot}
+use Rattle.wire_model.specs.steps.Cells.{cell_size}
 use Rattle.wire_model.specs.Stands.{IsFine}
 use Rattle.wire_model.specs.Trees as values
 use Rattle.wire_model.specs.Trees.{Tree, Trees}

@@ -43,7 +43,8 @@ pub record Becomes (end : EndId) (f : PipeEnd → PipeEnd) (old new : Contents) 
 
 -- a pipe of two new ends is made, each the other's peer and both out, and nothing else changes
 pub record MakesPipe (first second : ℕ) (one other : EndId) (old new : Contents) : Type 0 where
-  pub ends : (x : EndId) → end_of new.ends x ≡ (if same_end other x then Some (open_end one) else (if same_end one x then Some (open_end other) else end_of old.ends x))
+  pub ends : (x : EndId) → end_of new.ends x ≡ (if same_end other x then Some (open_end one) else
+      (if same_end one x then Some (open_end other) else end_of old.ends x))
   pub table : GainsPipe first second (End one) (End other) old.table new.table
   pub made : new.made ≡ old.made + 2
 
@@ -62,7 +63,8 @@ pub record Puts (thing : Thing) (place : Place) (old new : Contents) : Type 0 wh
 -- these things are closed, and nothing else changes
 pub record Closes (goes : List Thing) (old new : Contents) : Type 0 where
   pub ends : (x : EndId) → end_of new.ends x ≡ option_map (closed_by goes x) (end_of old.ends x)
-  pub places : (z : Thing) → place_of new.table z ≡ (if has goes z then option_map (λ (before : Place). places.Closed) (place_of old.table z) else place_of old.table z)
+  pub places : (z : Thing) → place_of new.table z ≡ (if has goes z then option_map (λ (before : Place). places.Closed)
+      (place_of old.table z) else place_of old.table z)
   pub ends_made : (seq : ℕ) → ends_made new.table seq ≡ ends_made old.table seq
   pub tokens_made : (seq : ℕ) → tokens_made new.table seq ≡ tokens_made old.table seq
   pub made : new.made ≡ old.made

@@ -64,10 +64,3 @@ with_message m end = record { peer = end.peer; closed = end.closed; unread = end
 
 abbrev pub without_front : PipeEnd → PipeEnd
 without_front end = record { peer = end.peer; closed = end.closed; unread = drop 1 end.unread }
-
--- one sequence's ends once a pipe of these two is made
-abbrev pub with_second : EndId → EndId → ℕ → List PipeEnd → List PipeEnd
-with_second one other s ends = if other.seq == s then ends ++ open_end one ∷ [] else ends
-
-abbrev pub with_pair : EndId → EndId → ℕ → List PipeEnd → List PipeEnd
-with_pair one other s ends = with_second one other s (if one.seq == s then ends ++ open_end other ∷ [] else ends)

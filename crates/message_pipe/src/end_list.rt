@@ -2,7 +2,7 @@
 
 ghost use Rattle.std.specs.Prelude.{◌≡◌, ◌-◌, ◌<◌, ◌++◌, [], ◌∷◌, length, slice_get, take, OnOk, OnErr, IfErr};
 ghost use Rattle.std.specs.Option.{option_copied};
-ghost use Rattle.handle_table.specs.Numbered.{changed_at};
+ghost use Rattle.handle_table.specs.steps.Growing.{changed_at};
 ghost use Rattle.message_pipe.specs.Ends.{shut, with_message, without_front, unread_of};
 ghost use Rattle.message_pipe.specs.Mail.{front_of};
 

@@ -3,8 +3,10 @@
 ghost use Rattle.std.specs.Prelude.{List, ◌≡◌, ◌-◌, ◌<◌, ◌==◌, ◌++◌, ℕ, [], ◌∷◌, length, take, OnOk, OnErr, IfErr, if◌then◌else◌};
 ghost use Rattle.std.specs.Option.{option_copied, option_map};
 ghost use Rattle.mj_base.specs.declared.ids.EndId.{EndId as end_id};
-ghost use Rattle.handle_table.specs.Numbered.{changed_at, listed};
-ghost use Rattle.message_pipe.specs.Ends.{closed_by, end_of, shut, with_message, with_pair, without_front, unread_at};
+ghost use Rattle.handle_table.specs.Numbered.{listed};
+ghost use Rattle.handle_table.specs.steps.Growing.{changed_at};
+ghost use Rattle.message_pipe.specs.Ends.{closed_by, end_of, shut, with_message, without_front, unread_at};
+ghost use Rattle.message_pipe.specs.steps.Pairs.{with_pair};
 ghost use Rattle.message_pipe.specs.Mail.{front_of};
 ghost use Rattle.message_pipe.specs.declared.pipe_end.PipeEnd.{PipeEnd as end_row};
 

@@ -30,7 +30,7 @@ pub struct Pipes {
 
 impl Model for Pipes {
     ghost use Rattle.message_pipe.specs.Contents.{Contents};
-    ghost use Rattle.message_pipe.specs.steps.Numbers.{Numbers};
+    ghost use Rattle.message_pipe.specs.Numbers.{Numbers};
 
     ghost Value = { Contents };
 

@@ -14,9 +14,12 @@ use Rattle.mj_schema.specs.declared.rows.UnionRow.{UnionRow}
 use Rattle.byte_rules.specs.declared.stop.Stop.{Stop}
 use Rattle.byte_rules.specs.declared.stop.Stop.TheVariants as stops
 use Rattle.byte_rules.specs.Lang.{Lang, Read, ◌>>=◌, front_is, byte, closed, as_value, ◌then◌, ◌▸◌, never, listed, exactly, rest_of}
-use Rattle.byte_rules.specs.Reading.{Fails, with_front}
-use Rattle.value_text.specs.Rules.{null_word, opened, has_room, inside, array, structure, fields, fields_after, union, base_at, or_null, value}
-use Rattle.value_text.specs.Rules.{fields_of, pair, pair_of, pairs_of, fields_kinds}
+use Rattle.byte_rules.specs.Reading.{Fails}
+use Rattle.byte_rules.specs.steps.Reading.{with_front}
+use Rattle.value_text.specs.Rules.{null_word, opened, array, structure, fields, fields_after, union, or_null, value}
+use Rattle.value_text.specs.steps.Reading.{has_room, inside, base_at}
+use Rattle.value_text.specs.Rules.{fields_of, pair, pairs_of, fields_kinds}
+use Rattle.value_text.specs.steps.Reading.{pair_of}
 
 value_is : (schema : Schema) (left : ℕ) (k : KindTree) (bs : List ℕ)
     → (value schema left k).read bs ≡ (or_null (is_nullable k) (base_at schema left k)).read bs

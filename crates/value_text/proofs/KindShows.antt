@@ -27,7 +27,8 @@ use Rattle.byte_rules.specs.Lang.{Lang, as_value, ◌▸◌, ◌then◌}
 use Rattle.byte_rules.specs.Among.{IsAmong}
 use Rattle.byte_rules.proofs.Shown.{Shown, shown_value, shown_then, shown_before, shown_first, shown_second, shown_words, shown_among}
 use Rattle.value_text.specs.Numbers.{numbers, number, minus, integer, whole, index, is_int32, members_numbers, enum_number, number_of}
-use Rattle.value_text.specs.Rules.{boolean, null_word, value, base_at, or_null}
+use Rattle.value_text.specs.Rules.{boolean, null_word, value, or_null}
+use Rattle.value_text.specs.steps.Reading.{base_at}
 use Rattle.value_text.specs.Spelling.{flag_text}
 
 or_lift : (n : Bool) (one : Lang Tree) (t : Tree) (w : List ℕ) → Shown one t w → Shown (or_null n one) t w

@@ -5,8 +5,10 @@ use Rattle.wire_model.specs.Trees.{Tree}
 use Rattle.byte_rules.specs.declared.stop.Stop.{Stop}
 use Rattle.byte_rules.specs.declared.stop.Stop.TheVariants as stops
 use Rattle.byte_rules.specs.Lang.{Lang, Read, ◌>>=◌, front_is, byte, as_value, many, listed, ◌▸◌}
-use Rattle.byte_rules.specs.Reading.{Fails, gathered}
-use Rattle.value_text.specs.Rules.{keys_of, values_of, map_of, pairs_of, add_pairs}
+use Rattle.byte_rules.specs.Reading.{Fails}
+use Rattle.byte_rules.specs.steps.Reading.{gathered}
+use Rattle.value_text.specs.Rules.{keys_of, values_of, map_of, pairs_of}
+use Rattle.value_text.specs.steps.Reading.{add_pairs}
 
 abbrev Lists : Type 0
 Lists = List Tree × List Tree

@@ -30,7 +30,8 @@ use Rattle.byte_rules.proofs.Shown.{shown_no_rest, shown_rest, shown_none_exactl
 use Rattle.value_text.specs.Brackets.{brackets, brackets_in}
 use Rattle.value_text.specs.Escapes.{quoted}
 use Rattle.value_text.specs.Numbers.{is_uint32, fields_tags, tag_of}
-use Rattle.value_text.specs.Rules.{value, base_at, items_of, fields_of, elements, array, fields, fields_after, fields_kinds, structure, union, member, pair}
+use Rattle.value_text.specs.Rules.{value, items_of, fields_of, elements, array, fields, fields_after, fields_kinds, structure, union, member, pair}
+use Rattle.value_text.specs.steps.Reading.{base_at}
 use Rattle.value_text.specs.Rules.{keys_of, values_of, pairs_of}
 use Rattle.value_text.specs.Spelling.{flag_text, element_of, held, row_kinds, field_kinds, spell, first_item, next_items, both_lists, each_text, first_pair}
 use Rattle.value_text.specs.Spelling.{next_pairs, first_field, next_fields}

@@ -6,10 +6,12 @@ use Rattle.wire_model.specs.Trees as values
 use Rattle.wire_model.specs.declared.value.Value.{Value}
 use Rattle.mj_schema.specs.declared.schema.Schema.{Schema}
 use Rattle.byte_rules.specs.Lang.{Read}
-use Rattle.byte_rules.specs.Judged.{Spells, Judges, verdict}
+use Rattle.byte_rules.specs.Judged.{Spells}
+use Rattle.byte_rules.specs.steps.Reading.{Judges, verdict}
 use Rattle.byte_rules.proofs.Judging.{judged, reads, no_more_left}
 use Rattle.value_text.specs.Rules.{value}
-use Rattle.value_text.specs.Texts.{Agrees, Tells}
+use Rattle.value_text.specs.Texts.{Tells}
+use Rattle.value_text.specs.steps.Reading.{Agrees}
 use Rattle.value_text.specs.declared.text_error.TextError.{TextError}
 use Rattle.value_text.specs.declared.text_error.TextError.TheVariants as errors
 use Rattle.value_text.proofs.KindLaws.{good_kind, value_starts}

@@ -5,3 +5,4 @@ pub mod Numbers
 pub mod Rules
 pub mod Spelling
 pub mod Texts
+pub mod steps

@@ -120,31 +120,3 @@ or_null true one = choice (λ b. b == 110) null_word one
 unfoldable pub value : Schema → ℕ → KindTree → Lang Tree
 value schema zero k = or_null (is_nullable k) (base schema false (λ k. never values.Null) k)
 value schema (suc left) k = or_null (is_nullable k) (base schema true (value schema left) k)
-
--- whether a bracket may be opened, and the values inside it
-abbrev pub has_room : ℕ → Bool
-has_room zero = false
-has_room (suc left) = true
-
-abbrev pub inside : Schema → ℕ → KindTree → Lang Tree
-inside schema zero = λ k. never values.Null
-inside schema (suc left) = value schema left
-
--- a value that isn't null, where so many brackets may be open at once
-abbrev pub base_at : Schema → ℕ → KindTree → Lang Tree
-base_at schema left k = base schema (has_room left) (inside schema left) k
-
--- what follows in an array, behind its first element
-abbrev pub more_of : Schema → ℕ → KindTree → Lang (List Tree)
-more_of schema left k = many 93 (44 ▸ value schema left k)
-
--- a key and its value, and what follows in a map, behind its first pair
-abbrev pub pair_of : Schema → ℕ → KindTree → KindTree → Lang (Tree × Tree)
-pair_of schema left key one = pair (value schema left key) (value schema left one)
-
-abbrev pub more_pairs_of : Schema → ℕ → KindTree → KindTree → Lang (List (Tree × Tree))
-more_pairs_of schema left key one = many 125 (44 ▸ pair_of schema left key one)
-
--- keys and values with those of more pairs behind them
-abbrev pub add_pairs : List Tree × List Tree → List (Tree × Tree) → List Tree × List Tree
-add_pairs (ks, vs) ps = (ks ++ keys_of ps, vs ++ values_of ps)

@@ -7,12 +7,6 @@ use Rattle.byte_rules.specs.Judged.{Spells, IsBad}
 use Rattle.value_text.specs.declared.text_error.TextError.{TextError}
 use Rattle.value_text.specs.declared.text_error.TextError.TheVariants as errors
 
--- the same answer as this one
-abbrev pub Agrees : Result Value TextError → Result Tree ℕ → Type 0
-Agrees (Ok v) judged = judged ≡ Ok (view v)
-Agrees (Err (errors.BadText at)) judged = judged ≡ Err at
-Agrees (Err errors.Memory) judged = Unit {0}
-
 -- a value is the one that the bytes spell; a refusal is at the first byte with which no text goes on
 abbrev pub Tells : Lang Tree → List ℕ → Result Value TextError → Type 0
 Tells one bytes (Ok v) = Spells one (view v) bytes × ((tree : Tree) → Spells one tree bytes → tree ≡ view v)

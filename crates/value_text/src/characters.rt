@@ -3,7 +3,8 @@
 ghost use Rattle.std.specs.Prelude.{◌≡◌, ◌++◌, ◌∷◌, [], Ok, Err, true, ◌-◌, ◌*◌, ◌+◌};
 ghost use Rattle.std.specs.List.{flat_map};
 ghost use Rattle.byte_rules.specs.Lang.{byte_in, as_value, many};
-ghost use Rattle.byte_rules.specs.Reading.{Gives, Fails, with_front, behind};
+ghost use Rattle.byte_rules.specs.Reading.{Gives, Fails};
+ghost use Rattle.byte_rules.specs.steps.Reading.{with_front, behind};
 ghost use Rattle.value_text.specs.Characters.{is_hex, hex_value, low_pair, escape, is_plain, leads_two, leads_three, leads_four, goes_on, second_of};
 ghost use Rattle.value_text.specs.Characters.{two_bytes, three_bytes, four_bytes, character, all_of, text};
 

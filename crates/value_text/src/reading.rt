@@ -2,9 +2,10 @@
 
 ghost use Rattle.std.specs.Prelude.{◌≡◌, ◌≤◌, length};
 ghost use Rattle.wire_model.specs.Trees.{view};
-ghost use Rattle.byte_rules.specs.Judged.{verdict};
+ghost use Rattle.byte_rules.specs.steps.Reading.{verdict};
 ghost use Rattle.value_text.specs.Rules.{value};
-ghost use Rattle.value_text.specs.Texts.{Agrees, Tells};
+ghost use Rattle.value_text.specs.Texts.{Tells};
+ghost use Rattle.value_text.specs.steps.Reading.{Agrees};
 
 use crate::text_error::TextError;
 use crate::values::value;

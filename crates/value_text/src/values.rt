@@ -5,10 +5,13 @@ ghost use Rattle.mj_schema.specs.KindTrees.{kind_view};
 ghost use Rattle.wire_model.specs.Trees.{view};
 ghost use Rattle.wire_model.specs.Trees as values;
 ghost use Rattle.byte_rules.specs.Lang.{as_value, closed, listed, exactly, rest_of, ◌▸◌};
-ghost use Rattle.byte_rules.specs.Reading.{Gives, gathered, with_front};
-ghost use Rattle.value_text.specs.Rules.{value, inside, has_room, opened, base_at, elements, array, more_of};
+ghost use Rattle.byte_rules.specs.Reading.{Gives};
+ghost use Rattle.byte_rules.specs.steps.Reading.{gathered, with_front};
+ghost use Rattle.value_text.specs.Rules.{value, opened, elements, array};
+ghost use Rattle.value_text.specs.steps.Reading.{inside, has_room, base_at, more_of};
 ghost use Rattle.value_text.specs.Rules.{fields, fields_after, fields_kinds, structure, union, member};
-ghost use Rattle.value_text.specs.Rules.{pair, pair_of, pairs_of, more_pairs_of, add_pairs};
+ghost use Rattle.value_text.specs.Rules.{pair, pairs_of};
+ghost use Rattle.value_text.specs.steps.Reading.{pair_of, more_pairs_of, add_pairs};
 
 use crate::entries::{Entries, map_of, struct_of};
 use crate::rows::{find_struct, find_union, is_nullable, kind_of_tag};

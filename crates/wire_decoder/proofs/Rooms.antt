@@ -12,7 +12,8 @@ use Rattle.mj_schema.specs.declared.rows.FieldRow.{FieldRow}
 use Rattle.mj_schema.specs.declared.schema.Schema.{Schema}
 use Rattle.wire_model.specs.Marks.{Mark, Next, slot_marks, cell_marks, slots_marks, elements_marks, content_marks}
 use Rattle.wire_model.specs.Readable.{EndsWithin}
-use Rattle.wire_model.specs.Slots.{cell_size, element_bytes, element_slots}
+use Rattle.wire_model.specs.Slots.{element_bytes, element_slots}
+use Rattle.wire_model.specs.steps.Cells.{cell_size}
 use Rattle.wire_decoder.specs.steps.Rooms.{EndsIn}
 
 -- fields within an object lie within the bytes

@@ -7,10 +7,7 @@ ghost use Rattle.wire_model.specs.Trees as trees;
 ghost use Rattle.wire_model.specs.Values.{bit_at, or_null, whole_at};
 
 use mj_schema::Width;
-use wire_model::{Value, le16, le32, le64};
-
-/// The index that stands for nothing.
-const NO_INDEX: u32 = 0xffff_ffff;
+use wire_model::{NO_INDEX, Value, le16, le32, le64};
 
 /// A bit of a byte, 0 to 7, the lowest first.
 pub fn bit_at(bytes: &[u8], at: u64, bit: u32) -> bool

@@ -8,7 +8,8 @@ ghost use Rattle.wire_model.specs.Bytes.{number32};
 ghost use Rattle.wire_model.specs.Marks.{visit, object_marks, struct_marks, map_marks, content_marks, slots_marks, slot_marks};
 ghost use Rattle.wire_model.specs.Marks.{cell_marks, found_union_marks, pointer_marks};
 ghost use Rattle.wire_model.specs.Readable.{IsReadableRow};
-ghost use Rattle.wire_model.specs.Slots.{cell_size, element_bytes, element_slots, field_slot};
+ghost use Rattle.wire_model.specs.Slots.{element_bytes, element_slots, field_slot};
+ghost use Rattle.wire_model.specs.steps.Cells.{cell_size};
 ghost use Rattle.wire_model.specs.Trees.{Trees, view, trees, Fields, Items, none};
 ghost use Rattle.wire_model.specs.Values.{value, object_value, struct_value, slots_value, slot_value, cell_value, found_union_value, pointer_value};
 ghost use Rattle.wire_model.specs.Tight.{marks_of, value_of};
@@ -18,13 +19,11 @@ ghost use Rattle.wire_decoder.specs.steps.Rooms.{EndsIn};
 
 use crate::absent::{add_absent, copied};
 use crate::scalars::{bit_at, endpoint, endpoint_remote, handle, remote, whole_at};
+use mj_base::limits::MAX_DEPTH;
 use mj_schema::{FieldRow, KindNode, Schema, StructRow};
 use schema_rows::{absent, find_struct, find_union, kind_in, present, size_of};
 use std::alloc::{AllocError, Global};
 use wire_model::{Value, le32, le64};
-
-/// How many objects may stand one behind the other in a message, the parameters being the first.
-const MAX_DEPTH: u32 = 200;
 
 /// What stands at a place, where at most `left` more levels of objects may be behind it.
 #[cycle(decode)]

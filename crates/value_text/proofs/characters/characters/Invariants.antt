@@ -1,6 +1,6 @@
 use Rattle.std.proofs.Common.{◌≡◌, ◌-◌, length}
 use Rattle.byte_rules.specs.Lang.{until, many, as_value}
-use Rattle.byte_rules.specs.Reading.{with_front}
+use Rattle.byte_rules.specs.steps.Reading.{with_front}
 use Rattle.value_text.specs.Characters.{character, all_of}
 use Rattle.value_text.proofs.characters.characters.Given as goal
 

@@ -4,11 +4,13 @@ use Rattle.std.proofs.lemmas.Result.{err_from_is_err_and}
 use Rattle.mj_schema.specs.KindTrees.{KindTree, kind_view}
 use Rattle.wire_model.specs.Trees.{Tree, view}
 use Rattle.byte_rules.specs.Lang.{many, rest_of, ◌▸◌}
-use Rattle.byte_rules.specs.Reading.{Fails, Gives, gathered, with_front}
+use Rattle.byte_rules.specs.Reading.{Fails, Gives}
+use Rattle.byte_rules.specs.steps.Reading.{gathered, with_front}
 use Rattle.byte_rules.proofs.Loops.{halts_ok, done_ok, done_err, goes_on, ends, goes_exactly, ends_exactly, exactly_ok, exactly_err}
 use Rattle.byte_rules.proofs.Gathers as gathers
 use Rattle.value_text.proofs.PairReads.{none_added, one_added, map_ok, map_err}
-use Rattle.value_text.specs.Rules.{value, more_of, fields, fields_after, fields_kinds, pair_of, add_pairs}
+use Rattle.value_text.specs.Rules.{value, fields, fields_after, fields_kinds}
+use Rattle.value_text.specs.steps.Reading.{more_of, pair_of, add_pairs}
 use Rattle.value_text.proofs.KindReads.{value_null, map_room, pushed, structure_ok, structure_err, field_on, no_field, fields_end, no_end}
 use Rattle.value_text.proofs.KindReads.{kinds_at, kinds_end, fields_first, rest_is, none_ok, none_err, first_exactly, fails_exactly}
 use Rattle.mj_schema.specs.declared.rows.FieldRow.{FieldRow}

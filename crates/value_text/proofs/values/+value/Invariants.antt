@@ -2,8 +2,9 @@ use Rattle.std.proofs.Common.{◌≡◌, ◌∷◌, [], ◌+◌, ◌*◌, ◌-�
 use Rattle.mj_schema.specs.KindTrees.{kind_view}
 use Rattle.wire_model.specs.Trees.{view}
 use Rattle.byte_rules.specs.Lang.{until, rest_of, ◌▸◌}
-use Rattle.byte_rules.specs.Reading.{gathered, with_front}
-use Rattle.value_text.specs.Rules.{value, more_of, fields_after, fields_kinds, pair_of, more_pairs_of, add_pairs}
+use Rattle.byte_rules.specs.steps.Reading.{gathered, with_front}
+use Rattle.value_text.specs.Rules.{value, fields_after, fields_kinds}
+use Rattle.value_text.specs.steps.Reading.{more_of, pair_of, more_pairs_of, add_pairs}
 use Rattle.value_text.proofs.values.+value.Given as goal
 
 abbrev pub decreases-value : goal.decreases-value
