@@ -69,7 +69,11 @@ pub record Closes (goes : List Thing) (old new : Contents) : Type 0 where
   pub tokens_made : (seq : ℕ) → tokens_made new.table seq ≡ tokens_made old.table seq
   pub made : new.made ≡ old.made
 
+-- whether an end takes a message: one that the machine emitted always, another while fewer than 4,096 of these lie there
+abbrev pub HasRoom : Contents → EndId → Message → Type 0
+HasRoom old end message = (message.emitted ≡ true) ⊎ (weighs (unread_at old.ends end) < MAX_UNREAD_MESSAGES)
+
 -- a message that isn't written comes back: for want of memory, or exactly where it counts and the end is full
 abbrev pub HandsBack : Contents → EndId → Message → PushRefused → Type 0
 HandsBack old end message (Full back) = (back ≡ message) × (message.emitted ≡ false) × (MAX_UNREAD_MESSAGES ≤ weighs (unread_at old.ends end))
-HandsBack old end message (Memory back) = (back ≡ message) × ((message.emitted ≡ true) ⊎ (weighs (unread_at old.ends end) < MAX_UNREAD_MESSAGES))
+HandsBack old end message (Memory back) = (back ≡ message) × HasRoom old end message

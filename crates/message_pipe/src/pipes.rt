@@ -7,7 +7,7 @@ ghost use Rattle.handle_table.specs.declared.places.Place.TheVariants as places;
 ghost use Rattle.handle_table.specs.declared.thing.Thing.TheVariants.{End};
 ghost use Rattle.mj_base.specs.declared.ids.EndId.{EndId as end_id};
 ghost use Rattle.handle_table.specs.Places.{ends_made, tokens_made, place_of, is_kept};
-ghost use Rattle.message_pipe.specs.Contents.{Becomes, Closes, HandsBack, MakesPipe, MakesToken, Puts, Same};
+ghost use Rattle.message_pipe.specs.Contents.{Becomes, Closes, HandsBack, HasRoom, MakesPipe, MakesToken, Puts, Same};
 ghost use Rattle.message_pipe.specs.Ends.{carried_in, end_of, is_closed, peer_of, spread, unread_at, with_message, without_front};
 ghost use Rattle.message_pipe.specs.Mail.{front_of, weighs};
 
@@ -146,11 +146,12 @@ impl Pipes {
         Ok(handle)
     }
 
-    /// Writes a message for reading at an end that was made and is open. Where 4,096 that weren't emitted
-    /// lie there already it is refused, unless it is emitted itself.
+    /// Writes a message for reading at an end that was made. Where 4,096 that weren't emitted lie there
+    /// already it is refused, unless it is emitted itself.
     pub fn push(&mut self, end: EndId, message: Message) -> Result<(), PushRefused>
         requires { IsSome (end_of self.old.ends end) }
         ensures ok { OnOk result (Becomes end (with_message message) self.old self.new) }
+        ensures room { OnOk result (HasRoom self.old end message) }
         ensures err { IfErr result (λ refused. HandsBack self.old end message refused × (self.new ≡ self.old)) }
     {
         if !message.emitted && self.is_full(end) {
