@@ -1,0 +1,182 @@
+-- The text of a history: a line for each event, a line for each thing that is left, and how many events there were.
+use Rattle.std.specs.Prelude.{ℕ, suc, decimal, ◌++◌, List, [], ◌∷◌, length, map, codes}
+use Rattle.std.specs.List.{flat_map, join_by}
+use Rattle.hex.specs.Hex.{encode_lower}
+use Rattle.mj_base.specs.declared.ids.EndId.{EndId}
+use Rattle.mj_schema.specs.declared.schema.Schema.{Schema}
+use Rattle.handle_table.specs.declared.thing.Thing.{Thing}
+use Rattle.handle_table.specs.declared.thing.Thing.TheVariants.{End, Token}
+use Rattle.wire_model.specs.declared.target.Target.{Target}
+use Rattle.wire_model.specs.Trees.{Tree}
+use Rattle.wire_encoder.specs.Prepared.{parameters_of, kind_for}
+use Rattle.value_text.specs.Spelling.{spell}
+use Rattle.machine_model.specs.declared.endpoint.PendingId.{PendingId}
+use Rattle.machine_model.specs.declared.endpoint.ResponderId.{ResponderId}
+use Rattle.machine_model.specs.declared.asked.Outgoing.{Outgoing}
+use Rattle.machine_model.specs.declared.asked.Closing.{Closing}
+use Rattle.machine_model.specs.declared.asked.Closing.TheVariants as closings
+use Rattle.machine_model.specs.declared.asked.Asked.{Asked}
+use Rattle.machine_model.specs.declared.asked.Asked.TheVariants.{Pipe, Join, Mint, Bind, Associate, Attach, Call, Answer, Raw, Take, Close, Skip}
+use Rattle.machine_model.specs.declared.told.BadWhy.{BadWhy}
+use Rattle.machine_model.specs.declared.told.BadWhy.TheVariants as bads
+use Rattle.machine_model.specs.declared.told.Why.{Why}
+use Rattle.machine_model.specs.declared.told.Why.TheVariants.{NoName, NotPipe, Disconnected, Unbound, Elsewhere, WrongSide, WrongMethod, WrongTokens}
+use Rattle.machine_model.specs.declared.told.Why.TheVariants.{WrongPipe, SelfSend, TooLong, TooManyHandles, Full, Empty, PeerClosed}
+use Rattle.machine_model.specs.declared.told.Got.{Got}
+use Rattle.machine_model.specs.declared.told.Told.{Told}
+use Rattle.machine_model.specs.declared.told.Told.TheVariants.{Made, Bound, Associated, Attached, Sent, Wrote, Taken, Dropped, Control, Bad}
+use Rattle.machine_model.specs.declared.told.Told.TheVariants.{Closed, Skipped, No}
+use Rattle.machine_model.specs.declared.event.Event.{Event}
+use Rattle.history_text.specs.Names.{interface_name, method_text}
+use Rattle.history_text.specs.Words.{side_word, sort_word, message_word, fault_word}
+
+-- bytes in hexadecimal, and `-` for no bytes
+abbrev pub hex_text : List ℕ → List ℕ
+hex_text [] = codes "-"
+hex_text (b ∷ bytes) = encode_lower (b ∷ bytes)
+
+-- an end as `e0.1`: its sequence and its number there
+abbrev pub end_text : EndId → List ℕ
+end_text x = codes "e" ++ (decimal x.seq ++ (codes "." ++ decimal x.serial))
+
+-- an end, or a token as `t0.1`
+abbrev pub thing_text : Thing → List ℕ
+thing_text (End x) = end_text x
+thing_text (Token t) = codes "t" ++ (decimal t.seq ++ (codes "." ++ decimal t.serial))
+
+-- an endpoint as `e0.1#5`: its end, and its id there
+abbrev pub endpoint_text : EndId → ℕ → List ℕ
+endpoint_text x id = end_text x ++ (codes "#" ++ decimal id)
+
+-- a pending endpoint as `pe0.1#5`
+abbrev pub pending_text : PendingId → List ℕ
+pending_text p = codes "p" ++ endpoint_text p.end p.id
+
+-- a responder as `re0.1#5@7.2`: its endpoint, the request's id and the method's ordinal
+abbrev pub responder_text : ResponderId → List ℕ
+responder_text r = codes "r" ++ (endpoint_text r.end r.id ++ (codes "@" ++ (decimal r.request ++ (codes "." ++ decimal r.method))))
+
+-- a list as `[e0.0,t0.0]`, of anything that has a text
+abbrev pub list_text : {A : Type 0} → (A → List ℕ) → List A → List ℕ
+list_text text xs = codes "[" ++ (join_by text (codes ",") xs ++ codes "]")
+
+-- things in a list
+abbrev pub things_text : List Thing → List ℕ
+things_text things = list_text thing_text things
+
+-- pending endpoints in a list
+abbrev pub pendings_text : List PendingId → List ℕ
+pendings_text pendings = list_text pending_text pendings
+
+-- handles and then pendings, in one list
+abbrev pub tokens_text : List Thing → List PendingId → List ℕ
+tokens_text handles pendings = list_text (λ (text : List ℕ). text) (map thing_text handles ++ map pending_text pendings)
+
+-- what is closed
+abbrev pub closing_text : Closing → List ℕ
+closing_text (closings.Handle x) = thing_text x
+closing_text (closings.Pending p) = pending_text p
+closing_text (closings.Responder r) = responder_text r
+closing_text (closings.Endpoint x id) = endpoint_text x id
+
+-- parameters, as a value of their method's struct, or of the first one where the schema lacks the method
+abbrev pub parameters_text : Schema → Target → Tree → List ℕ
+parameters_text schema target parameters = spell schema (kind_for (parameters_of schema target)) parameters
+
+-- a method and its parameters
+abbrev pub message_text : Schema → Target → Tree → List ℕ
+message_text schema target parameters =
+    method_text schema target.interface target.method ++ (codes " " ++ parameters_text schema target parameters)
+
+-- what a call or an answer sends
+abbrev pub outgoing_text : Schema → Outgoing → List ℕ
+outgoing_text schema o = message_text schema o.target o.parameters ++ (codes " " ++ tokens_text o.handles o.pendings)
+
+-- a command
+abbrev pub asked_text : Schema → Asked → List ℕ
+asked_text schema Pipe = codes "pipe"
+asked_text schema (Join t) = codes "join " ++ decimal t.0
+asked_text schema (Mint sort) = codes "mint " ++ sort_word sort
+asked_text schema (Bind x side interface) = codes "bind " ++ (thing_text x ++ (codes " " ++ (side_word side ++ (codes " " ++ interface_name schema interface))))
+asked_text schema (Associate x side interface) =
+    codes "associate " ++ (end_text x ++ (codes " " ++ (side_word side ++ (codes " " ++ interface_name schema interface))))
+asked_text schema (Attach p t) = codes "attach " ++ (pending_text p ++ (codes " " ++ decimal t.0))
+asked_text schema (Call x id outgoing) = codes "call " ++ (endpoint_text x id ++ (codes " " ++ outgoing_text schema outgoing))
+asked_text schema (Answer r outgoing) = codes "answer " ++ (responder_text r ++ (codes " " ++ outgoing_text schema outgoing))
+asked_text schema (Raw x bytes handles) = codes "raw " ++ (thing_text x ++ (codes " " ++ (hex_text bytes ++ (codes " " ++ things_text handles))))
+asked_text schema (Take x) = codes "take " ++ end_text x
+asked_text schema (Close thing) = codes "close " ++ closing_text thing
+asked_text schema (Skip line) = codes "skip " ++ decimal line
+
+-- why a message is bad
+abbrev pub bad_text : BadWhy → List ℕ
+bad_text (bads.Message fault) = fault_word fault.kind ++ (codes " " ++ decimal fault.at)
+bad_text (bads.Unasked request) = codes "unasked " ++ decimal request
+bad_text (bads.StrangeId id) = codes "strange-id " ++ decimal id
+
+-- why a command is refused
+abbrev pub why_text : Why → List ℕ
+why_text NoName = codes "no-name"
+why_text NotPipe = codes "not-pipe"
+why_text Disconnected = codes "disconnected"
+why_text (Unbound id) = codes "unbound " ++ decimal id
+why_text (Elsewhere t) = codes "elsewhere " ++ decimal t.0
+why_text WrongSide = codes "wrong-side"
+why_text WrongMethod = codes "wrong-method"
+why_text WrongTokens = codes "wrong-tokens"
+why_text (WrongPipe id) = codes "wrong-pipe " ++ decimal id
+why_text SelfSend = codes "self-send"
+why_text TooLong = codes "too-long"
+why_text TooManyHandles = codes "too-many-handles"
+why_text Full = codes "full"
+why_text Empty = codes "empty"
+why_text PeerClosed = codes "peer-closed"
+
+-- the lists of what a take got: the handles and the endpoints that are named, and what is gone
+abbrev pub lists_text : Got → List ℕ
+lists_text g = things_text g.handles ++ (codes " " ++ (pendings_text g.pendings ++ (codes " " ++ things_text g.gone)))
+
+-- what a take got
+abbrev pub got_text : Schema → Got → List ℕ
+got_text schema g =
+    message_word g.target.side ++ (codes " " ++ (decimal g.id ++ (codes " "
+    ++ (message_text schema g.target g.parameters ++ (codes " " ++ (decimal g.request ++ (codes " " ++ lists_text g)))))))
+
+-- a reply
+abbrev pub told_text : Schema → Told → List ℕ
+told_text schema (Made things) = codes "made " ++ things_text things
+told_text schema (Bound x) = codes "bound " ++ end_text x
+told_text schema (Associated p) = codes "associated " ++ pending_text p
+told_text schema (Attached id) = codes "attached " ++ decimal id
+told_text schema (Sent request bytes) = codes "sent " ++ (decimal request ++ (codes " " ++ hex_text bytes))
+told_text schema (Wrote x) = codes "wrote " ++ end_text x
+told_text schema (Taken g) = codes "got " ++ got_text schema g
+told_text schema (Dropped id gone) = codes "dropped " ++ (decimal id ++ (codes " " ++ things_text gone))
+told_text schema (Control id) = codes "control " ++ decimal id
+told_text schema (Bad why gone) = codes "bad " ++ (bad_text why ++ (codes " " ++ things_text gone))
+told_text schema (Closed gone) = codes "closed " ++ things_text gone
+told_text schema Skipped = codes "skipped"
+told_text schema (No why) = codes "no " ++ why_text why
+
+-- the line of an event: its number, its sequence, the command and the reply
+abbrev pub event_line : Schema → ℕ → Event → List ℕ
+event_line schema k event =
+    decimal k ++ (codes " " ++ (decimal event.seq.0 ++ (codes " "
+    ++ (asked_text schema event.asked ++ (codes " -> " ++ (told_text schema event.told ++ codes "\n"))))))
+
+-- the lines of events, numbered from k on
+abbrev pub event_lines : Schema → ℕ → List Event → List ℕ
+event_lines schema k [] = []
+event_lines schema k (event ∷ events) = event_line schema k event ++ event_lines schema (suc k) events
+
+-- the line of a thing that is left
+abbrev pub left_line : Thing → List ℕ
+left_line x = codes "left " ++ (thing_text x ++ codes "\n")
+
+-- the last line
+abbrev pub done_line : ℕ → List ℕ
+done_line count = codes "done " ++ (decimal count ++ codes "\n")
+
+-- the whole text: the events from number 0 on, the oldest first, and what is left in this order
+abbrev pub history_text : Schema → List Event → List Thing → List ℕ
+history_text schema history left = event_lines schema 0 history ++ (flat_map left_line left ++ done_line (length history))

@@ -1,0 +1,84 @@
+//! The text of a history.
+
+ghost use Rattle.std.specs.Prelude.{◌≡◌, ◌++◌, IfOk, OnOk};
+ghost use Rattle.std.specs.List.{flat_map};
+ghost use Rattle.history_text.specs.History.{event_line, event_lines, left_line, history_text};
+
+use crate::asked_text::push_asked;
+use crate::message_text::push_text;
+use crate::shown::ShownThing;
+use crate::told_text::push_told;
+use handle_table::Thing;
+use machine_model::Event;
+use mj_schema::Schema;
+use std::alloc::{AllocError, Global};
+
+/// Adds the line of an event.
+fn push_event(
+    alloc: Global,
+    out: &mut Vec<u8>,
+    schema: &Schema,
+    number: usize,
+    event: &Event,
+) -> Result<(), AllocError>
+    ensures { OnOk result (out.new.items ≡ out.old.items ++ event_line schema.now number event.now) }
+{
+    push_text(
+        out,
+        format!(in alloc; "{number} {} ", event.seq.0)?.as_str(),
+    )?;
+    push_asked(alloc, out, schema, &event.asked)?;
+    push_text(out, " -> ")?;
+    push_told(alloc, out, schema, &event.told)?;
+    push_text(out, "\n")
+}
+
+/// The lines of the events, numbered from 0.
+fn event_lines(alloc: Global, schema: &Schema, events: &[Event]) -> Result<Vec<u8>, AllocError>
+    ensures { IfOk result (λ text. text.items ≡ event_lines schema.now 0 events.now) }
+{
+    let mut text = Vec::new(alloc);
+    for (number, event) in events.iter().enumerate() {
+        push_event(alloc, &mut text, schema, number, event)?;
+    }
+    Ok(text)
+}
+
+/// Adds the line of a thing that is left.
+fn push_left_line(alloc: Global, out: &mut Vec<u8>, thing: Thing) -> Result<(), AllocError>
+    ensures { OnOk result (out.new.items ≡ out.old.items ++ left_line thing) }
+{
+    push_text(
+        out,
+        format!(in alloc; "left {}\n", ShownThing(thing))?.as_str(),
+    )
+}
+
+/// Adds the lines of what is left.
+fn push_left(alloc: Global, out: &mut Vec<u8>, left: &[Thing]) -> Result<(), AllocError>
+    ensures { OnOk result (out.new.items ≡ out.old.items ++ flat_map left_line left.now) }
+{
+    for thing in left {
+        push_left_line(alloc, out, *thing)?;
+    }
+    Ok(())
+}
+
+/// The text of a history: a line for each event, the oldest first; a line for each thing that is
+/// left, in the order given; and how many events there were. An interface or a method that the schema
+/// lacks has an empty name, and its parameters are written as the schema's first struct. Takes time in
+/// proportion to the text and, for each message, to the methods of its interface.
+pub fn render(
+    alloc: Global,
+    schema: &Schema,
+    history: &[Event],
+    left: &[Thing],
+) -> Result<Vec<u8>, AllocError>
+    ensures { IfOk result (λ text. text.items ≡ history_text schema.now history.now left.now) }
+{
+    let mut text = event_lines(alloc, schema, history)?;
+    push_left(alloc, &mut text, left)?;
+    let count = history.len();
+    push_text(&mut text, format!(in alloc; "done {count}\n")?.as_str())?;
+    Ok(text)
+}

@@ -1,0 +1,13 @@
+//! The text of histories of the machine.
+#![tactic(auto)]
+
+mod asked_text;
+mod history;
+mod message_text;
+mod names;
+mod shown;
+mod shown_lists;
+mod told_text;
+mod words;
+
+pub use history::render;
