@@ -1,0 +1,58 @@
+-- What a step that is done makes of a state that holds.
+use Rattle.std.proofs.Common.{◌≡◌, ℕ, List, [], ◌∷◌, ◌++◌, length, sym, ap, ◌∙◌, arith, subst}
+use Rattle.std.specs.Prelude.{reverse}
+use Rattle.std.proofs.lemmas.List.{reverse-append, length-append}
+use Rattle.mj_base.specs.declared.ids.SeqId.{SeqId}
+use Rattle.mj_schema.specs.declared.schema.Schema.{Schema}
+use Rattle.machine_model.specs.declared.event.Event.{Event}
+use Rattle.machine_model.specs.declared.told.Told.{Told}
+use Rattle.machine_model.specs.WireOf.{wire_of}
+use Rattle.machine_model.specs.Replies.{legal}
+use Rattle.machine_core.specs.Plain.{asked_of, told_of, HandsBack}
+use Rattle.machine_core.specs.Agreement.{Agrees, past_of, schema_of, wire_in}
+use Rattle.machine_core.specs.steps.Doing.{HasRoom, Done, told_in}
+use Rattle.machine_core.specs.declared.commands.Command.{Command}
+use Rattle.machine_core.specs.declared.commands.Reply.{Reply}
+use Rattle.machine_core.specs.declared.state.State.{State}
+
+reverse-snoc : (events : List Event) (event : Event) → reverse (events ++ event ∷ []) ≡ event ∷ reverse events
+reverse-snoc events event = reverse-append events (event ∷ [])
+
+-- the event of a step
+abbrev pub event_of : SeqId → Command → Reply → Event
+event_of seq command reply = record { seq = seq; asked = asked_of command; told = told_of reply }
+
+-- a step is done where the reply is the answer, the event is noted, and the rest agrees with the new history
+module _ (old new : State) (seq : SeqId) (command : Command) (reply : Reply) where
+  -- the history with the event is legal
+  pub goes : HasRoom old seq → told_of reply ≡ told_in old seq command → legal (wire_in old) old.seqs (event_of seq command reply ∷ past_of old)
+  goes can told = (can.within, told, can.holds.legal)
+
+  pub finish : HasRoom old seq
+      → schema_of new ≡ schema_of old
+      → new.seqs ≡ old.seqs
+      → new.history.events ≡ old.history.events ++ event_of seq command reply ∷ []
+      → told_of reply ≡ told_in old seq command
+      → Agrees (wire_in old) (event_of seq command reply ∷ past_of old) new.pipes new.endpoints
+      → HandsBack command reply
+      → Done old new seq command reply
+  finish can schema seqs events told agrees back =
+      let past : past_of new ≡ event_of seq command reply ∷ past_of old = ap reverse events ∙ reverse-snoc old.history.events (event_of seq command reply) in
+      record {
+        holds = record {
+          legal =
+              subst (λ (w : Schema). legal (wire_of w) new.seqs (past_of new)) (sym schema)
+              (subst (λ (n : ℕ). legal (wire_in old) n (past_of new)) (sym seqs)
+              (subst (λ (p : List Event). legal (wire_in old) old.seqs p) (sym past) (goes can told)));
+          agrees =
+              subst (λ (w : Schema). Agrees (wire_of w) (past_of new) new.pipes new.endpoints) (sym schema)
+              (subst (λ (p : List Event). Agrees (wire_in old) p new.pipes new.endpoints) (sym past) agrees);
+          few = let n = can.few in omega (arith, ap length events, length-append old.history.events (event_of seq command reply ∷ []));
+        };
+        schema = schema;
+        seqs = seqs;
+        events = events ∙ ap (λ (t : Told). old.history.events ++ record { seq = seq; asked = asked_of command; told = t } ∷ []) told;
+        told = told;
+        back = back;
+        few = can.few;
+      }

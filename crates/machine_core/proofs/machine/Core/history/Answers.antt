@@ -1,0 +1,25 @@
+use Rattle.machine_model.proofs.Fresh.{one_place}
+use Rattle.machine_model.proofs.Responses.{in_order, all_stand, own_responses}
+use Rattle.machine_model.proofs.OriginLemmas.{have_writers}
+use Rattle.machine_core.specs.Agreement.{past_of, wire_in}
+use Rattle.machine_core.proofs.machine.Core.history.Goals as goal
+
+pub returns-clause-one_place : goal.returns-clause-one_place
+returns-clause-one_place c = rw (← c.self.view_is) (one_place (wire_in c.self.inside.state) c.self.inside.state.seqs
+    (past_of c.self.inside.state) c.self.invariant.holds.legal)
+
+pub returns-clause-in_order : goal.returns-clause-in_order
+returns-clause-in_order c = rw (← c.self.view_is) (in_order (wire_in c.self.inside.state) c.self.inside.state.seqs
+    (past_of c.self.inside.state) c.self.invariant.holds.legal)
+
+pub returns-clause-all_stand : goal.returns-clause-all_stand
+returns-clause-all_stand c = rw (← c.self.view_is) (all_stand (wire_in c.self.inside.state) c.self.inside.state.seqs
+    (past_of c.self.inside.state) c.self.invariant.holds.legal)
+
+pub returns-clause-own_responses : goal.returns-clause-own_responses
+returns-clause-own_responses c = rw (← c.self.view_is) (own_responses (wire_in c.self.inside.state) c.self.inside.state.seqs
+    (past_of c.self.inside.state) c.self.invariant.holds.legal)
+
+pub returns-clause-have_writers : goal.returns-clause-have_writers
+returns-clause-have_writers c = rw (← c.self.view_is) (have_writers (wire_in c.self.inside.state) c.self.inside.state.seqs
+    (past_of c.self.inside.state) c.self.invariant.holds.legal)

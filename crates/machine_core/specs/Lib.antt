@@ -1,0 +1,11 @@
+pub mod Agreement
+pub mod Counts
+pub mod Covers
+pub mod EndSets
+pub mod Left
+pub mod Lines
+pub mod Log
+pub mod Plain
+pub mod Play
+pub mod Seen
+pub mod steps
