@@ -1,0 +1,8 @@
+pub mod Pieces
+pub mod Letters
+pub mod Targets
+pub mod Forms
+pub mod Script
+pub mod Same
+pub mod Sound
+pub mod steps

@@ -1,0 +1,7 @@
+-- Definitions that serve proofs alone: no public clause cites them.
+pub mod Pieces
+pub mod Numbers
+pub mod Forms
+pub mod Names
+pub mod Commands
+pub mod Lines

@@ -1,0 +1,20 @@
+//! Scripts of what the sequences of a machine ask.
+#![tactic(auto)]
+
+mod commands;
+mod few_words;
+mod form;
+pub mod laws;
+mod letters;
+mod name_table;
+mod numbers;
+mod reading;
+mod script;
+mod script_error;
+mod split;
+mod targets;
+
+pub use reading::read_script;
+pub use script::{Command, Line, NameId, SEQUENCES, Script};
+pub use script_error::{LineRefusal, ScriptError};
+pub use targets::message_named;

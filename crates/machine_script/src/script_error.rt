@@ -1,0 +1,29 @@
+//! Why a text is no script.
+
+use thiserror::Error;
+
+/// Why a line is refused.
+#[derive(Clone, Copy, Debug, PartialEq, Eq)]
+pub enum LineRefusal {
+    /// It has none of the forms, or a number that is out of its range.
+    BadLine,
+    /// It sets a name that is set already.
+    DoubleName,
+    /// It names an interface or a method that the schema lacks, or a name that no line before it sets.
+    UnknownName,
+    /// Its value is none of the method's parameters, or isn't one that can be sent.
+    BadValue,
+    /// It is line 65,537.
+    TooManyLines,
+}
+
+/// Why a text is no script.
+#[derive(Clone, Copy, Debug, PartialEq, Eq, Error)]
+pub enum ScriptError {
+    /// The line of this number, from 1, is the first that is refused.
+    #[error("a line of the script is refused")]
+    Refused { line: u32, why: LineRefusal },
+    /// Memory ran out, which may befall any text.
+    #[error("out of memory")]
+    Memory,
+}
