@@ -1,0 +1,10 @@
+pub mod SlotLemmas
+pub mod Holding
+pub mod Handed
+pub mod Steps
+pub mod LineDone
+pub mod NoIds
+pub mod Waiting
+pub mod ReadyEnd
+pub mod Parts
+pub mod Draining

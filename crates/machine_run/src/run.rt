@@ -1,0 +1,185 @@
+//! A run, a step at a time.
+
+ghost use Rattle.std.specs.Prelude.{◌≡◌, ◌+◌, ◌*◌, ◌<◌, ◌≤◌, [], length, IfOk, OnOk, vec_len, vec_capacity};
+ghost use Rattle.std.specs.List.{AllByRecursion};
+ghost use Rattle.std.specs.Arc.{arc_value};
+ghost use Rattle.machine_script.specs.declared.script.NameId.{NameId as name_id};
+ghost use Rattle.machine_core.specs.Left.{left};
+ghost use Rattle.machine_core.specs.Plain.{asked_of, told_of, HandsBack, IsOf};
+ghost use Rattle.machine_script.specs.Sound.{IsScript, IsLine, sets};
+ghost use Rattle.machine_run.specs.steps.Slots.{IsSound, given};
+ghost use Rattle.machine_run.specs.steps.Lines.{needed, things_in};
+ghost use Rattle.machine_run.specs.steps.Replies.{comes_with, count_back, settled};
+ghost use Rattle.machine_run.specs.steps.Going.{past_in, IsGoing, told_next, Went, HasNames, DidLine, DidLines};
+
+use crate::held::Held;
+use crate::lines::{command_of, first_needed};
+use crate::replies::{Comes, comes_with, count_of};
+use crate::runner::NoMemory;
+use handle_table::{Handles, Thing};
+use machine_core::{Command, Core, History, Refused, Reply, ToClose};
+use machine_script::{Command as Asked, Line, SEQUENCES, Script};
+use mj_base::limits::MAX_EVENTS;
+use mj_base::{Items, SeqId};
+use mj_schema::Schema;
+use std::alloc::Global;
+use std::sync::Arc;
+
+/// A run so far: the core, the handles, and what came back for want of memory.
+pub struct Run {
+    pub core: Core,
+    pub held: Held,
+    pub kept: Vec<Handles>,
+    pub refused: Vec<Command>,
+}
+
+impl Run {
+    /// A run in which nothing was asked yet.
+    pub fn new(alloc: Global, schema: Arc<Schema>, names: usize) -> Result<Run, NoMemory>
+        ensures core { IfOk result (λ run. run.core ≡ record { schema = arc_value schema; seqs = SEQUENCES; events = [] }) }
+        ensures names { IfOk result (λ run. HasNames [] names [] run.held.slots.items) }
+    {
+        let held = Held::new(alloc, names)?;
+        Ok(Run {
+            core: Core::new(alloc, schema, SEQUENCES),
+            held,
+            kept: Vec::new(alloc),
+            refused: Vec::new(alloc),
+        })
+    }
+
+    /// Room to keep what comes back at one step.
+    pub fn room(&mut self) -> Result<(), NoMemory>
+        ensures same { (self.new.core ≡ self.old.core) × (self.new.held ≡ self.old.held) }
+        ensures kept { OnOk result (vec_len self.new.kept < vec_capacity self.new.kept) }
+        ensures refused { OnOk result (vec_len self.new.refused < vec_capacity self.new.refused) }
+    {
+        if self.kept.reserve(1).is_err() {
+            return Err(NoMemory);
+        }
+        match self.refused.reserve(1) {
+            Ok(()) => Ok(()),
+            Err(_) => Err(NoMemory),
+        }
+    }
+
+    /// One command of a sequence, with room for the handles that come back with it.
+    pub fn step(&mut self, alloc: Global, seq: SeqId, command: Command) -> Result<Reply, NoMemory>
+        requires going { IsGoing self.old.core }
+        requires seq { seq.0 < SEQUENCES }
+        requires prepared { IsOf self.old.core.schema command }
+        requires few { length self.old.core.events < MAX_EVENTS }
+        requires refused { vec_len self.old.refused < vec_capacity self.old.refused }
+        ensures went { OnOk result (Went self.old.core self.new.core seq (asked_of command)) }
+        ensures told { IfOk result (λ reply. told_of reply ≡ told_next self.old.core seq (asked_of command)) }
+        ensures back { IfOk result (λ reply. HandsBack command reply) }
+        ensures room { OnOk result (length (things_in command) + vec_len self.new.held.others ≤ vec_capacity self.new.held.others) }
+        ensures refused { OnOk result (vec_len self.new.refused < vec_capacity self.new.refused) }
+        ensures same { (self.new.held.slots ≡ self.old.held.slots) × (self.new.kept ≡ self.old.kept) }
+    {
+        if self.held.make_room(count_of(&command)).is_err() {
+            self.refused.push_reserved(command);
+            return Err(NoMemory);
+        }
+        match self.core.step(alloc, seq, command) {
+            Ok(reply) => Ok(reply),
+            Err(Refused::Memory(command)) => {
+                self.refused.push_reserved(command);
+                Err(NoMemory)
+            }
+            // Fewer events stand there than a history may have.
+            Err(Refused::Spent(command)) => {
+                self.refused.push_reserved(command);
+                unreachable!()
+            }
+        }
+    }
+
+    /// Holds handles that were handed out, under the names that the line has for them.
+    fn name(&mut self, line: &Asked, handles: Handles) -> Result<(), NoMemory>
+        requires { vec_len self.old.kept < vec_capacity self.old.kept }
+        ensures slots { OnOk result (self.new.held.slots.items ≡ given (sets line.now) handles self.old.held.slots.items) }
+        ensures core { self.new.core ≡ self.old.core }
+    {
+        match self.held.name(line, handles) {
+            Ok(()) => Ok(()),
+            Err(handles) => {
+                self.kept.push_reserved(handles);
+                Err(NoMemory)
+            }
+        }
+    }
+
+    /// Keeps what comes with a reply, under the names of its line.
+    fn settle(&mut self, line: &Asked, reply: Reply) -> Result<(), NoMemory>
+        requires kept { vec_len self.old.kept < vec_capacity self.old.kept }
+        requires room { count_back (comes_with reply) + vec_len self.old.held.others ≤ vec_capacity self.old.held.others }
+        ensures slots { OnOk result (self.new.held.slots.items ≡ settled line.now (comes_with reply) self.old.held.slots.items) }
+        ensures core { self.new.core ≡ self.old.core }
+    {
+        match comes_with(reply) {
+            Comes::New(handles) => self.name(line, handles),
+            Comes::Back(command) => {
+                self.held.give_back(line, command);
+                Ok(())
+            }
+            Comes::Nothing => Ok(()),
+        }
+    }
+
+    /// Does a line.
+    fn do_line(&mut self, alloc: Global, line: &Line) -> Result<(), NoMemory>
+        requires going { IsGoing self.old.core }
+        requires line { IsLine self.old.core.schema (length self.old.held.slots.items) line.now }
+        requires few { length self.old.core.events < MAX_EVENTS }
+        requires sound { IsSound self.old.held.slots.items }
+        ensures { OnOk result (DidLine line.now self.old self.new) }
+    {
+        self.room()?;
+        let command = command_of(&mut self.held, alloc, line)?;
+        let reply = self.step(alloc, line.seq, command)?;
+        self.settle(&line.command, reply)
+    }
+
+    /// Does the lines of a script, in order.
+    pub fn do_lines(&mut self, alloc: Global, script: &Script) -> Result<(), NoMemory>
+        requires going { IsGoing self.old.core }
+        requires fresh { past_in self.old.core ≡ [] }
+        requires names { HasNames [] script.now.names [] self.old.held.slots.items }
+        requires script { IsScript self.old.core.schema script.now }
+        ensures { OnOk result (DidLines script.now.lines self.old.core self.new.core) }
+    {
+        for line in script.lines.as_slice() {
+            self.do_line(alloc, line)?;
+        }
+        Ok(())
+    }
+
+    /// Ends the run, with what isn't closed: what is still held may be let go.
+    pub fn end(self, alloc: Global) -> (History, Result<Items<Thing>, NoMemory>)
+        ensures events { result.0.events ≡ self.core.events }
+        ensures left { IfOk result.1 (λ things. things ≡ left self.core.seqs (past_in self.core)) }
+    {
+        let Run {
+            core,
+            held,
+            mut kept,
+            mut refused,
+        } = self;
+        let left = match core.left(alloc) {
+            Ok(left) => Ok(Items::from_vec(left)),
+            Err(_) => Err(NoMemory),
+        };
+        let (history, over) = core.end();
+        held.retire(&over);
+        while let Some(handles) = kept.pop() {
+            handles.retire(&over);
+        }
+        kept.destroy_empty();
+        while let Some(command) = refused.pop() {
+            command.retire(&over);
+        }
+        refused.destroy_empty();
+        (history, left)
+    }
+}

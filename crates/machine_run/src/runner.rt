@@ -1,0 +1,53 @@
+//! A whole run.
+
+ghost use Rattle.std.specs.Prelude.{◌≡◌, ◌*◌, ◌≤◌, length, reverse, IfOk};
+ghost use Rattle.std.specs.Arc.{arc_value};
+ghost use Rattle.machine_model.specs.Replies.{Legal};
+ghost use Rattle.machine_model.specs.WireOf.{wire_of};
+ghost use Rattle.machine_core.specs.Left.{left};
+ghost use Rattle.machine_run.specs.OfScript.{OfScript};
+ghost use Rattle.machine_script.specs.Sound.{IsScript};
+
+use crate::run::Run;
+use handle_table::Thing;
+use machine_core::History;
+use machine_script::{SEQUENCES, Script};
+use mj_base::Items;
+use mj_base::limits::MAX_SCRIPT_LINES;
+use mj_schema::Schema;
+use std::alloc::Global;
+use std::sync::Arc;
+use thiserror::Error;
+
+/// There was no memory for the run.
+#[derive(Clone, Copy, Debug, PartialEq, Eq, Error)]
+#[error("out of memory")]
+pub struct NoMemory;
+
+/// What a run leaves: its events in order, and the things that aren't closed, the ends before the tokens,
+/// each by sequence and by number.
+#[derive(Drop)]
+pub struct Ran {
+    pub history: History,
+    pub left: Items<Thing>,
+}
+
+/// Runs a script to its end: the command of each line in order, and then takes until no message is
+/// ready. The history has 131,072 events at most. Takes time in proportion to the script and to what its
+/// commands take.
+pub fn run_alone(alloc: Global, schema: Arc<Schema>, script: &Script) -> Result<Ran, NoMemory>
+    requires { IsScript (arc_value schema) script.now }
+    ensures legal { IfOk result (λ ran. Legal (wire_of (arc_value schema)) SEQUENCES ran.history.events) }
+    ensures script { IfOk result (λ ran. OfScript (arc_value schema) script.now ran.history.events) }
+    ensures left { IfOk result (λ ran. ran.left ≡ left SEQUENCES (reverse ran.history.events)) }
+    ensures few { IfOk result (λ ran. length ran.history.events ≤ 2 * MAX_SCRIPT_LINES) }
+{
+    let mut run = Run::new(alloc, schema, script.names)?;
+    let played = run.play(alloc, script);
+    let (history, left) = run.end(alloc);
+    played?;
+    Ok(Ran {
+        history,
+        left: left?,
+    })
+}
