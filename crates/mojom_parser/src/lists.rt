@@ -11,6 +11,7 @@ use std::alloc::Global;
 
 /// What may stand in a list, and how one of it is read.
 pub trait Listed: Drop {
+    // the rule of the grammar that reads one
     ghost rule: { Lang Self };
 
     // Nothing is never read as one.

@@ -3,7 +3,7 @@
 ghost use Rattle.std.specs.Prelude.{◌≡◌, ◌∷◌, [], IfOk, MatchOption, false};
 ghost use Rattle.mojom_ast.specs.declared.classes.TheConstants.{NUMBER, STRING};
 ghost use Rattle.mojom_ast.specs.Classes.{keyword_class, symbol_class, identifiers, class};
-ghost use Rattle.mojom_ast.specs.Lang.{has, front_in, tok, keyword, symbol};
+ghost use Rattle.mojom_ast.specs.Lang.{has, as_value, front_in, tok, keyword, symbol};
 ghost use Rattle.mojom_ast.specs.Grammar.{identifier, number, string};
 ghost use Rattle.mojom_parser.specs.steps.Reading.{Gives, IsTextOf, identifier_at};
 
@@ -36,6 +36,14 @@ pub fn expect(tokens: &[Token], class: u8) -> Result<(&Token, &[Token]), ReadErr
         }
         [] => Err(ReadError::Fault(Fault::Unexpected(0))),
     }
+}
+
+/// The value that a token of the class stands for, and the tokens after it.
+pub fn expect_as<T: Copy>(tokens: &[Token], class: u8, value: T) -> Result<(T, &[Token]), ReadError>
+    ensures { Gives (λ x. (x.0, x.1.now)) result ((as_value (λ _. value) (tok (class ∷ []))).read tokens.now) }
+{
+    let (_, rest) = expect(tokens, class)?;
+    Ok((value, rest))
 }
 
 /// Whether the next token is the symbol.

@@ -9,7 +9,7 @@ ghost use Rattle.mojom_parser.specs.steps.Reading.{Gives, Fails};
 
 use crate::error::ReadError;
 use crate::tokens::{
-    expect, is_identifier, is_keyword, is_next, is_symbol, keyword, number, symbol,
+    expect_as, is_identifier, is_keyword, is_next, is_symbol, keyword, number, symbol,
 };
 use crate::values::name;
 use mj_base::limits::MAX_NESTED_TYPES;
@@ -88,23 +88,26 @@ fn handle_sort(tokens: &[Token]) -> Result<(HandleSort, &[Token]), ReadError>
     ensures { Gives (λ x. (x.0, x.1.now)) result (handle_sort.read tokens.now) }
 {
     if is_next(tokens, classes::MESSAGE_PIPE) {
-        let (_, rest) = expect(tokens, classes::MESSAGE_PIPE)?;
-        return Ok((HandleSort::MessagePipe, rest));
+        return expect_as(tokens, classes::MESSAGE_PIPE, HandleSort::MessagePipe);
     }
     if is_next(tokens, classes::DATA_PIPE_CONSUMER) {
-        let (_, rest) = expect(tokens, classes::DATA_PIPE_CONSUMER)?;
-        return Ok((HandleSort::DataPipeConsumer, rest));
+        return expect_as(
+            tokens,
+            classes::DATA_PIPE_CONSUMER,
+            HandleSort::DataPipeConsumer,
+        );
     }
     if is_next(tokens, classes::DATA_PIPE_PRODUCER) {
-        let (_, rest) = expect(tokens, classes::DATA_PIPE_PRODUCER)?;
-        return Ok((HandleSort::DataPipeProducer, rest));
+        return expect_as(
+            tokens,
+            classes::DATA_PIPE_PRODUCER,
+            HandleSort::DataPipeProducer,
+        );
     }
     if is_next(tokens, classes::SHARED_BUFFER) {
-        let (_, rest) = expect(tokens, classes::SHARED_BUFFER)?;
-        return Ok((HandleSort::SharedBuffer, rest));
+        return expect_as(tokens, classes::SHARED_BUFFER, HandleSort::SharedBuffer);
     }
-    let (_, rest) = expect(tokens, classes::PLATFORM)?;
-    Ok((HandleSort::Platform, rest))
+    expect_as(tokens, classes::PLATFORM, HandleSort::Platform)
 }
 
 /// A sort of handles between angle brackets, where it stands.
@@ -137,19 +140,27 @@ fn pending_sort(tokens: &[Token]) -> Result<(PendingSort, &[Token]), ReadError>
     ensures { Gives (λ x. (x.0, x.1.now)) result (pending_sort.read tokens.now) }
 {
     if is_keyword(tokens, Keyword::PendingRemote) {
-        let (_, rest) = keyword(tokens, Keyword::PendingRemote)?;
-        return Ok((PendingSort::Remote, rest));
+        return expect_as(tokens, Keyword::PendingRemote.class(), PendingSort::Remote);
     }
     if is_keyword(tokens, Keyword::PendingReceiver) {
-        let (_, rest) = keyword(tokens, Keyword::PendingReceiver)?;
-        return Ok((PendingSort::Receiver, rest));
+        return expect_as(
+            tokens,
+            Keyword::PendingReceiver.class(),
+            PendingSort::Receiver,
+        );
     }
     if is_keyword(tokens, Keyword::PendingAssociatedRemote) {
-        let (_, rest) = keyword(tokens, Keyword::PendingAssociatedRemote)?;
-        return Ok((PendingSort::AssociatedRemote, rest));
+        return expect_as(
+            tokens,
+            Keyword::PendingAssociatedRemote.class(),
+            PendingSort::AssociatedRemote,
+        );
     }
-    let (_, rest) = keyword(tokens, Keyword::PendingAssociatedReceiver)?;
-    Ok((PendingSort::AssociatedReceiver, rest))
+    expect_as(
+        tokens,
+        Keyword::PendingAssociatedReceiver.class(),
+        PendingSort::AssociatedReceiver,
+    )
 }
 
 /// An end of an interface.
