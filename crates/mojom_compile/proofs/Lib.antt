@@ -5,3 +5,4 @@ pub mod NarrowRows
 pub mod Trees
 pub mod SomeSchema
 pub mod OneSchemaOfFiles
+pub mod OneFirstAnswered

@@ -5,4 +5,5 @@ pub mod Rows
 pub mod Compiled
 pub mod Errors
 pub mod Schemas
+pub mod Responses
 pub mod steps

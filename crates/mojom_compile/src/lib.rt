@@ -7,6 +7,7 @@ mod error;
 mod narrow;
 mod narrow_file;
 mod narrow_refusals;
+mod responses;
 mod rows;
 mod schema_error;
 mod schemas;
@@ -15,6 +16,7 @@ mod tables;
 
 pub use compiler::{compile_narrow, one_narrow_schema, one_tree, read};
 pub use error::{Cause, CompileError, FileRefusal};
+pub use responses::{InterfacePlace, one_first_answered};
 pub use schema_error::SchemaError;
-pub use schemas::{compile, one_schema};
+pub use schemas::{compile, compile_with_responses, one_schema};
 pub use source::Source;
