@@ -1,8 +1,38 @@
-pub mod RowLemmas
-pub mod Meaning
-pub mod Changes
-pub mod Calls
-pub mod Joins
-pub mod ReadyRows
-pub mod Held
-pub mod SoleStepper
+mod Listing
+mod After
+mod Still
+mod Held
+mod Facts
+mod Staying
+mod Opening
+mod Closing
+mod Closed
+mod Doing
+mod Getting
+mod Looking
+mod Fronts
+mod Taken
+mod Handing
+mod Making
+mod Made
+mod Binding
+mod Bound
+mod Marking
+mod WireReads
+mod Arriving
+mod Placed
+mod Differing
+mod Parted
+mod Counted
+mod Naming
+mod Calling
+mod Sending
+mod Called
+mod EndOrder
+mod WhoTakes
+mod Untouched
+mod Leasts
+mod FirstReady
+mod Covering
+mod SoleStepper
+mod Leaving

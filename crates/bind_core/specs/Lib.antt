@@ -1,8 +1,11 @@
-pub mod Rows
-pub mod Calls
-pub mod Fronts
+pub mod Agreement
+pub mod Counts
+pub mod Covers
+pub mod EndSets
+pub mod Left
+pub mod Lines
+pub mod Log
 pub mod Plain
-pub mod Steps
 pub mod Play
-pub mod Asks
 pub mod Seen
+pub mod steps

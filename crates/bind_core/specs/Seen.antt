@@ -1,10 +1,12 @@
 -- What a stepper has seen, and what a step adds to it.
-use Rattle.std.specs.Prelude.{ℕ, ◌≡◌, ◌==◌, ◌++◌, List, [], ◌∷◌, length, reverse, filter}
+use Rattle.std.specs.Prelude.{ℕ, ◌≡◌, ◌<◌, ◌==◌, ◌++◌, List, [], ◌∷◌, length, reverse, filter}
 use Rattle.mj_base.specs.declared.ids.SeqId.{SeqId}
-use Rattle.mj_schema.specs.declared.narrow_schema.NarrowSchema.{NarrowSchema}
+use Rattle.mj_base.specs.declared.limits.TheConstants.{MAX_EVENTS}
+use Rattle.mj_schema.specs.declared.schema.Schema.{Schema}
 use Rattle.bind_model.specs.declared.event.Event.{Event}
-use Rattle.bind_model.specs.Laws.{IsAllowed}
-use Rattle.bind_model.specs.Machine.{Legal, answer}
+use Rattle.bind_model.specs.declared.told.Told.{Told}
+use Rattle.bind_model.specs.Replies.{Legal, answer}
+use Rattle.bind_model.specs.WireOf.{wire_of}
 use Rattle.bind_core.specs.declared.commands.Command.{Command}
 use Rattle.bind_core.specs.declared.commands.Reply.{Reply}
 use Rattle.bind_core.specs.declared.commands.Refused.{Refused}
@@ -20,22 +22,27 @@ pub record Continues (me : SeqId) (seen now : List Event) : Type 0 where
   pub none_own : own_of me between ≡ []
   pub all : now ≡ seen ++ between
 
--- the command is allowed whatever the other sequences do before it
-abbrev pub MayStep : NarrowSchema → SeqId → List Event → Command → Type 0
-MayStep schema me seen command = (now : List Event) → Continues me seen now → IsAllowed schema (reverse now) (asked_of command)
+-- where the one history is legal, so is the other
+abbrev pub KeepsLegal : Schema → ℕ → List Event → List Event → Type 0
+KeepsLegal schema seqs old new = Legal (wire_of schema) seqs old → Legal (wire_of schema) seqs new
 
--- one event of one's own, behind those of others, with the reply that these give
-pub record Saw (schema : NarrowSchema) (seqs : ℕ) (me : SeqId) (old new : List Event) (command : Command) (reply : Reply) : Type 0 where
+-- the reply that these events give to a command
+abbrev pub told_behind : Schema → ℕ → SeqId → List Event → Command → Told
+told_behind schema seqs me before command = answer (wire_of schema) seqs (reverse before) me (asked_of command)
+
+-- one event of one's own, behind those of others, with the reply that these give; fewer than 16,777,216 events stood before it
+pub record Saw (schema : Schema) (seqs : ℕ) (me : SeqId) (old new : List Event) (command : Command) (reply : Reply) : Type 0 where
   pub before : List Event
   pub others : Continues me old before
-  pub event : new ≡ before ++ record { seq = me; asked = asked_of command; told = answer schema seqs (reverse before) me (asked_of command) } ∷ []
-  pub legal : Legal schema seqs old → Legal schema seqs new
-  pub told : told_of reply ≡ answer schema seqs (reverse before) me (asked_of command)
+  pub event : new ≡ before ++ record { seq = me; asked = asked_of command; told = told_behind schema seqs me before command } ∷ []
+  pub room : length before < MAX_EVENTS
+  pub legal : KeepsLegal schema seqs old new
+  pub told : told_of reply ≡ told_behind schema seqs me before command
   pub back : HandsBack command reply
 
--- no event of one's own, and the command comes back
-pub record Waited (schema : NarrowSchema) (seqs : ℕ) (me : SeqId) (old new : List Event) (command : Command) (refused : Refused) : Type 0 where
+-- no event of one's own, and the command comes back: it is spent exactly where 16,777,216 events stand
+pub record Waited (schema : Schema) (seqs : ℕ) (me : SeqId) (old new : List Event) (command : Command) (refused : Refused) : Type 0 where
   pub others : Continues me old new
-  pub legal : Legal schema seqs old → Legal schema seqs new
+  pub legal : KeepsLegal schema seqs old new
   pub back : command_of refused ≡ command
   pub spent : IsSpentAt (length new) refused

@@ -1,59 +1,96 @@
 //! Binding an end as a side of an interface.
 
-ghost use Rattle.std.specs.Prelude.{◌≡◌, ◌&&◌, nat_lt, length, IfOk, IfErr};
-ghost use Rattle.bind_model.specs.Machine.{is_out};
-ghost use Rattle.bind_core.specs.Steps.{CanDo, Done, Undone, Holds, past_of, schema_of};
+ghost use Rattle.std.specs.Prelude.{◌≡◌, ◌<◌, ◌&&◌, true, nat_lt, length, IfOk, IfErr};
+ghost use Rattle.handle_table.specs.Places.{place_of};
+ghost use Rattle.handle_table.specs.Things.{has};
+ghost use Rattle.handle_table.specs.declared.thing.Thing.TheVariants.{End};
+ghost use Rattle.bind_model.specs.Machine.{out};
+ghost use Rattle.bind_core.specs.Agreement.{is_out, past_of, schema_of};
+ghost use Rattle.bind_core.specs.steps.Doing.{CanDo, Done, HasRoom, Undone};
 
 use crate::commands::{Command, Refused, Reply};
-use crate::handle::Handle;
 use crate::state::{State, refuse};
-use bind_model::{Asked, Binding, Event, Side, Told, Why};
+use crate::things::is_out;
+use bind_model::{Asked, Endpoint, Event, State as EndpointState, Told, Why};
+use handle_table::{Handle, Place, Thing};
 use mj_base::{EndId, SeqId};
+use std::alloc::Global;
+use wire_encoder::EndpointSide;
 
-/// Binds the handle's end on the sequence that asks. The core keeps the handle.
+/// Whether the handle is with a caller, and the interface is there.
+fn may_bind(state: &State, thing: Thing, interface: u32) -> bool
+    ensures { result ≡ (is_out (place_of state.now.pipes.table thing) && nat_lt interface (length (schema_of state.now).interfaces)) }
+{
+    is_out(&state.pipes, thing) && (interface as usize) < state.schema.interfaces.len()
+}
+
+/// Binds the handle's end on the sequence that asks. The table keeps the handle.
 pub fn bind(
     state: &mut State,
+    alloc: Global,
     seq: SeqId,
     handle: Handle,
-    side: Side,
+    side: EndpointSide,
     interface: u32,
 ) -> Result<Reply, Refused>
-    requires { CanDo state.old (Command.Bind handle side interface) }
+    requires { CanDo state.old seq (Command.Bind handle side interface) }
     ensures done { IfOk result (λ reply. Done state.old state.new seq (Command.Bind handle side interface) reply) }
     ensures undone { IfErr result (λ refused. Undone state.old state.new (Command.Bind handle side interface) refused) }
 {
-    let end = handle.id();
-    if !may_bind(state, end, interface) {
+    let thing = handle.thing();
+    let asked = Asked::Bind(thing, side, interface);
+    if !may_bind(state, thing, interface) {
         return refuse(
             state,
             seq,
-            Asked::Bind(end, side, interface),
+            asked,
             Why::NoName,
             Command::Bind(handle, side, interface),
         );
     }
-    if state.kept.reserve(1).is_err() {
-        return Err(Refused::Memory(Command::Bind(handle, side, interface)));
+    match thing {
+        Thing::End(end) => bind_end(state, alloc, seq, handle, side, interface, end),
+        Thing::Token(_) => refuse(
+            state,
+            seq,
+            asked,
+            Why::NotPipe,
+            Command::Bind(handle, side, interface),
+        ),
     }
-    let binding = Binding {
-        on: seq,
+}
+
+/// Binds an end whose handle is with a caller.
+fn bind_end(
+    state: &mut State,
+    alloc: Global,
+    seq: SeqId,
+    handle: Handle,
+    side: EndpointSide,
+    interface: u32,
+    end: EndId,
+) -> Result<Reply, Refused>
+    requires able { HasRoom state.old seq }
+    requires end { handle ≡ End end }
+    requires held { has (out (past_of state.old)) (End end) ≡ true }
+    requires there { interface < length (schema_of state.old).interfaces }
+    ensures done { IfOk result (λ reply. Done state.old state.new seq (Command.Bind handle side interface) reply) }
+    ensures undone { IfErr result (λ refused. Undone state.old state.new (Command.Bind handle side interface) refused) }
+{
+    let endpoint = Endpoint {
         side,
         interface,
+        state: EndpointState::Bound(seq),
+        peer_closed: false,
     };
-    state.rows.bind(end, binding);
-    state.kept.push_reserved(handle);
+    if state.endpoints.enter(alloc, end, 0, endpoint).is_err() {
+        return Err(Refused::Memory(Command::Bind(handle, side, interface)));
+    }
+    state.pipes.put(handle, Place::Bound);
     state.history.push_reserved(Event {
         seq,
-        asked: Asked::Bind(end, side, interface),
+        asked: Asked::Bind(Thing::End(end), side, interface),
         told: Told::Bound(end),
     });
     Ok(Reply::Bound(end))
-}
-
-/// Whether the end's handle is with a caller, and the interface is there.
-fn may_bind(state: &State, end: EndId, interface: u32) -> bool
-    requires { Holds state.now }
-    ensures { result ≡ (is_out (past_of state.now) end && nat_lt interface (length (schema_of state.now).interfaces)) }
-{
-    state.rows.is_out(end) && (interface as usize) < state.schema.interfaces.len()
 }

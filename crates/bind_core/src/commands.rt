@@ -1,30 +1,66 @@
 //! What a core is asked, and what it replies.
 
-use crate::handle::{Ended, Handle, Handles};
-use bind_model::{Side, Taken, Why};
+use bind_model::{BadWhy, Parameters, Why};
+use handle_table::{Ended, Handle, Handles, Thing, TokenSort};
 use mj_base::{EndId, Items, SeqId};
-use narrow_wire::Prepared;
+use wire_encoder::{EndpointSide, Prepared};
+use wire_model::Target;
+
+/// What is closed.
+pub enum ToClose {
+    Handle(Handle),
+    /// The endpoint of this id at an end; with id 0, the end.
+    Endpoint(EndId, u32),
+}
 
 /// What a caller asks. It takes the handles with it.
 pub enum Command {
+    /// A new pipe.
+    Pipe,
     /// A new pipe, whose second end is numbered by that sequence.
     Join(SeqId),
+    /// A new token.
+    Mint(TokenSort),
     /// To bind an end as a side of an interface, by its number in the schema.
-    Bind(Handle, Side, u32),
-    /// A call on the endpoint of this id at an end.
-    Call(EndId, u32, Prepared),
+    Bind(Handle, EndpointSide, u32),
+    /// A request from the endpoint of this id at an end, with the handles that its parameters name.
+    Call(EndId, u32, Prepared, Handles),
     /// The oldest unread message at an end.
     Take(EndId),
+    Close(ToClose),
+    /// Nothing: what the line of this number of a script needs isn't there.
+    Skip(u32),
+}
+
+/// What a take got: the id of the endpoint that the message was for, its method and side, its
+/// parameters, its request id (0 where it has none), the handles that the parameters name in the order
+/// of their indexes, and what went with those that they don't name.
+pub struct Received {
+    pub id: u32,
+    pub target: Target,
+    pub parameters: Parameters,
+    pub request: u64,
+    pub handles: Handles,
+    pub gone: Items<Thing>,
 }
 
 /// What the caller is told. A refusal hands the command back.
 pub enum Reply {
-    /// The handles of the two ends of a new pipe.
+    /// The handles of the two ends of a new pipe, or of a new token.
     Made(Handles),
     Bound(EndId),
-    /// The request id (0 where none is expected back) and the bytes that were sent.
+    /// The request id (0 where no response is expected) and the bytes that were sent.
     Sent(u64, Items<u8>),
-    Got(Taken),
+    Got(Received),
+    /// A message for the endpoint of this id, which isn't there or is closed, and what went with it.
+    Dropped(u32, Items<Thing>),
+    /// The peer of the endpoint of this id is closed.
+    Control(u32),
+    /// The oldest message is bad; the end is closed with it, and all this went.
+    Bad(BadWhy, Items<Thing>),
+    /// All that went.
+    Closed(Items<Thing>),
+    Skipped,
     No(Why, Command),
 }
 
@@ -36,13 +72,44 @@ pub enum Refused {
     Spent(Command),
 }
 
+impl ToClose {
+    /// Lets it go, once all is over.
+    pub fn retire(self, over: &Ended) {
+        match self {
+            ToClose::Handle(handle) => handle.retire(over),
+            ToClose::Endpoint(_, _) => {}
+        }
+    }
+}
+
 impl Command {
     /// Lets it go, once all is over.
     pub fn retire(self, over: &Ended) {
         match self {
             Command::Bind(handle, _, _) => handle.retire(over),
-            Command::Join(_) | Command::Call(_, _, _) | Command::Take(_) => {}
+            Command::Call(_, _, _, handles) => handles.retire(over),
+            Command::Close(closed) => closed.retire(over),
+            Command::Pipe
+            | Command::Join(_)
+            | Command::Mint(_)
+            | Command::Take(_)
+            | Command::Skip(_) => {}
         }
+    }
+}
+
+impl Received {
+    /// Lets it go, once all is over.
+    pub fn retire(self, over: &Ended) {
+        let Received {
+            id: _,
+            target: _,
+            parameters: _,
+            request: _,
+            handles,
+            gone: _,
+        } = self;
+        handles.retire(over);
     }
 }
 
@@ -51,8 +118,15 @@ impl Reply {
     pub fn retire(self, over: &Ended) {
         match self {
             Reply::Made(handles) => handles.retire(over),
+            Reply::Got(received) => received.retire(over),
             Reply::No(_, command) => command.retire(over),
-            Reply::Bound(_) | Reply::Sent(_, _) | Reply::Got(_) => {}
+            Reply::Bound(_)
+            | Reply::Sent(_, _)
+            | Reply::Dropped(_, _)
+            | Reply::Control(_)
+            | Reply::Bad(_, _)
+            | Reply::Closed(_)
+            | Reply::Skipped => {}
         }
     }
 }

@@ -1,97 +1,79 @@
-//! Joining: a new pipe.
+//! New pipes.
 
-ghost use Rattle.std.specs.Prelude.{◌≡◌, ◌+◌, ◌<◌, [], ◌∷◌, IfOk, IfErr};
-ghost use Rattle.bind_model.specs.Machine.{joined};
-ghost use Rattle.bind_model.specs.declared.event.Told.{Told};
-ghost use Rattle.bind_core.specs.Steps.{CanDo, Done, Undone, past_of};
+ghost use Rattle.std.specs.Prelude.{◌≡◌, IfOk, IfErr, OnErr};
+ghost use Rattle.bind_model.specs.Replies.{joined};
+ghost use Rattle.bind_core.specs.Plain.{asked_of};
+ghost use Rattle.bind_core.specs.declared.commands.Command.{Command as any_command};
+ghost use Rattle.bind_core.specs.Agreement.{past_of};
+ghost use Rattle.bind_core.specs.steps.Doing.{CanDo, Done, HasRoom, Stays, Undone, told_to};
 
 use crate::commands::{Command, Refused, Reply};
-use crate::handle::{Handle, Handles};
-use crate::row::Row;
 use crate::state::{State, refuse};
 use bind_model::{Asked, Event, Told, Why};
-use mj_base::{EndId, Items, SeqId};
+use handle_table::{Handle, Handles, Thing};
+use mj_base::{Items, SeqId};
 use std::alloc::{AllocError, Global};
+
+/// Makes a pipe.
+pub fn pipe(state: &mut State, alloc: Global, seq: SeqId) -> Result<Reply, Refused>
+    requires { CanDo state.old seq Command.Pipe }
+    ensures done { IfOk result (λ reply. Done state.old state.new seq Command.Pipe reply) }
+    ensures undone { IfErr result (λ refused. Undone state.old state.new Command.Pipe refused) }
+{
+    match make(state, alloc, seq, seq, Asked::Pipe) {
+        Ok(handles) => Ok(Reply::Made(handles)),
+        Err(_) => Err(Refused::Memory(Command::Pipe)),
+    }
+}
 
 /// Makes a pipe, whose second end is numbered by the other sequence.
 pub fn join(state: &mut State, alloc: Global, seq: SeqId, other: SeqId) -> Result<Reply, Refused>
-    requires { CanDo state.old (Command.Join other) }
+    requires { CanDo state.old seq (Command.Join other) }
     ensures done { IfOk result (λ reply. Done state.old state.new seq (Command.Join other) reply) }
     ensures undone { IfErr result (λ refused. Undone state.old state.new (Command.Join other) refused) }
 {
+    let asked = Asked::Join(other);
     if other.0 >= state.seqs {
-        return refuse(
-            state,
-            seq,
-            Asked::Join(other),
-            Why::NoName,
-            Command::Join(other),
-        );
+        return refuse(state, seq, asked, Why::NoName, Command::Join(other));
     }
-    let ends = next_ends(state, seq, other);
-    make(state, alloc, seq, other, ends)
+    match make(state, alloc, seq, other, asked) {
+        Ok(handles) => Ok(Reply::Made(handles)),
+        Err(_) => Err(Refused::Memory(Command::Join(other))),
+    }
 }
 
-/// Two new ends, each with the next number of its sequence.
-fn next_ends(state: &State, seq: SeqId, other: SeqId) -> (EndId, EndId)
-    requires { CanDo state.now (Command.Join other) }
-    ensures { Told.Made (result.0 ∷ result.1 ∷ []) ≡ joined (past_of state.now) seq.0 other.0 }
-{
-    let first = EndId {
-        seq: seq.0,
-        serial: state.rows.count(seq),
-    };
-    let before = if other.0 == seq.0 { 1 } else { 0 };
-    let second = EndId {
-        seq: other.0,
-        serial: state.rows.count(other) + before,
-    };
-    (first, second)
-}
-
-/// Notes the new pipe of these ends.
+/// Makes a pipe and notes it, where nothing refuses what was asked.
 fn make(
     state: &mut State,
     alloc: Global,
     seq: SeqId,
     other: SeqId,
-    ends: (EndId, EndId),
-) -> Result<Reply, Refused>
-    requires can { CanDo state.old (Command.Join other) }
-    requires there { other.0 < state.old.seqs }
-    requires next { Told.Made (ends.0 ∷ ends.1 ∷ []) ≡ joined (past_of state.old) seq.0 other.0 }
-    ensures done { IfOk result (λ reply. Done state.old state.new seq (Command.Join other) reply) }
-    ensures undone { IfErr result (λ refused. Undone state.old state.new (Command.Join other) refused) }
+    asked: Asked,
+) -> Result<Handles, AllocError>
+    requires able { HasRoom state.old seq }
+    requires told { told_to state.old seq asked ≡ joined (past_of state.old) seq.0 other.0 }
+    ensures done { IfOk result (λ handles. (command : any_command) → asked ≡ asked_of command → Done state.old state.new seq command (Reply.Made handles)) }
+    ensures undone { OnErr result (Stays state.old state.new) }
 {
-    let (first, second) = ends;
-    let Ok(names) = pair(alloc, first, second) else {
-        return Err(Refused::Memory(Command::Join(other)));
-    };
-    let mut handles = match Vec::with_capacity(alloc, 2) {
-        Ok(handles) => handles,
-        Err(_) => return Err(Refused::Memory(Command::Join(other))),
-    };
-    let (one, two) = (
-        Row::new(alloc, first, second),
-        Row::new(alloc, second, first),
-    );
-    let Ok(()) = state.rows.add(one, two) else {
-        handles.destroy_empty();
-        return Err(Refused::Memory(Command::Join(other)));
-    };
-    handles.push_reserved(Handle::new(first));
-    handles.push_reserved(Handle::new(second));
-    state.history.push_reserved(Event {
-        seq,
-        asked: Asked::Join(other),
-        told: Told::Made(names),
-    });
-    Ok(Reply::Made(Handles::from_vec(handles)))
-}
-
-/// The list of two ends.
-fn pair(alloc: Global, first: EndId, second: EndId) -> Result<Items<EndId>, AllocError>
-    ensures { IfOk result (λ ends. ends ≡ first ∷ second ∷ []) }
-{
-    Ok(Items::from_vec(Vec::from_slice(alloc, &[first, second])?))
+    let mut things: Vec<Thing> = Vec::with_capacity(alloc, 2)?;
+    let mut handles: Vec<Handle> = Vec::with_capacity(alloc, 2)?;
+    match state.pipes.make(alloc, seq, other) {
+        Ok(pipe) => {
+            let (one, two) = pipe;
+            things.push_reserved(one.thing());
+            things.push_reserved(two.thing());
+            handles.push_reserved(one);
+            handles.push_reserved(two);
+            state.history.push_reserved(Event {
+                seq,
+                asked,
+                told: Told::Made(Items::from_vec(things)),
+            });
+            Ok(Handles::from_vec(handles))
+        }
+        Err(error) => {
+            handles.destroy_empty();
+            Err(error)
+        }
+    }
 }

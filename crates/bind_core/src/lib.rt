@@ -3,19 +3,33 @@
 
 mod bind;
 mod call;
+mod close;
 mod commands;
-mod handle;
+mod copy;
+mod distinct;
+mod end_set;
+mod endpoint_table;
+mod endpoints;
+mod history;
+mod indexes;
 mod join;
+mod left;
 mod machine;
-mod mail;
-mod row;
-mod rows;
+mod mint;
+mod reading;
+mod requests;
 mod state;
 mod stepper;
-mod table;
 mod take;
+mod takers;
+mod things;
+mod watch;
 
-pub use commands::{Command, Refused, Reply};
-pub use handle::{Ended, Handle, Handles};
+pub use commands::{Command, Received, Refused, Reply, ToClose};
+pub use copy::copy_value;
+pub use history::History;
 pub use machine::Core;
 pub use stepper::{Alone, Stepper};
+
+#[cfg(test)]
+mod tests;

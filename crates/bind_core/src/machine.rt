@@ -2,22 +2,28 @@
 
 ghost use Rattle.std.specs.Prelude.{◌≡◌, ◌<◌, ◌++◌, [], ◌∷◌, length, reverse, IfOk, IfErr, OnOk};
 ghost use Rattle.std.specs.Arc.{arc_value};
-ghost use Rattle.bind_model.specs.Laws.{IsAllowed, AllAllowed, InOrder, OnePlace, AsSaid, AreGood, AreTight};
-ghost use Rattle.bind_model.specs.Machine.{Legal};
+ghost use Rattle.bind_model.specs.Laws.{OnePlace, OwnResponses, InOrder, AllStand};
+ghost use Rattle.bind_model.specs.Origins.{HaveWriters};
 ghost use Rattle.bind_model.specs.Ready.{ready};
-ghost use Rattle.bind_core.specs.Plain.{asked_of, told_of, HandsBack, command_of, IsSpentAt};
-ghost use Rattle.bind_core.specs.Asks.{told_at};
+ghost use Rattle.bind_model.specs.Replies.{Legal};
+ghost use Rattle.bind_model.specs.WireOf.{wire_of};
+ghost use Rattle.bind_core.specs.Left.{left};
+ghost use Rattle.bind_core.specs.Plain.{asked_of, told_of, HandsBack, command_of, IsSpentAt, IsOf};
+ghost use Rattle.bind_core.specs.Play.{told_at};
 
 use crate::commands::{Command, Refused, Reply};
-use crate::handle::{Ended, Handles};
-use crate::state;
+use crate::end_set::EndSet;
+use crate::endpoints::Endpoints;
+use crate::history::History;
 use crate::state::State;
-use crate::table::Table;
-use bind_model::History;
+use crate::watch::{end_named, unwatch, watch};
+use crate::{left, state};
+use handle_table::{Ended, Thing};
+use message_pipe::Pipes;
 use mj_base::limits::MAX_EVENTS;
 use mj_base::{EndId, SeqId};
-use mj_schema::NarrowSchema;
-use std::alloc::Global;
+use mj_schema::Schema;
+use std::alloc::{AllocError, Global};
 use std::marker::Model;
 use std::sync::Arc;
 
@@ -25,27 +31,42 @@ use std::sync::Arc;
 /// how many sequences it has, and all events.
 pub struct Core {
     state: State,
+    // Each end where a take is ready, and maybe others: `ready` need not walk over all ends.
+    watched: EndSet,
 }
 
 impl Model for Core {
     ghost use Rattle.std.specs.Coded.{codes};
-    ghost use Rattle.mj_schema.specs.contracts.narrow_schema.NarrowSchema as schema;
+    ghost use Rattle.mj_schema.specs.contracts.schema.Schema as schema;
     ghost use Rattle.bind_core.specs.Play.{Play};
-    ghost use Rattle.bind_core.specs.Steps.{Holds, schema_of};
+    ghost use Rattle.bind_core.specs.Covers.{Stands};
+    ghost use Rattle.bind_core.specs.Agreement.{schema_of};
+    ghost use Rattle.bind_model.specs.steps.TreeCodes.{tree_code};
 
     ghost Value = { Play };
 
-    ghost coded = { Prim.hlevel (codes, schema.the_row.coded) };
+    ghost coded = { Prim.hlevel (codes, schema.the_row.coded, tree_code (Prim.hlevel codes)) };
 
     ghost view = { λ core. record { schema = schema_of core.state; seqs = core.state.seqs; events = core.state.history.events } };
 
-    ghost invariant = { λ core. Holds core.state };
+    ghost invariant = { λ core. Stands core.state core.watched };
+}
+
+/// Hands a command back: for want of memory, unless the history is full.
+fn hand_back(state: &State, command: Command) -> Refused
+    ensures back { command_of result ≡ command }
+    ensures spent { IsSpentAt (length state.now.history.events) result }
+{
+    if state.history.len() >= MAX_EVENTS {
+        Refused::Spent(command)
+    } else {
+        Refused::Memory(command)
+    }
 }
 
 impl Core {
     /// A core of this schema, with no events. Takes no memory.
-    pub fn new(alloc: Global, schema: Arc<NarrowSchema>, seqs: u32) -> Core
-        requires { seqs ≡ 1 }
+    pub fn new(alloc: Global, schema: Arc<Schema>, seqs: u32) -> Core
         ensures { result ≡ record { schema = arc_value schema; seqs = seqs; events = [] } }
     {
         Core {
@@ -53,9 +74,10 @@ impl Core {
                 schema,
                 seqs,
                 history: History::new(alloc),
-                rows: Table::new(alloc),
-                kept: Vec::new(alloc),
+                pipes: Pipes::new(alloc),
+                endpoints: Endpoints::new(alloc),
             },
+            watched: EndSet::new(alloc),
         }
     }
 
@@ -63,7 +85,7 @@ impl Core {
     /// give, or, without memory or with 16,777,216 events, nothing happens and the command comes back.
     pub fn step(&mut self, alloc: Global, seq: SeqId, command: Command) -> Result<Reply, Refused>
         requires seq { seq.0 < self.old.seqs }
-        requires allowed { IsAllowed self.old.schema (reverse self.old.events) (asked_of command) }
+        requires prepared { IsOf self.old.schema command }
         ensures same { (self.new.schema ≡ self.old.schema) × (self.new.seqs ≡ self.old.seqs) }
         // The history gains this one event, with the reply that the events before it give.
         ensures event { IfOk result (λ reply. self.new.events ≡
@@ -75,53 +97,64 @@ impl Core {
         ensures room { OnOk result (length self.old.events < MAX_EVENTS) }
         ensures spent { IfErr result (λ refused. IsSpentAt (length self.old.events) refused) }
     {
-        state::step(&mut self.state, alloc, seq, command)
+        let end = end_named(&command);
+        if watch(&mut self.watched, &self.state, end).is_err() {
+            return Err(hand_back(&self.state, command));
+        }
+        let outcome = state::step(&mut self.state, alloc, seq, command);
+        unwatch(&mut self.watched, &self.state, end, &outcome);
+        outcome
     }
 
     /// All events so far.
     pub fn history(&self) -> &History
         ensures events { result.now.events ≡ self.now.events }
         // Each reply is the one that the events before it give.
-        ensures legal { Legal self.now.schema self.now.seqs self.now.events }
-        // Each call was prepared, and each end was bound as the other side of its peer's interface.
-        ensures allowed { AllAllowed self.now.schema (reverse self.now.events) }
-        // At each end the takes were told, in order, what the messages of a prefix of all that was written give.
-        ensures in_order { InOrder self.now.schema (reverse self.now.events) }
-        // Each end was made once, and is in one place: with a caller, or bound.
-        ensures one_place { OnePlace (reverse self.now.events) }
-        // At each end the takes were told, in order, what the calls at the other end said.
-        ensures as_said { AsSaid (reverse self.now.events) }
-        // No message was found bad.
-        ensures good { AreGood (reverse self.now.events) }
-        // The bytes that were sent are the tight ones of their calls, for endpoint 0 and with no request id.
-        ensures tight { AreTight (reverse self.now.events) }
+        ensures legal { Legal (wire_of self.now.schema) self.now.seqs self.now.events }
+        // Each thing that was made has one place: with a caller, in an unread message, bound, or gone.
+        ensures one_place { OnePlace (wire_of self.now.schema) (reverse self.now.events) }
+        // At each end the messages are consumed in the order in which they were written, while it is open.
+        ensures in_order { InOrder (wire_of self.now.schema) (reverse self.now.events) }
+        // What is got is what the message stands for, at an endpoint bound on the sequence that takes.
+        ensures all_stand { AllStand (wire_of self.now.schema) (reverse self.now.events) }
+        // Requests are numbered, no two responses got have one number, and each was asked for.
+        ensures own_responses { OwnResponses (reverse self.now.events) }
+        // Each message is the one that its writer says.
+        ensures have_writers { HaveWriters (wire_of self.now.schema) (reverse self.now.events) }
     {
         &self.state.history
     }
 
-    /// The least end where a take would be told a value, behind the sequence that it is bound on.
+    /// The least end where a take would consume a message or find it bad, behind the sequence that takes
+    /// there; none exactly where there is no such end. Takes no memory.
     pub fn ready(&self) -> Option<(SeqId, EndId)>
-        ensures { result ≡ ready self.now.schema (reverse self.now.events) }
+        ensures { result ≡ ready (wire_of self.now.schema) (reverse self.now.events) }
     {
-        self.state.rows.ready()
+        self.watched.first_taken(&self.state)
+    }
+
+    /// What isn't closed: the ends before the tokens, both by sequence and by number. Takes time in
+    /// proportion to the sequences and to all that they made.
+    pub fn left(&self, alloc: Global) -> Result<Vec<Thing>, AllocError>
+        ensures { IfOk result (λ things. things.items ≡ left self.now.seqs (reverse self.now.events)) }
+    {
+        left::left(&self.state, alloc)
     }
 
     /// Ends the core. What its callers still hold may then be let go.
     pub fn end(self) -> (History, Ended)
         ensures events { result.0.events ≡ self.events }
-        ensures legal { Legal self.schema self.seqs result.0.events }
-        ensures allowed { AllAllowed self.schema (reverse result.0.events) }
+        ensures legal { Legal (wire_of self.schema) self.seqs result.0.events }
     {
-        let Core { state } = self;
+        let Core { state, watched: _ } = self;
         let State {
             schema: _,
             seqs: _,
             history,
-            rows: _,
-            kept,
+            pipes,
+            endpoints: _,
         } = state;
-        let over = Ended::new();
-        Handles::from_vec(kept).retire(&over);
+        let over = pipes.end();
         (history, over)
     }
 }

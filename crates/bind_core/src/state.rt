@@ -1,29 +1,32 @@
 //! All that a core keeps, and one step of it.
 
-ghost use Rattle.std.specs.Prelude.{◌≡◌, IfOk, IfErr};
-ghost use Rattle.bind_model.specs.declared.event.Told.{Told};
-ghost use Rattle.bind_core.specs.Plain.{asked_of};
-ghost use Rattle.bind_core.specs.Steps.{Holds, CanDo, Done, Undone, told_in, MayAsk};
+ghost use Rattle.std.specs.Prelude.{◌≡◌, ◌<◌, IfOk, IfErr};
+ghost use Rattle.bind_model.specs.declared.told.Told.{Told};
+ghost use Rattle.bind_core.specs.Plain.{asked_of, IsOf};
+ghost use Rattle.bind_core.specs.Agreement.{Holds, schema_of};
+ghost use Rattle.bind_core.specs.steps.Doing.{CanDo, Done, Undone, told_in};
 
-use crate::commands::{Command, Refused, Reply};
-use crate::handle::Handle;
-use crate::table::Table;
-use crate::{bind, call, join, take};
-use bind_model::{Asked, Event, History, Told, Why};
+use crate::close::{close_endpoint, close_handle};
+use crate::commands::{Command, Refused, Reply, ToClose};
+use crate::endpoints::Endpoints;
+use crate::history::History;
+use crate::{bind, call, join, mint, take};
+use bind_model::{Asked, Event, Told, Why};
+use message_pipe::Pipes;
 use mj_base::SeqId;
 use mj_base::limits::MAX_EVENTS;
-use mj_schema::NarrowSchema;
+use mj_schema::Schema;
 use std::alloc::Global;
 use std::sync::Arc;
 
-/// The schema, how many sequences there are, all events, a row for each end, and the handles of
-/// bound ends.
+/// The schema, how many sequences there are, all events, the pipes with the places of all handles, and
+/// the endpoints of ends.
 pub struct State {
-    pub schema: Arc<NarrowSchema>,
+    pub schema: Arc<Schema>,
     pub seqs: u32,
     pub history: History,
-    pub rows: Table,
-    pub kept: Vec<Handle>,
+    pub pipes: Pipes,
+    pub endpoints: Endpoints,
 }
 
 /// Does one command.
@@ -34,7 +37,8 @@ pub fn step(
     command: Command,
 ) -> Result<Reply, Refused>
     requires holds { Holds state.old }
-    requires allowed { MayAsk state.old command }
+    requires seq { seq.0 < state.old.seqs }
+    requires prepared { IsOf (schema_of state.old) command }
     ensures done { IfOk result (λ reply. Done state.old state.new seq command reply) }
     ensures undone { IfErr result (λ refused. Undone state.old state.new command refused) }
 {
@@ -44,12 +48,48 @@ pub fn step(
     if state.history.reserve().is_err() {
         return Err(Refused::Memory(command));
     }
+    dispatch(state, alloc, seq, command)
+}
+
+/// Does one command, for whose event there is room.
+fn dispatch(
+    state: &mut State,
+    alloc: Global,
+    seq: SeqId,
+    command: Command,
+) -> Result<Reply, Refused>
+    requires { CanDo state.old seq command }
+    ensures done { IfOk result (λ reply. Done state.old state.new seq command reply) }
+    ensures undone { IfErr result (λ refused. Undone state.old state.new command refused) }
+{
     match command {
+        Command::Pipe => join::pipe(state, alloc, seq),
         Command::Join(other) => join::join(state, alloc, seq, other),
-        Command::Bind(handle, side, interface) => bind::bind(state, seq, handle, side, interface),
-        Command::Call(end, id, prepared) => call::call(state, alloc, seq, end, id, prepared),
+        Command::Mint(sort) => mint::mint(state, alloc, seq, sort),
+        Command::Bind(handle, side, interface) => {
+            bind::bind(state, alloc, seq, handle, side, interface)
+        }
+        Command::Call(end, id, prepared, handles) => {
+            call::call(state, alloc, seq, end, id, prepared, handles)
+        }
         Command::Take(end) => take::take(state, alloc, seq, end),
+        Command::Close(ToClose::Handle(handle)) => close_handle(state, alloc, seq, handle),
+        Command::Close(ToClose::Endpoint(end, id)) => close_endpoint(state, alloc, seq, end, id),
+        Command::Skip(line) => Ok(skip(state, seq, line)),
     }
+}
+
+/// Notes a line of a script whose needs aren't there.
+fn skip(state: &mut State, seq: SeqId, line: u32) -> Reply
+    requires { CanDo state.old seq (Command.Skip line) }
+    ensures { Done state.old state.new seq (Command.Skip line) result }
+{
+    state.history.push_reserved(Event {
+        seq,
+        asked: Asked::Skip(line),
+        told: Told::Skipped,
+    });
+    Reply::Skipped
 }
 
 /// Notes a refusal.
@@ -60,7 +100,7 @@ pub fn refuse(
     why: Why,
     command: Command,
 ) -> Result<Reply, Refused>
-    requires can { CanDo state.old command }
+    requires can { CanDo state.old seq command }
     requires asked { asked ≡ asked_of command }
     requires why { told_in state.old seq command ≡ Told.No why }
     ensures done { IfOk result (λ reply. Done state.old state.new seq command reply) }

@@ -1,140 +1,280 @@
-//! Taking: the oldest unread message of an end.
+//! Taking: the oldest unread message at an end.
 
-ghost use Rattle.std.specs.Prelude.{◌≡◌, IfOk, IfErr};
-ghost use Rattle.bind_model.specs.Machine as machine;
-ghost use Rattle.bind_core.specs.Fronts.{told_of_look};
-ghost use Rattle.bind_core.specs.Rows.{took_in, row_at};
-ghost use Rattle.bind_core.specs.Steps.{CanDo, Done, Undone, schema_of, told_in};
-ghost use Rattle.bind_model.specs.declared.event.Told.{Told};
+ghost use Rattle.std.specs.Prelude.{◌≡◌, ◌≤◌, ◌<◌, ◌++◌, ◌∷◌, [], true, Ok, Err, Some, length, vec_len, vec_capacity, IfOk, IfErr};
+ghost use Rattle.handle_table.specs.Places.{place_of, is_kept};
+ghost use Rattle.handle_table.specs.declared.places.Place.TheVariants as places;
+ghost use Rattle.message_pipe.specs.Contents.{Puts};
+ghost use Rattle.message_pipe.specs.Ends.{carried_in, end_of, peer_of, spread, unread_at};
+ghost use Rattle.message_pipe.specs.Mail.{front_of};
+ghost use Rattle.bind_model.specs.declared.asked.Asked.TheVariants as asks;
+ghost use Rattle.bind_model.specs.Replies.{bad};
+ghost use Rattle.bind_core.specs.steps.Founds.{IsDropped, IsGot, Tells, things_in};
+ghost use Rattle.bind_core.specs.steps.Placing.{PutsAll};
+ghost use Rattle.bind_core.specs.Agreement.{Holds, past_of, wire_in};
+ghost use Rattle.bind_core.specs.steps.Doing.{CanDo, Done, HasRoom, Undone, told_to};
+ghost use Rattle.bind_core.specs.steps.Taking.{IsBrought, LieThere, front_found, nothing_at};
 
-use crate::commands::{Command, Refused, Reply};
+use crate::close::{Goes, goes_with};
+use crate::commands::{Command, Received, Refused, Reply};
+use crate::copy::copy_value;
+use crate::reading::{Arrived, Found, read};
 use crate::state::{State, refuse};
-use crate::table::Table;
-use bind_model::{Asked, Binding, Event, Message, Side, Taken, Told, Why};
-use mj_base::{EndId, SeqId};
-use mj_schema::NarrowSchema;
-use narrow_wire::{MessageSide, Request, Target, read_request};
+use bind_model::{Asked, BadWhy, Event, Got, Parameters, Told, Why};
+use handle_table::{Handle, Handles, Thing};
+use message_pipe::{Message, Pipes};
+use mj_base::{EndId, Items, SeqId};
 use std::alloc::{AllocError, Global};
 
-/// What is found at the front of an end's mail.
-enum Front {
-    Value(Taken),
-    /// A message that stands for no value.
-    Bad,
-    Nothing(Why),
-}
-
-/// Takes the oldest unread message of a bound end.
+/// Takes the oldest unread message at an end. A request is got, with the handles that its parameters
+/// name; a message whose endpoint isn't there or is closed is dropped; a bad one closes the end. Without
+/// memory nothing happens.
 pub fn take(state: &mut State, alloc: Global, seq: SeqId, end: EndId) -> Result<Reply, Refused>
-    requires { CanDo state.old (Command.Take end) }
+    requires { CanDo state.old seq (Command.Take end) }
     ensures done { IfOk result (λ reply. Done state.old state.new seq (Command.Take end) reply) }
     ensures undone { IfErr result (λ refused. Undone state.old state.new (Command.Take end) refused) }
 {
-    match look(&state.rows, alloc, &state.schema, end) {
-        Ok(Front::Value(taken)) => receive(state, alloc, seq, end, taken),
-        Ok(Front::Nothing(why)) => refuse(state, seq, Asked::Take(end), why, Command::Take(end)),
-        // Every message is of an allowed call, and stands for its value.
-        Ok(Front::Bad) => unreachable!(),
-        Err(_) => Err(Refused::Memory(Command::Take(end))),
+    match look(state, alloc, seq, end) {
+        Ok(Found::Nothing(why)) => refuse(state, seq, Asked::Take(end), why, Command::Take(end)),
+        Ok(Found::Bad(why)) => spoil(state, alloc, seq, end, why),
+        Ok(Found::Dropped(id)) => discard(state, alloc, seq, end, id),
+        Ok(Found::Value(arrived)) => receive(state, alloc, seq, end, arrived),
+        // No command of today leads to what is for later.
+        Ok(Found::Later) | Err(_) => Err(Refused::Memory(Command::Take(end))),
     }
 }
 
-/// What a take at an end would find.
-fn look(
-    table: &Table,
+/// Finds what a take at an end is told.
+fn look(state: &State, alloc: Global, seq: SeqId, end: EndId) -> Result<Found, AllocError>
+    requires { Holds state.now }
+    ensures { IfOk result (λ found. Tells (wire_in state.now) (past_of state.now) end found (told_to state.now seq (asks.Take end))) }
+{
+    match front(state, end) {
+        Ok(message) => read(state, alloc, seq, end, message),
+        Err(why) => Ok(Found::Nothing(why)),
+    }
+}
+
+/// The oldest unread message at a bound end that is open, or why nothing is taken there.
+fn front(state: &State, end: EndId) -> Result<&Message, Why>
+    ensures ok { IfOk result (λ message. front_found state.now.pipes state.now.endpoints end ≡ Ok message.now) }
+    ensures err { IfErr result (λ why. front_found state.now.pipes state.now.endpoints end ≡ Err why) }
+{
+    if state.endpoints.find(end, 0).is_none() {
+        return Err(Why::NoName);
+    }
+    if state.pipes.is_closed(end) {
+        return Err(Why::Disconnected);
+    }
+    match state.pipes.front(end) {
+        Some(message) => Ok(message),
+        None => Err(nothing(state, end)),
+    }
+}
+
+/// Why nothing is taken at an open end where nothing is unread.
+fn nothing(state: &State, end: EndId) -> Why
+    ensures { result ≡ nothing_at state.now.pipes (peer_of (end_of state.now.pipes.ends end)) }
+{
+    match state.pipes.peer(end) {
+        Some(peer) if state.pipes.is_closed(peer) => Why::PeerClosed,
+        _ => Why::Empty,
+    }
+}
+
+/// Closes an end whose oldest message is bad, with all that goes with it.
+fn spoil(
+    state: &mut State,
     alloc: Global,
-    schema: &NarrowSchema,
+    seq: SeqId,
     end: EndId,
-) -> Result<Front, AllocError>
-    ensures { IfOk result (λ front. told_of_look front ≡ took_in schema.now (row_at end table.now)) }
+    why: BadWhy,
+) -> Result<Reply, Refused>
+    requires able { HasRoom state.old seq }
+    requires told { told_to state.old seq (asks.Take end) ≡ bad (wire_in state.old) (past_of state.old) end why }
+    ensures done { IfOk result (λ reply. Done state.old state.new seq (Command.Take end) reply) }
+    ensures undone { IfErr result (λ refused. Undone state.old state.new (Command.Take end) refused) }
 {
-    let Some(row) = table.look(end) else {
-        return Ok(Front::Nothing(Why::NoName));
+    let Ok(goes) = goes_with(&state.pipes, alloc, Thing::End(end)) else {
+        return Err(Refused::Memory(Command::Take(end)));
     };
-    let Some(binding) = row.bound else {
-        return Ok(Front::Nothing(Why::NoName));
-    };
-    let Some(message) = row.mail.front() else {
-        return Ok(Front::Nothing(Why::Empty));
-    };
-    match read(alloc, schema, binding, message)? {
-        Some(taken) => Ok(Front::Value(taken)),
-        None => Ok(Front::Bad),
-    }
+    state.pipes.close(goes.noted.as_slice());
+    state.history.push_reserved(Event {
+        seq,
+        asked: Asked::Take(end),
+        told: Told::Bad(why, goes.noted),
+    });
+    Ok(Reply::Bad(why, goes.told))
 }
 
-/// What a message gives at an end that is bound so. A remote reads nothing.
-fn read(
+/// What goes with things of the message that is taken at an end. Nothing is closed yet.
+fn goes_behind(
+    pipes: &Pipes,
     alloc: Global,
-    schema: &NarrowSchema,
-    binding: Binding,
-    message: &Message,
-) -> Result<Option<Taken>, AllocError>
-    ensures { IfOk result (λ found. found ≡ machine.stands_for schema.now binding message.now) }
+    end: EndId,
+    things: Vec<Thing>,
+) -> Result<Goes, AllocError>
+    ensures noted { IfOk result (λ goes. goes.noted ≡ spread (carried_in pipes.now.ends (Some end)) pipes.now.made things.items) }
+    ensures told { IfOk result (λ goes. goes.told ≡ goes.noted) }
 {
-    match binding.side {
-        Side::Remote => Ok(None),
-        Side::Receiver => {
-            match read_request(alloc, schema, binding.interface, message.bytes.as_slice())? {
-                Some(request) => Ok(taking(binding.interface, request)),
-                None => Ok(None),
-            }
-        }
+    let noted = Items::from_vec(pipes.goes_with(things, Some(end))?);
+    let told = noted.copy(alloc)?;
+    Ok(Goes { noted, told })
+}
+
+/// The handles of the oldest unread message at an end.
+fn front_handles(pipes: &Pipes, alloc: Global, end: EndId) -> Result<Vec<Thing>, AllocError>
+    ensures { IfOk result (λ things. things.items ≡ things_in (front_of (unread_at pipes.now.ends end))) }
+{
+    match pipes.front(end) {
+        Some(message) => Ok(message.handles.copy(alloc)?.into_vec()),
+        None => Ok(Vec::new(alloc)),
     }
 }
 
-/// A request for endpoint 0 as a take tells it.
-fn taking(interface: u32, request: Request) -> Option<Taken>
-    ensures { result ≡ machine.taking interface request }
+/// What goes with the handles of the oldest unread message at an end. Nothing is closed yet.
+fn goes_with_front(pipes: &Pipes, alloc: Global, end: EndId) -> Result<Goes, AllocError>
+    ensures noted { IfOk result (λ goes. goes.noted ≡
+        spread (carried_in pipes.now.ends (Some end)) pipes.now.made (things_in (front_of (unread_at pipes.now.ends end)))) }
+    ensures told { IfOk result (λ goes. goes.told ≡ goes.noted) }
 {
-    if request.interface_id != 0 {
-        return None;
+    let things = front_handles(pipes, alloc, end)?;
+    goes_behind(pipes, alloc, end, things)
+}
+
+/// Lets the oldest message go, whose endpoint isn't there or is closed, and what goes with its handles.
+fn discard(
+    state: &mut State,
+    alloc: Global,
+    seq: SeqId,
+    end: EndId,
+    id: u32,
+) -> Result<Reply, Refused>
+    requires able { HasRoom state.old seq }
+    requires told { IsDropped (wire_in state.old) (past_of state.old) end id (told_to state.old seq (asks.Take end)) }
+    ensures done { IfOk result (λ reply. Done state.old state.new seq (Command.Take end) reply) }
+    ensures undone { IfErr result (λ refused. Undone state.old state.new (Command.Take end) refused) }
+{
+    let Ok(goes) = goes_with_front(&state.pipes, alloc, end) else {
+        return Err(Refused::Memory(Command::Take(end)));
+    };
+    let _front = state.pipes.pop_front(end);
+    state.pipes.close(goes.noted.as_slice());
+    state.history.push_reserved(Event {
+        seq,
+        asked: Asked::Take(end),
+        told: Told::Dropped(id, goes.noted),
+    });
+    Ok(Reply::Dropped(id, goes.told))
+}
+
+/// All that a request brings: the reply as it is noted, the things whose handles come out, what goes, and
+/// room for the handles.
+pub(crate) struct Brings {
+    pub(crate) noted: Got,
+    pub(crate) things: Items<Thing>,
+    pub(crate) gone: Items<Thing>,
+    pub(crate) room: Vec<Handle>,
+}
+
+/// Makes all that a request at an end brings.
+fn gather(pipes: &Pipes, alloc: Global, end: EndId, arrived: &Arrived) -> Result<Brings, AllocError>
+    ensures { IfOk result (λ brings. IsBrought pipes.now end arrived.now brings) }
+{
+    let left = arrived.left.copy(alloc)?.into_vec();
+    let goes = goes_behind(pipes, alloc, end, left)?;
+    let noted = Got {
+        id: arrived.id,
+        target: arrived.target,
+        parameters: Parameters::new(copy_value(alloc, arrived.parameters.value())?),
+        request: arrived.request,
+        handles: arrived.named.copy(alloc)?,
+        pendings: Items::new(alloc),
+        gone: goes.noted,
+    };
+    let things = arrived.named.copy(alloc)?;
+    let room = Vec::with_capacity(alloc, things.len())?;
+    Ok(Brings {
+        noted,
+        things,
+        gone: goes.told,
+        room,
+    })
+}
+
+/// Hands out the handle of one thing that is kept, into a list with room for it.
+fn hand_one(pipes: &mut Pipes, thing: Thing, out: &mut Vec<Handle>)
+    requires kept { is_kept (place_of pipes.old.table thing) ≡ true }
+    requires room { vec_len out.old < vec_capacity out.old }
+    ensures handles { out.new.items ≡ out.old.items ++ thing ∷ [] }
+    ensures capacity { vec_capacity out.new ≡ vec_capacity out.old }
+    ensures places { Puts thing places.Out pipes.old pipes.new }
+{
+    if let Some(handle) = pipes.take(thing) {
+        out.push_reserved(handle);
     }
-    Some(Taken {
-        id: 0,
-        target: Target {
-            interface,
-            method: request.method,
-            side: MessageSide::Request,
-        },
-        request_id: request.request_id,
-        value: request.value,
-    })
 }
 
-/// A copy of what a take is told.
-fn copy(alloc: Global, taken: &Taken) -> Result<Taken, AllocError>
-    ensures { IfOk result (λ other. other ≡ taken.now) }
+/// Hands out the handles of things that are kept, in their order.
+fn hand_out(pipes: &mut Pipes, things: &[Thing], room: Vec<Handle>) -> Handles
+    requires empty { room.items ≡ [] }
+    requires room { length things.now ≤ vec_capacity room }
+    requires there { LieThere pipes.old things.now }
+    ensures handles { result ≡ things.now }
+    ensures places { PutsAll things.now places.Out pipes.old pipes.new }
 {
-    Ok(Taken {
-        id: taken.id,
-        target: taken.target,
-        request_id: taken.request_id,
-        value: taken.value.copy(alloc)?,
-    })
+    let mut out = room;
+    for thing in things {
+        hand_one(pipes, *thing, &mut out);
+    }
+    Handles::from_vec(out)
 }
 
-/// Notes what a take is told, and lets its message go.
+/// Gets a request.
 fn receive(
     state: &mut State,
     alloc: Global,
     seq: SeqId,
     end: EndId,
-    taken: Taken,
+    arrived: Arrived,
 ) -> Result<Reply, Refused>
-    requires can { CanDo state.old (Command.Take end) }
-    requires told { told_in state.old seq (Command.Take end) ≡ Told.Got taken }
+    requires able { HasRoom state.old seq }
+    requires told { IsGot (wire_in state.old) (past_of state.old) end arrived (told_to state.old seq (asks.Take end)) }
     ensures done { IfOk result (λ reply. Done state.old state.new seq (Command.Take end) reply) }
     ensures undone { IfErr result (λ refused. Undone state.old state.new (Command.Take end) refused) }
 {
-    let Ok(noted) = copy(alloc, &taken) else {
-        return Err(Refused::Memory(Command::Take(end)));
-    };
-    state.rows.drop_front(end);
+    match gather(&state.pipes, alloc, end, &arrived) {
+        Ok(brings) => Ok(accept(state, seq, end, arrived, brings)),
+        Err(_) => Err(Refused::Memory(Command::Take(end))),
+    }
+}
+
+/// Notes a request, lets its message go with what its parameters don't name, and hands its handles out.
+fn accept(state: &mut State, seq: SeqId, end: EndId, arrived: Arrived, brings: Brings) -> Reply
+    requires able { HasRoom state.old seq }
+    requires told { IsGot (wire_in state.old) (past_of state.old) end arrived (told_to state.old seq (asks.Take end)) }
+    requires brought { IsBrought state.old.pipes end arrived brings }
+    ensures { Done state.old state.new seq (Command.Take end) result }
+{
+    let Brings {
+        noted,
+        things,
+        gone,
+        room,
+    } = brings;
+    let _front = state.pipes.pop_front(end);
+    state.pipes.close(gone.as_slice());
+    let handles = hand_out(&mut state.pipes, things.as_slice(), room);
     state.history.push_reserved(Event {
         seq,
         asked: Asked::Take(end),
-        told: Told::Got(noted),
+        told: Told::Taken(noted),
     });
-    Ok(Reply::Got(taken))
+    Reply::Got(Received {
+        id: arrived.id,
+        target: arrived.target,
+        parameters: arrived.parameters,
+        request: arrived.request,
+        handles,
+        gone,
+    })
 }

@@ -1,90 +1,108 @@
--- What every legal history keeps. A history of allowed commands has prepared calls alone, and binds the ends of a pipe as the two sides of one interface.
-use Rattle.std.specs.Prelude.{ℕ, ◌≡◌, ◌≢◌, ◌+◌, ◌++◌, true, List, [], ◌∷◌, map, take, Option, Some, None, if◌then◌else◌, option_and_then}
+-- What every legal history keeps.
+use Rattle.std.specs.Prelude.{ℕ, zero, suc, ◌≡◌, ◌≢◌, ◌+◌, ◌++◌, ◌==◌, ◌&&◌, Bool, true, false, not, List, [], ◌∷◌, map, length, slice_get, Some, Ok}
+use Rattle.std.specs.List.{list_any}
 use Rattle.mj_base.specs.declared.ids.EndId.{EndId}
-use Rattle.mj_schema.specs.declared.narrow_schema.NarrowSchema.{NarrowSchema}
-use Rattle.narrow_wire.specs.Tight.{message_bytes, IsPrepared}
-use Rattle.bind_model.specs.declared.event.Asked.{Asked}
-use Rattle.bind_model.specs.declared.event.Asked.TheVariants.{Join, Bind, Call, Take}
-use Rattle.bind_model.specs.declared.event.Told.{Told}
-use Rattle.bind_model.specs.declared.event.Told.TheVariants.{Bound, Sent, Bad}
-use Rattle.bind_model.specs.declared.event.Side.{Side}
-use Rattle.bind_model.specs.declared.event.Taken.{Taken}
-use Rattle.bind_model.specs.declared.event.Message.{Message}
-use Rattle.bind_model.specs.declared.event.Binding.{Binding}
+use Rattle.mj_base.specs.declared.ids.SeqId.{SeqId}
+use Rattle.handle_table.specs.declared.thing.Thing.{Thing}
 use Rattle.bind_model.specs.declared.event.Event.{Event}
-use Rattle.bind_model.specs.Ends.{same_end, times, is_distinct}
-use Rattle.bind_model.specs.Machine.{binding, peer, written, taken, consumed, out, made, stands_for}
+use Rattle.message_pipe.specs.declared.message.Message.{Message}
+use Rattle.bind_model.specs.declared.endpoint.Endpoint.{Endpoint}
+use Rattle.bind_model.specs.declared.told.Got.{Got}
+use Rattle.bind_model.specs.declared.endpoint.State.TheVariants as states
+use Rattle.bind_model.specs.declared.asked.Asked.{Asked}
+use Rattle.bind_model.specs.declared.asked.Asked.TheVariants.{Take}
+use Rattle.bind_model.specs.declared.told.Told.{Told}
+use Rattle.bind_model.specs.declared.told.Told.TheVariants.{Taken, Dropped, Control}
+use Rattle.handle_table.specs.Things.{times}
+use Rattle.wire_model.specs.HeaderMarks.{CONTROL_ID}
+use Rattle.bind_model.specs.Wire.{Wire, Header, Content}
+use Rattle.bind_model.specs.Machine.{made, out, gone, is_gone, held_unread, held_bound, written, endpoint_at, is_closed, unread, takes, consumed}
+use Rattle.bind_model.specs.Replies.{Drawn, drawn, answered, is_response, is_asked}
 
--- an end is bound as the other side of its peer's interface, where the peer is bound
-abbrev pub SuitsPeer : Side → ℕ → Option Binding → Type 0
-SuitsPeer side interface None = Unit {0}
-SuitsPeer side interface (Some b) = (side ≢ b.side) × (interface ≡ b.interface)
+-- each thing that was made has one place: with a caller, in an unread message, bound, or gone
+abbrev pub OnePlace : Wire → List Event → Type 0
+OnePlace wire past =
+    (z : Thing) → times z (out past) + (times z (held_unread wire past) + (times z (held_bound past) + times z (gone past))) ≡ times z (made past)
 
--- what may be asked: calls that were prepared with the schema, and bindings that suit the peer's
-abbrev pub IsAllowed : NarrowSchema → List Event → Asked → Type 0
-IsAllowed schema past (Bind x side interface) = SuitsPeer side interface (binding past (peer past x))
-IsAllowed schema past (Call x id target value) = IsPrepared schema target value
-IsAllowed schema past (Join t) = Unit {0}
-IsAllowed schema past (Take x) = Unit {0}
+-- ## Responses
 
-abbrev pub AllAllowed : NarrowSchema → List Event → Type 0
-AllAllowed schema [] = Unit {0}
-AllAllowed schema (event ∷ past) = IsAllowed schema past event.asked × AllAllowed schema past
+-- so many numbers, from this one on
+abbrev pub up_from : ℕ → ℕ → List ℕ
+up_from first zero = []
+up_from first (suc n) = first ∷ up_from (suc first) n
 
--- what a message gives at an end, as that is bound
-abbrev pub gives_at : NarrowSchema → List Event → EndId → Message → Option Taken
-gives_at schema past x m = option_and_then (λ (b : Binding). stands_for schema b m) (binding past x)
+abbrev pub has_number : List ℕ → ℕ → Bool
+has_number ns n = list_any (λ k. k == n) ns
 
--- at each end, what the takes were told is in order what the messages give of a prefix of all that was written there
-abbrev pub InOrder : NarrowSchema → List Event → Type 0
-InOrder schema past = (x : EndId) → map (gives_at schema past x) (take (consumed past x) (written past x)) ≡ map Some (taken past x)
+abbrev pub all_differ : List ℕ → Bool
+all_differ [] = true
+all_differ (n ∷ ns) = not (has_number ns n) && all_differ ns
 
--- what the calls at an end that were sent said, in order
-abbrev pub says : Told → Asked → EndId → List Taken
-says (Sent request_id bytes) (Call y id target value) x =
-    if same_end y x then record { id = id; target = target; request_id = request_id; value = value } ∷ [] else []
-says told asked x = []
+-- a got response was asked for: a request of its number and method was sent at its endpoint, and had no response yet
+abbrev pub IsAwaited : List Event → Told → Asked → Type 0
+IsAwaited past (Taken g) (Take y) = is_response g.target.side ≡ true → is_asked past y g.id g.request g.target.method ≡ true
+IsAwaited past told asked = Unit {0}
 
-abbrev pub said : List Event → EndId → List Taken
-said [] x = []
-said (event ∷ past) x = said past x ++ says event.told event.asked x
+abbrev pub AllAwaited : List Event → Type 0
+AllAwaited [] = Unit {0}
+AllAwaited (event ∷ past) = IsAwaited past event.told event.asked × AllAwaited past
 
--- at each end the takes were told, in order, what the calls at the peer said: each value is that of the call that wrote it
-abbrev pub AsSaid : List Event → Type 0
-AsSaid past = (x : EndId) → taken past x ≡ take (consumed past x) (said past (peer past x))
+-- at each endpoint the requests have the numbers 1, 2, 3 and so on, no two responses that were got have one number, and each was asked for
+pub record OwnResponses (past : List Event) : Type 0 where
+  pub numbers : (x : EndId) (id : ℕ) → map (λ (d : Drawn). d.request) (drawn past x id) ≡ up_from 1 (length (drawn past x id))
+  pub once : (x : EndId) (id : ℕ) → all_differ (answered past x id) ≡ true
+  pub awaited : AllAwaited past
 
--- the ends that were bound
-abbrev pub bound_now : Told → List EndId
-bound_now (Bound x) = x ∷ []
-bound_now told = []
+-- ## Messages stay, and are consumed in order
 
-abbrev pub bounds : List Event → List EndId
-bounds [] = []
-bounds (event ∷ past) = bounds past ++ bound_now event.told
+abbrev pub Stays : Wire → List Event → Type 0
+Stays wire past = (more : List Event) (x : EndId) → (rest : List Message) × (written wire (more ++ past) x ≡ written wire past x ++ rest)
 
--- each end that was made is made once, and stands in exactly one place: with a caller, or bound
-pub record OnePlace (past : List Event) : Type 0 where
-  pub once : is_distinct (made past) ≡ true
-  pub place : (z : EndId) → times z (out past) + times z (bounds past) ≡ times z (made past)
+-- a take that consumed a message at x consumed the one of this number, of all that are ever written there, and neither end nor endpoint was gone
+abbrev pub ConsumesNext : Wire → List Event → EndId → Told → Asked → Type 0
+ConsumesNext wire past x told asked =
+    takes told asked x ≢ [] → (m : Message) × (slice_get (written wire past x) (consumed past x) ≡ Some m) × (is_gone past x ≡ false)
 
--- the bytes that were sent are the tight ones of the call, for endpoint 0 and with no request id
-abbrev pub IsTight : Told → Asked → Type 0
-IsTight (Sent request_id bytes) (Call x id target value) = (request_id ≡ 0) × (id ≡ 0) × (bytes ≡ message_bytes 0 target.method value)
-IsTight told asked = Unit {0}
+abbrev pub InOrder : Wire → List Event → Type 0
+InOrder wire [] = Unit {0}
+InOrder wire (event ∷ past) = ((x : EndId) → ConsumesNext wire past x event.told event.asked) × InOrder wire past
 
-abbrev pub AreTight : List Event → Type 0
-AreTight [] = Unit {0}
-AreTight (event ∷ past) = IsTight event.told event.asked × AreTight past
+-- what is got is what its message stands for, at an endpoint that is bound on the sequence that takes
+pub record StandsFor (wire : Wire) (past : List Event) (seq : SeqId) (y : EndId) (g : Got) : Type 0 where
+  pub m : Message
+  pub r : Endpoint
+  pub c : Content
+  pub front : (rest : List Message) × (unread wire past y ≡ m ∷ rest)
+  pub header : (h : Header) × (wire.header m.bytes ≡ Ok h) × ((h.id == CONTROL_ID) ≡ false) × (g.id ≡ h.id)
+  pub at : endpoint_at wire past y g.id ≡ Some r
+  pub state : r.state ≡ states.Bound seq
+  pub stands : wire.stands r.side r.interface m.bytes (length m.handles) ≡ Ok c
+  pub value : (g.parameters ≡ c.parameters) × (g.target ≡ c.target) × (g.request ≡ c.request)
 
--- no message was found bad
-abbrev pub IsGood : Told → Type 0
-IsGood Bad = ⊥
-IsGood told = Unit {0}
+-- a message was dropped: it is no control, and its endpoint isn't there or is closed
+pub record WasDropped (wire : Wire) (past : List Event) (y : EndId) (id : ℕ) (m : Message) : Type 0 where
+  pub h : Header
+  pub header : wire.header m.bytes ≡ Ok h
+  pub plain : (h.id == CONTROL_ID) ≡ false
+  pub is : id ≡ h.id
+  pub closed : (r : Endpoint) → endpoint_at wire past y h.id ≡ Some r → is_closed r ≡ true
 
-abbrev pub AreGood : List Event → Type 0
-AreGood [] = Unit {0}
-AreGood (event ∷ past) = IsGood event.told × AreGood past
+pub record WasControl (wire : Wire) (id : ℕ) (m : Message) : Type 0 where
+  pub h : Header
+  pub header : wire.header m.bytes ≡ Ok h
+  pub control : (h.id == CONTROL_ID) ≡ true
+  pub is : wire.closed_id m.bytes ≡ Ok id
 
--- what was written stays, whatever comes later
-abbrev pub Stays : List Event → Type 0
-Stays past = (more : List Event) (x : EndId) → (rest : List Message) × (written (more ++ past) x ≡ written past x ++ rest)
+-- the oldest unread message at y, and what is known of it
+abbrev pub OfFront : Wire → List Event → EndId → (Message → Type 0) → Type 0
+OfFront wire past y holds = (m : Message) × (rest : List Message) × (unread wire past y ≡ m ∷ rest) × holds m
+
+abbrev pub GotStands : Wire → List Event → SeqId → Told → Asked → Type 0
+GotStands wire past seq (Taken g) (Take y) = StandsFor wire past seq y g
+GotStands wire past seq (Dropped id gone) (Take y) = OfFront wire past y (WasDropped wire past y id)
+GotStands wire past seq (Control id) (Take y) = OfFront wire past y (WasControl wire id)
+GotStands wire past seq told asked = Unit {0}
+
+abbrev pub AllStand : Wire → List Event → Type 0
+AllStand wire [] = Unit {0}
+AllStand wire (event ∷ past) = GotStands wire past event.seq event.told event.asked × AllStand wire past

@@ -1,5 +1,10 @@
-pub mod Ends
-pub mod Log
+pub mod Wire
+pub mod WireOf
 pub mod Machine
+pub mod Replies
 pub mod Ready
 pub mod Laws
+pub mod Tables
+pub mod Origins
+pub mod Groups
+pub mod steps

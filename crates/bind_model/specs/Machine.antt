@@ -1,47 +1,50 @@
 -- The machine, read off the list of its events. A past is a list of events, the newest first, so the events before one are its tail.
-use Rattle.std.specs.Prelude.{ℕ, Bool, true, false, ◌+◌, ◌≡◌, ◌==◌, ◌&&◌, ◌++◌, nat_lt, nat_le, List, [], ◌∷◌, not, length, drop, reverse, if◌then◌else◌}
-use Rattle.std.specs.Prelude.{Option, Some, None, option_and_then}
-use Rattle.std.specs.List.{count_by}
-use Rattle.mj_base.specs.declared.limits.TheConstants.{MAX_UNREAD_MESSAGES}
+use Rattle.std.specs.Prelude.{ℕ, zero, suc, Bool, true, false, ◌==◌, ◌&&◌, ◌||◌, ◌++◌, nat_le, List, [], ◌∷◌, not, length, drop, map, filter, if◌then◌else◌, is_some}
+use Rattle.std.specs.Prelude.{Option, Some, None, Result, Ok, Err}
+use Rattle.std.specs.Option.{option_map}
+use Rattle.std.specs.List.{flat_map, list_any}
 use Rattle.mj_base.specs.declared.ids.EndId.{EndId}
 use Rattle.mj_base.specs.declared.ids.SeqId.{SeqId}
-use Rattle.mj_schema.specs.declared.narrow_schema.NarrowSchema.{NarrowSchema}
-use Rattle.narrow_wire.specs.declared.target.Target.{Target}
-use Rattle.narrow_wire.specs.declared.target.MessageSide.{MessageSide}
-use Rattle.narrow_wire.specs.declared.target.MessageSide.TheVariants as messages
-use Rattle.narrow_wire.specs.declared.wire_decoder.Request.{Request}
-use Rattle.narrow_wire.specs.Tight.{message_bytes}
-use Rattle.narrow_wire.specs.Stands.{request_in}
-use Rattle.bind_model.specs.declared.event.Side.{Side}
-use Rattle.bind_model.specs.declared.event.Side.TheVariants.{Remote, Receiver}
-use Rattle.bind_model.specs.declared.event.Why.TheVariants.{NoName, WrongSide, WrongMethod, Full, Empty}
-use Rattle.bind_model.specs.declared.event.Asked.{Asked}
-use Rattle.bind_model.specs.declared.event.Asked.TheVariants.{Join, Bind, Call, Take}
-use Rattle.bind_model.specs.declared.event.Told.{Told}
-use Rattle.bind_model.specs.declared.event.Told.TheVariants.{Made, Bound, Sent, Got, Bad, No}
-use Rattle.bind_model.specs.declared.event.Taken.{Taken}
-use Rattle.bind_model.specs.declared.event.Message.{Message}
+use Rattle.handle_table.specs.declared.thing.Thing.{Thing}
+use Rattle.handle_table.specs.declared.thing.Thing.TheVariants.{End, Token}
+use Rattle.wire_encoder.specs.declared.endpoint.EndpointSide.{EndpointSide}
+use Rattle.wire_encoder.specs.declared.endpoint.EndpointSide.TheVariants.{Remote, Receiver}
+use Rattle.wire_encoder.specs.declared.endpoint.WantedEndpoint.{WantedEndpoint}
+use Rattle.message_pipe.specs.declared.message.Message.{Message}
+use Rattle.bind_model.specs.declared.endpoint.PendingId.{PendingId}
+use Rattle.bind_model.specs.declared.endpoint.Endpoint.{Endpoint}
+use Rattle.bind_model.specs.declared.endpoint.State.{State}
+use Rattle.bind_model.specs.declared.endpoint.State.TheVariants as states
+use Rattle.bind_model.specs.declared.asked.Closing.TheVariants as closings
+use Rattle.bind_model.specs.declared.asked.Asked.{Asked}
+use Rattle.bind_model.specs.declared.asked.Asked.TheVariants.{Bind, Associate, Attach, Call, Answer, Raw, Take, Close}
+use Rattle.bind_model.specs.declared.told.Told.{Told}
+use Rattle.bind_model.specs.declared.told.Told.TheVariants.{Made, Bound, Associated, Attached, Sent, Wrote, Taken, Dropped, Control, Bad, Closed}
 use Rattle.bind_model.specs.declared.event.Event.{Event}
-use Rattle.bind_model.specs.declared.event.Binding.{Binding}
-use Rattle.bind_model.specs.Ends.{same_end, has_end, without}
+use Rattle.bind_model.specs.declared.limits.TheConstants.{REMOTE_IDS}
+pub use Rattle.message_pipe.specs.Ends.{spread}
+pub use Rattle.message_pipe.specs.Mail.{front_of, handles_of}
+use Rattle.handle_table.specs.Things.{same_end, has, without, alike}
+use Rattle.bind_model.specs.Wire.{Wire, Named, Content}
 
--- the ends that a reply made
-abbrev pub made_by : Told → List EndId
-made_by (Made ends) = ends
+-- ## What is read off commands and replies alone
+
+-- the things that a reply made, and all of them in the order of their making
+abbrev pub made_by : Told → List Thing
+made_by (Made things) = things
 made_by told = []
 
--- all ends, in the order of their making
-abbrev pub made : List Event → List EndId
+abbrev pub made : List Event → List Thing
 made [] = []
 made (event ∷ past) = made past ++ made_by event.told
 
 -- of the two ends of a pipe each is the other's peer
-abbrev pub peer_in : List EndId → EndId → EndId → EndId
-peer_in (a ∷ b ∷ []) x before = if same_end a x then b else (if same_end b x then a else before)
-peer_in ends x before = before
+abbrev pub peer_in : List Thing → EndId → EndId → EndId
+peer_in (End a ∷ End b ∷ []) x before = if same_end a x then b else (if same_end b x then a else before)
+peer_in things x before = before
 
 abbrev pub peer_by : Told → EndId → EndId → EndId
-peer_by (Made ends) x before = peer_in ends x before
+peer_by (Made things) x before = peer_in things x before
 peer_by told x before = before
 
 -- the other end of its pipe; of an end that was not made, itself
@@ -49,135 +52,258 @@ abbrev pub peer : List Event → EndId → EndId
 peer [] x = x
 peer (event ∷ past) x = peer_by event.told x (peer past x)
 
-abbrev pub bound_by : SeqId → Told → Asked → EndId → Option Binding → Option Binding
-bound_by seq (Bound z) (Bind y side interface) x before = if same_end y x then Some (record { on = seq; side = side; interface = interface }) else before
-bound_by seq told asked x before = before
+-- what went with a reply, and all that went
+abbrev pub gone_by : Told → List Thing
+gone_by (Taken g) = g.gone
+gone_by (Dropped id gone) = gone
+gone_by (Bad why gone) = gone
+gone_by (Closed gone) = gone
+gone_by told = []
 
--- how an end is bound, once it is
-abbrev pub binding : List Event → EndId → Option Binding
-binding [] x = None
-binding (event ∷ past) x = bound_by event.seq event.told event.asked x (binding past x)
+abbrev pub gone : List Event → List Thing
+gone [] = []
+gone (event ∷ past) = gone past ++ gone_by event.told
 
--- the message that an event puts at x: a call that is sent goes to the peer of its end
-abbrev pub puts : List Event → Told → Asked → EndId → List Message
-puts past (Sent request_id bytes) (Call y id target value) x = if same_end (peer past y) x then record { bytes = bytes } ∷ [] else []
-puts past told asked x = []
+abbrev pub is_gone : List Event → EndId → Bool
+is_gone past x = has (gone past) (End x)
 
--- the messages written for reading at x, in the order of the events that put them
-abbrev pub written : List Event → EndId → List Message
-written [] x = []
-written (event ∷ past) x = written past x ++ puts past event.told event.asked x
+-- the ends that were bound
+abbrev pub bound_by : Told → List Thing
+bound_by (Bound x) = End x ∷ []
+bound_by told = []
 
--- what a take at x was told
-abbrev pub takes : Told → Asked → EndId → List Taken
-takes (Got taken) (Take y) x = if same_end y x then taken ∷ [] else []
-takes told asked x = []
+abbrev pub bounds : List Event → List Thing
+bounds [] = []
+bounds (event ∷ past) = bounds past ++ bound_by event.told
 
--- what the takes at x were told, in order
-abbrev pub taken : List Event → EndId → List Taken
-taken [] x = []
-taken (event ∷ past) x = taken past x ++ takes event.told event.asked x
-
--- how many messages were consumed at x
-abbrev pub consumed : List Event → EndId → ℕ
-consumed past x = length (taken past x)
-
--- the unread messages: what was written without what was consumed, the oldest first
-abbrev pub unread : List Event → EndId → List Message
-unread past x = drop (consumed past x) (written past x)
-
--- the handles that the caller gave away with a command that was done
-abbrev pub given : Told → Asked → List EndId
+-- the things that a caller gave away with a command that was done
+abbrev pub given : Told → Asked → List Thing
 given (Bound z) (Bind y side interface) = y ∷ []
+given (Sent request bytes) (Call y id outgoing) = outgoing.handles
+given (Sent request bytes) (Answer r outgoing) = outgoing.handles
+given (Wrote z) (Raw y bytes handles) = handles
+given (Closed gone) (Close (closings.Handle y)) = y ∷ []
 given told asked = []
 
--- the handles that a reply hands out
-abbrev pub handed : Told → List EndId
-handed (Made ends) = ends
+-- the things that a reply hands out
+abbrev pub handed : Told → List Thing
+handed (Made things) = things
+handed (Taken g) = g.handles
 handed told = []
 
--- the ends whose handles are with callers
-abbrev pub out : List Event → List EndId
+-- the things whose handles are with callers
+abbrev pub out : List Event → List Thing
 out [] = []
 out (event ∷ past) = without (given event.told event.asked) (out past) ++ handed event.told
 
-abbrev pub is_out : List Event → EndId → Bool
-is_out past x = has_end (out past) x
+-- the takes at x that consumed a message, by what they were told
+abbrev pub takes : Told → Asked → EndId → List Told
+takes (Taken g) (Take y) x = if same_end y x then Taken g ∷ [] else []
+takes (Dropped id gone) (Take y) x = if same_end y x then Dropped id gone ∷ [] else []
+takes (Control id) (Take y) x = if same_end y x then Control id ∷ [] else []
+takes told asked x = []
 
--- how many ends the sequence has made
-abbrev pub serials : List Event → ℕ → ℕ
-serials past seq = count_by (λ x. x.seq == seq) (made past)
+abbrev pub taken : List Event → EndId → List Told
+taken [] x = []
+taken (event ∷ past) x = taken past x ++ takes event.told event.asked x
 
--- two new ends, each with the next number of its sequence
-abbrev pub joined : List Event → ℕ → ℕ → Told
-joined past seq t = Made (record { seq = seq; serial = serials past seq } ∷ record { seq = t; serial = serials past t + (if t == seq then 1 else 0) } ∷ [])
+abbrev pub consumed : List Event → EndId → ℕ
+consumed past x = length (taken past x)
 
-abbrev pub is_receiver : Side → Bool
-is_receiver Remote = false
-is_receiver Receiver = true
+-- the ids that Associate gave at x
+abbrev pub associates : Told → EndId → List ℕ
+associates (Associated p) x = if same_end p.end x then p.id ∷ [] else []
+associates told x = []
 
-abbrev pub is_request : MessageSide → Bool
-is_request messages.Request = true
-is_request messages.Response = false
+abbrev pub associated : List Event → EndId → List ℕ
+associated [] x = []
+associated (event ∷ past) x = associated past x ++ associates event.told x
 
--- whether the target is a request of this interface
-abbrev pub asks_of : ℕ → Target → Bool
-asks_of interface target = (target.interface == interface) && is_request target.side
+-- whether a pending was made here, and not received
+abbrev pub is_local : List Event → PendingId → Bool
+is_local past p = list_any (λ id. id == p.id) (associated past p.end)
 
--- a call on a bound end, each refusal in its turn. Its bytes are the tight ones
-abbrev pub called_at : List Event → EndId → ℕ → Target → List ℕ → Binding → Told
-called_at past x id target value b =
-    if not (id == 0) then No NoName
-    else (if is_receiver b.side then No WrongSide
-    else (if not (asks_of b.interface target) then No WrongMethod
-    else (if nat_le MAX_UNREAD_MESSAGES (length (unread past (peer past x))) then No Full
-    else Sent 0 (message_bytes 0 target.method value))))
+-- ## Messages and endpoints: each needs the other
 
-abbrev pub called : List Event → EndId → ℕ → Target → List ℕ → Option Binding → Told
-called past x id target value None = No NoName
-called past x id target value (Some b) = called_at past x id target value b
+-- what is unread of what was written
+abbrev pub unread_of : List Event → EndId → List Message → List Message
+unread_of past x mail = if is_gone past x then [] else drop (consumed past x) mail
 
--- a request for endpoint 0 as a take tells it
-abbrev pub taking : ℕ → Request → Option Taken
-taking interface request =
-    if request.interface_id == 0
-    then Some (record {
-      id = 0;
-      target = record { interface = interface; method = request.method; side = messages.Request };
-      request_id = request.request_id;
-      value = request.value;
-    })
-    else None
+-- the ids that a message carries
+abbrev pub ids_in : Wire → Message → List ℕ
+ids_in wire m = elim (wire.header m.bytes) [ Ok h ↦ h.ids | Err fault ↦ [] ]
 
--- what a message gives at an end that is bound so: a receiver reads requests, and a remote reads nothing, since no method has a response
-abbrev pub stands_for : NarrowSchema → Binding → Message → Option Taken
-stands_for schema b m = if is_receiver b.side then option_and_then (taking b.interface) (request_in schema b.interface m.bytes) else None
+-- the endpoints that a table has
+abbrev pub Endpoints : Type 0
+Endpoints = ℕ → Option Endpoint
 
-abbrev pub told_of_front : Option Taken → Told
-told_of_front None = Bad
-told_of_front (Some taken) = Got taken
+abbrev pub is_remote : Option Endpoint → Bool
+is_remote (Some e) = elim e.side [ Remote ↦ true | Receiver ↦ false ]
+is_remote None = false
 
--- a take on a bound end looks at the oldest unread message
-abbrev pub took_at : NarrowSchema → Binding → List Message → Told
-took_at schema b [] = No Empty
-took_at schema b (front ∷ messages) = told_of_front (stands_for schema b front)
+-- whether an id is one that this end makes itself: those of a remote have their highest bit set
+abbrev pub is_own : Endpoints → ℕ → Bool
+is_own endpoints id = alike (nat_le REMOTE_IDS id) (is_remote (endpoints 0))
 
-abbrev pub took : NarrowSchema → List Event → EndId → Option Binding → Told
-took schema past x None = No NoName
-took schema past x (Some b) = took_at schema b (unread past x)
+-- an id is strange in the table, behind itself in the list, or where this end would make it
+abbrev pub is_strange : Endpoints → List ℕ → ℕ → Bool
+is_strange endpoints earlier id = is_some (endpoints id) || list_any (λ k. k == id) earlier || is_own endpoints id
 
--- the one reply to a command, by the events before it
-abbrev pub answer : NarrowSchema → ℕ → List Event → SeqId → Asked → Told
-answer schema seqs past seq (Join t) = if nat_lt t.0 seqs then joined past seq.0 t.0 else No NoName
-answer schema seqs past seq (Bind x side interface) = if is_out past x && nat_lt interface (length schema.interfaces) then Bound x else No NoName
-answer schema seqs past seq (Call x id target value) = called past x id target value (binding past x)
-answer schema seqs past seq (Take x) = took schema past x (binding past x)
+abbrev pub first_strange : Endpoints → List ℕ → List ℕ → Option ℕ
+first_strange endpoints earlier [] = None
+first_strange endpoints earlier (id ∷ ids) = if is_strange endpoints earlier id then Some id else first_strange endpoints (id ∷ earlier) ids
 
--- each reply is the one that the events before it give
-abbrev pub legal : NarrowSchema → ℕ → List Event → Type 0
-legal schema seqs [] = Unit {0}
-legal schema seqs (event ∷ past) = (event.told ≡ answer schema seqs past event.seq event.asked) × legal schema seqs past
+-- an id that comes with a message, and how it enters the table
+pub record Entry : Type 0 where
+  pub id : ℕ
+  pub endpoint : Endpoint
 
--- a history, the oldest event first
-abbrev pub Legal : NarrowSchema → ℕ → List Event → Type 0
-Legal schema seqs history = legal schema seqs (reverse history)
+abbrev pub closed_endpoint : Endpoint
+closed_endpoint = record { side = Remote; interface = 0; state = states.Closed; peer_closed = false }
+
+abbrev pub pending_as : WantedEndpoint → Endpoint
+pending_as wanted = record { side = wanted.side; interface = wanted.interface; state = states.Pending; peer_closed = false }
+
+-- by the kind where the value names it, else closed
+abbrev pub endpoint_named : List Named → ℕ → Endpoint
+endpoint_named [] k = closed_endpoint
+endpoint_named (n ∷ named) k = if n.index == k then pending_as n.endpoint else endpoint_named named k
+
+abbrev pub entries_of : Endpoints → List Named → ℕ → List ℕ → List ℕ → List Entry
+entries_of endpoints named k earlier [] = []
+entries_of endpoints named k earlier (id ∷ ids) =
+    if is_strange endpoints earlier id then entries_of endpoints named (suc k) (id ∷ earlier) ids
+    else (record { id = id; endpoint = endpoint_named named k } ∷ entries_of endpoints named (suc k) (id ∷ earlier) ids)
+
+-- what a message stands for at an endpoint
+abbrev pub content_at : Wire → Option Endpoint → Message → Result Content Unit
+content_at wire None m = Err tt
+content_at wire (Some e) m = elim (wire.stands e.side e.interface m.bytes (length m.handles)) [ Ok c ↦ Ok c | Err fault ↦ Err tt ]
+
+abbrev pub named_in : Result Content Unit → List Named
+named_in (Ok c) = c.ids
+named_in (Err e) = []
+
+-- the ids that a take enters, by what it is told and the message that it consumed
+abbrev pub enters_from : Wire → Endpoints → Told → Option Message → List Entry
+enters_from wire endpoints told None = []
+enters_from wire endpoints (Taken g) (Some m) = entries_of endpoints (named_in (content_at wire (endpoints g.id) m)) 0 [] (ids_in wire m)
+enters_from wire endpoints told (Some m) = entries_of endpoints [] 0 [] (ids_in wire m)
+
+abbrev pub enters : Wire → List Event → EndId → List Message → Endpoints → Told → List Entry
+enters wire past y mail endpoints told = enters_from wire endpoints told (front_of (unread_of past y mail))
+
+abbrev pub is_closed : Endpoint → Bool
+is_closed e = elim e.state [ states.Closed ↦ true | states.Pending ↦ false | states.Bound t ↦ false ]
+
+abbrev pub closed_ids : List Entry → List ℕ
+closed_ids entries = map (λ (e : Entry). e.id) (filter (λ (e : Entry). is_closed e.endpoint) entries)
+
+abbrev pub is_peer_closed : Option Endpoint → Bool
+is_peer_closed None = false
+is_peer_closed (Some e) = e.peer_closed
+
+-- the controls of these ids at an end, unless it is gone or their peer endpoint is known to be closed
+abbrev pub emits : Wire → List Event → EndId → Endpoints → List ℕ → EndId → List Message
+emits wire past y endpoints ids x =
+    if same_end (peer past y) x && not (is_gone past x)
+    then map (λ id. record { bytes = wire.control id; handles = []; emitted = true }) (filter (λ id. not (is_peer_closed (endpoints id))) ids)
+    else []
+
+abbrev pub lands : List Event → EndId → List ℕ → List Thing → EndId → List Message
+lands past y bytes handles x = if same_end (peer past y) x then record { bytes = bytes; handles = handles; emitted = false } ∷ [] else []
+
+abbrev pub entry_in : List Entry → ℕ → Option Endpoint → Option Endpoint
+entry_in [] id before = before
+entry_in (e ∷ entries) id before = if e.id == id then Some e.endpoint else entry_in entries id before
+
+abbrev pub with_state : State → Endpoint → Endpoint
+with_state state e = record e { state = state }
+
+abbrev pub with_peer_closed : Endpoint → Endpoint
+with_peer_closed e = record e { peer_closed = true }
+
+abbrev pub bound_on : SeqId → EndpointSide → ℕ → Endpoint
+bound_on seq side interface = record { side = side; interface = interface; state = states.Bound seq; peer_closed = false }
+
+abbrev pub only_at : EndId → ℕ → EndId → ℕ → Option Endpoint → Option Endpoint → Option Endpoint
+only_at y n x id now before = if same_end y x && (n == id) then now else before
+
+abbrev pub other_side : EndpointSide → EndpointSide
+other_side Remote = Receiver
+other_side Receiver = Remote
+
+-- by the mail and the endpoints before an event
+module _ (wire : Wire) (past : List Event) (mail : EndId → List Message) (endpoints : EndId → Endpoints) where
+  -- the ids that a take at y enters
+  abbrev entering : EndId → Told → List Entry
+  entering y told = enters wire past y (mail y) (endpoints y) told
+
+  -- the messages that the event puts at x
+  abbrev pub puts : Told → Asked → EndId → List Message
+  puts (Sent request bytes) (Call y id outgoing) x = lands past y bytes outgoing.handles x
+  puts (Sent request bytes) (Answer r outgoing) x = lands past r.end bytes outgoing.handles x
+  puts (Wrote z) (Raw y bytes handles) x = lands past z bytes handles x
+  puts (Taken g) (Take y) x = emits wire past y (endpoints y) (closed_ids (entering y (Taken g))) x
+  puts (Dropped id gone) (Take y) x = emits wire past y (endpoints y) (closed_ids (entering y (Dropped id gone))) x
+  puts (Closed gone) (Close (closings.Endpoint y id)) x = if id == 0 then [] else emits wire past y (endpoints y) (id ∷ []) x
+  puts (Closed gone) (Close (closings.Pending p)) x =
+      if is_gone past p.end || is_local past p then [] else emits wire past p.end (endpoints p.end) (p.id ∷ []) x
+  puts told asked x = []
+
+  -- what the event makes of the endpoint id of x
+  abbrev pub changes : SeqId → Told → Asked → EndId → ℕ → Option Endpoint
+  changes seq (Bound z) (Bind y side interface) x id = only_at z 0 x id (Some (bound_on seq side interface)) (endpoints x id)
+  changes seq (Associated p) (Associate y side interface) x id = only_at p.end p.id x id (Some (bound_on seq side interface)) (endpoints x id)
+  changes seq (Attached n) (Attach p t) x id = only_at p.end p.id x id (option_map (with_state (states.Bound t)) (endpoints x id)) (endpoints x id)
+  changes seq (Taken g) (Take y) x id = if same_end y x then entry_in (entering y (Taken g)) id (endpoints x id) else endpoints x id
+  changes seq (Dropped n gone) (Take y) x id = if same_end y x then entry_in (entering y (Dropped n gone)) id (endpoints x id) else endpoints x id
+  changes seq (Control n) (Take y) x id = only_at y n x id (option_map with_peer_closed (endpoints x id)) (endpoints x id)
+  changes seq (Closed gone) (Close (closings.Endpoint y n)) x id = only_at y n x id (option_map (with_state states.Closed) (endpoints x id)) (endpoints x id)
+  changes seq (Closed gone) (Close (closings.Pending p)) x id =
+      only_at p.end p.id x id
+      (if is_local past p then option_map with_peer_closed (endpoints x id) else option_map (with_state states.Closed) (endpoints x id))
+      (endpoints x id)
+  changes seq told asked x id = endpoints x id
+
+abbrev mutual
+  -- the messages written for reading at x, in the order of the events that put them
+  pub written : Wire → List Event → EndId → List Message
+  written wire [] x = []
+  written wire (event ∷ past) x = written wire past x ++ puts wire past (written wire past) (endpoint_at wire past) event.told event.asked x
+
+  -- the endpoint of this id at x
+  pub endpoint_at : Wire → List Event → EndId → ℕ → Option Endpoint
+  endpoint_at wire [] x id = None
+  endpoint_at wire (event ∷ past) x id = changes wire past (written wire past) (endpoint_at wire past) event.seq event.told event.asked x id
+
+-- the unread messages, the oldest first: what was written without what was consumed, and nothing once the end is gone
+abbrev pub unread : Wire → List Event → EndId → List Message
+unread wire past x = unread_of past x (written wire past x)
+
+-- ## Handles in messages, and what goes with what is closed
+
+-- the handles of a thing's unread messages
+abbrev pub carried : Wire → List Event → Thing → List Thing
+carried wire past (End x) = handles_of (unread wire past x)
+carried wire past (Token t) = []
+
+-- as carried, where the front at y was just consumed
+abbrev pub carried_behind : Wire → List Event → EndId → Thing → List Thing
+carried_behind wire past y (End x) = handles_of (drop (if same_end y x then 1 else 0) (unread wire past x))
+carried_behind wire past y (Token t) = []
+
+-- what goes where these are closed. Nothing stands in it twice, so as many turns as there are things are enough
+abbrev pub goes_with : Wire → List Event → List Thing → List Thing
+goes_with wire past things = spread (carried wire past) (length (made past)) things
+
+abbrev pub goes_behind : Wire → List Event → EndId → List Thing → List Thing
+goes_behind wire past y things = spread (carried_behind wire past y) (length (made past)) things
+
+-- the handles of all unread messages
+abbrev pub held_unread : Wire → List Event → List Thing
+held_unread wire past = flat_map (carried wire past) (made past)
+
+-- the bound ends that are not gone
+abbrev pub held_bound : List Event → List Thing
+held_bound past = without (gone past) (bounds past)

@@ -1,42 +1,70 @@
--- Which end is taken from next when nobody asks: the least bound end whose oldest message a take would consume or find bad.
-use Rattle.std.specs.Prelude.{ℕ, Bool, true, false, List, [], ◌∷◌, ◌+◌, length, Option, Some, None, if◌then◌else◌, filter, fold, option_and_then}
+-- Which end is taken from next when nobody asks, and by whom.
+use Rattle.std.specs.Prelude.{ℕ, Bool, true, false, ◌==◌, ◌&&◌, ◌||◌, nat_lt, List, [], ◌∷◌, Option, Some, None, Ok, Err, if◌then◌else◌, filter, fold, option_and_then}
 use Rattle.std.specs.Option.{option_map}
 use Rattle.mj_base.specs.declared.ids.EndId.{EndId}
 use Rattle.mj_base.specs.declared.ids.SeqId.{SeqId}
-use Rattle.mj_schema.specs.declared.narrow_schema.NarrowSchema.{NarrowSchema}
-use Rattle.bind_model.specs.declared.event.Binding.{Binding}
-use Rattle.bind_model.specs.declared.event.Told.{Told}
-use Rattle.bind_model.specs.declared.event.Told.TheVariants.{Got, Bad}
+use Rattle.handle_table.specs.declared.thing.Thing.{Thing}
+use Rattle.handle_table.specs.declared.thing.Thing.TheVariants.{End, Token}
+use Rattle.message_pipe.specs.declared.message.Message.{Message}
+use Rattle.bind_model.specs.declared.endpoint.Endpoint.{Endpoint}
+use Rattle.bind_model.specs.declared.endpoint.State.TheVariants as states
+use Rattle.bind_model.specs.declared.told.Told.{Told}
+use Rattle.bind_model.specs.declared.told.Told.TheVariants.{Taken, Dropped, Control, Bad}
 use Rattle.bind_model.specs.declared.event.Event.{Event}
-use Rattle.bind_model.specs.Ends.{is_before}
-use Rattle.bind_model.specs.Machine.{took, binding, made, unread}
+use Rattle.wire_model.specs.HeaderMarks.{CONTROL_ID}
+use Rattle.bind_model.specs.Wire.{Wire}
+use Rattle.bind_model.specs.Machine.{made, endpoint_at, unread, front_of}
+use Rattle.bind_model.specs.Replies.{took}
+
+-- the sequence that an endpoint is bound on
+abbrev pub on_of : Option Endpoint → Option SeqId
+on_of None = None
+on_of (Some r) = elim r.state [ states.Bound t ↦ Some t | states.Pending ↦ None | states.Closed ↦ None ]
+
+abbrev pub or_else : Option SeqId → Option SeqId → Option SeqId
+or_else (Some t) other = Some t
+or_else None other = other
+
+-- the endpoint that a message is for, where its header says one
+abbrev pub meant : Wire → Message → Option ℕ
+meant wire m = elim (wire.header m.bytes) [ Ok h ↦ (if h.id == CONTROL_ID then None else Some h.id) | Err fault ↦ None ]
+
+-- who takes at y: the sequence of the endpoint that the front is for, where that is bound, else that of endpoint 0
+abbrev pub taker : Wire → List Event → EndId → Option SeqId
+taker wire past y = or_else
+    (option_and_then (λ id. on_of (endpoint_at wire past y id)) (option_and_then (λ m. meant wire m) (front_of (unread wire past y))))
+    (on_of (endpoint_at wire past y 0))
 
 abbrev pub is_settled : Told → Bool
-is_settled (Got taken) = true
-is_settled Bad = true
+is_settled (Taken g) = true
+is_settled (Dropped id gone) = true
+is_settled (Control id) = true
+is_settled (Bad why gone) = true
 is_settled told = false
 
+abbrev pub settles : Wire → List Event → EndId → Option SeqId → Bool
+settles wire past y None = false
+settles wire past y (Some seq) = is_settled (took wire past seq y)
+
 -- whether a take there would consume a message or find it bad
-abbrev pub is_ready : NarrowSchema → List Event → EndId → Bool
-is_ready schema past x = is_settled (took schema past x (binding past x))
+abbrev pub is_ready : Wire → List Event → EndId → Bool
+is_ready wire past y = settles wire past y (taker wire past y)
+
+abbrev pub is_before : EndId → EndId → Bool
+is_before a b = nat_lt a.seq b.seq || ((a.seq == b.seq) && nat_lt a.serial b.serial)
 
 abbrev pub lesser : Option EndId → EndId → Option EndId
 lesser None y = Some y
 lesser (Some x) y = if is_before y x then Some y else Some x
 
--- the least end of a list
+abbrev pub ends_of : List Thing → List EndId
+ends_of [] = []
+ends_of (End x ∷ things) = x ∷ ends_of things
+ends_of (Token t ∷ things) = ends_of things
+
 abbrev pub least : List EndId → Option EndId
-least xs = fold lesser None xs
+least ends = fold lesser None ends
 
--- the least end that is ready, behind the sequence that it is bound on
-abbrev pub ready : NarrowSchema → List Event → Option (SeqId × EndId)
-ready schema past = option_and_then (λ x. option_map (λ (b : Binding). (b.on, x)) (binding past x)) (least (filter (is_ready schema past) (made past)))
-
--- how many messages are unread at these ends
-abbrev pub pending_at : List Event → List EndId → ℕ
-pending_at past [] = 0
-pending_at past (x ∷ xs) = length (unread past x) + pending_at past xs
-
--- how many messages are unread
-abbrev pub pending : List Event → ℕ
-pending past = pending_at past (made past)
+-- the least end that is ready, behind the sequence that takes there
+abbrev pub ready : Wire → List Event → Option (SeqId × EndId)
+ready wire past = option_and_then (λ y. option_map (λ (t : SeqId). (t, y)) (taker wire past y)) (least (filter (is_ready wire past) (ends_of (made past))))

@@ -2,45 +2,53 @@
 //! does nothing.
 
 ghost use Rattle.std.specs.Prelude.{ℕ, List};
-ghost use Rattle.mj_schema.specs.declared.narrow_schema.NarrowSchema.{NarrowSchema};
 ghost use Rattle.bind_model.specs.declared.event.Event.{Event};
-ghost use Rattle.bind_model.specs.Machine.{legal};
-ghost use Rattle.bind_model.specs.Laws.{AllAllowed, AreGood, AreTight, AsSaid, InOrder, OnePlace, Stays};
+ghost use Rattle.bind_model.specs.Wire.{Wire};
+ghost use Rattle.bind_model.specs.Replies.{legal};
+ghost use Rattle.bind_model.specs.Origins.{HaveWriters};
+ghost use Rattle.bind_model.specs.Tables.{TableIsEndpoints};
+ghost use Rattle.bind_model.specs.Laws.{OnePlace, OwnResponses, InOrder, AllStand, Stays};
 
-/// At each end the takes were told, in order, what a prefix of the messages written there gives.
-#[tactic(auto, using(crate::proofs::Order::legal_in_order))]
-pub fn in_order()
-    ensures { (schema : NarrowSchema) (seqs : ℕ) (past : List Event) → legal schema seqs past → InOrder schema past }
-{}
-
-/// Each end is made once, and is either with a caller or bound.
-#[tactic(auto, using(crate::proofs::Places::one_place))]
+/// Each thing that was made has one place: with a caller, in an unread message, bound, or gone.
+#[tactic(auto, using(crate::proofs::Fresh::one_place))]
 pub fn one_place()
-    ensures { (schema : NarrowSchema) (seqs : ℕ) (past : List Event) → legal schema seqs past → OnePlace past }
+    ensures { (wire : Wire) (seqs : ℕ) (past : List Event) → legal wire seqs past → OnePlace wire past }
 {}
 
-/// Each call was sent as the tight bytes of its value, for endpoint 0 and with no request id.
-#[tactic(auto, using(crate::proofs::TightCalls::are_tight))]
-pub fn are_tight()
-    ensures { (schema : NarrowSchema) (seqs : ℕ) (past : List Event) → legal schema seqs past → AreTight past }
+/// At each endpoint the requests are numbered, no two responses got have one number, and each was
+/// asked for.
+#[tactic(auto, using(crate::proofs::Responses::own_responses))]
+pub fn own_responses()
+    ensures { (wire : Wire) (seqs : ℕ) (past : List Event) → legal wire seqs past → OwnResponses past }
 {}
 
-/// What was written for reading at an end stays, whatever comes later.
-#[tactic(auto, using(crate::proofs::Order::stays))]
+/// At each end the messages are consumed in the order in which they were written, while it is open.
+#[tactic(auto, using(crate::proofs::Responses::in_order))]
+pub fn in_order()
+    ensures { (wire : Wire) (seqs : ℕ) (past : List Event) → legal wire seqs past → InOrder wire past }
+{}
+
+/// What is got is what the message stands for, at an endpoint bound on the sequence that takes.
+#[tactic(auto, using(crate::proofs::Responses::all_stand))]
+pub fn all_stand()
+    ensures { (wire : Wire) (seqs : ℕ) (past : List Event) → legal wire seqs past → AllStand wire past }
+{}
+
+/// What was written stays, whatever comes later.
+#[tactic(auto, using(crate::proofs::Responses::stays))]
 pub fn stays()
-    ensures { (past : List Event) → Stays past }
+    ensures { (wire : Wire) (past : List Event) → Stays wire past }
 {}
 
-/// Where the calls were prepared and the bindings of each pipe suit one another, the takes at each
-/// end were told, in order, what the calls at its peer said.
-#[tactic(auto, using(crate::proofs::Said::as_said))]
-pub fn as_said()
-    ensures { (schema : NarrowSchema) (seqs : ℕ) (past : List Event) → legal schema seqs past → AllAllowed schema past → AsSaid past }
+/// Looking an id up in the table of an end finds the endpoint that the events give.
+#[tactic(auto, using(crate::proofs::TableLemmas::table_is_endpoints))]
+pub fn table_is_endpoints()
+    ensures { (wire : Wire) (seqs : ℕ) (past : List Event) → legal wire seqs past → TableIsEndpoints wire past }
 {}
 
-/// Where the calls were prepared and the bindings of each pipe suit one another, no message was
-/// found bad.
-#[tactic(auto, using(crate::proofs::Said::are_good))]
-pub fn are_good()
-    ensures { (schema : NarrowSchema) (seqs : ℕ) (past : List Event) → legal schema seqs past → AllAllowed schema past → AreGood past }
+/// Each message at an end is the one that its writer says: the tight bytes of a call or an answer,
+/// raw bytes, or a control.
+#[tactic(auto, using(crate::proofs::OriginLemmas::have_writers))]
+pub fn have_writers()
+    ensures { (wire : Wire) (seqs : ℕ) (past : List Event) → legal wire seqs past → HaveWriters wire past }
 {}

@@ -1,10 +1,16 @@
 //! The machine as its history: what was asked, what was told, and what the events before say of both.
 #![tactic(auto)]
 
+mod asked;
+mod endpoint;
 mod event;
-mod history;
-mod laws;
+pub mod laws;
+pub mod limits;
+mod parameters;
+mod told;
 
-pub use event::{Asked, Binding, Event, Message, Side, Taken, Told, Why};
-pub use history::History;
-pub use laws::{are_good, are_tight, as_said, in_order, one_place, stays};
+pub use asked::{Asked, Closing, Outgoing};
+pub use endpoint::{Endpoint, PendingId, ResponderId, State};
+pub use event::Event;
+pub use parameters::Parameters;
+pub use told::{BadWhy, Got, Told, Why};

@@ -4,7 +4,7 @@ use Rattle.std.specs.Prelude.{Bool, ◌&&◌, ◌||◌, ◌==◌, nat_le}
 use Rattle.std.specs.List.{list_all}
 use Rattle.std.specs.Str.{IsAscii}
 use Rattle.std.proofs.lemmas.Bool.Decides.{nat_tests}
-use Rattle.call_script.specs.Spelling.{is_name, is_small_letter, is_name_byte}
+use Rattle.call_script.specs.Letters.{is_name, is_name_byte, is_small_letter}
 use Rattle.call_script.proofs.Splits.{both}
 
 letter_small : (c : ℕ) → is_small_letter c ≡ true → c < 128

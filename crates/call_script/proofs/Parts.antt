@@ -1,5 +1,6 @@
 -- A word that spells a number, and parts between separators.
-use Rattle.std.proofs.Common.{◌≡◌, ◌<◌, ◌+◌, ◌-◌, ℕ, List, [], ◌∷◌, ◌++◌, length, take, drop, get_or, refl, sym, ap, ◌∙◌, arith, rules, length-drop, append_assoc, append-nil, true, false, add-one, drop-cons}
+use Rattle.std.proofs.Common.{◌≡◌, ◌<◌, ◌+◌, ◌-◌, ℕ, List, [], ◌∷◌, ◌++◌, length, take, drop, get_or, refl, sym, ap, ◌∙◌, arith, rules, length-drop}
+use Rattle.std.proofs.Common.{append_assoc, append-nil, true, false, add-one, drop-cons}
 use Rattle.std.specs.Prelude.{Bool, ◌==◌, if◌then◌else◌, ◌≤◌}
 use Rattle.std.specs.Str.{bytes_eq}
 use Rattle.std.proofs.lemmas.Bool.Decides.{nat_tests}

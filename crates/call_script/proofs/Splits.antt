@@ -4,18 +4,12 @@ use Rattle.std.specs.Prelude.{◌==◌, ◌&&◌, not, if◌then◌else◌, map}
 use Rattle.std.specs.List.{list_all, flat_map, join_by, AllByRecursion}
 use Rattle.std.proofs.lemmas.Bool.Decides.{nat_tests}
 use Rattle.std.proofs.lemmas.List.{map-append}
-use Rattle.std.proofs.lemmas.List.Folds.{flat_map-map}
 use denote.Ref.{Bor}
 use Rattle.call_script.specs.Pieces.{pieces, onto, without_empty_last}
 
 -- parts with a separator between each two
 abbrev pub joined : ℕ → List (List ℕ) → List ℕ
 joined c ps = join_by (λ p. p) (c ∷ []) ps
-
--- the texts of things, joined, are their texts as parts
-pub joined_texts : {X : Type 0} (c : ℕ) (text : X → List ℕ) (xs : List X) → join_by text (c ∷ []) xs ≡ joined c (map text xs)
-joined_texts c text [] = refl
-joined_texts c text (x ∷ xs) = ap (λ rest. text x ++ rest) (sym (flat_map-map (λ (p : List ℕ). c ∷ p) text xs))
 
 -- a part, and the separator behind it
 joined_onto : (c : ℕ) (xs : List ℕ) (ps : List (List ℕ)) → joined c (onto xs ps) ≡ xs ++ joined c ps
@@ -81,7 +75,7 @@ negated true h = absurd cc
 negated false h = refl
 
 -- the parts before a separator, and the last part
-one_part : (c : ℕ) (p : List ℕ) → lacks c p → pieces c p ≡ p ∷ []
+pub one_part : (c : ℕ) (p : List ℕ) → lacks c p → pieces c p ≡ p ∷ []
 one_part c [] h = refl
 one_part c (b ∷ p) h =
     let k = both (not (b == c)) (list_all (λ b. not (b == c)) p) h in
@@ -98,21 +92,6 @@ pub pieces_joined : (c : ℕ) (ps : List (List ℕ)) → 0 < length ps → AllBy
 pieces_joined c [] h all = absurd (omega arith)
 pieces_joined c (p ∷ []) h all = ap (pieces c) (append-nil p) ∙ one_part c p all.0
 pieces_joined c (p ∷ q ∷ ps) h all = rw (first_part c p (joined c (q ∷ ps)) all.0, pieces_joined c (q ∷ ps) (omega arith) all.1) refl
-
--- the first part with a byte more lacks the separator still
-pub apart_onto : (c b : ℕ) (ps : List (List ℕ)) → (b == c) ≡ false → AllByRecursion (lacks c) ps → AllByRecursion (lacks c) (onto (b ∷ []) ps)
-apart_onto c b [] e all = let one : lacks c (b ∷ []) = rw e refl in (one, tt)
-apart_onto c b (p ∷ ps) e all = let one : lacks c (b ∷ p) = rw e all.0 in (one, all.1)
-
--- each part of a text lacks the separator
-pub pieces_apart : (c : ℕ) (bytes : List ℕ) → AllByRecursion (lacks c) (pieces c bytes)
-pieces_apart c [] = (refl, tt)
-pieces_apart c (b ∷ bytes) = go (b == c) refl (pieces_apart c bytes)
-  where
-    go : (t : Bool) → (b == c) ≡ t → AllByRecursion (lacks c) (pieces c bytes)
-        → AllByRecursion (lacks c) (if t then [] ∷ pieces c bytes else onto (b ∷ []) (pieces c bytes))
-    go true e ih = (refl, ih)
-    go false e ih = apart_onto c b (pieces c bytes) e ih
 
 -- the parts without the last, and with it
 now_more : (olds : List (Bor (List ℕ))) (last : Bor (List ℕ))

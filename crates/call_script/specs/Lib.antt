@@ -1,6 +1,8 @@
-pub mod Spelling
 pub mod Pieces
-pub mod Values
-pub mod Reading
-pub mod Words
-pub mod Text
+pub mod Letters
+pub mod Targets
+pub mod Forms
+pub mod Script
+pub mod Same
+pub mod Sound
+pub mod steps

@@ -1,5 +1,5 @@
--- The parts of a text between separators, and the words of each of its lines.
-use Rattle.std.specs.Prelude.{ℕ, ◌==◌, ◌++◌, List, [], ◌∷◌, if◌then◌else◌, length, map}
+-- The lines of a text, and the words of a line.
+use Rattle.std.specs.Prelude.{ℕ, Bool, false, ◌==◌, ◌++◌, List, [], ◌∷◌, if◌then◌else◌, length, map}
 
 -- bytes before the first part
 abbrev pub onto : List ℕ → List (List ℕ) → List (List ℕ)
@@ -17,6 +17,37 @@ without_empty_last [] = []
 without_empty_last (p ∷ []) = if length p == 0 then [] else p ∷ []
 without_empty_last (p ∷ q ∷ ps) = p ∷ without_empty_last (q ∷ ps)
 
--- the words of each line of a text: the last line may end in LF or lack it, and the empty text has no line
-abbrev pub word_lines : List ℕ → List (List (List ℕ))
-word_lines bytes = map (pieces 32) (without_empty_last (pieces 10 bytes))
+-- the lines of a text: each ends in LF, which the last may lack, and the empty text has none
+abbrev pub text_lines : List ℕ → List (List ℕ)
+text_lines bytes = without_empty_last (pieces 10 bytes)
+
+-- where in a line a byte stands: in no string, in one, or behind a backslash in one
+pub data Place : Type 0 where
+  Outside : Place
+  Inside : Place
+  Escaped : Place
+
+-- where the next byte stands
+abbrev pub behind : Place → ℕ → Place
+behind Outside b = if b == 34 then Inside else Outside
+behind Inside b = if b == 34 then Outside else (if b == 92 then Escaped else Inside)
+behind Escaped b = Inside
+
+-- whether the byte is a blank that stands in no string
+abbrev pub parts_words : Place → ℕ → Bool
+parts_words Outside b = b == 32
+parts_words Inside b = false
+parts_words Escaped b = false
+
+-- the parts between the blanks that stand in no string
+abbrev pub words_at : Place → List ℕ → List (List ℕ)
+words_at p [] = [] ∷ []
+words_at p (b ∷ bytes) = if parts_words p b then [] ∷ words_at (behind p b) bytes else onto (b ∷ []) (words_at (behind p b) bytes)
+
+-- the words of a line: a string that is open at its end runs to there
+abbrev pub line_words : List ℕ → List (List ℕ)
+line_words line = words_at Outside line
+
+-- the words of each line of a text
+abbrev pub text_words : List ℕ → List (List (List ℕ))
+text_words bytes = map line_words (text_lines bytes)

@@ -1,11 +1,26 @@
-//! What holds of scripts whoever reads them.
+//! What holds of scripts whoever reads them: these functions do nothing.
 
 ghost use Rattle.std.specs.Prelude.{◌≡◌, ℕ, List};
-ghost use Rattle.mj_schema.specs.declared.narrow_schema.NarrowSchema.{NarrowSchema};
+ghost use Rattle.mj_schema.specs.declared.schema.Schema.{Schema};
 ghost use Rattle.call_script.specs.declared.script.Script.{Script};
-ghost use Rattle.call_script.specs.Spelling.{IsScriptOf};
+ghost use Rattle.call_script.specs.declared.script_error.LineRefusal.{LineRefusal};
+ghost use Rattle.call_script.specs.Same.{SameScript};
+ghost use Rattle.call_script.specs.Script.{IsScriptOf, IsFirstRefusal};
 
-/// A law: bytes spell at most one script of a schema. It does nothing.
+/// A law: what is a script has no refusal.
+pub fn scripts_are_not_refused()
+    ensures { (schema : Schema) (bytes : List ℕ) (script : Script) (line : ℕ) (why : LineRefusal)
+        → IsScriptOf schema bytes script → IsFirstRefusal schema bytes line why → ⊥ }
+{}
+
+/// A law: there is one first refusal, of one line and for one reason.
+pub fn one_refusal()
+    ensures { (schema : Schema) (bytes : List ℕ) (line line' : ℕ) (why why' : LineRefusal)
+        → IsFirstRefusal schema bytes line why → IsFirstRefusal schema bytes line' why' → (line ≡ line') × (why ≡ why') }
+{}
+
+/// A law: bytes are at most one script of a schema, wherever its values lie in memory.
 pub fn one_script()
-    ensures { (schema : NarrowSchema) (bytes : List ℕ) (one other : Script) → IsScriptOf schema bytes one → IsScriptOf schema bytes other → one ≡ other }
+    ensures { (schema : Schema) (bytes : List ℕ) (one other : Script)
+        → IsScriptOf schema bytes one → IsScriptOf schema bytes other → SameScript one other }
 {}

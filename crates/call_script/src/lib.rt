@@ -1,19 +1,20 @@
-//! Scripts of calls and the text of histories.
+//! Scripts of what the sequences of a machine ask.
 #![tactic(auto)]
 
-mod history_text;
-mod laws;
-mod lines;
-mod methods;
-mod pipes;
-mod read;
+mod commands;
+mod few_words;
+mod form;
+pub mod laws;
+mod letters;
+mod name_table;
+mod numbers;
+mod reading;
 mod script;
-mod shown_events;
-mod shown_lists;
+mod script_error;
 mod split;
-mod words;
+mod targets;
 
-pub use history_text::render;
-pub use laws::one_script;
-pub use read::{ScriptError, read_script};
-pub use script::{Line, Pipe, PipeEnd, Script};
+pub use reading::read_script;
+pub use script::{Command, Line, NameId, SEQUENCES, Script};
+pub use script_error::{LineRefusal, ScriptError};
+pub use targets::message_named;

@@ -1,37 +1,49 @@
 //! What a script says.
 
-use mj_base::{Items, Text};
-use narrow_wire::Value;
+use handle_table::TokenSort;
+use mj_base::{Items, SeqId};
+use wire_encoder::{EndpointSide, Prepared};
 
-/// An end of a pipe of the script: the one that is named first, or the other.
+/// How many sequences a script has.
+pub const SEQUENCES: u32 = 1;
+
+/// A name of a script, by its number: names are numbered from 0 in the order in which lines set them.
 #[derive(Clone, Copy, Debug, PartialEq, Eq)]
-pub enum PipeEnd {
-    First,
-    Second,
-}
+pub struct NameId(pub usize);
 
-/// A pipe that the script joins: the names of its ends, and the number of the interface that the
-/// first is a remote of and the second a receiver.
+/// What a line asks. Whether something is held under a name is known only when the script runs.
 #[derive(Drop)]
-pub struct Pipe {
-    pub first: Text,
-    pub second: Text,
-    pub interface: u32,
+pub enum Command {
+    /// A new pipe whose second end is numbered by that sequence, and the names of its ends.
+    Join(SeqId, NameId, NameId),
+    /// A new pipe, and the names of its ends.
+    Pipe(NameId, NameId),
+    /// A new token, and its name.
+    Mint(TokenSort, NameId),
+    /// To bind an end as a side of an interface, by its number in the schema.
+    Bind(NameId, EndpointSide, u32),
+    /// A request from the endpoint of this id at an end, with these handles and endpoints.
+    Call(NameId, u32, Prepared, Items<NameId>),
+    /// The oldest unread message at an end, and names for what comes with it.
+    Take(NameId, Items<NameId>),
+    /// To close what has this name.
+    CloseToken(NameId),
+    /// To close the endpoint of this id at an end.
+    CloseEndpoint(NameId, u32),
 }
 
-/// A line of the sequence. Pipes are numbered from 0, in the order of their joins.
+/// A line: its number in the text, from 1; the sequence that asks; and what it asks.
 #[derive(Drop)]
-pub enum Line {
-    /// A call on the first end of a pipe: the number of the pipe, the ordinal of the method, and the
-    /// value.
-    Call(u32, u32, Value),
-    /// A take at an end of a pipe: the number of the pipe, and which of its ends.
-    Take(u32, PipeEnd),
+pub struct Line {
+    pub number: u32,
+    pub seq: SeqId,
+    pub command: Command,
 }
 
-/// A script of one sequence: its pipes, and its lines behind the joins and the bindings.
+/// A script: how many names its lines set, and the lines behind the first, in order, the joins before
+/// all others.
 #[derive(Drop)]
 pub struct Script {
-    pub pipes: Items<Pipe>,
+    pub names: usize,
     pub lines: Items<Line>,
 }

@@ -1,8 +1,8 @@
-//! Parts of a text between separators.
+//! Lines, and words between blanks.
 
 ghost use Rattle.std.specs.Prelude.{◌≡◌, map, IfOk};
-ghost use Rattle.call_script.specs.Pieces.{pieces, without_empty_last, word_lines};
-ghost use Rattle.call_script.specs.Words.{words_now};
+ghost use Rattle.call_script.specs.Pieces.{behind, parts_words, pieces, line_words, text_lines, text_words};
+ghost use Rattle.call_script.specs.steps.Pieces.{words_now, place_view};
 
 use std::alloc::{AllocError, Global};
 
@@ -26,35 +26,64 @@ pub(crate) fn split<'a>(
     Ok(parts)
 }
 
+/// Where in a line a byte stands: in no string, in one, or behind a backslash in one.
+#[derive(Clone, Copy, Debug, PartialEq, Eq)]
+pub(crate) enum Place {
+    Outside,
+    Inside,
+    Escaped,
+}
+
+/// Where the next byte stands.
+fn behind(place: Place, byte: u8) -> Place
+    ensures { place_view result ≡ behind (place_view place) byte }
+{
+    match place {
+        Place::Outside if byte == b'"' => Place::Inside,
+        Place::Outside => Place::Outside,
+        Place::Inside if byte == b'"' => Place::Outside,
+        Place::Inside if byte == b'\\' => Place::Escaped,
+        Place::Inside | Place::Escaped => Place::Inside,
+    }
+}
+
+/// Whether a byte parts words.
+fn parts_words(place: Place, byte: u8) -> bool
+    ensures { result ≡ parts_words (place_view place) byte }
+{
+    match place {
+        Place::Outside => byte == b' ',
+        Place::Inside | Place::Escaped => false,
+    }
+}
+
+/// The words of a line: what stands between the blanks that are in no string.
+fn words_of<'a>(alloc: Global, line: &'a [u8]) -> Result<Vec<&'a [u8]>, AllocError>
+    ensures { IfOk result (λ words. map (λ word. word.now) words.items ≡ line_words line.now) }
+{
+    let mut words = Vec::new(alloc);
+    let mut from = 0;
+    let mut place = Place::Outside;
+    for (at, byte) in line.iter().enumerate() {
+        if parts_words(place, *byte) {
+            words.push(&line[from..at])?;
+            from = at + 1;
+        }
+        place = behind(place, *byte);
+    }
+    words.push(&line[from..])?;
+    Ok(words)
+}
+
 /// The words of a line.
 #[derive(Drop)]
 pub(crate) struct Words<'a> {
     pub words: Vec<&'a [u8]>,
 }
 
-/// The lines of the text, each in its words.
-pub(crate) fn word_lines<'a>(alloc: Global, text: &'a [u8]) -> Result<Vec<Words<'a>>, AllocError>
-    ensures { IfOk result (λ lines. map words_now lines.items ≡ word_lines text.now) }
-{
-    let lines = text_lines(alloc, text)?;
-    split_each(alloc, lines.as_slice())
-}
-
-/// The words of each of the lines.
-fn split_each<'a>(alloc: Global, lines: &[&'a [u8]]) -> Result<Vec<Words<'a>>, AllocError>
-    ensures { IfOk result (λ words. map words_now words.items ≡ map (pieces 32) (map (λ line. line.now) lines.now)) }
-{
-    let mut each = Vec::new(alloc);
-    for line in lines {
-        let words = split(alloc, line, b' ')?;
-        each.push(Words { words })?;
-    }
-    Ok(each)
-}
-
 /// The lines of the text: the last may end in LF or lack it, and the empty text has no line.
 fn text_lines<'a>(alloc: Global, text: &'a [u8]) -> Result<Vec<&'a [u8]>, AllocError>
-    ensures { IfOk result (λ lines. map (λ line. line.now) lines.items ≡ without_empty_last (pieces 10 text.now)) }
+    ensures { IfOk result (λ lines. map (λ line. line.now) lines.items ≡ text_lines text.now) }
 {
     let mut lines = split(alloc, text, b'\n')?;
     if let Some(last) = lines.pop() {
@@ -63,4 +92,24 @@ fn text_lines<'a>(alloc: Global, text: &'a [u8]) -> Result<Vec<&'a [u8]>, AllocE
         }
     }
     Ok(lines)
+}
+
+/// The words of each of the lines.
+fn split_each<'a>(alloc: Global, lines: &[&'a [u8]]) -> Result<Vec<Words<'a>>, AllocError>
+    ensures { IfOk result (λ words. map words_now words.items ≡ map line_words (map (λ line. line.now) lines.now)) }
+{
+    let mut each = Vec::new(alloc);
+    for line in lines {
+        let words = words_of(alloc, line)?;
+        each.push(Words { words })?;
+    }
+    Ok(each)
+}
+
+/// The lines of the text, each in its words.
+pub(crate) fn text_words<'a>(alloc: Global, text: &'a [u8]) -> Result<Vec<Words<'a>>, AllocError>
+    ensures { IfOk result (λ lines. map words_now lines.items ≡ text_words text.now) }
+{
+    let lines = text_lines(alloc, text)?;
+    split_each(alloc, lines.as_slice())
 }

@@ -14,14 +14,14 @@ use Rattle.command_line.specs.declared.asked.Side.TheVariants.{Request, Response
 use Rattle.command_line.specs.declared.asked.WordsError.{WordsError}
 use Rattle.command_line.specs.declared.asked.WordsError.TheVariants.{WrongUse, Memory}
 
--- the names in `run --script SCRIPT FILE`
+-- the names in `run --script SCRIPT FILE..`
 pub record RunWords : Type 0 where
   pub script : List ℕ
-  pub file : List ℕ
+  pub files : List (List ℕ)
 
 -- these names
-abbrev pub run_words : List ℕ → List ℕ → RunWords
-run_words script file = record { script = script; file = file }
+abbrev pub run_words : List ℕ → List (List ℕ) → RunWords
+run_words script files = record { script = script; files = files }
 
 -- the method, which of its messages, and the names of files in `encode --method METHOD [--response] --value VALUE FILE..`
 pub record EncodeWords : Type 0 where
@@ -95,7 +95,7 @@ decode_in rows = option_map (decode_with rows) (handles_in rows)
 -- the command of this name with these values; there are five, and `decode` alone can be none, by its number of handles
 abbrev pub command_in : Text × List Row → Option Command
 command_in (name, rows) =
-    if bytes_eq name (codes "run") then Some (Run (run_words (text_at (codes "script") rows) (text_at (codes "FILE") rows)))
+    if bytes_eq name (codes "run") then Some (Run (run_words (text_at (codes "script") rows) (texts_at (codes "FILE") rows)))
     else if bytes_eq name (codes "print") then Some (Print (text_at (codes "FILE") rows))
     else if bytes_eq name (codes "check") then Some (Check (texts_at (codes "FILE") rows))
     else if bytes_eq name (codes "encode") then Some (encode_in rows)
@@ -121,7 +121,7 @@ texts = map (λ text. text.now)
 
 -- what the command that was read asks for
 abbrev pub asked_of : Read → Command
-asked_of (read.Run script file) = Run (run_words script.now file.now)
+asked_of (read.Run script files) = Run (run_words script.now (texts files.items))
 asked_of (read.Print file) = Print file.now
 asked_of (read.Check files) = Check (texts files.items)
 asked_of (read.Encode method side value files) = Encode (encode_words method.now side value.now (texts files.items))

@@ -23,9 +23,9 @@ one_file = record (new_rule (codes "FILE")) { required = true; action = Some Set
 abbrev pub files : Rule
 files = record (new_rule (codes "FILE")) { required = true; action = Some Append }
 
--- `run --script SCRIPT FILE`
+-- `run --script SCRIPT FILE..`
 abbrev pub run : App
-run = with_rule (with_rule (new_app (codes "run")) (option (codes "script"))) one_file
+run = with_rule (with_rule (new_app (codes "run")) (option (codes "script"))) files
 
 -- `print FILE`
 abbrev pub print : App

@@ -17,10 +17,10 @@ pub enum Side {
 /// What the words ask for.
 #[derive(Drop)]
 pub enum Command<'a> {
-    /// To run a script over a Mojom file.
+    /// To run a script over Mojom files.
     Run {
         script: &'a str,
-        file: &'a str,
+        files: Vec<&'a str>,
     },
     /// The canonical text of a Mojom file.
     Print {

@@ -61,15 +61,15 @@ fn files_arg<'a>(alloc: Global, help: &'a str) -> Arg<'a>
         .help(help)
 }
 
-/// `run --script SCRIPT FILE`.
+/// `run --script SCRIPT FILE..`.
 fn run_command<'a>(alloc: Global) -> Result<Command<'a>, AllocError>
     ensures app { IfOk result (λ command. app_of command ≡ run) }
     ensures local { IfOk result (λ command. (out-Command command).has_globals ≡ false) }
 {
     Command::new(alloc, "run")
-        .about("Runs a script of calls over a Mojom file, and prints its history")
-        .arg(option_arg(alloc, "script", "The script of calls"))?
-        .arg(file_arg(alloc, "The Mojom file"))
+        .about("Runs a script over Mojom files, and prints its history")
+        .arg(option_arg(alloc, "script", "The script"))?
+        .arg(files_arg(alloc, "The Mojom files, with the script's interfaces"))
 }
 
 /// `print FILE`.

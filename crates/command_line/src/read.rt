@@ -113,7 +113,7 @@ fn found_command<'a>(alloc: Global, matches: &ArgMatches<'a>) -> Result<Command<
     if name == "run" {
         return Ok(Command::Run {
             script: text_of(found, "script"),
-            file: text_of(found, "FILE"),
+            files: texts_of(alloc, found, "FILE")?,
         });
     }
     if name == "print" {
@@ -145,7 +145,7 @@ fn refusal(alloc: Global, error: Error) -> WordsError
     }
 }
 
-/// The command in the words, which begin with the program's name: `run --script SCRIPT FILE`,
+/// The command in the words, which begin with the program's name: `run --script SCRIPT FILE..`,
 /// `print FILE`, `check FILE..`, `encode --method METHOD [--response] --value VALUE FILE..` or
 /// `decode --interface INTERFACE [--response] --handles HANDLES --message MESSAGE FILE..`, in each
 /// spelling that `clap` takes, where HANDLES is a number from 0 to 64 without a sign or a leading zero.

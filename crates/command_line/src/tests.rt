@@ -9,7 +9,7 @@ const HELP: &str = "Reads Mojom files
 Usage: mojo <COMMAND>
 
 Commands:
-  run     Runs a script of calls over a Mojom file, and prints its history
+  run     Runs a script over Mojom files, and prints its history
   print   Prints the canonical text of a Mojom file, without its comments
   check   Checks Mojom files, and prints their tables
   encode  Encodes the text of a value, and prints the message in hexadecimal
@@ -24,9 +24,9 @@ Exit status: 0 all was done; 1 a file is refused; 2 the words are no command, or
 ";
 
 const NO_FILE: &str = "error: the following required arguments were not provided:
-  <FILE>
+  <FILE>...
 
-Usage: mojo run --script <script> <FILE>
+Usage: mojo run --script <script> <FILE>...
 
 For more information, try '--help'.
 ";
@@ -72,7 +72,9 @@ fn side_word(side: Side) -> &'static str {
 /// What the command asks for.
 fn command_line(alloc: Global, command: Command<'_>) -> Result<String, AllocError> {
     match command {
-        Command::Run { script, file } => format!(in alloc; "run {script} over {file}"),
+        Command::Run { script, files } => {
+            with_files(format!(in alloc; "run {script}")?, files.as_slice())
+        }
         Command::Print { file } => format!(in alloc; "print {file}"),
         Command::Check { files } => {
             with_files(String::from_str(alloc, "check")?, files.as_slice())
@@ -119,12 +121,12 @@ fn answer(alloc: Global, line: &str) -> Result<String, AllocError> {
 #[test]
 fn each_spelling_is_taken(rt: HostRuntime) -> Result<(), Fail> {
     for line in [
-        "mojo run --script s f",
-        "mojo run --script=s f",
-        "mojo run f --script s",
-        "mojo run --script s -- f",
+        "mojo run --script s g f",
+        "mojo run --script=s g f",
+        "mojo run g --script s f",
+        "mojo run --script s g -- f",
     ] {
-        assert_eq!(rt; answer(rt.alloc(), line)?.as_str(), "run s over f");
+        assert_eq!(rt; answer(rt.alloc(), line)?.as_str(), "run s then g then f");
     }
     assert_eq!(rt;
         answer(rt.alloc(), "mojo print -- -f")?.as_str(),
@@ -195,7 +197,6 @@ fn other_words_are_refused(rt: HostRuntime) -> Result<(), Fail> {
         "mojo run f",
         "mojo run --scr s f",
         "mojo run --script -- f",
-        "mojo run --script s f f",
         "mojo run --script s --script s f",
         "mojo print f f",
         "mojo print --script s f",

@@ -69,7 +69,7 @@ impl Answer {
 }
 
 /// Prints the first line in which the texts differ, if they do.
-pub fn print_texts<P: Print>(rt: &P, which: &str, wanted: &[u8], came: &[u8]) -> io::Result<()> {
+fn print_texts<P: Print>(rt: &P, which: &str, wanted: &[u8], came: &[u8]) -> io::Result<()> {
     if wanted == came {
         return Ok(());
     }

@@ -5,14 +5,13 @@
 mod again;
 mod answer;
 mod case;
-mod definitions;
 mod lines;
 mod reader;
 
-use crate::answer::{Answer, print_texts};
 use crate::case::{Case, CaseError};
 use mj_io::{Fetched, Files, RealFiles};
 use std::alloc::Global;
+use std::collections::HashSet;
 use std::env::Env;
 use std::io::Print;
 use std::process::ExitCode;
@@ -28,8 +27,6 @@ const MOST_BYTES: u64 = 16777216;
 struct Tally {
     passed: u64,
     failed: u64,
-    /// How many texts were also computed from the definitions.
-    computed: u64,
     /// How many printed texts were printed again.
     again: u64,
 }
@@ -47,25 +44,17 @@ fn cases_of<F: Files>(alloc: Global, files: &mut F, name: &str) -> Result<Vec<Ca
     }
 }
 
-/// Whether the text that the definitions give, where it was computed, is the one that is wanted;
-/// prints how it differs.
-fn is_as_defined<R: Print>(
+/// Notes the name of a case; whether no case before has it. Prints one that was there.
+fn note_name<R: Print + AllocGlobal>(
     rt: &R,
+    names: &mut HashSet<String>,
     name: &str,
-    computed: Option<String>,
-    wanted: &Answer,
-    tally: &mut Tally,
 ) -> io::Result<bool> {
-    let Some(text) = computed else {
-        return Ok(true);
-    };
-    tally.computed = tally.computed.saturating_add(1);
-    if text.as_bytes() == wanted.out.as_slice() {
-        return Ok(true);
+    let is_new = names.insert(String::from_str(rt.alloc(), name)?)?;
+    if !is_new {
+        println!(rt; "{name}: a case before has this name")?;
     }
-    println!(rt; "{name}: by the definitions")?;
-    print_texts(rt, "out", wanted.out.as_slice(), text.as_bytes())?;
-    Ok(false)
+    Ok(is_new)
 }
 
 /// Runs a case; whether its answer is the one that is wanted. Prints how it differs.
@@ -88,16 +77,16 @@ fn run_case<R: Print + AllocGlobal + Wait + Threads + Sync>(
     Ok(false)
 }
 
-/// Runs the cases, and prints how those that fail differ.
+/// Runs the cases, and prints how those that fail differ. Each has a name of its own.
 fn run_cases<R: Print + AllocGlobal + Wait + Threads + Sync>(
     rt: &R,
     cases: Vec<Case>,
+    names: &mut HashSet<String>,
     tally: &mut Tally,
 ) -> io::Result<()> {
     let alloc = rt.alloc();
     for case in cases {
-        let computed = definitions::text_of(alloc, &case)?;
-        let mut passed = is_as_defined(rt, case.name.as_str(), computed, &case.wanted, tally)?;
+        let mut passed = note_name(rt, names, case.name.as_str())?;
         if let Some(again) = again::printed_again(alloc, &case)? {
             tally.again = tally.again.saturating_add(1);
             passed = run_case(rt, again)? && passed;
@@ -117,10 +106,11 @@ fn run_files<R: std::rt::Files + Env + Print + AllocGlobal + Wait + Threads + Sy
 ) -> io::Result<Tally> {
     let alloc = rt.alloc();
     let mut files = RealFiles::new(rt);
+    let mut names = HashSet::new(alloc);
     let mut tally = Tally::default();
     for name in env::args(rt)?.skip(1) {
         match cases_of(alloc, &mut files, name.as_str()) {
-            Ok(cases) => run_cases(rt, cases, &mut tally)?,
+            Ok(cases) => run_cases(rt, cases, &mut names, &mut tally)?,
             Err(error) => {
                 tally.failed = tally.failed.saturating_add(1);
                 println!(rt; "{name}: {error}")?;
@@ -132,7 +122,6 @@ fn run_files<R: std::rt::Files + Env + Print + AllocGlobal + Wait + Threads + Sy
 
 fn main(rt: HostRuntime) -> io::Result<ExitCode> {
     let tally = run_files(&rt)?;
-    println!(rt; "{} texts computed from the definitions", tally.computed)?;
     println!(rt; "{} printed texts printed again", tally.again)?;
     println!(rt; "{} passed, {} failed", tally.passed, tally.failed)?;
     if tally.failed > 0 {

@@ -7,8 +7,8 @@ use Rattle.std.proofs.lemmas.List.{take_rest, take_more, length-take-le}
 use Rattle.std.proofs.lemmas.Grind.{flat_map-append}
 use Rattle.handle_table.specs.declared.thing.Thing.{Thing}
 use Rattle.mj_schema.specs.declared.schema.Schema.{Schema}
-use Rattle.machine_model.specs.declared.event.Event.{Event}
-use Rattle.machine_model.specs.declared.endpoint.PendingId.{PendingId}
+use Rattle.bind_model.specs.declared.event.Event.{Event}
+use Rattle.bind_model.specs.declared.endpoint.PendingId.{PendingId}
 use Rattle.history_text.specs.History.{event_lines, event_line, left_line, pending_text, pendings_text, tokens_text}
 
 lines_snoc : (schema : Schema) (k n : ℕ) (xs : List Event) (e : Event) → n ≡ k + length xs

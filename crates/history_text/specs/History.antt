@@ -10,23 +10,23 @@ use Rattle.wire_model.specs.declared.target.Target.{Target}
 use Rattle.wire_model.specs.Trees.{Tree}
 use Rattle.wire_encoder.specs.Prepared.{parameters_of, kind_for}
 use Rattle.value_text.specs.Spelling.{spell}
-use Rattle.machine_model.specs.declared.endpoint.PendingId.{PendingId}
-use Rattle.machine_model.specs.declared.endpoint.ResponderId.{ResponderId}
-use Rattle.machine_model.specs.declared.asked.Outgoing.{Outgoing}
-use Rattle.machine_model.specs.declared.asked.Closing.{Closing}
-use Rattle.machine_model.specs.declared.asked.Closing.TheVariants as closings
-use Rattle.machine_model.specs.declared.asked.Asked.{Asked}
-use Rattle.machine_model.specs.declared.asked.Asked.TheVariants.{Pipe, Join, Mint, Bind, Associate, Attach, Call, Answer, Raw, Take, Close, Skip}
-use Rattle.machine_model.specs.declared.told.BadWhy.{BadWhy}
-use Rattle.machine_model.specs.declared.told.BadWhy.TheVariants as bads
-use Rattle.machine_model.specs.declared.told.Why.{Why}
-use Rattle.machine_model.specs.declared.told.Why.TheVariants.{NoName, NotPipe, Disconnected, Unbound, Elsewhere, WrongSide, WrongMethod, WrongTokens}
-use Rattle.machine_model.specs.declared.told.Why.TheVariants.{WrongPipe, SelfSend, TooLong, TooManyHandles, Full, Empty, PeerClosed}
-use Rattle.machine_model.specs.declared.told.Got.{Got}
-use Rattle.machine_model.specs.declared.told.Told.{Told}
-use Rattle.machine_model.specs.declared.told.Told.TheVariants.{Made, Bound, Associated, Attached, Sent, Wrote, Taken, Dropped, Control, Bad}
-use Rattle.machine_model.specs.declared.told.Told.TheVariants.{Closed, Skipped, No}
-use Rattle.machine_model.specs.declared.event.Event.{Event}
+use Rattle.bind_model.specs.declared.endpoint.PendingId.{PendingId}
+use Rattle.bind_model.specs.declared.endpoint.ResponderId.{ResponderId}
+use Rattle.bind_model.specs.declared.asked.Outgoing.{Outgoing}
+use Rattle.bind_model.specs.declared.asked.Closing.{Closing}
+use Rattle.bind_model.specs.declared.asked.Closing.TheVariants as closings
+use Rattle.bind_model.specs.declared.asked.Asked.{Asked}
+use Rattle.bind_model.specs.declared.asked.Asked.TheVariants.{Pipe, Join, Mint, Bind, Associate, Attach, Call, Answer, Raw, Take, Close, Skip}
+use Rattle.bind_model.specs.declared.told.BadWhy.{BadWhy}
+use Rattle.bind_model.specs.declared.told.BadWhy.TheVariants as bads
+use Rattle.bind_model.specs.declared.told.Why.{Why}
+use Rattle.bind_model.specs.declared.told.Why.TheVariants.{NoName, NotPipe, Disconnected, Unbound, Elsewhere, WrongSide, WrongMethod, WrongTokens}
+use Rattle.bind_model.specs.declared.told.Why.TheVariants.{WrongPipe, SelfSend, TooLong, TooManyHandles, Full, Empty, PeerClosed}
+use Rattle.bind_model.specs.declared.told.Got.{Got}
+use Rattle.bind_model.specs.declared.told.Told.{Told}
+use Rattle.bind_model.specs.declared.told.Told.TheVariants.{Made, Bound, Associated, Attached, Sent, Wrote, Taken, Dropped, Control, Bad}
+use Rattle.bind_model.specs.declared.told.Told.TheVariants.{Closed, Skipped, No}
+use Rattle.bind_model.specs.declared.event.Event.{Event}
 use Rattle.history_text.specs.Names.{interface_name, method_text}
 use Rattle.history_text.specs.Words.{side_word, sort_word, message_word, fault_word}
 

@@ -1,7 +1,7 @@
 //! How commands stand in a line.
 
 ghost use Rattle.std.specs.Prelude.{◌≡◌, ◌++◌, OnOk, codes};
-ghost use Rattle.machine_model.specs.declared.asked.Asked.TheVariants.{Associate};
+ghost use Rattle.bind_model.specs.declared.asked.Asked.TheVariants.{Associate};
 ghost use Rattle.history_text.specs.History.{asked_text, hex_text, thing_text, things_text};
 
 use crate::message_text::{push_hex, push_outgoing, push_text};
@@ -11,8 +11,8 @@ use crate::shown::{
 };
 use crate::shown_lists::ShownThings;
 use crate::words::{side_word, sort_word};
+use bind_model::Asked;
 use handle_table::Thing;
-use machine_model::Asked;
 use mj_base::EndId;
 use mj_schema::Schema;
 use std::alloc::{AllocError, Global};

@@ -8,8 +8,8 @@ use crate::asked_text::push_asked;
 use crate::message_text::push_text;
 use crate::shown::ShownThing;
 use crate::told_text::push_told;
+use bind_model::Event;
 use handle_table::Thing;
-use machine_model::Event;
 use mj_schema::Schema;
 use std::alloc::{AllocError, Global};
 

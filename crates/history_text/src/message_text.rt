@@ -7,7 +7,7 @@ ghost use Rattle.history_text.specs.History.{hex_text, message_text, outgoing_te
 
 use crate::names::{name_of_interface, name_of_method};
 use crate::shown_lists::ShownTokens;
-use machine_model::{Outgoing, Parameters};
+use bind_model::{Outgoing, Parameters};
 use mj_schema::{Kind, KindNode, Schema};
 use std::alloc::{AllocError, Global};
 use value_text::write_value;

@@ -1,7 +1,7 @@
 //! How ends, tokens and endpoints stand in a line.
 
+use bind_model::{Closing, PendingId, ResponderId};
 use handle_table::Thing;
-use machine_model::{Closing, PendingId, ResponderId};
 use mj_base::EndId;
 use std::fmt;
 

@@ -1,8 +1,8 @@
 //! How lists stand in a line.
 
 use crate::shown::{ShownPending, ShownThing};
+use bind_model::PendingId;
 use handle_table::Thing;
-use machine_model::PendingId;
 use std::fmt;
 
 /// Things behind another one, each behind a comma.

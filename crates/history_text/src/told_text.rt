@@ -7,7 +7,7 @@ use crate::message_text::{push_hex, push_message, push_text};
 use crate::shown::{ShownEnd, ShownPending};
 use crate::shown_lists::{ShownPendings, ShownThings};
 use crate::words::{fault_word, message_word};
-use machine_model::{BadWhy, Got, Told, Why};
+use bind_model::{BadWhy, Got, Told, Why};
 use mj_schema::Schema;
 use std::alloc::{AllocError, Global};
 use std::fmt;

@@ -1,35 +1,30 @@
-//! Files with a schema, and files that are refused.
+//! Files with a schema, and files without a tree.
 
-use mojom_compile::{Cause, CompileError, FileRefusal, compile_narrow};
+use mj_base::{Items, Text};
+use mojom_compile::{Cause, CompileError, FileRefusal, Source, compile, read};
 use std::test::Fail;
 
 #[test]
-fn one_interface(rt: HostRuntime) {
+fn one_interface(rt: HostRuntime) -> Result<(), Fail> {
+    let alloc = rt.alloc();
     let file = b"module t; /* P */ interface P { Ping(uint32 n); };";
-    let schema = compile_narrow(rt.alloc(), file.as_slice()).expect(&rt, "a schema");
+    let source = Source {
+        name: Text::from_str(alloc, "p.mojom")?,
+        bytes: Items::from_vec(file.as_slice().to_vec(alloc)?),
+    };
+    let Ok(schema) = compile(alloc, &[source]) else {
+        return Err(Fail::new("no schema"));
+    };
     assert_eq!(rt; schema.find_interface("t.P"), Some(0));
     let method = schema.method(0, 0).expect(&rt, "a method");
     assert_eq!(rt; method.name.as_str(), "Ping");
+    Ok(())
 }
 
 #[test]
-fn files_that_are_refused(rt: HostRuntime) -> Result<(), Fail> {
+fn files_without_a_tree(rt: HostRuntime) -> Result<(), Fail> {
     let alloc = rt.alloc();
-    let rows: [(&str, u64, Cause); 12] = [
-        ("", 0, Cause::Unsupported),
-        ("module t; import \"a\";", 17, Cause::Unsupported),
-        (
-            "module t; interface P { Ping(int32 n); };",
-            20,
-            Cause::Unsupported,
-        ),
-        ("module t; [A] interface P { };", 24, Cause::Unsupported),
-        (
-            "module t; interface P { }; interface P { };",
-            37,
-            Cause::Unsupported,
-        ),
-        ("interface P { };", 0, Cause::Unsupported),
+    let rows: [(&str, u64, Cause); 6] = [
         ("module t", 8, Cause::Unexpected(2)),
         ("module t; struct S { int32 a }", 29, Cause::Unexpected(8)),
         ("[,] struct S { };", 1, Cause::Unexpected(1)),
@@ -42,7 +37,7 @@ fn files_that_are_refused(rt: HostRuntime) -> Result<(), Fail> {
             at: *at,
             cause: *cause,
         });
-        match compile_narrow(alloc, text.as_bytes()) {
+        match read(alloc, text.as_bytes()) {
             Ok(_) => assert!(rt; false, "{text}"),
             Err(error) => assert_eq!(rt; error, wanted, "{text}"),
         }

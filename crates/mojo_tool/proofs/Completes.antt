@@ -5,10 +5,10 @@ use Rattle.mj_io.specs.Outside.{Named, Rose}
 use Rattle.command_line.specs.Asked.{Command, Run, Print, Check, Encode, Decode, command_of}
 use Rattle.mojom_compile.specs.Causes.{cause_text}
 use Rattle.mojo_tool.specs.LanguageCauses.{language_text}
-use Rattle.mojo_tool.specs.Work.{Work, WrongWords, Missing, TooLong, Refuses, Rejects, Unreadable, UnknownName, BadText, Unfit, BadHex, Faulty}
+use Rattle.mojo_tool.specs.Work.{Work, WrongWords, Missing, TooLong, Refuses, Rejects, RefusesLine, UnknownName, BadText, Unfit, BadHex, Faulty}
 use Rattle.mojo_tool.specs.Work.{Runs, Prints, Checks, Encodes, Decodes, AskedFor, IsWork}
 use Rattle.mojo_tool.specs.Answers.{Seen, Answers, asked_by, IsTextFor, IsRightText, ReadFailed, WroteOrFailed, refused_work}
-use Rattle.mojo_tool.specs.Lines.{refusal_text, unfit_text, fault_name, error_line, read_text}
+use Rattle.mojo_tool.specs.Lines.{refusal_text, line_refusal_name, unfit_text, fault_name, error_line, read_text}
 use Rattle.mojo_tool.specs.Complete.{CanBeDone, CanBeServed, IsAsked, IsDoable, IsDoneOrShort, IsRefusedOrShort, IsUnreadOrShort, IsComplete}
 use Rattle.mojo_tool.proofs.OneWork.{one_work}
 use Rattle.mojo_tool.specs.declared.refusal.ToolRefusal.{ToolRefusal}
@@ -22,8 +22,8 @@ asked_of : (held : Option (List Named)) (files : List Named) (ask : List Named �
 asked_of held files ask work t asked = subst (λ (o : Option (List Named)). AskedFor o ask work) t asked
 
 not_refused : (s : Seen) (can : CanBeDone s) (refusal : ToolRefusal) → AskedFor s.files_before.held (asked_by s) (refused_work refusal) → ⊥
-not_refused s can (refusals.Unsupported name) asked =
-    can.readable name.now (asked_of s.files_before.held can.files (asked_by s) (Unreadable name.now) can.held asked)
+not_refused s can (refusals.RefusedLine line why) asked =
+    can.readable line why (asked_of s.files_before.held can.files (asked_by s) (RefusesLine line why) can.held asked)
 not_refused s can (refusals.FileTooLong name) asked =
     can.short name.now (asked_of s.files_before.held can.files (asked_by s) (TooLong name.now) can.held asked)
 not_refused s can (refusals.Refused name refusal) asked =
@@ -70,7 +70,7 @@ message_doable (Missing name) text is = absurd is
 message_doable (TooLong name) text is = absurd is
 message_doable (Refuses name refusal) text is = absurd is
 message_doable (Rejects name at cause) text is = absurd is
-message_doable (Unreadable name) text is = absurd is
+message_doable (RefusesLine line why) text is = absurd is
 message_doable (UnknownName name) text is = absurd is
 message_doable (BadText at) text is = absurd is
 message_doable (Unfit why) text is = absurd is
@@ -87,7 +87,7 @@ text_work : (command : Option Command) (held : Option (List Named)) (files : Lis
     → IsRightText command held ask text → (work : Work) × IsDoable work × ask files work
 text_work None held files ask text e right = absurd right
 text_work (Some (Run words)) held files ask text e right =
-    (Runs right.schema right.script, tt, asked_of held files ask (Runs right.schema right.script) e right.asked)
+    (Runs right.schema right.bytes, tt, asked_of held files ask (Runs right.schema right.bytes) e right.asked)
 text_work (Some (Print file)) held files ask text e right = (Prints right.tree, tt, asked_of held files ask (Prints right.tree) e right.asked)
 text_work (Some (Check names)) held files ask text e right = (Checks right.schema, tt, asked_of held files ask (Checks right.schema) e right.asked)
 text_work (Some (Encode words)) held files ask text e right =
@@ -102,7 +102,7 @@ line_of (Missing name) = []
 line_of (TooLong name) = codes "FileTooLong " ++ name
 line_of (Refuses name refusal) = name ++ (codes ":" ++ (decimal refusal.at ++ (codes ": " ++ cause_text refusal.cause)))
 line_of (Rejects name at cause) = name ++ (codes ":" ++ (decimal at ++ (codes ": " ++ language_text cause)))
-line_of (Unreadable name) = codes "Unsupported " ++ name
+line_of (RefusesLine line why) = codes "script " ++ (decimal line ++ (codes ": " ++ line_refusal_name why))
 line_of (UnknownName name) = codes "UnknownName " ++ name
 line_of (BadText at) = codes "BadText " ++ decimal at
 line_of (Unfit why) = unfit_text why
@@ -115,7 +115,7 @@ line_of (Encodes message) = []
 line_of (Decodes interface method request value) = []
 
 its_line : (refusal : ToolRefusal) → refusal_text refusal ≡ line_of (refused_work refusal)
-its_line (refusals.Unsupported name) = refl
+its_line (refusals.RefusedLine line why) = refl
 its_line (refusals.FileTooLong name) = refl
 its_line (refusals.Refused name refusal) = refl
 its_line (refusals.Rejected name at cause) = refl
@@ -131,7 +131,7 @@ same_text a b e = its_line a ∙ ap line_of e ∙ sym (its_line b)
 
 -- a refusal is none of the other works
 not_doable : (refusal : ToolRefusal) → IsDoable (refused_work refusal) → ⊥
-not_doable (refusals.Unsupported name) doable = doable
+not_doable (refusals.RefusedLine line why) doable = doable
 not_doable (refusals.FileTooLong name) doable = doable
 not_doable (refusals.Refused name refusal) doable = doable
 not_doable (refusals.Rejected name at cause) doable = doable
@@ -142,7 +142,7 @@ not_doable refusals.BadHex doable = doable
 not_doable (refusals.Faulty fault) doable = doable
 
 not_missing : (refusal : ToolRefusal) (name : List ℕ) → Missing name ≡ refused_work refusal → ⊥
-not_missing (refusals.Unsupported other) name e = absurd cc
+not_missing (refusals.RefusedLine line why) name e = absurd cc
 not_missing (refusals.FileTooLong other) name e = absurd cc
 not_missing (refusals.Refused other refusal) name e = absurd cc
 not_missing (refusals.Rejected other at cause) name e = absurd cc
@@ -153,7 +153,7 @@ not_missing refusals.BadHex name e = absurd cc
 not_missing (refusals.Faulty fault) name e = absurd cc
 
 not_wrong : (refusal : ToolRefusal) → WrongWords ≡ refused_work refusal → ⊥
-not_wrong (refusals.Unsupported other) e = absurd cc
+not_wrong (refusals.RefusedLine line why) e = absurd cc
 not_wrong (refusals.FileTooLong other) e = absurd cc
 not_wrong (refusals.Refused other refusal) e = absurd cc
 not_wrong (refusals.Rejected other at cause) e = absurd cc
@@ -219,7 +219,7 @@ can_be_done s can = record {
   short = λ name. only (TooLong name);
   compiled = λ name refusal. only (Refuses name refusal);
   checked = λ name at cause. only (Rejects name at cause);
-  readable = λ name. only (Unreadable name);
+  readable = λ line why. only (RefusesLine line why);
   known = λ name. only (UnknownName name);
   spelled = λ at. only (BadText at);
   fit = λ why. only (Unfit why);

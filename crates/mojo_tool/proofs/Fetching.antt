@@ -16,8 +16,8 @@ use Rattle.mojom_files.specs.declared.cause.Cause.{Cause}
 use Rattle.mojom_files.specs.declared.refusal.Refusal.{Refusal}
 use Rattle.mojom_compile.specs.Schemas.{IsSchemaOfFiles, IsRefusalOf, IsWhy}
 use Rattle.schema_text.specs.Listing.{listing}
-use Rattle.mojo_tool.specs.Work.{Work, Missing, TooLong, Refuses, Rejects, Checks, FetchingAll, Leads, Tabling, Gathering, Listing, Checking, AskedFor}
-use Rattle.mojo_tool.specs.Work.{AreFetched, HaveSchema, IsAmong, name_at, unchecked}
+use Rattle.mojo_tool.specs.Work.{Work, Missing, TooLong, Refuses, Rejects, Checks, FetchingAll, Leads, Tabling, GatheringWith, Gathering, Listing, Checking, AskedFor}
+use Rattle.mojo_tool.specs.Work.{AreFetched, IsAmong, name_at, unchecked}
 use Rattle.mojo_tool.specs.Answers.{ReadFailed, refused_work, refused_name, IsCheckText}
 use Rattle.mojo_tool.specs.steps.Stops.{Stops, IsOf, HasBytes, IsLonger, IsLost, NotFetched}
 use Rattle.mojo_tool.specs.steps.Fetches.{AreBytes, HaveSchemaOver, IsFirstUnfetched, NotAllFetched, NotTabled, IsRefusedSet, NoSchema}
@@ -105,25 +105,25 @@ leads_all files (n ∷ names) left before (s ∷ sources) next work are asked =
           (subst (λ (ss : List Source). FetchingAll files left ss next work) (sym (append_assoc before (s ∷ []) sources)) asked)),
     ))
 
-asked_behind : (held : Option (List Named)) (first left : List (List ℕ)) (sources : List Source) (next : List Named → Schema → Work → Type 0) (work : Work)
-    → AreBytes held first sources → AskedFor held (λ files w. FetchingAll files left sources (Tabling (next files)) w) work
-    → AskedFor held (λ files w. Gathering files (first ++ left) (next files) w) work
+asked_behind : (held : Option (List Named)) (first left : List (List ℕ)) (sources : List Source) (next : List Named → List Source → Work → Type 0)
+    (work : Work) → AreBytes held first sources → AskedFor held (λ files w. FetchingAll files left sources (next files) w) work
+    → AskedFor held (λ files w. FetchingAll files (first ++ left) [] (next files) w) work
 asked_behind None first left sources next work are asked = tt
-asked_behind (Some files) first left sources next work are asked = leads_all files first left [] sources (Tabling (next files)) work are asked
+asked_behind (Some files) first left sources next work are asked = leads_all files first left [] sources (next files) work are asked
 
-lost_behind : (held : Option (List Named)) (first left : List (List ℕ)) (sources : List Source) (next : List Named → Schema → Work → Type 0) (name : List ℕ)
-    (before now : ℕ) → AreBytes held first sources
-    → ReadFailed held (λ files w. FetchingAll files left sources (Tabling (next files)) w) name before now
-    → ReadFailed held (λ files w. Gathering files (first ++ left) (next files) w) name before now
+lost_behind : (held : Option (List Named)) (first left : List (List ℕ)) (sources : List Source) (next : List Named → List Source → Work → Type 0)
+    (name : List ℕ) (before now : ℕ) → AreBytes held first sources
+    → ReadFailed held (λ files w. FetchingAll files left sources (next files) w) name before now
+    → ReadFailed held (λ files w. FetchingAll files (first ++ left) [] (next files) w) name before now
 lost_behind None first left sources next name before now are failed = tt
 lost_behind (Some files) first left sources next name before now are (inl asked) =
-    inl (leads_all files first left [] sources (Tabling (next files)) (Missing name) are asked)
+    inl (leads_all files first left [] sources (next files) (Missing name) are asked)
 lost_behind (Some files) first left sources next name before now are (inr rose) = inr rose
 
 -- why there is no text behind files that were fetched
-behind : (before now : FilesState) (first left : List (List ℕ)) (sources : List Source) (next : List Named → Schema → Work → Type 0) (stop : Stop)
-    → AreBytes before.held first sources → Stops before now (λ files w. FetchingAll files left sources (Tabling (next files)) w) stop
-    → Stops before now (λ files w. Gathering files (first ++ left) (next files) w) stop
+behind : (before now : FilesState) (first left : List (List ℕ)) (sources : List Source) (next : List Named → List Source → Work → Type 0) (stop : Stop)
+    → AreBytes before.held first sources → Stops before now (λ files w. FetchingAll files left sources (next files) w) stop
+    → Stops before now (λ files w. FetchingAll files (first ++ left) [] (next files) w) stop
 behind before now first left sources next (Refused refusal) are stops = asked_behind before.held first left sources next (refused_work refusal) are stops
 behind before now first left sources next (ReadFault name) are stops = record {
   rose = stops.rose;
@@ -137,13 +137,13 @@ among_append : (first left : List (List ℕ)) (name : List ℕ) → IsAmong (fir
 among_append [] left name = inl refl
 among_append (n ∷ first) left name = inr (among_append first left name)
 
-among_at : (names : List (List ℕ)) (i : ℕ) (name : List ℕ) → slice_get names i ≡ Some name → IsAmong names name
+pub among_at : (names : List (List ℕ)) (i : ℕ) (name : List ℕ) → slice_get names i ≡ Some name → IsAmong names name
 among_at [] i name at = absurd cc
 among_at (n ∷ names) zero name at = inl cc
 among_at (n ∷ names) (suc i) name at = inr (among_at names i name at)
 
 -- a file stands under its name
-name_there : (files : List Named) (names : List (List ℕ)) (sources : List Source) (i : ℕ) (name : List ℕ) → AreFetched files names sources
+pub name_there : (files : List Named) (names : List (List ℕ)) (sources : List Source) (i : ℕ) (name : List ℕ) → AreFetched files names sources
     → slice_get names i ≡ Some name → name_at sources i ≡ name
 name_there files [] sources i name are at = absurd cc
 name_there files (n ∷ names) [] i name are at = absurd are
@@ -153,7 +153,7 @@ name_there files (n ∷ names) (s ∷ sources) (suc i) name are at = name_there 
 -- what a refusal names is in its work
 
 too_long_name : (refusal : ToolRefusal) (name : List ℕ) → refused_work refusal ≡ TooLong name → refused_name refusal ≡ Some name
-too_long_name (refusals.Unsupported other) name e = absurd cc
+too_long_name (refusals.RefusedLine line why) name e = absurd cc
 too_long_name (refusals.FileTooLong other) name e = ap Some cc
 too_long_name (refusals.Refused other why) name e = absurd cc
 too_long_name (refusals.Rejected other place cause) name e = absurd cc
@@ -163,8 +163,8 @@ too_long_name (refusals.Unfit why) name e = absurd cc
 too_long_name refusals.BadHex name e = absurd cc
 too_long_name (refusals.Faulty fault) name e = absurd cc
 
-refuses_name : (refusal : ToolRefusal) (name : List ℕ) (is : FileRefusal) → refused_work refusal ≡ Refuses name is → refused_name refusal ≡ Some name
-refuses_name (refusals.Unsupported other) name is e = absurd cc
+pub refuses_name : (refusal : ToolRefusal) (name : List ℕ) (is : FileRefusal) → refused_work refusal ≡ Refuses name is → refused_name refusal ≡ Some name
+refuses_name (refusals.RefusedLine line why) name is e = absurd cc
 refuses_name (refusals.FileTooLong other) name is e = absurd cc
 refuses_name (refusals.Refused other why) name is e = ap Some cc
 refuses_name (refusals.Rejected other place cause) name is e = absurd cc
@@ -175,7 +175,7 @@ refuses_name refusals.BadHex name is e = absurd cc
 refuses_name (refusals.Faulty fault) name is e = absurd cc
 
 rejects_name : (refusal : ToolRefusal) (name : List ℕ) (at : ℕ) (is : Cause) → refused_work refusal ≡ Rejects name at is → refused_name refusal ≡ Some name
-rejects_name (refusals.Unsupported other) name at is e = absurd cc
+rejects_name (refusals.RefusedLine line why) name at is e = absurd cc
 rejects_name (refusals.FileTooLong other) name at is e = absurd cc
 rejects_name (refusals.Refused other why) name at is e = absurd cc
 rejects_name (refusals.Rejected other place cause) name at is e = ap Some cc
@@ -243,17 +243,17 @@ unfetched_at before mid now names i sources name stop at are on why =
     subst (λ (ns : List (List ℕ)). NotAllFetched before now ns stop) (sym (split_at names i name at))
     (unfetched before mid now (take i names) (drop (suc i) names) sources name stop are on why)
 
-stopped_first : (before now : FilesState) (names : List (List ℕ)) (next : List Named → Schema → Work → Type 0) (stop : Stop)
-    → IsFirstUnfetched before now names stop → Stops before now (λ files w. Gathering files names (next files) w) stop
+stopped_first : (before now : FilesState) (names : List (List ℕ)) (next : List Named → List Source → Work → Type 0) (stop : Stop)
+    → IsFirstUnfetched before now names stop → Stops before now (λ files w. FetchingAll files names [] (next files) w) stop
 stopped_first before now names next stop why =
-    subst (λ (ns : List (List ℕ)). Stops before now (λ files w. Gathering files ns (next files) w) stop) (sym why.all)
+    subst (λ (ns : List (List ℕ)). Stops before now (λ files w. FetchingAll files ns [] (next files) w) stop) (sym why.all)
     (behind before now why.first (why.name ∷ why.left) why.fetched next stop why.are
     (stopped before now why.name
-    (λ files bytes w. FetchingAll files why.left (why.fetched ++ record { name = why.name; bytes = bytes } ∷ []) (Tabling (next files)) w) stop why.not))
+    (λ files bytes w. FetchingAll files why.left (why.fetched ++ record { name = why.name; bytes = bytes } ∷ []) (next files) w) stop why.not))
 
 -- where not all were fetched there is no text
-not_all_stops : (before now : FilesState) (names : List (List ℕ)) (next : List Named → Schema → Work → Type 0) (stop : Stop)
-    → NotAllFetched before now names stop → Stops before now (λ files w. Gathering files names (next files) w) stop
+not_all_stops : (before now : FilesState) (names : List (List ℕ)) (next : List Named → List Source → Work → Type 0) (stop : Stop)
+    → NotAllFetched before now names stop → Stops before now (λ files w. FetchingAll files names [] (next files) w) stop
 not_all_stops before now names next (Refused refusal) why = stopped_first before now names next (Refused refusal) why
 not_all_stops before now names next (ReadFault name) why = stopped_first before now names next (ReadFault name) why
 not_all_stops before now names next NoMemory why = tt
@@ -267,22 +267,26 @@ not_all_reached before now names NoMemory why = tt
 
 -- what files mean
 
--- what the tables of files that were fetched ask for is asked for
-asked_of_all : (held : Option (List Named)) (names : List (List ℕ)) (sources : List Source) (next : List Named → Schema → Work → Type 0) (work : Work)
-    → AreBytes held names sources → AskedFor held (λ files w. Tabling (next files) sources w) work
-    → AskedFor held (λ files w. Gathering files names (next files) w) work
-asked_of_all None names sources next work are tabled = tt
-asked_of_all (Some files) names sources next work are tabled =
-    subst (λ (ns : List (List ℕ)). Gathering files ns (next files) work) (append-nil names)
-    (leads_all files names [] [] sources (Tabling (next files)) work are tabled)
+-- what files that were fetched ask for is asked for
+asked_of_all : (held : Option (List Named)) (names : List (List ℕ)) (sources : List Source) (next : List Named → List Source → Work → Type 0) (work : Work)
+    → AreBytes held names sources → AskedFor held (λ files w. next files sources w) work
+    → AskedFor held (λ files w. FetchingAll files names [] (next files) w) work
+asked_of_all None names sources next work are asked = tt
+asked_of_all (Some files) names sources next work are asked =
+    subst (λ (ns : List (List ℕ)). FetchingAll files ns [] (next files) work) (append-nil names)
+    (leads_all files names [] [] sources (next files) work are asked)
 
-refused_so : (held : Option (List Named)) (names : List (List ℕ)) (sources : List Source) (next : List Named → Schema → Work → Type 0) (error : SchemaError)
-    (work : Work) → AreBytes held names sources → IsRefusalOf sources error
+-- what tables lead on to
+abbrev tabled : (List Named → List Source → Schema → Work → Type 0) → List Named → List Source → Work → Type 0
+tabled next files sources w = Tabling (next files sources) sources w
+
+refused_so : (held : Option (List Named)) (names : List (List ℕ)) (sources : List Source) (next : List Named → List Source → Schema → Work → Type 0)
+    (error : SchemaError) (work : Work) → AreBytes held names sources → IsRefusalOf sources error
     → ((files : List Named) → AreFetched files names sources → work ≡ unchecked sources error)
-    → AskedFor held (λ files w. Gathering files names (next files) w) work
+    → AskedFor held (λ files w. GatheringWith files names (next files) w) work
 refused_so None names sources next error work are is e = tt
 refused_so (Some files) names sources next error work are is e =
-    asked_of_all (Some files) names sources next work are (inr (error, is, e files are))
+    asked_of_all (Some files) names sources (tabled next) work are (inr (error, is, e files are))
 
 -- a refusal, where it isn't want of memory
 is_refusal : (sources : List Source) (error : SchemaError) → (error ≡ errors.Memory → ⊥) → IsWhy sources error → IsRefusalOf sources error
@@ -290,9 +294,9 @@ is_refusal sources error other (inl memory) = absurd (other memory)
 is_refusal sources error other (inr is) = is
 
 -- where they have no schema there is no text
-not_tabled_stops : (before now : FilesState) (names : List (List ℕ)) (sources : List Source) (next : List Named → Schema → Work → Type 0) (error : SchemaError)
-    (stop : Stop) → AreBytes before.held names sources → IsWhy sources error → NotTabled names error stop
-    → Stops before now (λ files w. Gathering files names (next files) w) stop
+not_tabled_stops : (before now : FilesState) (names : List (List ℕ)) (sources : List Source) (next : List Named → List Source → Schema → Work → Type 0)
+    (error : SchemaError) (stop : Stop) → AreBytes before.held names sources → IsWhy sources error → NotTabled names error stop
+    → Stops before now (λ files w. GatheringWith files names (next files) w) stop
 not_tabled_stops before now names sources next (errors.Unread file why) (Refused refusal) are is not =
     refused_so before.held names sources next (errors.Unread file why) (refused_work refusal) are
     (is_refusal sources (errors.Unread file why) (λ e. cc) is)
@@ -315,10 +319,14 @@ not_tabled_reached names error (ReadFault name) not = absurd not
 not_tabled_reached names error NoMemory not = tt
 
 -- where there is no schema there is no text
+pub no_schema_stops_with : (before now : FilesState) (names : List (List ℕ)) (next : List Named → List Source → Schema → Work → Type 0) (stop : Stop)
+    → NoSchema before now names stop → Stops before now (λ files w. GatheringWith files names (next files) w) stop
+no_schema_stops_with before now names next stop (inl why) = not_all_stops before now names (tabled next) stop why
+no_schema_stops_with before now names next stop (inr why) = not_tabled_stops before now names why.sources next why.error stop why.are why.why why.not
+
 pub no_schema_stops : (before now : FilesState) (names : List (List ℕ)) (next : List Named → Schema → Work → Type 0) (stop : Stop)
     → NoSchema before now names stop → Stops before now (λ files w. Gathering files names (next files) w) stop
-no_schema_stops before now names next stop (inl why) = not_all_stops before now names next stop why
-no_schema_stops before now names next stop (inr why) = not_tabled_stops before now names why.sources next why.error stop why.are why.why why.not
+no_schema_stops before now names next stop why = no_schema_stops_with before now names (λ files sources. next files) stop why
 
 -- and the name is one of these
 pub no_schema_reached : (before now : FilesState) (names : List (List ℕ)) (stop : Stop) → NoSchema before now names stop → IsOf (IsAmong names) stop
@@ -337,12 +345,18 @@ have_schema None names sources schema are is = tt
 have_schema (Some files) names sources schema are is = record { sources = sources; are = are; schema_of = is }
 
 -- their schema leads on
+pub tables_lead : (files : List Named) (names : List (List ℕ)) (sources : List Source) (schema : Schema)
+    (next : List Named → List Source → Schema → Work → Type 0) (work : Work) → AreFetched files names sources → IsSchemaOfFiles sources schema
+    → next files sources schema work → GatheringWith files names (next files) work
+tables_lead files names sources schema next work are is asked =
+    asked_of_all (Some files) names sources (tabled next) work are (inl (schema, is, asked))
+
 pub schema_leads : (held : Option (List Named)) (names : List (List ℕ)) (schema : Schema) (next : List Named → Schema → Work → Type 0)
     → HaveSchemaOver held names schema
     → Passes held (λ files w. next files schema w) (λ files w. Gathering files names (next files) w)
 schema_leads None names schema next have = tt
 schema_leads (Some files) names schema next have =
-    λ work asked. asked_of_all (Some files) names have.sources next work have.are (inl (schema, have.schema_of, asked))
+    λ work asked. tables_lead files names have.sources schema (λ files sources. next files) work have.are have.schema_of asked
 
 -- the text of the tables
 pub tables_text : (held : Option (List Named)) (names : List (List ℕ)) (schema : Schema) (text : List ℕ) → HaveSchemaOver held names schema

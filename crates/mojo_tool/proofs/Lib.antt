@@ -10,6 +10,6 @@ pub mod OneValue
 pub mod OneWork
 pub mod Completes
 pub mod Reporting
-pub mod Narrows
-pub mod Laws
+pub mod Running
+pub mod Ran
 pub mod Reprinted

@@ -2,12 +2,10 @@
 use Rattle.std.proofs.Common.{◌≡◌, ℕ, List, [], ◌∷◌, ◌++◌, Some, None, Ok, Err, sym, ap, ◌∙◌, subst, inl, inr, arith}
 use Rattle.std.specs.Prelude.{Option, Result}
 use Rattle.mj_io.specs.Outside.{Named, find_file}
-use Rattle.mj_schema.specs.declared.narrow_schema.NarrowSchema.{NarrowSchema}
 use Rattle.mojom_compile.proofs.Readings.{one_tree}
-use Rattle.mojom_compile.proofs.Whole.{one_schema}
 use Rattle.mojom_compile.specs.declared.source.Source.{Source}
-use Rattle.call_script.proofs.OneScript.{one_script}
-use Rattle.command_line.specs.Asked.{RunWords, EncodeWords, DecodeWords, Command, Run, Print, Check, Encode, Decode}
+use Rattle.call_script.proofs.OneAnswer.{never_both, one_refusal}
+use Rattle.command_line.specs.Asked.{EncodeWords, DecodeWords, Command, Run, Print, Check, Encode, Decode}
 use Rattle.hex.specs.Hex.{decode_of}
 use Rattle.hex.specs.declared.error.FromHexError.{FromHexError}
 use Rattle.mj_schema.specs.Lookups.{interface_named}
@@ -24,15 +22,16 @@ use Rattle.message_validator.specs.Before.{before_payload}
 use Rattle.wire_model.specs.Expected.{message_marks, struct_of}
 use Rattle.wire_encoder.specs.FirstFailed.{Met, Refusal}
 use Rattle.wire_encoder.specs.Prepared.{verdict}
-use Rattle.byte_rules.specs.Judged.{Spells, IsBad}
-use Rattle.value_text.specs.Rules.{value}
 use Rattle.value_text.specs.Spelling.{spell}
 use Rattle.mojo_tool.specs.Targets.{side_of, message_named, expected_of}
-use Rattle.mojo_tool.specs.Work.{Work, Refuses, Prints, Runs, Checks, BadText, Decodes, Leads, Compiling, Parsing, Reading, Scripting, FetchingAll, Tabling}
+use Rattle.mojo_tool.specs.Work.{Work, Refuses, RefusesLine, Prints, BadText, Decodes, Leads, Parsing, Reading, Scripting, FetchingAll, Tabling}
+use Rattle.mojo_tool.specs.Work.{GatheringWith, Supporting, Looking}
 use Rattle.mojo_tool.specs.Work.{Listing, Valuing, Sealing, Preparing, Writing, Finding, Encoding, Unhexing, IsShown, Judged, Judging, Showing, Decoding}
-use Rattle.mojo_tool.specs.Work.{parameters_kind, without_line_end, MAX_BRACKETS, unchecked, IsWork}
+use Rattle.mojo_tool.specs.Work.{parameters_kind, without_line_end, unchecked, IsWork}
 use Rattle.mojo_tool.proofs.OneValue.{one_value}
+use Rattle.mojom_compile.specs.declared.responses.InterfacePlace.{InterfacePlace}
 use Rattle.mojom_compile.proofs.OneSchemaOfFiles.{one_schema as one_schema_of_files}
+use Rattle.mojom_compile.proofs.OneFirstAnswered.{one_first_answered}
 
 leads : (name : List ℕ) (next : List ℕ → Work → Type 0) (found : Option (List ℕ)) (w v : Work) → ((bytes : List ℕ) → next bytes w → next bytes v → w ≡ v)
     → Leads name next found w → Leads name next found v → w ≡ v
@@ -42,32 +41,33 @@ leads name next (Some bytes) w v one (inl a) (inr b) = absurd (omega (arith, a.0
 leads name next (Some bytes) w v one (inr a) (inl b) = absurd (omega (arith, a.0, b.0))
 leads name next (Some bytes) w v one (inr a) (inr b) = one bytes a.1 b.1
 
-compiling : (name : List ℕ) (next : NarrowSchema → Work → Type 0) (bytes : List ℕ) (w v : Work) → ((s : NarrowSchema) → next s w → next s v → w ≡ v)
-    → Compiling name next bytes w → Compiling name next bytes v → w ≡ v
-compiling name next bytes w v one (inl a) (inl b) =
-    one a.0 a.2 (subst (λ (s : NarrowSchema). next s v) ((one_schema bytes).one_schema b.0 a.0 b.1 a.1) b.2)
-compiling name next bytes w v one (inl a) (inr b) = absurd ((one_schema bytes).never_both a.0 b.0 a.1 b.1)
-compiling name next bytes w v one (inr a) (inl b) = absurd ((one_schema bytes).never_both b.0 a.0 b.1 a.1)
-compiling name next bytes w v one (inr a) (inr b) = a.2 ∙ ap (Refuses name) ((one_schema bytes).one_refusal a.0 b.0 a.1 b.1) ∙ sym b.2
-
 parsing : (name bytes : List ℕ) (w v : Work) → Parsing name bytes w → Parsing name bytes v → w ≡ v
 parsing name bytes w v (inl a) (inl b) = a.2 ∙ ap Prints ((one_tree bytes).one_tree a.0 b.0 a.1 b.1) ∙ sym b.2
 parsing name bytes w v (inl a) (inr b) = absurd ((one_tree bytes).never_both a.0 b.0 a.1 b.1)
 parsing name bytes w v (inr a) (inl b) = absurd ((one_tree bytes).never_both b.0 a.0 b.1 a.1)
 parsing name bytes w v (inr a) (inr b) = a.2 ∙ ap (Refuses name) ((one_tree bytes).one_refusal a.0 b.0 a.1 b.1) ∙ sym b.2
 
-reading : (name : List ℕ) (s : NarrowSchema) (bytes : List ℕ) (w v : Work) → Reading name s bytes w → Reading name s bytes v → w ≡ v
-reading name s bytes w v (inl a) (inl b) = a.2 ∙ ap (Runs s) (one_script s bytes a.0 b.0 a.1 b.1) ∙ sym b.2
-reading name s bytes w v (inl a) (inr b) = absurd (b.0 a.0 a.1)
-reading name s bytes w v (inr a) (inl b) = absurd (a.0 b.0 b.1)
-reading name s bytes w v (inr a) (inr b) = a.1 ∙ sym b.1
+reading : (s : Schema) (bytes : List ℕ) (w v : Work) → Reading s bytes w → Reading s bytes v → w ≡ v
+reading s bytes w v (inl a) (inl b) = a.2 ∙ sym b.2
+reading s bytes w v (inl a) (inr b) = absurd (never_both s bytes a.0 b.0 b.1 a.1 b.2)
+reading s bytes w v (inr a) (inl b) = absurd (never_both s bytes b.0 a.0 a.1 b.1 a.2)
+reading s bytes w v (inr a) (inr b) =
+    let one = one_refusal s bytes a.0 b.0 a.1 b.1 a.2 b.2 in
+    a.3 ∙ ap (λ (line : ℕ). RefusesLine line a.1) one.0 ∙ ap (RefusesLine b.0) one.1 ∙ sym b.3
 
-scripting : (files : List Named) (name : List ℕ) (s : NarrowSchema) (w v : Work) → Scripting files name s w → Scripting files name s v → w ≡ v
-scripting files name s w v = leads name (Reading name s) (find_file files name) w v (λ bytes. reading name s bytes w v)
+scripting : (files : List Named) (name : List ℕ) (s : Schema) (w v : Work) → Scripting files name s w → Scripting files name s v → w ≡ v
+scripting files name s w v = leads name (Reading s) (find_file files name) w v (λ bytes. reading s bytes w v)
 
-running : (files : List Named) (words : RunWords) (bytes : List ℕ) (w v : Work) → Compiling words.file (Scripting files words.script) bytes w
-    → Compiling words.file (Scripting files words.script) bytes v → w ≡ v
-running files words bytes w v = compiling words.file (Scripting files words.script) bytes w v (λ s. scripting files words.script s w v)
+supporting : (sources : List Source) (next : Work → Type 0) (found : Option InterfacePlace) (w v : Work) → (next w → next v → w ≡ v)
+    → Supporting sources next found w → Supporting sources next found v → w ≡ v
+supporting sources next None w v one a b = one a b
+supporting sources next (Some place) w v one a b = a ∙ sym b
+
+looking : (next : Schema → Work → Type 0) (sources : List Source) (s : Schema) (w v : Work) → (next s w → next s v → w ≡ v)
+    → Looking next sources s w → Looking next sources s v → w ≡ v
+looking next sources s w v one a b =
+    supporting sources (next s) a.0 w v one a.2
+    (subst (λ (o : Option InterfacePlace). Supporting sources (next s) o v) (one_first_answered sources b.0 a.0 b.1 a.1) b.2)
 
 tabling : (next : Schema → Work → Type 0) (sources : List Source) (w v : Work) → ((schema : Schema) → next schema w → next schema v → w ≡ v)
     → Tabling next sources w → Tabling next sources v → w ≡ v
@@ -78,14 +78,21 @@ tabling next sources w v one (inr a) (inl b) = absurd ((one_schema_of_files sour
 tabling next sources w v one (inr a) (inr b) =
     a.2 ∙ ap (unchecked sources) ((one_schema_of_files sources).one_refusal a.0 b.0 a.1 b.1) ∙ sym b.2
 
-fetching_all : (files : List Named) (names : List (List ℕ)) (fetched : List Source) (next : Schema → Work → Type 0) (w v : Work)
-    → ((schema : Schema) → next schema w → next schema v → w ≡ v) → FetchingAll files names fetched (Tabling next) w
-    → FetchingAll files names fetched (Tabling next) v → w ≡ v
-fetching_all files [] fetched next w v one a b = tabling next fetched w v one a b
+fetching_all : (files : List Named) (names : List (List ℕ)) (fetched : List Source) (next : List Source → Work → Type 0) (w v : Work)
+    → ((sources : List Source) → next sources w → next sources v → w ≡ v) → FetchingAll files names fetched next w
+    → FetchingAll files names fetched next v → w ≡ v
+fetching_all files [] fetched next w v one a b = one fetched a b
 fetching_all files (name ∷ names) fetched next w v one a b =
-    leads name (λ (bytes : List ℕ) u. FetchingAll files names (fetched ++ record { name = name; bytes = bytes } ∷ []) (Tabling next) u)
+    leads name (λ (bytes : List ℕ) u. FetchingAll files names (fetched ++ record { name = name; bytes = bytes } ∷ []) next u)
     (find_file files name) w v
     (λ bytes. fetching_all files names (fetched ++ record { name = name; bytes = bytes } ∷ []) next w v one) a b
+
+gathering : (files : List Named) (names : List (List ℕ)) (next : List Source → Schema → Work → Type 0) (w v : Work)
+    → ((sources : List Source) (schema : Schema) → next sources schema w → next sources schema v → w ≡ v)
+    → GatheringWith files names next w → GatheringWith files names next v → w ≡ v
+gathering files names next w v one a b =
+    fetching_all files names [] (λ sources u. Tabling (next sources) sources u) w v
+    (λ sources. tabling (next sources) sources w v (one sources)) a b
 
 -- what a look-up found is one thing
 finding : {A : Type 0} (word : List ℕ) (next : A → Work → Type 0) (found : Option A) (w v : Work) → ((x : A) → next x w → next x v → w ≡ v)
@@ -166,10 +173,11 @@ decoding files words schema w v =
 pub one_work : (command : Option Command) (files : List Named) (w v : Work) → IsWork command files w → IsWork command files v → w ≡ v
 one_work None files w v a b = a ∙ sym b
 one_work (Some (Run words)) files w v a b =
-    leads words.file (Compiling words.file (Scripting files words.script)) (find_file files words.file) w v (λ bytes. running files words bytes w v) a b
+    gathering files words.files (Looking (Scripting files words.script)) w v
+    (λ sources schema. looking (Scripting files words.script) sources schema w v (scripting files words.script schema w v)) a b
 one_work (Some (Print file)) files w v a b = leads file (Parsing file) (find_file files file) w v (λ bytes. parsing file bytes w v) a b
-one_work (Some (Check names)) files w v a b = fetching_all files names [] Listing w v (λ schema x y. x ∙ sym y) a b
+one_work (Some (Check names)) files w v a b = gathering files names (λ sources. Listing) w v (λ sources schema x y. x ∙ sym y) a b
 one_work (Some (Encode words)) files w v a b =
-    fetching_all files words.files [] (Encoding files words) w v (λ schema. encoding files words schema w v) a b
+    gathering files words.files (λ sources. Encoding files words) w v (λ sources schema. encoding files words schema w v) a b
 one_work (Some (Decode words)) files w v a b =
-    fetching_all files words.files [] (Decoding files words) w v (λ schema. decoding files words schema w v) a b
+    gathering files words.files (λ sources. Decoding files words) w v (λ sources schema. decoding files words schema w v) a b

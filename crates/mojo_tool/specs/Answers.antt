@@ -2,18 +2,24 @@
 use Rattle.std.specs.Prelude.{ℕ, ◌≡◌, List, reverse, Option, Some, None, IfSome, ◌⊎◌}
 use Rattle.mj_io.specs.Outside.{Named, FilesState, SinkState, Rose, Wrote, WroteSome}
 use Rattle.command_line.specs.Asked.{Command, Run, Print, Check, Encode, Decode, command_of}
-use Rattle.mj_schema.specs.declared.narrow_schema.NarrowSchema.{NarrowSchema}
 use Rattle.mj_schema.specs.declared.schema.Schema.{Schema}
 use Rattle.bind_model.specs.declared.event.Event.{Event}
-use Rattle.bind_model.specs.Machine.{Legal}
-use Rattle.bind_model.specs.Laws.{InOrder, AsSaid, AreTight, AreGood, OnePlace}
+use Rattle.bind_model.specs.Wire.{Wire}
+use Rattle.bind_model.specs.WireOf.{wire_of}
+use Rattle.bind_model.specs.Replies.{Legal}
+use Rattle.bind_model.specs.Laws.{InOrder, AllStand, OwnResponses, OnePlace}
+use Rattle.bind_model.specs.Origins.{HaveWriters}
+use Rattle.bind_core.specs.Left.{left}
+use Rattle.history_laws.specs.Owners.{OneOwner}
 use Rattle.mojom_ast.specs.declared.file.File.{File}
 use Rattle.mojom_print.specs.FileText.{file_text}
 use Rattle.schema_text.specs.Listing.{listing}
 use Rattle.call_script.specs.declared.script.Script.{Script}
-use Rattle.call_script.specs.Text.{output}
+use Rattle.call_script.specs.declared.script.TheConstants.{SEQUENCES}
+use Rattle.call_script.specs.Script.{IsScriptOf}
 use Rattle.script_run.specs.OfScript.{OfScript}
-use Rattle.mojo_tool.specs.Work.{Work, Missing, TooLong, Refuses, Rejects, Unreadable, UnknownName, BadText, Unfit, BadHex, Faulty}
+use Rattle.history_text.specs.History.{history_text}
+use Rattle.mojo_tool.specs.Work.{Work, Missing, TooLong, Refuses, Rejects, RefusesLine, UnknownName, BadText, Unfit, BadHex, Faulty}
 use Rattle.mojo_tool.specs.Work.{Runs, Prints, Checks, Encodes, Decodes, ComesTo, IsWork, AskedFor}
 use Rattle.mojo_tool.specs.Lines.{refusal_text, error_line, read_text, hex_line, shown_line}
 use Rattle.mojo_tool.specs.declared.refusal.ToolRefusal.{ToolRefusal}
@@ -44,32 +50,36 @@ pub record Seen : Type 0 where
 abbrev pub asked_by : Seen → List Named → Work → Type 0
 asked_by s files work = IsWork (command_of s.words) files work
 
--- what a history keeps, said of its events, the newest first
-pub record KeepsLaws (schema : NarrowSchema) (past : List Event) : Type 0 where
-  -- at each end the takes were told, in order and once, what a prefix of the messages written there gives
-  pub in_order : InOrder schema past
-  -- what they were told is what the calls at the peer said
-  pub as_said : AsSaid past
-  -- the bytes of each call that was sent are the tight ones
-  pub tight : AreTight past
-  -- no message stands for nothing
-  pub good : AreGood past
-  -- each end is made once, and is either with a caller or bound
-  pub one_place : OnePlace past
+-- what a history of so many sequences keeps, said of its events, the newest first
+pub record KeepsLaws (wire : Wire) (seqs : ℕ) (past : List Event) : Type 0 where
+  -- at each end the messages are consumed in the order in which they were written, each once
+  pub in_order : InOrder wire past
+  -- each is the one that its writer says: the tight bytes of a call
+  pub writers : HaveWriters wire past
+  -- what is got is what its message stands for
+  pub stands : AllStand wire past
+  -- requests are numbered, and each is answered once at most
+  pub responses : OwnResponses past
+  -- each thing that was made has one place: with a caller, in an unread message, bound, or gone
+  pub one_place : OnePlace wire past
+  -- each is left at the end or has gone, once, and nothing is made twice
+  pub one_owner : OneOwner seqs past
 
--- the text is that of one history, which is legal for the schema, is of the script's events, and keeps the laws
-pub record IsTextOf (schema : NarrowSchema) (script : Script) (text : List ℕ) : Type 0 where
+-- the text is that of one history, which is legal for the schema, is of the script's events, and keeps the laws, and of what is left
+pub record IsTextOf (schema : Schema) (script : Script) (text : List ℕ) : Type 0 where
   pub history : List Event
-  pub legal : Legal schema 1 history
+  pub legal : Legal (wire_of schema) SEQUENCES history
   pub events : OfScript schema script history
-  pub laws : KeepsLaws schema (reverse history)
-  pub whole : text ≡ output schema 1 history
+  pub laws : KeepsLaws (wire_of schema) SEQUENCES (reverse history)
+  pub whole : text ≡ history_text schema history (left SEQUENCES (reverse history))
 
--- the text is that of a run that is asked for
+-- the text is that of a run that is asked for, of the script that the bytes are
 pub record IsRunText (held : Option (List Named)) (ask : List Named → Work → Type 0) (text : List ℕ) : Type 0 where
-  pub schema : NarrowSchema
+  pub schema : Schema
+  pub bytes : List ℕ
   pub script : Script
-  pub asked : AskedFor held ask (Runs schema script)
+  pub asked : AskedFor held ask (Runs schema bytes)
+  pub read : IsScriptOf schema bytes script
   pub text_of : IsTextOf schema script text
 
 -- the text is the canonical one of a tree that is asked for
@@ -107,7 +117,7 @@ IsRightText (Some (Decode words)) held ask text = IsMessageText held ask text
 
 -- the work that a refusal is the answer to
 abbrev pub refused_work : ToolRefusal → Work
-refused_work (refusals.Unsupported name) = Unreadable name.now
+refused_work (refusals.RefusedLine line why) = RefusesLine line why
 refused_work (refusals.FileTooLong name) = TooLong name.now
 refused_work (refusals.Refused name refusal) = Refuses name.now refusal
 refused_work (refusals.Rejected name at cause) = Rejects name.now at cause
@@ -119,7 +129,7 @@ refused_work (refusals.Faulty fault) = Faulty fault
 
 -- the file that its line names, where it names one
 abbrev pub refused_name : ToolRefusal → Option (List ℕ)
-refused_name (refusals.Unsupported name) = Some name.now
+refused_name (refusals.RefusedLine line why) = None
 refused_name (refusals.FileTooLong name) = Some name.now
 refused_name (refusals.Refused name refusal) = Some name.now
 refused_name (refusals.Rejected name at cause) = Some name.now

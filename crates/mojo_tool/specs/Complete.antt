@@ -5,9 +5,10 @@ use Rattle.mojo_tool.specs.Answers.{Seen, asked_by, refused_work, WroteOrFailed}
 use Rattle.mojo_tool.specs.Lines.{refusal_text, error_line, read_text}
 use Rattle.mojom_compile.specs.declared.error.FileRefusal.{FileRefusal}
 use Rattle.mojom_files.specs.declared.cause.Cause.{Cause}
+use Rattle.call_script.specs.declared.script_error.LineRefusal.{LineRefusal}
 use Rattle.wire_encoder.specs.declared.refusal.PrepareError.{PrepareError}
 use Rattle.mj_base.specs.declared.fault.Fault.{Fault}
-use Rattle.mojo_tool.specs.Work.{Work, WrongWords, Missing, TooLong, Refuses, Rejects, Unreadable, UnknownName, BadText, Unfit, BadHex, Faulty}
+use Rattle.mojo_tool.specs.Work.{Work, WrongWords, Missing, TooLong, Refuses, Rejects, RefusesLine, UnknownName, BadText, Unfit, BadHex, Faulty}
 use Rattle.mojo_tool.specs.Work.{Runs, Prints, Checks, Encodes, Decodes}
 use Rattle.mojo_tool.specs.declared.refusal.ToolRefusal.{ToolRefusal}
 use Rattle.mojo_tool.specs.declared.status.Status.{Status}
@@ -23,7 +24,7 @@ pub record CanBeDone (s : Seen) : Type 0 where
   pub short : (name : List ℕ) → ¬ asked_by s files (TooLong name)
   pub compiled : (name : List ℕ) (refusal : FileRefusal) → ¬ asked_by s files (Refuses name refusal)
   pub checked : (name : List ℕ) (at : ℕ) (cause : Cause) → ¬ asked_by s files (Rejects name at cause)
-  pub readable : (name : List ℕ) → ¬ asked_by s files (Unreadable name)
+  pub readable : (line : ℕ) (why : LineRefusal) → ¬ asked_by s files (RefusesLine line why)
   pub known : (name : List ℕ) → ¬ asked_by s files (UnknownName name)
   pub spelled : (at : ℕ) → ¬ asked_by s files (BadText at)
   pub fit : (why : PrepareError) → ¬ asked_by s files (Unfit why)

@@ -10,9 +10,11 @@ use Rattle.mj_base.specs.declared.fault.FaultKind.TheVariants.{IllegalHandle, Un
 use Rattle.mj_base.specs.declared.fault.FaultKind.TheVariants.{IllegalInterfaceId, UnexpectedInvalidInterfaceId, MessageHeaderInvalidFlags}
 use Rattle.mj_base.specs.declared.fault.FaultKind.TheVariants.{MessageHeaderMissingRequestId, MessageHeaderUnknownMethod, DifferentSizedArraysInMap}
 use Rattle.mj_base.specs.declared.fault.FaultKind.TheVariants.{UnexpectedNullUnion, UnknownUnionTag, UnknownEnumValue, MaxRecursionDepth, BadUtf8}
+use Rattle.call_script.specs.declared.script_error.LineRefusal.{LineRefusal}
+use Rattle.call_script.specs.declared.script_error.LineRefusal.TheVariants as lines
 use Rattle.mojom_compile.specs.Causes.{cause_text}
 use Rattle.mojo_tool.specs.declared.refusal.ToolRefusal.{ToolRefusal}
-use Rattle.mojo_tool.specs.declared.refusal.ToolRefusal.TheVariants.{Unsupported, FileTooLong, Refused, Rejected, UnknownName, BadText, Unfit, BadHex, Faulty}
+use Rattle.mojo_tool.specs.declared.refusal.ToolRefusal.TheVariants.{RefusedLine, FileTooLong, Refused, Rejected, UnknownName, BadText, Unfit, BadHex, Faulty}
 use Rattle.mojo_tool.specs.LanguageCauses.{language_text}
 use Rattle.mojo_tool.specs.Work.{line_feed}
 
@@ -55,9 +57,17 @@ unfit_text (unfit.TooManyHandles path) = codes "TooManyHandles"
 unfit_text unfit.TooLong = codes "TooLong"
 unfit_text unfit.Memory = []
 
--- a refusal: of a file by the file's name as it was given, and for a Mojom file the byte place
+-- the name of a reason why a line is refused
+abbrev pub line_refusal_name : LineRefusal → List ℕ
+line_refusal_name lines.BadLine = codes "BadLine"
+line_refusal_name lines.DoubleName = codes "DoubleName"
+line_refusal_name lines.UnknownName = codes "UnknownName"
+line_refusal_name lines.BadValue = codes "BadValue"
+line_refusal_name lines.TooManyLines = codes "TooManyLines"
+
+-- a refusal: of a file by the file's name as it was given, for a Mojom file with the byte place; of a line of a script by its number
 abbrev pub refusal_text : ToolRefusal → List ℕ
-refusal_text (Unsupported name) = codes "Unsupported " ++ name.now
+refusal_text (RefusedLine line why) = codes "script " ++ (decimal line ++ (codes ": " ++ line_refusal_name why))
 refusal_text (FileTooLong name) = codes "FileTooLong " ++ name.now
 refusal_text (Refused name refusal) = name.now ++ (codes ":" ++ (decimal refusal.at ++ (codes ": " ++ cause_text refusal.cause)))
 refusal_text (Rejected name at cause) = name.now ++ (codes ":" ++ (decimal at ++ (codes ": " ++ language_text cause)))

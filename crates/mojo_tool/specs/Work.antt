@@ -1,5 +1,5 @@
 -- What the command and the files ask for, in the order in which a call finds it out: the words, the Mojom files, and then the script
--- and the run, or the method, the value and its message, or the interface, the message and its value.
+-- and its run, or the method, the value and its message, or the interface, the message and its value.
 use Rattle.std.specs.Prelude.{ℕ, ◌≡◌, ◌≤◌, ◌<◌, ◌-◌, ◌==◌, ◌&&◌, Bool, false, List, [], ◌∷◌, ◌++◌, length, slice_get, slice_index, take}
 use Rattle.std.specs.Prelude.{nat_lt, Option, Some, None, IsSome, Result, Ok, Err, ◌⊎◌, if◌then◌else◌}
 use Rattle.std.specs.Option.{option_map_or}
@@ -8,19 +8,22 @@ use Rattle.mj_io.specs.Outside.{Named, find_file}
 use Rattle.command_line.specs.Asked.{Command, RunWords, EncodeWords, DecodeWords, Run, Print, Check, Encode, Decode}
 use Rattle.mj_schema.specs.KindTrees.{KindTree, StructKind}
 use Rattle.mj_schema.specs.Lookups.{interface_named}
-use Rattle.mj_schema.specs.declared.narrow_schema.NarrowSchema.{NarrowSchema}
 use Rattle.mj_schema.specs.declared.rows.MethodRow.{MethodRow}
 use Rattle.mj_schema.specs.declared.schema.Schema.{Schema}
 use Rattle.mojom_ast.specs.declared.file.File.{File}
+use Rattle.mojom_compile.specs.declared.error.Cause.TheVariants.{Unsupported}
 use Rattle.mojom_compile.specs.declared.error.FileRefusal.{FileRefusal}
+use Rattle.mojom_compile.specs.declared.responses.InterfacePlace.{InterfacePlace}
 use Rattle.mojom_compile.specs.declared.schema_error.SchemaError.{SchemaError}
 use Rattle.mojom_compile.specs.declared.schema_error.SchemaError.TheVariants as schema
 use Rattle.mojom_compile.specs.declared.source.Source.{Source}
-use Rattle.mojom_compile.specs.Compiled.{IsParsed, IsSchemaOf, IsUnread, IsRefusedFile}
+use Rattle.mojom_compile.specs.Compiled.{IsParsed, IsUnread}
+use Rattle.mojom_compile.specs.Responses.{IsFirstAnswered}
 use Rattle.mojom_compile.specs.Schemas.{IsSchemaOfFiles, IsRefusalOf}
 use Rattle.mojom_files.specs.declared.cause.Cause.{Cause}
 use Rattle.call_script.specs.declared.script.Script.{Script}
-use Rattle.call_script.specs.Spelling.{IsScriptOf}
+use Rattle.call_script.specs.declared.script_error.LineRefusal.{LineRefusal}
+use Rattle.call_script.specs.Script.{IsScriptOf, IsFirstRefusal}
 use Rattle.hex.specs.Hex.{decode_of}
 use Rattle.hex.specs.declared.error.FromHexError.{FromHexError}
 use Rattle.wire_model.specs.Expected.{Stands, message_marks, struct_of, method_named}
@@ -30,7 +33,6 @@ use Rattle.wire_model.specs.Tight.{MAX_PAYLOAD_BYTES, value_of}
 use Rattle.wire_model.specs.Trees.{Tree}
 use Rattle.mj_base.specs.declared.fault.Fault.{Fault}
 use Rattle.wire_model.specs.declared.target.Expected.{Expected}
-use Rattle.wire_model.specs.declared.target.MessageSide.{MessageSide}
 use Rattle.wire_model.specs.declared.target.Target.{Target}
 use Rattle.bounds_claims.specs.Runs.{first_fault}
 use Rattle.message_validator.specs.Before.{before_payload}
@@ -44,16 +46,6 @@ use Rattle.byte_rules.specs.Judged.{Spells, IsBad}
 use Rattle.value_text.specs.Rules.{value}
 use Rattle.value_text.specs.Spelling.{spell}
 use Rattle.mojo_tool.specs.Targets.{side_of, message_named, expected_of}
-
--- the file is there, no longer than a file may be, and has a schema
-abbrev pub HasSchema : Option (List ℕ) → Type 0
-HasSchema None = ⊥
-HasSchema (Some bytes) = (length bytes ≤ MAX_FILE_BYTES) × ((schema : NarrowSchema) × IsSchemaOf bytes schema)
-
--- the file of this name has a schema, over files that say what they hold
-abbrev pub HasSchemaAt : Option (List Named) → List ℕ → Type 0
-HasSchemaAt None name = Unit {0}
-HasSchemaAt (Some files) name = HasSchema (find_file files name)
 
 -- the name is one of these
 abbrev pub IsAmong : List (List ℕ) → List ℕ → Type 0
@@ -74,6 +66,18 @@ pub record HaveSchema (files : List Named) (names : List (List ℕ)) (schema : S
   pub are : AreFetched files names sources
   pub schema_of : IsSchemaOfFiles sources schema
 
+-- the files of these names are there, none too long, and have this schema, of whose methods none has a response
+pub record HaveRunnable (files : List Named) (names : List (List ℕ)) (schema : Schema) : Type 0 where
+  pub sources : List Source
+  pub are : AreFetched files names sources
+  pub schema_of : IsSchemaOfFiles sources schema
+  pub unanswered : IsFirstAnswered sources None
+
+-- over files that say what they hold, those of these names can be run
+abbrev pub CanRunAt : Option (List Named) → List (List ℕ) → Type 0
+CanRunAt None names = Unit {0}
+CanRunAt (Some files) names = (schema : Schema) × HaveRunnable files names schema
+
 -- over files that say what they hold, those of the words have a schema with the message that is to be encoded
 abbrev pub HasMessageAt : Option (List Named) → EncodeWords → Type 0
 HasMessageAt None words = Unit {0}
@@ -86,11 +90,11 @@ HasInterfaceAt None words = Unit {0}
 HasInterfaceAt (Some files) words =
     (schema : Schema) × HaveSchema files words.files schema × IsSome (interface_named schema.interfaces words.interface)
 
--- the words name this file, and a call comes to it: to a script only where the Mojom file has a schema, to a value only where the
--- Mojom files have one with the method, and to a message only where they have one with the interface
+-- the words name this file, and a call comes to it: to a script only where the Mojom files can be run, to a value only where they have
+-- a schema with the method, and to a message only where they have one with the interface
 abbrev pub ComesTo : Option Command → Option (List Named) → List ℕ → Type 0
 ComesTo None held name = ⊥
-ComesTo (Some (Run words)) held name = (name ≡ words.file) ⊎ ((name ≡ words.script) × HasSchemaAt held words.file)
+ComesTo (Some (Run words)) held name = IsAmong words.files name ⊎ ((name ≡ words.script) × CanRunAt held words.files)
 ComesTo (Some (Print file)) held name = name ≡ file
 ComesTo (Some (Check files)) held name = IsAmong files name
 ComesTo (Some (Encode words)) held name = IsAmong words.files name ⊎ ((name ≡ words.value) × HasMessageAt held words)
@@ -104,12 +108,12 @@ pub data Work : Type 0 where
   Missing : (name : List ℕ) → Work
   -- a file to be fetched has more than MAX_FILE_BYTES bytes
   TooLong : (name : List ℕ) → Work
-  -- a Mojom file is refused: it has no tree, or anything beyond the narrow form of what is run
+  -- a Mojom file is refused at a place: it has no tree, or is to be run and has an interface of which a method has a response
   Refuses : (name : List ℕ) → (refusal : FileRefusal) → Work
   -- a name, a constant or a kind of a Mojom file is refused at a place
   Rejects : (name : List ℕ) → (at : ℕ) → (cause : Cause) → Work
-  -- a script isn't of the narrow form that is read
-  Unreadable : (name : List ℕ) → Work
+  -- a line of a script is the first that is refused
+  RefusesLine : (line : ℕ) → (why : LineRefusal) → Work
   -- the files have no interface of this name, or no method or response that it names
   UnknownName : (name : List ℕ) → Work
   -- a text is no value, at a place
@@ -124,8 +128,8 @@ pub data Work : Type 0 where
   Checks : (schema : Schema) → Work
   -- the text of this tree
   Prints : (tree : File) → Work
-  -- a run of this script
-  Runs : (schema : NarrowSchema) → (script : Script) → Work
+  -- a run of the script that these bytes are
+  Runs : (schema : Schema) → (script : List ℕ) → Work
   -- the bytes of this message
   Encodes : (message : List ℕ) → Work
   -- the method, the request id and the text of the value of a message
@@ -140,31 +144,21 @@ Leads name next (Some bytes) work = ((MAX_FILE_BYTES < length bytes) × (work �
 abbrev pub Fetching : List Named → List ℕ → (List ℕ → Work → Type 0) → Work → Type 0
 Fetching files name next work = Leads name next (find_file files name) work
 
--- the bytes have a schema, which leads on, or are refused
-abbrev pub Compiling : List ℕ → (NarrowSchema → Work → Type 0) → List ℕ → Work → Type 0
-Compiling name next bytes work =
-    ((schema : NarrowSchema) × IsSchemaOf bytes schema × next schema work)
-    ⊎ ((refusal : FileRefusal) × IsRefusedFile bytes refusal × (work ≡ Refuses name refusal))
-
 -- the bytes have a tree, which is printed, or are refused
 abbrev pub Parsing : List ℕ → List ℕ → Work → Type 0
 Parsing name bytes work =
     ((tree : File) × IsParsed bytes tree × (work ≡ Prints tree))
     ⊎ ((refusal : FileRefusal) × IsUnread bytes refusal × (work ≡ Refuses name refusal))
 
--- the bytes are a script, which is run, or none
-abbrev pub Reading : List ℕ → NarrowSchema → List ℕ → Work → Type 0
-Reading name schema bytes work =
-    ((script : Script) × IsScriptOf schema bytes script × (work ≡ Runs schema script))
-    ⊎ (((script : Script) → IsScriptOf schema bytes script → ⊥) × (work ≡ Unreadable name))
+-- the bytes are a script, which is run, or have a first line that is refused
+abbrev pub Reading : Schema → List ℕ → Work → Type 0
+Reading schema bytes work =
+    ((script : Script) × IsScriptOf schema bytes script × (work ≡ Runs schema bytes))
+    ⊎ ((line : ℕ) × (why : LineRefusal) × IsFirstRefusal schema bytes line why × (work ≡ RefusesLine line why))
 
--- the script's file comes after the Mojom file
-abbrev pub Scripting : List Named → List ℕ → NarrowSchema → Work → Type 0
-Scripting files name schema work = Fetching files name (Reading name schema) work
-
--- the Mojom file comes first
-abbrev pub Running : List Named → RunWords → Work → Type 0
-Running files words work = Fetching files words.file (Compiling words.file (Scripting files words.script)) work
+-- the script's file comes after the Mojom files
+abbrev pub Scripting : List Named → List ℕ → Schema → Work → Type 0
+Scripting files name schema work = Fetching files name (Reading schema) work
 
 -- the Mojom file alone
 abbrev pub Printing : List Named → List ℕ → Work → Type 0
@@ -192,9 +186,26 @@ FetchingAll files [] fetched next work = next fetched work
 FetchingAll files (name ∷ names) fetched next work =
     Fetching files name (λ (bytes : List ℕ). FetchingAll files names (fetched ++ record { name = name; bytes = bytes } ∷ []) next) work
 
--- all Mojom files come first, in the order of the words, and what they mean leads on
+-- all Mojom files come first, in the order of the words, and they and what they mean lead on
+abbrev pub GatheringWith : List Named → List (List ℕ) → (List Source → Schema → Work → Type 0) → Work → Type 0
+GatheringWith files names next work = FetchingAll files names [] (λ sources w. Tabling (next sources) sources w) work
+
+-- what they mean leads on alone
 abbrev pub Gathering : List Named → List (List ℕ) → (Schema → Work → Type 0) → Work → Type 0
-Gathering files names next work = FetchingAll files names [] (Tabling next) work
+Gathering files names next work = GatheringWith files names (λ sources. next) work
+
+-- the first interface of which a method has a response is refused, and where there is none the files lead on
+abbrev pub Supporting : List Source → (Work → Type 0) → Option InterfacePlace → Work → Type 0
+Supporting sources next None work = next work
+Supporting sources next (Some place) work = work ≡ Refuses (name_at sources place.file) (record { at = place.at; cause = Unsupported })
+
+-- files that have a schema are looked through for such an interface
+abbrev pub Looking : (Schema → Work → Type 0) → List Source → Schema → Work → Type 0
+Looking next sources schema work = (found : Option InterfacePlace) × IsFirstAnswered sources found × Supporting sources (next schema) found work
+
+-- all Mojom files come before the script
+abbrev pub Running : List Named → RunWords → Work → Type 0
+Running files words work = GatheringWith files words.files (Looking (Scripting files words.script)) work
 
 -- a schema's tables are printed
 abbrev pub Listing : Schema → Work → Type 0

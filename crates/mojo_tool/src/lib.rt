@@ -9,6 +9,7 @@ mod encode;
 mod line_end;
 mod lookup;
 mod refusal;
+mod run;
 mod status;
 #[cfg(test)]
 mod tests;

@@ -1,9 +1,10 @@
 //! Why files, a value or a message are refused.
 
 ghost use Rattle.std.specs.Prelude.{◌≡◌, ◌++◌, codes, decimal, OnOk};
-ghost use Rattle.mojo_tool.specs.Lines.{refusal_text, unfit_text, path_text, steps_text, fault_name};
+ghost use Rattle.mojo_tool.specs.Lines.{refusal_text, line_refusal_name, unfit_text, path_text, steps_text, fault_name};
 
 use crate::cause_text::{push_cause, push_named};
+use call_script::LineRefusal;
 use mj_base::{Fault, FaultKind};
 use mojom_compile::FileRefusal;
 use mojom_files::Cause;
@@ -14,11 +15,12 @@ use wire_encoder::PrepareError;
 /// Why a file is refused, with its name as it was given; or why a value or a message is.
 #[derive(Drop)]
 pub enum ToolRefusal<'a> {
-    /// The script isn't of the narrow form that is read.
-    Unsupported(&'a str),
+    /// The line of this number, from 1, is the first of the script that is refused.
+    RefusedLine(u32, LineRefusal),
     /// The file has more than `MAX_FILE_BYTES` bytes.
     FileTooLong(&'a str),
-    /// The Mojom file is refused at a place: it has no tree, or isn't of the form that is run.
+    /// The Mojom file is refused at a place: it has no tree, or is to be run and has an interface of
+    /// which a method has a response.
     Refused(&'a str, FileRefusal),
     /// A name, a constant or a kind of the Mojom file is refused at a place, in bytes from 0.
     Rejected {
@@ -46,6 +48,28 @@ fn push_place(out: &mut Vec<u8>, name: &str, at: u64) -> Result<(), AllocError>
     push_text(out, ":")?;
     push_number(out, at)?;
     push_text(out, ": ")
+}
+
+/// The name of a reason why a line is refused.
+fn line_refusal_name(why: LineRefusal) -> &'static str
+    ensures { result.now ≡ line_refusal_name why }
+{
+    match why {
+        LineRefusal::BadLine => "BadLine",
+        LineRefusal::DoubleName => "DoubleName",
+        LineRefusal::UnknownName => "UnknownName",
+        LineRefusal::BadValue => "BadValue",
+        LineRefusal::TooManyLines => "TooManyLines",
+    }
+}
+
+/// Writes the refusal of a line of a script.
+fn push_line(out: &mut Vec<u8>, line: u32, why: LineRefusal) -> Result<(), AllocError>
+    ensures { OnOk result (out.new.items ≡ out.old.items ++ (codes "script " ++ (decimal line ++ (codes ": " ++ line_refusal_name why)))) }
+{
+    push_text(out, "script ")?;
+    push_number(out, line as u64)?;
+    push_named(out, ": ", line_refusal_name(why))
 }
 
 /// The name of a fault, as Chromium has it where it has one.
@@ -128,7 +152,7 @@ pub fn push_refusal(out: &mut Vec<u8>, refusal: &ToolRefusal<'_>) -> Result<(), 
     ensures { OnOk result (out.new.items ≡ out.old.items ++ refusal_text refusal.now) }
 {
     match refusal {
-        ToolRefusal::Unsupported(name) => push_named(out, "Unsupported ", name),
+        ToolRefusal::RefusedLine(line, why) => push_line(out, *line, *why),
         ToolRefusal::FileTooLong(name) => push_named(out, "FileTooLong ", name),
         ToolRefusal::Refused(name, refusal) => {
             push_place(out, name, refusal.at)?;

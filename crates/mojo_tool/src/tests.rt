@@ -1,4 +1,4 @@
-//! The worked example, tables and a refusal of files, and each fault once, over memory.
+//! Runs and their refusals, tables and a refusal of files, and each fault once, over memory.
 
 use crate::{mojo_alone, mojo_main};
 use mj_io::{MemoryFiles, MemorySink, NamedFile, OpenGate};
@@ -24,6 +24,37 @@ left e0.0
 left e0.1
 done 5
 ";
+
+/// A file whose messages carry pipes, and a script that sends one.
+const CARRIER: &str = "module m; interface M { Put(handle<message_pipe> h); };";
+
+const MOVING: &str = "seqs 1
+join 0 0 x y
+0: bind x remote m.M
+0: bind y receiver m.M
+0: pipe p q
+0: call x#0 m.M.Put (%0) p
+0: take y r
+0: close p
+0: close r
+";
+
+const MOVED: &str = "0 0 join 0 -> made [e0.0,e0.1]
+1 0 bind e0.0 remote m.M -> bound e0.0
+2 0 bind e0.1 receiver m.M -> bound e0.1
+3 0 pipe -> made [e0.2,e0.3]
+4 0 call e0.0#0 m.M.Put (%0) [e0.2] -> sent 0 18000000000000000000000000000000000000000000000010000000000000000000000000000000
+5 0 take e0.1 -> got request 0 m.M.Put (%0) 0 [e0.2] [] []
+6 0 skip 8 -> skipped
+7 0 close e0.2 -> closed [e0.2]
+left e0.0
+left e0.1
+left e0.3
+done 8
+";
+
+/// A file that has an interface of which a method has a response.
+const ANSWERED: &str = "module a; interface A { Add(int32 a) => (int32 b); };";
 
 /// Two files that are checked, and their tables.
 const IMPORTING: &str = "module a.b; import \"b.mojom\"; struct S { T t; a.T u; U v; };";
@@ -110,6 +141,77 @@ fn the_worked_example(rt: HostRuntime) -> Result<(), Fail> {
     assert_eq!(rt; status, 0);
     assert_eq!(rt; out.text(), HISTORY.as_bytes());
     assert!(rt; err.text().is_empty());
+    Ok(())
+}
+
+/// What a run ended with: its status, and what is on standard output and on standard error.
+struct Answer {
+    status: Option<u8>,
+    out: Vec<u8>,
+    err: Vec<u8>,
+}
+
+/// What a run of a script over two files ends with.
+fn answer_to(alloc: Global, script: &str, other: &str) -> Result<Answer, AllocError> {
+    let words = given(
+        alloc,
+        &["mojo_tool", "run", "--script", "s", "t.mojom", "o.mojom"],
+    )?;
+    let mut files = Vec::new(alloc);
+    files.push(named(alloc, "t.mojom", FILE)?)?;
+    files.push(named(alloc, "o.mojom", other)?)?;
+    files.push(named(alloc, "s", script)?)?;
+    let mut files = MemoryFiles::new(files, Vec::new(alloc));
+    let mut out = MemorySink::new(alloc, 100, Vec::new(alloc));
+    let mut err = MemorySink::new(alloc, 100, Vec::new(alloc));
+    let status = mojo_alone(alloc, words.as_slice(), &mut files, &mut out, &mut err);
+    Ok(Answer {
+        status,
+        out: Vec::from_slice(alloc, out.text())?,
+        err: Vec::from_slice(alloc, err.text())?,
+    })
+}
+
+#[test]
+fn a_pipe_is_sent_over_files(rt: HostRuntime) -> Result<(), Fail> {
+    let Answer { status, out, err } = answer_to(rt.alloc(), MOVING, CARRIER)?;
+    assert_eq!(rt; status, Some(0));
+    assert_eq!(rt; out.as_slice(), MOVED.as_bytes());
+    assert!(rt; err.is_empty());
+    Ok(())
+}
+
+#[test]
+fn the_refused_line_is_numbered(rt: HostRuntime) -> Result<(), Fail> {
+    for (script, line) in [
+        ("seqs 2\n", "error: script 1: BadLine\n"),
+        ("seqs 1\njoin 0 0 x x\n", "error: script 2: DoubleName\n"),
+        (
+            "seqs 1\njoin 0 0 x y\n0: bind x remote t.Q\n",
+            "error: script 3: UnknownName\n",
+        ),
+        (
+            "seqs 1\njoin 0 0 x y\n0: call x#0 t.P.Ping (a)\n",
+            "error: script 3: BadValue\n",
+        ),
+    ] {
+        let Answer { status, out, err } = answer_to(rt.alloc(), script, CARRIER)?;
+        assert_eq!(rt; status, Some(1));
+        assert!(rt; out.is_empty());
+        assert_eq!(rt; err.as_slice(), line.as_bytes());
+    }
+    Ok(())
+}
+
+#[test]
+fn an_interface_with_a_response_is_not_run(rt: HostRuntime) -> Result<(), Fail> {
+    let Answer { status, out, err } = answer_to(rt.alloc(), SCRIPT, ANSWERED)?;
+    assert_eq!(rt; status, Some(1));
+    assert!(rt; out.is_empty());
+    assert_eq!(rt;
+        err.as_slice(),
+        "error: o.mojom:20: Unsupported\n".as_bytes()
+    );
     Ok(())
 }
 

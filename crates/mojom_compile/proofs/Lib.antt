@@ -1,7 +1,5 @@
-pub mod Small
 pub mod Readings
-pub mod Whole
-pub mod NarrowRows
+pub mod SameStructs
 pub mod Trees
 pub mod SomeSchema
 pub mod OneSchemaOfFiles

@@ -41,7 +41,7 @@ use Rattle.mojom_compile.specs.Compiled.{IsUnread}
 use Rattle.mojom_compile.specs.Schemas.{IsTreeOf, AreTreesOf, IsFirstUnread, IsTreesRefusal, IsRefusalOf, AreTablesOf, HaveTables, IsLayoutOf, IsSchemaOfFiles, OneSchemaOfFiles}
 use Rattle.mojom_compile.proofs.Readings.{one_tree}
 use Rattle.mojom_compile.proofs.SomeSchema.{some_schema}
-use Rattle.mojom_compile.proofs.Whole.{same_structs}
+use Rattle.mojom_compile.proofs.SameStructs.{same_structs}
 
 -- trees
 

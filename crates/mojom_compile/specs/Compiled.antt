@@ -1,6 +1,5 @@
--- Which bytes have which tree and which schema, and which refusal.
-use Rattle.std.specs.Prelude.{ℕ, ◌≡◌, ◌^◌, ◌≤◌, ◌⊎◌, List, length, Some, None, slice_get, Ok, Err}
-use Rattle.mj_schema.specs.declared.narrow_schema.NarrowSchema.{NarrowSchema}
+-- Which bytes have which tree, and which refusal.
+use Rattle.std.specs.Prelude.{ℕ, ◌≡◌, ◌⊎◌, List, length, Some, None, slice_get}
 use Rattle.mojom_ast.specs.declared.token.Token.{Token}
 use Rattle.mojom_ast.specs.declared.file.File.{File}
 use Rattle.mojom_ast.specs.Parsed.{Spells}
@@ -10,14 +9,11 @@ use Rattle.mojom_lexer.specs.Lexed.{AreTokens, IsLexicalRefusal}
 use Rattle.mojom_parser.specs.declared.error.ParseError.{ParseError}
 use Rattle.mojom_parser.specs.declared.error.ParseError.TheVariants as parse
 use Rattle.mojom_parser.specs.Parsed.{IsShallow, IsFault}
-use Rattle.mojom_compile.specs.declared.narrow_file.NarrowFile.{NarrowFile}
 use Rattle.mojom_compile.specs.declared.error.Cause.{Cause}
 use Rattle.mojom_compile.specs.declared.error.Cause.TheVariants as causes
 use Rattle.mojom_compile.specs.declared.error.FileRefusal.{FileRefusal}
 use Rattle.mojom_compile.specs.declared.error.CompileError.{CompileError}
 use Rattle.mojom_compile.specs.declared.error.CompileError.TheVariants.{Refused, Memory}
-use Rattle.mojom_compile.specs.Narrow.{narrow_file}
-use Rattle.mojom_compile.specs.Rows.{IsSchema}
 
 -- the bytes are tokens that spell the tree
 pub record IsParsed (bytes : List ℕ) (tree : File) : Type 0 where
@@ -25,17 +21,6 @@ pub record IsParsed (bytes : List ℕ) (tree : File) : Type 0 where
   pub are : AreTokens bytes tokens
   pub shallow : IsShallow tokens
   pub spelled : Spells tree tokens
-
--- the bytes spell a tree of the narrow form, and the schema is that file's
-pub record IsSchemaFor (bytes : List ℕ) (schema : NarrowSchema) (file : NarrowFile) : Type 0 where
-  pub tree : File
-  pub parsed : IsParsed bytes tree
-  pub narrow : narrow_file tree ≡ Ok file
-  pub tables : IsSchema file schema
-
--- the bytes are a file of the form, and this is its schema
-abbrev pub IsSchemaOf : List ℕ → NarrowSchema → Type 0
-IsSchemaOf bytes schema = (file : NarrowFile) × IsSchemaFor bytes schema file
 
 -- the refusal of what stands at a place, by a cause that names it
 abbrev pub at_its_place : ℕ → (ℕ → Cause) → CompileError
@@ -79,17 +64,6 @@ pub record IsNoFile (bytes : List ℕ) (refusal : FileRefusal) : Type 0 where
 abbrev pub IsUnread : List ℕ → FileRefusal → Type 0
 IsUnread bytes refusal = IsNoText bytes refusal ⊎ IsNoFile bytes refusal
 
--- the tree has something beyond the narrow form
-pub record IsBeyond (bytes : List ℕ) (refusal : FileRefusal) : Type 0 where
-  pub tree : File
-  pub parsed : IsParsed bytes tree
-  pub beyond : narrow_file tree ≡ Err refusal.at
-  pub cause : refusal.cause ≡ causes.Unsupported
-
--- the bytes are refused
-abbrev pub IsRefusedFile : List ℕ → FileRefusal → Type 0
-IsRefusedFile bytes refusal = IsUnread bytes refusal ⊎ IsBeyond bytes refusal
-
 -- an error is this refusal, or want of memory
 abbrev pub IsFor : (FileRefusal → Type 0) → CompileError → Type 0
 IsFor Such (Refused refusal) = Such refusal
@@ -101,18 +75,3 @@ pub record OneTree (bytes : List ℕ) : Type 0 where
   pub one_tree : (tree other : File) → IsParsed bytes tree → IsParsed bytes other → tree ≡ other
   pub one_refusal : (refusal other : FileRefusal) → IsUnread bytes refusal → IsUnread bytes other → refusal ≡ other
   pub never_both : (tree : File) (refusal : FileRefusal) → IsParsed bytes tree → IsUnread bytes refusal → ⊥
-
--- the bytes are a file of the narrow form with more interfaces than the numbers of a schema are
-pub record HasTooMany (bytes : List ℕ) : Type 0 where
-  pub tree : File
-  pub file : NarrowFile
-  pub parsed : IsParsed bytes tree
-  pub narrow : narrow_file tree ≡ Ok file
-  pub many : 2 ^ 32 ≤ length file.interfaces
-
--- bytes have just one schema or just one refusal, and never both, but for more interfaces than a schema can have
-pub record OneSchema (bytes : List ℕ) : Type 0 where
-  pub some : ((schema : NarrowSchema) × IsSchemaOf bytes schema) ⊎ (((refusal : FileRefusal) × IsRefusedFile bytes refusal) ⊎ HasTooMany bytes)
-  pub one_schema : (schema other : NarrowSchema) → IsSchemaOf bytes schema → IsSchemaOf bytes other → schema ≡ other
-  pub one_refusal : (refusal other : FileRefusal) → IsRefusedFile bytes refusal → IsRefusedFile bytes other → refusal ≡ other
-  pub never_both : (schema : NarrowSchema) (refusal : FileRefusal) → IsSchemaOf bytes schema → IsRefusedFile bytes refusal → ⊥

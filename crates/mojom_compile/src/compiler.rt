@@ -1,12 +1,9 @@
-//! The tree and the schema of a file.
+//! The tree of a file.
 
 ghost use Rattle.std.specs.Prelude.{◌≡◌, ℕ, List, IfOk, IfErr};
-ghost use Rattle.mojom_compile.specs.Compiled.{IsParsed, IsSchemaOf, IsUnread, IsRefusedFile, IsFor, OneTree, OneSchema, lexical, grammatical, place_of_token};
+ghost use Rattle.mojom_compile.specs.Compiled.{IsParsed, IsUnread, IsFor, OneTree, lexical, grammatical, place_of_token};
 
 use crate::error::{Cause, CompileError, FileRefusal};
-use crate::narrow::narrow_file;
-use crate::rows::schema;
-use mj_schema::NarrowSchema;
 use mojom_ast::{File, Token};
 use mojom_lexer::{LexError, lex};
 use mojom_parser::{ParseError, parse};
@@ -72,23 +69,7 @@ pub fn read(alloc: Global, bytes: &[u8]) -> Result<File, CompileError>
     }
 }
 
-/// The narrow schema of a file, or why it has none: lexical refusals come before those of the grammar, and
-/// these before what is beyond the narrow form.
-pub fn compile_narrow(alloc: Global, bytes: &[u8]) -> Result<NarrowSchema, CompileError>
-    ensures ok { IfOk result (λ schema. IsSchemaOf bytes.now schema) }
-    ensures refused { IfErr result (IsFor (IsRefusedFile bytes.now)) }
-{
-    let tree = read(alloc, bytes)?;
-    let file = narrow_file(alloc, &tree)?;
-    Ok(schema(alloc, &file)?)
-}
-
 /// A file has one tree or one refusal, and never both: this is a law and does nothing.
 pub fn one_tree()
     ensures { (bytes : List ℕ) → OneTree bytes }
-{}
-
-/// A file has one narrow schema or one refusal, and never both: this is a law and does nothing.
-pub fn one_narrow_schema()
-    ensures { (bytes : List ℕ) → OneSchema bytes }
 {}

@@ -27,7 +27,7 @@ pub enum Cause {
     Unexpected(u64),
     /// The first token of a type that stands inside 32 others.
     TooNested(u64),
-    /// An import or a definition that has anything beyond the narrow form.
+    /// The first interface of which a method has a response: such files can't be run yet.
     Unsupported,
 }
 
@@ -67,21 +67,6 @@ pub enum CompileError {
     Refused(FileRefusal),
     #[error("out of memory")]
     Memory,
-}
-
-impl CompileError {
-    ghost use Rattle.mojom_compile.specs.declared.error.CompileError.TheVariants.{Refused};
-    ghost use Rattle.mojom_compile.specs.declared.error.Cause.TheVariants.{Unsupported};
-
-    /// The refusal of what stands at this place and is beyond the narrow form.
-    pub fn unsupported(at: u64) -> CompileError
-        ensures { result ≡ Refused (record { at = at; cause = Unsupported }) }
-    {
-        CompileError::Refused(FileRefusal {
-            at,
-            cause: Cause::Unsupported,
-        })
-    }
 }
 
 impl From<AllocError> for CompileError {

@@ -1,3 +1,3 @@
+pub mod Names
 pub mod OfScript
-pub mod Narrow
-pub mod Going
+pub mod steps

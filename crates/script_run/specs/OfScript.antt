@@ -1,24 +1,27 @@
--- The events of a script: the joins in order, then the lines of each sequence in its order, and then a drain: a take wherever a message is ready,
--- until none is. What is next is a function of the events of the part so far, the newest first.
-use Rattle.std.specs.Prelude.{ℕ, ◌≡◌, ◌+◌, ◌*◌, ◌++◌, List, [], ◌∷◌, length, map, reverse, replicate, slice_get, Option, Some, None, unwrap_or}
+-- The events of a script: one for each of its lines, in order, and then a drain: a take wherever a message is ready, until none is.
+-- What is next is a function of the events of the part so far, the newest first.
+use Rattle.std.specs.Prelude.{ℕ, ◌≡◌, ◌++◌, List, [], ◌∷◌, length, reverse, Option, Some, None, slice_get, option_and_then, unwrap_or}
 use Rattle.std.specs.Option.{option_map}
 use Rattle.mj_base.specs.declared.ids.EndId.{EndId}
 use Rattle.mj_base.specs.declared.ids.SeqId.{SeqId}
-use Rattle.mj_schema.specs.declared.narrow_schema.NarrowSchema.{NarrowSchema}
-use Rattle.narrow_wire.specs.declared.target.MessageSide.TheVariants.{Request}
-use Rattle.bind_model.specs.declared.event.Asked.{Asked}
-use Rattle.bind_model.specs.declared.event.Asked.TheVariants as asks
-use Rattle.bind_model.specs.declared.event.Side.TheVariants.{Remote, Receiver}
+use Rattle.mj_schema.specs.declared.schema.Schema.{Schema}
+use Rattle.handle_table.specs.declared.thing.Thing.{Thing}
+use Rattle.handle_table.specs.declared.thing.Thing.TheVariants.{End, Token}
+use Rattle.wire_encoder.specs.declared.prepared.Prepared.{Prepared}
+use Rattle.wire_model.specs.Trees.{view}
+use Rattle.bind_model.specs.declared.asked.Asked.{Asked}
+use Rattle.bind_model.specs.declared.asked.Asked.TheVariants as asks
+use Rattle.bind_model.specs.declared.asked.Closing.TheVariants as closings
+use Rattle.bind_model.specs.declared.asked.Outgoing.{Outgoing}
 use Rattle.bind_model.specs.declared.event.Event.{Event}
-use Rattle.bind_model.specs.Machine.{made}
 use Rattle.bind_model.specs.Ready.{ready}
-use Rattle.call_script.specs.declared.script.Pipe.{Pipe}
-use Rattle.call_script.specs.declared.script.PipeEnd.{PipeEnd}
-use Rattle.call_script.specs.declared.script.PipeEnd.TheVariants.{First, Second}
+use Rattle.bind_model.specs.WireOf.{wire_of}
+use Rattle.call_script.specs.declared.script.Command.{Command}
+use Rattle.call_script.specs.declared.script.Command.TheVariants.{Join, Pipe, Mint, Bind, Call, Take, CloseToken, CloseEndpoint}
 use Rattle.call_script.specs.declared.script.Line.{Line}
-use Rattle.call_script.specs.declared.script.Line.TheVariants.{Call, Take}
+use Rattle.call_script.specs.declared.script.NameId.{NameId}
 use Rattle.call_script.specs.declared.script.Script.{Script}
-use Rattle.call_script.specs.Spelling.{interface_at}
+use Rattle.script_run.specs.Names.{labelled, thing_of, held, all_held}
 
 -- who asks, and what
 abbrev pub Next : Type 0
@@ -36,54 +39,59 @@ pub record IsPart (next : List Event → Option Next) (before after : List Event
   pub asks : AsksNext next own
   pub over : next own ≡ None
 
-abbrev pub sequence_0 : SeqId
-sequence_0 = record { 0 = 0 }
+-- ## The lines
 
--- the next of a list of commands of sequence 0
-abbrev pub next_of : List Asked → List Event → Option Next
-next_of commands own = option_map (λ (asked : Asked). (sequence_0, asked)) (slice_get commands (length own))
+-- the end that is meant, where it is one
+abbrev pub as_end : Option Thing → Option EndId
+as_end None = None
+as_end (Some (End x)) = Some x
+as_end (Some (Token t)) = None
 
--- a join for each pipe, of sequence 0 with itself
-abbrev pub joins_of : List Pipe → List Asked
-joins_of pipes = replicate (length pipes) (asks.Join sequence_0)
+-- what is sent: the prepared parameters, and these handles
+abbrev pub outgoing : Prepared → List Thing → Outgoing
+outgoing prepared things = record { target = prepared.target; parameters = view prepared.value; handles = things; pendings = [] }
 
--- the ends of the pipe of that number, among the ends that the joins made in order
-abbrev pub place_of : ℕ → PipeEnd → ℕ
-place_of pipe First = 2 * pipe
-place_of pipe Second = 2 * pipe + 1
+-- what is asked where it can be, and else to skip the line of this number
+abbrev pub or_skip : ℕ → Option Asked → Asked
+or_skip number asked = unwrap_or asked (asks.Skip number)
 
-abbrev pub end_at : List EndId → ℕ → PipeEnd → EndId
-end_at ends pipe end = unwrap_or (slice_get ends (place_of pipe end)) (record { seq = 0; serial = 0 })
+-- by what names stand for, and what is held under them
+module _ (stands holds : NameId → Option Thing) where
+  -- what a command asks, where all that it needs is there
+  abbrev pub asked_for : Command → Option Asked
+  asked_for (Join other first second) = Some (asks.Join other)
+  asked_for (Pipe first second) = Some asks.Pipe
+  asked_for (Mint sort name) = Some (asks.Mint sort)
+  asked_for (Bind n side interface) = option_map (λ (x : Thing). asks.Bind x side interface) (holds n)
+  asked_for (Call n id prepared names) = option_and_then
+      (λ (y : EndId). option_map (λ (xs : List Thing). asks.Call y id (outgoing prepared xs)) (all_held holds names))
+      (as_end (stands n))
+  asked_for (Take n names) = option_map asks.Take (as_end (stands n))
+  asked_for (CloseToken n) = option_map (λ (x : Thing). asks.Close (closings.Handle x)) (holds n)
+  asked_for (CloseEndpoint n id) = option_map (λ (y : EndId). asks.Close (closings.Endpoint y id)) (as_end (stands n))
 
--- the bindings of each pipe, from that number on: its first end is a remote and its second a receiver of one interface
-abbrev pub binds_from : List EndId → ℕ → List Pipe → List Asked
-binds_from ends n [] = []
-binds_from ends n (pipe ∷ pipes) =
-    asks.Bind (end_at ends n First) Remote pipe.interface
-    ∷ asks.Bind (end_at ends n Second) Receiver pipe.interface
-    ∷ binds_from ends (n + 1) pipes
+  -- what a line asks
+  abbrev pub asked_by : Line → Asked
+  asked_by line = or_skip line.number (asked_for line.command)
 
--- what a line asks: a call goes to endpoint 0 of the pipe's first end
-abbrev pub line_asks : List Pipe → List EndId → Line → Asked
-line_asks pipes ends (Call pipe method value) =
-    asks.Call (end_at ends pipe First) 0 (record { interface = interface_at pipes pipe; method = method; side = Request }) value
-line_asks pipes ends (Take pipe end) = asks.Take (end_at ends pipe end)
+-- the line that comes after these events, where each is that of a line before it
+abbrev pub next_line : List Line → List Event → Option Next
+next_line lines past =
+    option_map (λ (line : Line). (line.seq, asked_by (thing_of (labelled lines past)) (held past (labelled lines past)) line))
+    (slice_get lines (length past))
 
--- all lines of the script's sequence, where the joins made these ends
-abbrev pub commands_of : Script → List EndId → List Asked
-commands_of script ends = binds_from ends 0 script.pipes ++ map (line_asks script.pipes ends) script.lines
+-- ## The drain, and the whole
 
--- a take at the end that is ready, by the sequence that it is bound on
-abbrev pub next_take : NarrowSchema → List Event → List Event → Option Next
-next_take schema before own = option_map (λ (turn : SeqId × EndId). (turn.0, asks.Take turn.1)) (ready schema (own ++ before))
+-- a take at the end that is ready, by the sequence that takes there
+abbrev pub next_take : Schema → List Event → List Event → Option Next
+next_take schema before own = option_map (λ (turn : SeqId × EndId). (turn.0, asks.Take turn.1)) (ready (wire_of schema) (own ++ before))
 
-pub record PastOfScript (schema : NarrowSchema) (script : Script) (past : List Event) : Type 0 where
-  pub after_joins : List Event
+-- the events, the newest first, are the script's
+pub record PastOfScript (schema : Schema) (script : Script) (past : List Event) : Type 0 where
   pub after_lines : List Event
-  pub joins : IsPart (next_of (joins_of script.pipes)) [] after_joins
-  pub lines : IsPart (next_of (commands_of script (made after_joins))) after_joins after_lines
+  pub lines : IsPart (next_line script.lines) [] after_lines
   pub drain : IsPart (next_take schema after_lines) after_lines past
 
 -- the events, in order, are the script's
-abbrev pub OfScript : NarrowSchema → Script → List Event → Type 0
+abbrev pub OfScript : Schema → Script → List Event → Type 0
 OfScript schema script history = PastOfScript schema script (reverse history)

@@ -1,8 +1,14 @@
-//! Runs scripts: the joins, the bindings, the lines, and a take wherever a message is ready.
+//! Runs scripts: the lines in order, and then a take wherever a message is ready.
 #![tactic(auto)]
 
+mod drain;
+mod held;
 mod lines;
+mod replies;
 mod run;
 mod runner;
 
-pub use runner::{NoMemory, run_alone};
+pub use runner::{NoMemory, Ran, run_alone};
+
+#[cfg(test)]
+mod tests;

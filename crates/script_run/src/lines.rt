@@ -1,100 +1,147 @@
 //! What the lines of a script ask.
 
-ghost use Rattle.std.specs.Prelude.{◌≡◌, ◌≤◌, List, length, Some, IfOk};
-ghost use Rattle.mj_schema.specs.Narrow.{narrow_struct_bytes};
-ghost use Rattle.narrow_wire.specs.Refusals.{parameter_count};
-ghost use Rattle.narrow_wire.specs.Tight.{HasTarget, IsPrepared};
-ghost use Rattle.bind_model.specs.declared.event.Asked.TheVariants as asks;
-ghost use Rattle.bind_core.specs.Plain.{asked_of};
-ghost use Rattle.bind_model.specs.Laws.{IsAllowed};
-ghost use Rattle.bind_model.specs.declared.event.Event.{Event};
-ghost use Rattle.call_script.specs.Spelling.{IsLine, interface_at};
-ghost use Rattle.script_run.specs.OfScript.{end_at, line_asks};
-ghost use Rattle.script_run.specs.Narrow.{IsNarrow};
+ghost use Rattle.std.specs.Prelude.{◌≡◌, [], ◌∷◌, IfOk};
+ghost use Rattle.mj_schema.specs.declared.schema.Schema.{Schema};
+ghost use Rattle.wire_encoder.specs.Prepared.{IsPrepared};
+ghost use Rattle.wire_model.specs.Trees.{view};
+ghost use Rattle.bind_core.specs.Plain.{asked_of, IsOf};
+ghost use Rattle.script_run.specs.OfScript.{asked_by, as_end};
+ghost use Rattle.call_script.specs.Sound.{IsReadWith};
+ghost use Rattle.script_run.specs.steps.Slots.{thing_at, held_at, taken_from, front, IsSound};
+ghost use Rattle.script_run.specs.steps.Lines.{bound, shut, taken, shut_at, called, needed, things_in, Took};
 
+use crate::held::Held;
 use crate::runner::NoMemory;
-use bind_core::Command;
-use call_script::{Line, Pipe, PipeEnd};
+use bind_core::{Command, ToClose, copy_value};
+use call_script::{Command as Asked, Line, NameId};
 use mj_base::EndId;
-use mj_base::limits::MAX_PAYLOAD_BYTES;
-use mj_schema::NarrowSchema;
-use narrow_wire::{MessageSide, PrepareError, Target, Value, prepare};
-use std::alloc::Global;
+use std::alloc::{AllocError, Global};
+use wire_encoder::{EndpointSide, Prepared};
 
-/// The end of a pipe, among the ends that the joins made in order.
-fn end_of(ends: &[EndId], pipe: u32, end: PipeEnd) -> EndId
-    ensures { result ≡ end_at ends.now pipe end }
+/// The first name whose handle a command needs.
+pub fn first_needed(command: &Asked) -> Option<NameId>
+    ensures { result ≡ front (needed command.now) }
 {
-    let place = match end {
-        PipeEnd::First => 2 * pipe as usize,
-        PipeEnd::Second => 2 * pipe as usize + 1,
-    };
-    match ends.get(place) {
-        Some(end) => *end,
-        None => EndId { seq: 0, serial: 0 },
+    match command {
+        Asked::Bind(name, _, _) | Asked::CloseToken(name) => Some(*name),
+        Asked::Call(_, _, _, names) => names.as_slice().first().copied(),
+        Asked::Join(_, _, _)
+        | Asked::Pipe(_, _)
+        | Asked::Mint(_, _)
+        | Asked::Take(_, _)
+        | Asked::CloseEndpoint(_, _) => None,
     }
 }
 
-/// The interface of the pipe of that number.
-fn interface_of(pipes: &[Pipe], pipe: u32) -> u32
-    ensures { result ≡ interface_at pipes.now pipe }
+/// What is the same as prepared.
+fn copy(alloc: Global, prepared: &Prepared) -> Result<Prepared, AllocError>
+    ensures target { IfOk result (λ other. other.target ≡ prepared.now.target) }
+    ensures value { IfOk result (λ other. view other.value ≡ view prepared.now.value) }
+    ensures prepared { IfOk result (λ other. (schema : Schema) → IsPrepared schema prepared.now → IsPrepared schema other) }
 {
-    match pipes.get(pipe as usize) {
-        Some(pipe) => pipe.interface,
-        None => 0,
-    }
+    Ok(Prepared {
+        target: prepared.target,
+        value: copy_value(alloc, &prepared.value)?,
+        payload: Vec::from_slice(alloc, prepared.payload.as_slice())?,
+        flags: prepared.flags,
+        handles: prepared.handles,
+        endpoints: Vec::from_slice(alloc, prepared.endpoints.as_slice())?,
+    })
 }
 
-/// The command of a line.
-pub fn command_of_line(
-    alloc: Global,
-    schema: &NarrowSchema,
-    pipes: &[Pipe],
-    ends: &[EndId],
-    line: &Line,
-) -> Result<Command, NoMemory>
-    requires line { IsLine schema.now pipes.now line.now }
-    requires narrow { IsNarrow schema.now }
-    ensures asked { IfOk result (λ command. asked_of command ≡ line_asks pipes.now ends.now line.now) }
-    ensures allowed { IfOk result (λ command. (past : List Event) → IsAllowed schema.now past (asked_of command)) }
-{
-    match line {
-        Line::Call(pipe, method, value) => {
-            let target = Target {
-                interface: interface_of(pipes, *pipe),
-                method: *method,
-                side: MessageSide::Request,
-            };
-            call(
-                alloc,
-                schema,
-                end_of(ends, *pipe, PipeEnd::First),
-                target,
-                value,
-            )
-        }
-        Line::Take(pipe, end) => Ok(Command::Take(end_of(ends, *pipe, *end))),
-    }
-}
-
-/// The command of a call on endpoint 0 at an end.
+/// A call from an end, where that is one, with what is held under names; else nothing, which is noted.
 fn call(
+    held: &mut Held,
     alloc: Global,
-    schema: &NarrowSchema,
-    end: EndId,
-    target: Target,
-    value: &Value,
+    number: u32,
+    end: Option<EndId>,
+    id: u32,
+    prepared: &Prepared,
+    names: &[NameId],
 ) -> Result<Command, NoMemory>
-    requires target { HasTarget schema.now target }
-    requires fits { parameter_count schema.now target ≡ Some (length value.now) }
-    requires short { narrow_struct_bytes (length value.now) ≤ MAX_PAYLOAD_BYTES }
-    ensures asked { IfOk result (λ command. asked_of command ≡ asks.Call end 0 target value.now) }
-    ensures allowed { IfOk result (λ command. IsPrepared schema.now target value.now) }
+    requires { IsSound held.old.slots.items }
+    ensures asked { IfOk result (λ command. asked_of command ≡ called number end id prepared.now (taken_from held.old.slots.items names.now)) }
+    ensures took { IfOk result (λ command. Took names.now held.old.slots.items held.new.slots.items (things_in command)) }
+    ensures prepared { IfOk result (λ command. (schema : Schema) → IsPrepared schema prepared.now → IsOf schema command) }
 {
-    match prepare(alloc, schema, target, value) {
-        Ok(prepared) => Ok(Command::Call(end, 0, prepared)),
-        Err(PrepareError::Memory) => Err(NoMemory),
-        // The value has a number for each parameter, of which there are few.
-        Err(PrepareError::Misfit(_) | PrepareError::TooLong) => unreachable!(),
+    let Some(end) = end else {
+        return Ok(Command::Skip(number));
+    };
+    let Ok(prepared) = copy(alloc, prepared) else {
+        return Err(NoMemory);
+    };
+    match held.take_all(alloc, names)? {
+        Some(handles) => Ok(Command::Call(end, id, prepared, handles)),
+        None => Ok(Command::Skip(number)),
+    }
+}
+
+/// To bind what is held under a name; else nothing, which is noted.
+fn bind(held: &mut Held, number: u32, name: NameId, side: EndpointSide, interface: u32) -> Command
+    ensures asked { asked_of result ≡ bound number side interface (held_at held.old.slots.items name) }
+    ensures took { Took (name ∷ []) held.old.slots.items held.new.slots.items (things_in result) }
+    ensures plain { (schema : Schema) → IsOf schema result }
+{
+    match held.take(name) {
+        Some(handle) => Command::Bind(handle, side, interface),
+        None => Command::Skip(number),
+    }
+}
+
+/// To close what is held under a name; else nothing, which is noted.
+fn close(held: &mut Held, number: u32, name: NameId) -> Command
+    ensures asked { asked_of result ≡ shut number (held_at held.old.slots.items name) }
+    ensures took { Took (name ∷ []) held.old.slots.items held.new.slots.items (things_in result) }
+    ensures plain { (schema : Schema) → IsOf schema result }
+{
+    match held.take(name) {
+        Some(handle) => Command::Close(ToClose::Handle(handle)),
+        None => Command::Skip(number),
+    }
+}
+
+/// To take at an end, where that is one; else nothing, which is noted.
+fn take(number: u32, end: Option<EndId>) -> Command
+    ensures asked { asked_of result ≡ taken number end }
+    ensures plain { (schema : Schema) → IsOf schema result × (things_in result ≡ []) }
+{
+    match end {
+        Some(end) => Command::Take(end),
+        None => Command::Skip(number),
+    }
+}
+
+/// To close the endpoint of an id at an end, where that is one; else nothing, which is noted.
+fn close_endpoint(number: u32, end: Option<EndId>, id: u32) -> Command
+    ensures asked { asked_of result ≡ shut_at number id end }
+    ensures plain { (schema : Schema) → IsOf schema result × (things_in result ≡ []) }
+{
+    match end {
+        Some(end) => Command::Close(ToClose::Endpoint(end, id)),
+        None => Command::Skip(number),
+    }
+}
+
+/// The command of a line, with the handles that it needs, which it takes from their names.
+pub fn command_of(held: &mut Held, alloc: Global, line: &Line) -> Result<Command, NoMemory>
+    requires { IsSound held.old.slots.items }
+    ensures asked { IfOk result (λ command.
+        asked_of command ≡ asked_by (thing_at held.old.slots.items) (held_at held.old.slots.items) line.now) }
+    ensures took { IfOk result (λ command. Took (needed line.now.command) held.old.slots.items held.new.slots.items (things_in command)) }
+    ensures prepared { IfOk result (λ command. (schema : Schema) → IsReadWith schema line.now.command → IsOf schema command) }
+{
+    let number = line.number;
+    match &line.command {
+        Asked::Join(other, _, _) => Ok(Command::Join(*other)),
+        Asked::Pipe(_, _) => Ok(Command::Pipe),
+        Asked::Mint(sort, _) => Ok(Command::Mint(*sort)),
+        Asked::Bind(name, side, interface) => Ok(bind(held, number, *name, *side, *interface)),
+        Asked::Call(name, id, prepared, names) => {
+            let end = held.end(*name);
+            call(held, alloc, number, end, *id, prepared, names.as_slice())
+        }
+        Asked::Take(name, _) => Ok(take(number, held.end(*name))),
+        Asked::CloseToken(name) => Ok(close(held, number, *name)),
+        Asked::CloseEndpoint(name, id) => Ok(close_endpoint(number, held.end(*name), *id)),
     }
 }

@@ -1,18 +1,20 @@
 //! A whole run.
 
-ghost use Rattle.std.specs.Prelude.{◌*◌, ◌≤◌, length, reverse, IfOk};
+ghost use Rattle.std.specs.Prelude.{◌≡◌, ◌*◌, ◌≤◌, length, reverse, IfOk};
 ghost use Rattle.std.specs.Arc.{arc_value};
-ghost use Rattle.bind_model.specs.Machine.{Legal};
-ghost use Rattle.bind_model.specs.Laws.{AllAllowed};
-ghost use Rattle.call_script.specs.Spelling.{IsScript};
+ghost use Rattle.bind_model.specs.Replies.{Legal};
+ghost use Rattle.bind_model.specs.WireOf.{wire_of};
+ghost use Rattle.bind_core.specs.Left.{left};
 ghost use Rattle.script_run.specs.OfScript.{OfScript};
-ghost use Rattle.script_run.specs.Narrow.{IsNarrow};
+ghost use Rattle.call_script.specs.Sound.{IsScript};
 
 use crate::run::Run;
-use bind_model::History;
-use call_script::Script;
+use bind_core::History;
+use call_script::{SEQUENCES, Script};
+use handle_table::Thing;
+use mj_base::Items;
 use mj_base::limits::MAX_SCRIPT_LINES;
-use mj_schema::NarrowSchema;
+use mj_schema::Schema;
 use std::alloc::Global;
 use std::sync::Arc;
 use thiserror::Error;
@@ -22,29 +24,30 @@ use thiserror::Error;
 #[error("out of memory")]
 pub struct NoMemory;
 
-/// Runs a script of one sequence to its end: all that it asks, and then takes until no message is
-/// ready. The history has 131,072 events at most.
-pub fn run_alone(
-    alloc: Global,
-    schema: Arc<NarrowSchema>,
-    script: &Script,
-) -> Result<History, NoMemory>
-    requires script { IsScript (arc_value schema) script.now }
-    requires narrow { IsNarrow (arc_value schema) }
-    ensures legal { IfOk result (λ history. Legal (arc_value schema) 1 history.events) }
-    // Each call was prepared with the schema, and the bindings of each pipe suit one another.
-    ensures allowed { IfOk result (λ history. AllAllowed (arc_value schema) (reverse history.events)) }
-    ensures script { IfOk result (λ history. OfScript (arc_value schema) script.now history.events) }
-    ensures few { IfOk result (λ history. length history.events ≤ 2 * MAX_SCRIPT_LINES) }
+/// What a run leaves: its events in order, and the things that aren't closed, the ends before the tokens,
+/// each by sequence and by number.
+#[derive(Drop)]
+pub struct Ran {
+    pub history: History,
+    pub left: Items<Thing>,
+}
+
+/// Runs a script to its end: the command of each line in order, and then takes until no message is
+/// ready. The history has 131,072 events at most. Takes time in proportion to the script and to what its
+/// commands take.
+pub fn run_alone(alloc: Global, schema: Arc<Schema>, script: &Script) -> Result<Ran, NoMemory>
+    requires { IsScript (arc_value schema) script.now }
+    ensures legal { IfOk result (λ ran. Legal (wire_of (arc_value schema)) SEQUENCES ran.history.events) }
+    ensures script { IfOk result (λ ran. OfScript (arc_value schema) script.now ran.history.events) }
+    ensures left { IfOk result (λ ran. ran.left ≡ left SEQUENCES (reverse ran.history.events)) }
+    ensures few { IfOk result (λ ran. length ran.history.events ≤ 2 * MAX_SCRIPT_LINES) }
 {
-    let Ok(shared) = Arc::try_clone(&schema) else {
-        return Err(NoMemory);
-    };
-    let mut run = Run::new(alloc, shared);
-    let played = run.play(alloc, &schema, script);
-    let history = run.end();
-    match played {
-        Ok(()) => Ok(history),
-        Err(failed) => Err(failed),
-    }
+    let mut run = Run::new(alloc, schema, script.names)?;
+    let played = run.play(alloc, script);
+    let (history, left) = run.end(alloc);
+    played?;
+    Ok(Ran {
+        history,
+        left: left?,
+    })
 }

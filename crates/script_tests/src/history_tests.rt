@@ -1,10 +1,10 @@
 //! The texts of worked histories.
 
-use handle_table::{Thing, TokenId, TokenSort};
-use history_text::render;
-use machine_model::{
+use bind_model::{
     Asked, BadWhy, Closing, Event, Got, Outgoing, Parameters, PendingId, ResponderId, Told, Why,
 };
+use handle_table::{Thing, TokenId, TokenSort};
+use history_text::render;
 use mj_base::{EndId, Fault, FaultKind, Items, SeqId, Text};
 use mj_schema::Schema;
 use mojom_compile::{Source, compile};

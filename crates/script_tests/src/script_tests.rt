@@ -1,6 +1,6 @@
 //! Scripts that are read, and scripts with the line that is refused first.
 
-use machine_script::{ScriptError, read_script};
+use call_script::{ScriptError, read_script};
 use mj_base::{Items, Text};
 use mj_schema::Schema;
 use mojom_compile::{Source, compile};

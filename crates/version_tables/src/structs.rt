@@ -3,7 +3,6 @@
 ghost use Rattle.std.specs.Prelude.{◌≡◌, ◌≤◌, IfOk, IsTrue, length, map};
 ghost use Rattle.mj_schema.specs.declared.rows.DraftField.{DraftField};
 ghost use Rattle.mj_schema.specs.Layout.{IsLaidOut, draft_of, field_rows, never_fall};
-ghost use Rattle.mj_schema.specs.Narrow.{is_narrow, narrow_field};
 
 use crate::rows::table;
 use field_packing::pack_fields;
@@ -29,40 +28,6 @@ pub fn lay_out(alloc: Global, draft: DraftStruct) -> Result<StructRow, AllocErro
         fields: Items::from_vec(fields),
         versions: Items::from_vec(versions),
     })
-}
-
-/// A struct of unsigned integers of 32 bits with these names, all there from version 0 on.
-pub fn lay_out_narrow(alloc: Global, name: Text, fields: &[Text]) -> Result<StructRow, AllocError>
-    requires { length fields.now ≤ MAX_FIELDS }
-    ensures laid_out { IfOk result IsLaidOut }
-    ensures draft { IfOk result (λ row. draft_of row ≡ record { name = name; fields = map narrow_field fields.now }) }
-    ensures narrow { IfOk result (λ row. IsTrue (is_narrow row)) }
-    ensures count { IfOk result (λ row. length row.fields ≡ length fields.now) }
-{
-    let fields = narrow_fields(alloc, fields)?;
-    lay_out(
-        alloc,
-        DraftStruct {
-            name,
-            fields: Items::from_vec(fields),
-        },
-    )
-}
-
-/// The fields of these names.
-fn narrow_fields(alloc: Global, names: &[Text]) -> Result<Vec<DraftField>, AllocError>
-    ensures { IfOk result (λ fields. fields.items ≡ map narrow_field names.now) }
-{
-    let mut fields = Vec::new(alloc);
-    for name in names {
-        fields.push(DraftField {
-            name: Text::from_str(alloc, name.as_str())?,
-            kind: Kind::UINT32,
-            min_version: 0,
-            default: None,
-        })?;
-    }
-    Ok(fields)
 }
 
 /// The fields at their places, with their ordinals.

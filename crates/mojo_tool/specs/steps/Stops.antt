@@ -2,11 +2,11 @@
 use Rattle.std.specs.Prelude.{ℕ, ◌≡◌, ◌<◌, ◌⊎◌, List, length, Option, Some, None, IfSome}
 use Rattle.mj_base.specs.declared.limits.TheConstants.{MAX_FILE_BYTES}
 use Rattle.mj_io.specs.Outside.{Named, find_file, FilesState, Rose}
-use Rattle.mj_schema.specs.declared.narrow_schema.NarrowSchema.{NarrowSchema}
 use Rattle.mojom_compile.specs.declared.error.FileRefusal.{FileRefusal}
-use Rattle.call_script.specs.declared.script.Script.{Script}
-use Rattle.call_script.specs.Spelling.{IsScriptOf}
-use Rattle.mojo_tool.specs.Work.{Work, AskedFor, TooLong, Refuses, Unreadable}
+use Rattle.mj_schema.specs.declared.schema.Schema.{Schema}
+use Rattle.call_script.specs.declared.script_error.LineRefusal.{LineRefusal}
+use Rattle.call_script.specs.Script.{IsFirstRefusal}
+use Rattle.mojo_tool.specs.Work.{Work, AskedFor, TooLong, Refuses, RefusesLine}
 use Rattle.mojo_tool.specs.Answers.{ReadFailed, refused_work, refused_name}
 use Rattle.mojo_tool.specs.declared.decide.Stop.{Stop}
 use Rattle.mojo_tool.specs.declared.decide.Stop.TheVariants.{Refused, ReadFault, NoMemory}
@@ -49,11 +49,12 @@ NotCompiled Such name (Refused refusal) = (why : FileRefusal) × Such why × (re
 NotCompiled Such name (ReadFault other) = ⊥
 NotCompiled Such name NoMemory = Unit {0}
 
--- the bytes are no script of the schema, or there was no memory to tell
-abbrev pub NoScript : NarrowSchema → List ℕ → List ℕ → Stop → Type 0
-NoScript schema bytes name (Refused refusal) = ((script : Script) → IsScriptOf schema bytes script → ⊥) × (refused_work refusal ≡ Unreadable name)
-NoScript schema bytes name (ReadFault other) = ⊥
-NoScript schema bytes name NoMemory = Unit {0}
+-- a line of the bytes is refused, or there was no memory to tell
+abbrev pub NoScript : Schema → List ℕ → Stop → Type 0
+NoScript schema bytes (Refused refusal) =
+    (line : ℕ) × (why : LineRefusal) × IsFirstRefusal schema bytes line why × (refused_work refusal ≡ RefusesLine line why)
+NoScript schema bytes (ReadFault other) = ⊥
+NoScript schema bytes NoMemory = Unit {0}
 
 -- no text, though bytes that were fetched ask for this
 abbrev pub StopsAt : (Work → Type 0) → Stop → Type 0

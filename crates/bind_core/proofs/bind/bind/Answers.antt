@@ -1,29 +1,24 @@
-use Rattle.std.proofs.Common.{◌≡◌, ◌∙◌, sym, refl, false, true}
-use Rattle.std.specs.Prelude.{◌&&◌, nat_lt, length}
-use Rattle.bind_model.specs.Machine.{is_out}
-use Rattle.bind_core.specs.Steps.{past_of, schema_of}
-use Rattle.bind_core.proofs.Changes.{rows_bound}
-use Rattle.bind_core.proofs.Held.{finish, names-held}
+use Rattle.std.proofs.Common.{sym, ap, ◌∙◌}
+use Rattle.handle_table.specs.Places.{place_of}
+use Rattle.handle_table.specs.declared.thing.Thing.{Thing}
+use Rattle.bind_model.specs.Replies.{bound_as}
+use Rattle.bind_core.specs.Agreement.{is_out, past_of, schema_of}
+use Rattle.bind_core.proofs.Binding.{bind_no_name, bind_told}
 use Rattle.bind_core.proofs.bind.bind.Goals as goal
 
 pub refuse-requires-clause-why : goal.refuse-requires-clause-why
 refuse-requires-clause-why c =
-    let may_not :
-    (is_out (past_of c.args.state.now) c.args.handle && nat_lt c.args.interface (length (schema_of c.args.state.now).interfaces)) ≡ false =
-    rw c.id-end.ensures at (sym c.may_bind.ensures ∙ c.if-not-may_bind.true) in
-    rw may_not refl
+    let s = c.args.state.now in
+    bind_no_name (schema_of s) s.seqs (past_of s) c.args.seq c.args.handle c.args.side c.args.interface
+    (is_out (place_of s.pipes.table c.thing-thing.result))
+    (ap (λ (z : Thing). is_out (place_of s.pipes.table z)) c.thing-thing.ensures ∙ c.requires.able.holds.agrees.outs c.args.handle)
+    (sym c.may_bind.ensures ∙ c.if-not-may_bind.true)
 
-pub bind-requires : goal.bind-requires
-bind-requires c = names-held c.args.state.now c.requires.holds
-
-pub returns-clause-done : goal.returns-clause-done
-returns-clause-done c =
-    let may :
-    (is_out (past_of c.args.state.now) c.args.handle && nat_lt c.args.interface (length (schema_of c.args.state.now).interfaces)) ≡ true =
-    rw c.id-end.ensures at (sym c.may_bind.ensures ∙ c.if-not-may_bind.false) in
-    rw c.id-end.ensures (finish c.args.state.now _ c.args.seq _ _ c.requires refl refl
-    (rw c.id-end.ensures at c.push_reserved-2.ensures)
-    (rw may refl)
-    (rw (c.bind.ensures, c.requires.holds.rows, c.id-end.ensures)
-    (sym (rows_bound c.args.seq c.args.handle c.args.side c.args.interface (past_of c.args.state.now))))
-    tt)
+pub refuse-requires-in-Token-clause-why : goal.refuse-requires-in-Token-clause-why
+refuse-requires-in-Token-clause-why c =
+    let s = c.args.state.now in
+    bind_told (schema_of s) s.seqs (past_of s) c.args.seq c.args.handle c.args.side c.args.interface
+    (is_out (place_of s.pipes.table c.thing-thing.result))
+    (ap (λ (z : Thing). is_out (place_of s.pipes.table z)) c.thing-thing.ensures ∙ c.requires.able.holds.agrees.outs c.args.handle)
+    (sym c.may_bind.ensures ∙ c.if-not-may_bind.false)
+    ∙ ap (λ (z : Thing). bound_as z) (sym c.thing-thing.ensures ∙ c.in-Token.is)

@@ -1,9 +1,16 @@
-use Rattle.std.proofs.Common.{sym}
+use Rattle.std.proofs.Common.{◌≡◌, List, sym, subst, ◌∙◌}
 use Rattle.std.specs.Prelude.{Err}
-use Rattle.bind_core.proofs.Held.{call-held}
+use Rattle.handle_table.specs.declared.thing.Thing.{Thing}
+use Rattle.bind_core.specs.steps.Ways.{way}
+use Rattle.bind_core.proofs.Called.{call_refused}
 use Rattle.bind_core.proofs.call.call.Goals as goal
 
 pub refuse-requires-clause-why : goal.refuse-requires-clause-why
 refuse-requires-clause-why c =
-    sym (call-held c.args.state.now c.requires.holds c.args.seq c.args.end c.args.id c.args.prepared.target c.args.prepared.value
-    (Err c.in-Err.why) (rw c.target.ensures at (sym c.in-Err.ensures)))
+    let same : c.deref-2.result.now ≡ c.args.handles = c.deref-2.ensures.value ∙ c.in-Ok.ensures in
+    rw c.into_command-in-Ok-asked.ensures
+    (call_refused c.args.state.now c.args.seq (record { end = c.args.end; id = c.args.id; prepared = c.args.prepared; handles = c.args.handles })
+    c.requires c.in-Err.why
+    (subst (λ (things : List Thing). way c.args.seq c.args.end c.args.id c.args.prepared things c.args.state.now.pipes c.args.state.now.endpoints
+    ≡ Err c.in-Err.why)
+    same (sym c.in-Err.ensures)))

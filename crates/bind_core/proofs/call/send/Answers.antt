@@ -1,20 +1,22 @@
-use Rattle.std.proofs.Common.{◌∙◌, refl}
-use Rattle.std.specs.Prelude.{Ok}
-use Rattle.narrow_wire.specs.Tight.{message_bytes}
-use Rattle.bind_core.proofs.Held.{finish, names-held, call-held, peer-held, send-held}
+use Rattle.std.proofs.Common.{refl, ap, ◌∙◌, List, [], ◌∷◌, ◌++◌}
+use Rattle.bind_model.specs.declared.event.Event.{Event}
+use Rattle.bind_model.specs.declared.told.Told.TheVariants.{Sent}
+use Rattle.bind_core.proofs.Called.{alone, there, call_done}
 use Rattle.bind_core.proofs.call.send.Goals as goal
 
-pub put-requires : goal.put-requires
-put-requires c = names-held c.args.state.now c.requires.can.holds
+pub writes_of-requires : goal.writes_of-requires
+writes_of-requires c = alone c.args.state.now c.args.seq c.args.request c.requires.can c.args.peer c.requires.free
+
+pub push-requires : goal.push-requires
+push-requires c = there c.args.state.now c.args.seq c.args.request c.requires.can c.args.peer c.requires.free
 
 pub returns-clause-done : goal.returns-clause-done
 returns-clause-done c =
-    let holds = c.requires.can.holds in
-    rw c.in-Ok.ensures.told (finish c.args.state.now _ c.args.seq _ _ c.requires.can refl refl
-    (c.push_reserved.ensures ∙ rw (c.in-Ok.ensures.asked, c.in-Ok.ensures.noted) refl)
-    (call-held c.args.state.now holds c.args.seq c.args.end c.args.id c.args.prepared.target c.args.prepared.value (Ok c.args.peer) c.requires.free)
-    (send-held c.args.state.now holds c.args.seq c.args.end c.args.id c.args.prepared.target c.args.prepared.value c.args.peer
-    (message_bytes 0 c.args.prepared.target.method c.args.prepared.value) c.put.new.self
-    (peer-held c.args.state.now holds c.args.end c.args.id c.args.prepared.target c.args.peer c.requires.free)
-    (c.in-Ok-put.ensures.ok ∙ rw c.in-Ok.ensures.message refl))
-    tt)
+    call_done c.args.state.now c.args.seq c.args.request c.requires.can c.args.peer c.requires.free _ refl refl refl
+    c.request_id_of-request_id.result c.args.things c.in-Ok.writes c.push.new.self c.request_id_of-request_id.ensures c.requires.same c.in-Ok.ensures
+    c.in-Ok-push.ensures.ok c.put_all.ensures
+    (c.push_sent.ensures
+    ∙ ap
+    (λ (events : List Event).
+    events ++ record { seq = c.args.seq; asked = c.in-Ok.writes.asked; told = Sent c.request_id_of-request_id.result c.in-Ok.writes.noted } ∷ [])
+    c.reserve_sent.ensures.events)

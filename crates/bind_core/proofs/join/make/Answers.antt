@@ -1,20 +1,19 @@
-use Rattle.std.proofs.Common.{◌≡◌, ◌∷◌, [], ◌∙◌, refl}
-use Rattle.bind_core.specs.Steps.{past_of}
-use Rattle.bind_core.proofs.Held.{finish, join-held, new_of, join_told, two_handles}
+use Rattle.std.proofs.Common.{refl}
+use Rattle.bind_core.proofs.Made.{few_made, pipe_done}
+use Rattle.bind_core.proofs.Staying.{two_of}
 use Rattle.bind_core.proofs.join.make.Goals as goal
 
-pub returns-clause-done : goal.returns-clause-done
-returns-clause-done c =
-    let a = c.args.ends.0 in
-    let b = c.args.ends.1 in
-    let handles : c.from_vec.result ≡ a ∷ b ∷ [] =
-    two_handles c.in-Ok-with_capacity.handles.items c.push_reserved.new.self.items c.push_reserved-2.new.self.items c.from_vec.result
-    c.new.result c.new-2.result a b
-    c.in-Ok-with_capacity.ensures.items c.push_reserved.ensures.items c.push_reserved-2.ensures.items c.from_vec.ensures c.new.ensures c.new-2.ensures in
-    rw handles (finish c.args.state.now _ c.args.seq _ _ c.requires.can refl refl
-    (c.push_reserved-3.ensures ∙ rw c.in-Ok.ensures refl)
-    (c.requires.next ∙ join_told c.args.other.0 c.args.state.now.seqs _ _ c.requires.there)
-    (join-held c.args.state.now c.requires.can.holds c.args.seq c.args.other a b c.add.new.self
-    (new_of (past_of c.args.state.now) c.args.seq.0 c.args.other.0 a b c.requires.next)
-    (c.in-Ok-add.ensures.ok ∙ rw (c.new-one.ensures, c.new-two.ensures) refl))
-    tt)
+pub make-requires : goal.make-requires
+make-requires c = few_made c.args.state.now c.args.seq c.requires.able
+
+pub returns-in-Ok-clause-done : goal.returns-in-Ok-clause-done
+returns-in-Ok-clause-done c command asked =
+    pipe_done c.args.state.now _ c.args.seq c.requires.able refl refl c.args.other c.args.asked command
+    c.from_vec-in-Ok.result c.from_vec.result c.in-Ok.pipe.0 c.in-Ok.pipe.1 asked c.requires.told refl c.push_reserved-in-Ok-4.ensures
+    (two_of c.in_ok-things.things.items c.push_reserved.new.self.items c.push_reserved-in-Ok.new.self.items c.from_vec.result
+    c.thing.result c.thing-in-Ok.result c.in-Ok.pipe.0 c.in-Ok.pipe.1 c.in_ok-things.ensures.items c.push_reserved.ensures.items
+    c.push_reserved-in-Ok.ensures.items c.from_vec.ensures c.thing.ensures c.thing-in-Ok.ensures)
+    (two_of c.in_ok-handles.handles.items c.push_reserved-in-Ok-2.new.self.items c.push_reserved-in-Ok-3.new.self.items c.from_vec-in-Ok.result
+    c.in-Ok.pipe.0 c.in-Ok.pipe.1 c.in-Ok.pipe.0 c.in-Ok.pipe.1 c.in_ok-handles.ensures.items c.push_reserved-in-Ok-2.ensures.items
+    c.push_reserved-in-Ok-3.ensures.items c.from_vec-in-Ok.ensures refl refl)
+    c.in-Ok.ensures.ok

@@ -1,49 +1,26 @@
-use Rattle.std.proofs.Common.{◌≡◌, arith, ap, sym, ◌∙◌, length}
-use Rattle.std.specs.Prelude.{map}
-use Rattle.std.proofs.lemmas.List.{length-map}
-use Rattle.bind_core.specs.Play.{Play}
-use Rattle.bind_core.specs.Plain.{asked_of}
-use Rattle.script_run.specs.OfScript.{line_asks}
-use Rattle.script_run.specs.Going.{past_of}
-use Rattle.script_run.proofs.Parts.{phase_length, listed_done}
-use Rattle.script_run.proofs.Steps.{past_length}
-use Rattle.script_run.proofs.Listed.{line_more}
+use Rattle.std.proofs.Common.{ap, ◌∙◌, ◌≡◌, ◌+◌, Some, length, refl}
+use Rattle.std.specs.Prelude.{slice_get}
+use Rattle.std.proofs.lemmas.Option.{slice_get_read}
+use Rattle.script_run.specs.steps.Going.{past_in}
+use Rattle.script_run.proofs.LineDone.{asks_more, names_more, count_more}
 use Rattle.script_run.proofs.run.Run.do_lines.Goals as goal
 
-pub ask-requires-clause-allowed : goal.ask-requires-clause-allowed
-ask-requires-clause-allowed c =
-    let same : c.room.new.self.core.schema ≡ c.args.schema.now =
-    ap (λ (p : Play). p.schema) c.room.ensures.same.0 ∙ (c.loop-line.invariant.schema ∙ sym c.requires.schema) in
-    rw same (c.in_ok-command.ensures.allowed (past_of c.room.new.self))
-
-pub ask-requires-clause-few : goal.ask-requires-clause-few
-ask-requires-clause-few c =
-    omega (
-      arith,
-      ap (λ (p : Play). length p.events) c.room.ensures.same.0,
-      past_length c.loop-line.self,
-      past_length c.args.self.now,
-      phase_length _ _ _ _ c.loop-line.invariant.phase,
-      c.loop-line-test.true,
-      c.requires.few,
-    )
-
 pub loop-line-preserved : goal.loop-line-preserved
-loop-line-preserved c = record {
-  going = c.in_ok-ask.ensures.went.going;
-  schema = c.in_ok-ask.ensures.went.schema ∙ (ap (λ (p : Play). p.schema) c.room.ensures.same.0 ∙ c.loop-line.invariant.schema);
-  phase =
-      line_more c.args.self.now c.loop-line.self c.room.new.self c.ask.new.self c.args.pipes.now c.args.ends.now c.args.lines.now
-      c.loop-line.line-index c.line-item.result (asked_of c.in_ok-command.command) c.loop-line-test.true
-      c.line-item.is c.in_ok-command.ensures.asked c.room.ensures.same.0 c.loop-line.invariant.phase c.in_ok-ask.ensures.went;
-}
-
-pub returns : goal.returns
-returns c = record {
-  going = c.loop-line.invariant.going;
-  schema = c.loop-line.invariant.schema;
-  part =
-      listed_done (map (line_asks c.args.pipes.now c.args.ends.now) c.args.lines.now) (past_of c.args.self.now) (past_of c.loop-line.self)
-      c.loop-line.line-index
-      (omega (arith, c.loop-line-test.false, length-map c.args.lines.now (line_asks c.args.pipes.now c.args.ends.now))) c.loop-line.invariant.phase;
-}
+loop-line-preserved c =
+    let lines = c.args.script.now.lines in
+    let line = c.line-item.result in
+    let did = c.in_ok-do_line.ensures in
+    let i = c.loop-line.invariant in
+    let there : slice_get lines (length (past_in c.loop-line.self.core)) ≡ Some line =
+    ap (slice_get lines) i.count
+    ∙ rw c.as_slice-line-items.ensures at (
+    slice_get_read c.as_slice-line-items.result.now (length c.as_slice-line-items.result.now) c.loop-line.line-index line refl
+    c.loop-line-test.true c.line-item.is
+    ) in
+    record {
+      going = did.went.going;
+      schema = did.went.schema ∙ i.schema;
+      names = names_more lines c.args.script.now.names c.loop-line.self c.do_line.new.self line there i.names did;
+      asks = asks_more lines c.args.script.now.names c.loop-line.self c.do_line.new.self line there i.names did i.asks;
+      count = count_more lines c.args.script.now.names c.loop-line.self c.do_line.new.self line there i.names did ∙ ap (λ n. n + 1) i.count;
+    }

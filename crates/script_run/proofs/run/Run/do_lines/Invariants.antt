@@ -1,13 +1,14 @@
-use Rattle.std.proofs.Common.{◌≡◌}
-use Rattle.std.specs.Prelude.{map}
-use Rattle.script_run.specs.OfScript.{next_of, line_asks}
-use Rattle.script_run.specs.Going.{past_of, IsGoing}
-use Rattle.script_run.proofs.Parts.{Phase}
+use Rattle.std.proofs.Common.{◌≡◌, length}
+use Rattle.script_run.specs.OfScript.{AsksNext, next_line}
+use Rattle.script_run.specs.steps.Going.{past_in, IsGoing, HasNames}
 use Rattle.script_run.proofs.run.Run.do_lines.Given as goal
 
+-- an event for each line so far
 abbrev pub invariant-loop-line : goal.invariant-loop-line
 invariant-loop-line l = record {
-  going : IsGoing l.self;
+  going : IsGoing l.self.core;
   schema : l.self.core.schema ≡ l.fn.self.core.schema;
-  phase : Phase (next_of (map (line_asks l.pipes l.ends) l.lines)) (past_of l.fn.self) (past_of l.self) l.line-index;
+  names : HasNames l.script.lines l.script.names (past_in l.self.core) l.self.held.slots.items;
+  asks : AsksNext (next_line l.script.lines) (past_in l.self.core);
+  count : length (past_in l.self.core) ≡ l.line-index;
 }

@@ -1,54 +1,50 @@
-use Rattle.std.proofs.Common.{◌≡◌, ◌+◌, arith, sym, ◌∙◌, rules, Some}
-use Rattle.bind_model.specs.declared.event.Asked.TheVariants as asks
+use Rattle.std.proofs.Common.{◌≡◌, ◌+◌, arith, ap, sym, ◌∙◌, refl, Some, length}
 use Rattle.bind_model.specs.Ready.{ready}
-use Rattle.bind_model.proofs.Pending.{pending_few}
+use Rattle.bind_model.specs.WireOf.{wire_of}
+use Rattle.bind_model.specs.declared.asked.Asked.TheVariants as asks
 use Rattle.script_run.specs.OfScript.{next_take}
-use Rattle.script_run.specs.Going.{past_of}
+use Rattle.script_run.specs.steps.Going.{past_in, Went}
 use Rattle.script_run.proofs.Parts.{phase_none}
-use Rattle.script_run.proofs.Steps.{past_length, went_same}
-use Rattle.script_run.proofs.Takes.{ready_alone, take_more, one_less}
+use Rattle.script_run.proofs.Steps.{past_length}
+use Rattle.script_run.proofs.Draining.{pending_few, ready_within, take_more, one_less}
 use Rattle.script_run.proofs.run.Run.drain.Goals as goal
 
 pub loop-seq-init : goal.loop-seq-init
-loop-seq-init c = record {
-  going = c.requires.going;
-  schema = search rules;
-  phase = (0, phase_none (next_take c.args.self.now.core.schema (past_of c.args.self.now)) (past_of c.args.self.now));
-  few = omega (arith, c.requires.few, past_length c.args.self.now, pending_few c.args.self.now.core.schema 1 (past_of c.args.self.now) c.requires.going.legal);
-}
+loop-seq-init c =
+    let core = c.args.self.now.core in
+    record {
+      going = c.requires.going;
+      schema = refl;
+      phase = (0, phase_none (next_take core.schema (past_in core)) (past_in core));
+      few = omega (arith, c.requires.few, past_length core, pending_few core.schema (past_in core) c.requires.going.legal c.requires.going.plain);
+    }
 
-pub ask-requires-clause-seq : goal.ask-requires-clause-seq
-ask-requires-clause-seq c =
-    ready_alone c.loop-seq.self.core.schema (past_of c.loop-seq.self) c.loop-seq.invariant.going.alone c.in-Some.seq c.in-Some.end
-    (sym c.in-Some.ensures)
+pub step-requires-clause-seq : goal.step-requires-clause-seq
+step-requires-clause-seq c = ready_within c.loop-seq.self.core c.loop-seq.invariant.going c.in-Some.seq c.in-Some.end (sym c.in-Some.ensures)
 
 pub loop-seq-smaller : goal.loop-seq-smaller
 loop-seq-smaller c =
-    let g = c.loop-seq.invariant.going in
-    let less =
-    one_less c.loop-seq.self.core.schema (past_of c.loop-seq.self) (past_of c.ask.new.self) c.in-Some.seq c.in-Some.end g.legal g.allowed
-    (sym c.in-Some.ensures)
-    (went_same c.loop-seq.self c.room.new.self c.ask.new.self (asks.Take c.in-Some.end) c.room.ensures.same.0 c.in_ok-ask.ensures.went).past in
-    omega (arith, less.1)
+    let core = c.loop-seq.self.core in
+    let went : Went core c.keep.new.self.core c.in-Some.seq (asks.Take c.in-Some.end) =
+    rw (c.in_ok-keep.ensures, ← c.room.ensures.same.0) c.in_ok-reply.ensures.went in
+    let less = one_less core c.loop-seq.invariant.going c.in-Some.seq c.in-Some.end (sym c.in-Some.ensures) c.keep.new.self.core went in
+    omega (arith, less)
 
 pub loop-seq-preserved : goal.loop-seq-preserved
 loop-seq-preserved c =
-    let g = c.loop-seq.invariant.going in
-    let there : ready c.loop-seq.self.core.schema (past_of c.loop-seq.self) ≡ Some (c.in-Some.seq, c.in-Some.end) = sym c.in-Some.ensures in
-    let went = went_same c.loop-seq.self c.room.new.self c.ask.new.self (asks.Take c.in-Some.end) c.room.ensures.same.0 c.in_ok-ask.ensures.went in
-    let less =
-    one_less c.loop-seq.self.core.schema (past_of c.loop-seq.self) (past_of c.ask.new.self) c.in-Some.seq c.in-Some.end g.legal g.allowed
-    there went.past in
-    let alone = ready_alone c.loop-seq.self.core.schema (past_of c.loop-seq.self) g.alone c.in-Some.seq c.in-Some.end there in
+    let core = c.loop-seq.self.core in
+    let i = c.loop-seq.invariant in
+    let there : ready (wire_of core.schema) (past_in core) ≡ Some (c.in-Some.seq, c.in-Some.end) = sym c.in-Some.ensures in
+    let went : Went core c.keep.new.self.core c.in-Some.seq (asks.Take c.in-Some.end) =
+    rw (c.in_ok-keep.ensures, ← c.room.ensures.same.0) c.in_ok-reply.ensures.went in
+    let less = one_less core i.going c.in-Some.seq c.in-Some.end there c.keep.new.self.core went in
     record {
       going = went.going;
-      schema = went.schema ∙ c.loop-seq.invariant.schema;
+      schema = went.schema ∙ i.schema;
       phase = (
-        c.loop-seq.invariant.phase.0 + 1,
-        let same = c.loop-seq.invariant.schema in
-            take_more c.args.self.now.core.schema (past_of c.args.self.now) (past_of c.loop-seq.self) (past_of c.ask.new.self) c.in-Some.seq
-            c.in-Some.end c.loop-seq.invariant.phase.0 alone (rw (← same) there)
-            c.loop-seq.invariant.phase.1 (rw (← same) went.past),
+        i.phase.0 + 1,
+        take_more core i.going c.in-Some.seq c.in-Some.end there c.keep.new.self.core c.args.self.now.core.schema (past_in c.args.self.now.core)
+            i.phase.0 i.schema went i.phase.1,
       );
-      few = omega (arith, less.0, less.1, c.loop-seq.invariant.few);
+      few = omega (arith, less, i.few, ap length went.past);
     }

@@ -1,0 +1,129 @@
+-- What a call makes of pipes, places and endpoints.
+use Rattle.std.proofs.Common.{◌≡◌, ◌≤◌, ℕ, Bool, true, false, List, [], ◌∷◌, ◌++◌, length, refl, sym, ap, ◌∙◌, arith, subst}
+use Rattle.std.specs.Prelude.{if◌then◌else◌, ◌||◌, ◌&&◌, not, ◌==◌, is_some, Option, Some, None}
+use Rattle.std.specs.Option.{option_map}
+use Rattle.std.specs.List.{count_by}
+use Rattle.std.proofs.lemmas.List.{append-nil}
+use Rattle.mj_base.specs.declared.ids.EndId.{EndId}
+use Rattle.mj_base.specs.declared.ids.SeqId.{SeqId}
+use Rattle.handle_table.specs.Things.{has, same_end, is_end, seq_of}
+use Rattle.handle_table.specs.Places.{place_of}
+use Rattle.handle_table.specs.declared.places.Place.{Place}
+use Rattle.handle_table.specs.declared.places.Place.TheVariants as places
+use Rattle.handle_table.specs.declared.thing.Thing.{Thing}
+use Rattle.handle_table.specs.declared.thing.Thing.TheVariants.{End}
+use Rattle.handle_table.proofs.ThingsLemmas.{same_end-true}
+use Rattle.message_pipe.specs.Contents.{Contents, Becomes}
+use Rattle.message_pipe.specs.Ends.{with_message}
+use Rattle.message_pipe.specs.declared.message.Message.{Message}
+use Rattle.message_pipe.specs.declared.pipe_end.PipeEnd.{PipeEnd}
+use Rattle.bind_model.specs.declared.asked.Outgoing.{Outgoing}
+use Rattle.bind_model.specs.declared.asked.Asked.TheVariants.{Call}
+use Rattle.bind_model.specs.declared.told.Told.TheVariants.{Sent}
+use Rattle.bind_model.specs.declared.event.Event.{Event}
+use Rattle.bind_model.specs.Wire.{Wire}
+use Rattle.bind_model.specs.Machine.{made, peer, gone, is_gone, out, taken, written, unread}
+use Rattle.bind_model.specs.Replies.{all_out}
+use Rattle.bind_model.proofs.Kept.{Kept, most, own_times}
+use Rattle.bind_model.proofs.Counting.{absent, times-present}
+use Rattle.bind_core.specs.steps.Placing.{PutsAll}
+use Rattle.bind_core.specs.Agreement.{Agrees, end_in, end_with, is_out, is_shut}
+use Rattle.bind_core.specs.declared.endpoint_table.Line.{Line}
+use Rattle.bind_core.proofs.After.{out_after, unread_after, end_after}
+
+module _ (wire : Wire) (past : List Event) (k : Kept wire past) (seq : SeqId) (y : EndId) (id : ℕ) (s : Outgoing) (request : ℕ) (bytes : List ℕ)
+    (own : all_out past s.handles ≡ true) (alive : is_gone past (peer past y) ≡ false) where
+  abbrev pub sent_event : Event
+  sent_event = record { seq = seq; asked = Call y id s; told = Sent request bytes }
+
+  abbrev pub sent_message : Message
+  sent_message = record { bytes = bytes; handles = s.handles; emitted = false }
+
+  few : (x : EndId) → length (taken past x ++ []) ≤ length (written wire past x)
+  few x = rw (append-nil (taken past x)) (k.counted x)
+
+  unread_now : (x : EndId) → unread wire (sent_event ∷ past) x ≡ unread wire past x
+      ++ (if is_gone past x then [] else (if same_end (peer past y) x then sent_message ∷ [] else []))
+  unread_now x = unread_after wire sent_event past x (few x)
+
+  gone_now : gone (sent_event ∷ past) ≡ gone past
+  gone_now = append-nil (gone past)
+
+  end_now : (x : EndId) → end_in wire (sent_event ∷ past) x
+      ≡ end_with (has (made past) (End x)) (peer past x) (is_gone past x)
+      (unread wire past x ++ (if is_gone past x then [] else (if same_end (peer past y) x then sent_message ∷ [] else [])))
+  end_now x = end_after wire sent_event past x (has (made past) (End x)) (peer past x) (is_gone past x)
+      (unread wire past x ++ (if is_gone past x then [] else (if same_end (peer past y) x then sent_message ∷ [] else [])))
+      (ap (λ ms. has ms (End x)) (append-nil (made past))) refl (ap (λ gs. has gs (End x)) gone_now) (unread_now x)
+
+  added : (m : Bool) (p : EndId) (ms : List Message) → option_map (with_message sent_message) (end_with m p false ms)
+      ≡ end_with m p false (ms ++ sent_message ∷ [])
+  added true p ms = refl
+  added false p ms = refl
+
+  ends_now : (x : EndId) → (if same_end (peer past y) x then option_map (with_message sent_message) (end_in wire past x) else end_in wire past x)
+      ≡ end_in wire (sent_event ∷ past) x
+  ends_now x = go (same_end (peer past y) x) (is_gone past x) (unread wire past x) refl refl ∙ sym (end_now x)
+    where
+      go : (b c : Bool) (ms : List Message) → same_end (peer past y) x ≡ b → is_gone past x ≡ c
+          → (if b then option_map (with_message sent_message) (end_with (has (made past) (End x)) (peer past x) c ms) else end_with (has (made past) (End x))
+          (peer past x) c ms)
+          ≡ end_with (has (made past) (End x)) (peer past x) c (ms ++ (if c then [] else (if b then sent_message ∷ [] else [])))
+      go true true ms e f = absurd (let t : is_gone past x
+          ≡ false = subst (λ w. is_gone past w ≡ false) (same_end-true (peer past y) x e) alive in let u : false ≡ true = sym t ∙ f in cc)
+      go true false ms e f = added (has (made past) (End x)) (peer past x) ms
+      go false true ms e f = rw (append-nil ms) refl
+      go false false ms e f = rw (append-nil ms) refl
+
+  not_gone_own : (z : Thing) → has s.handles z ≡ true → has (gone past) z ≡ false
+  not_gone_own z h = absent z (gone past) (omega (arith, k.one z, times-present z s.handles h, own_times wire past k s.handles own z, most wire past k z))
+
+  out_now : (q : Place) (b o : Bool) (p : Option Place) → is_out (Some q) ≡ false → is_out p ≡ o
+      → is_out (if b then option_map (λ (before : Place). q) p else p) ≡ ((o && not b) || false)
+  out_now q true o p n e = nowhere p ∙ sym (both o)
+    where
+      nowhere : (p : Option Place) → is_out (option_map (λ (before : Place). q) p) ≡ false
+      nowhere None = refl
+      nowhere (Some r) = n
+
+      both : (o : Bool) → ((o && false) || false) ≡ false
+      both true = refl
+      both false = refl
+  out_now q false true p n e = e
+  out_now q false false p n e = e
+
+  some_now : (q : Place) (b : Bool) (p : Option Place) → is_some (if b then option_map (λ (before : Place). q) p else p) ≡ is_some p
+  some_now q false p = refl
+  some_now q true None = refl
+  some_now q true (Some r) = refl
+
+  shut_now : (q : Place) (b g : Bool) (p : Option Place) → is_shut (Some q) ≡ false → is_shut p ≡ g → (b ≡ true → g ≡ false)
+      → is_shut (if b then option_map (λ (before : Place). q) p else p) ≡ g
+  shut_now q false g p n e f = e
+  shut_now q true g p n e f = nowhere p ∙ sym (f refl)
+    where
+      nowhere : (p : Option Place) → is_shut (option_map (λ (before : Place). q) p) ≡ false
+      nowhere None = refl
+      nowhere (Some r) = n
+
+  pub sent_agrees : (old mid new : Contents) (endpoints : List (List (List Line))) → Becomes (peer past y) (with_message sent_message) old mid
+      → PutsAll s.handles (places.Unread (peer past y)) mid new
+      → Agrees wire past old endpoints → Agrees wire (sent_event ∷ past) new endpoints
+  sent_agrees old mid new endpoints b p a = record {
+    ends = λ x. p.ends x ∙ (b.ends x ∙ (ap (λ (o : Option PipeEnd). if same_end (peer past y) x then option_map (with_message sent_message) o else o)
+        (a.ends x) ∙ ends_now x));
+    outs = λ z. ap is_out (at z) ∙ (out_now (places.Unread (peer past y)) (has s.handles z) (has (out past) z) (place_of old.table z) refl (a.outs z)
+        ∙ sym (out_after wire sent_event past z));
+    there = λ z. ap (λ (o : Option Place). is_some o) (at z)
+        ∙ (some_now (places.Unread (peer past y)) (has s.handles z) (place_of old.table z) ∙ (a.there z ∙ ap (λ ms. has ms z) (sym (append-nil (made past)))));
+    shuts = λ z. ap is_shut (at z) ∙ (shut_now (places.Unread (peer past y)) (has s.handles z) (has (gone past) z) (place_of old.table z) refl (a.shuts z)
+        (not_gone_own z) ∙ ap (λ gs. has gs z) (sym (append-nil (gone past))));
+    made = p.made ∙ (b.made ∙ (a.made ∙ ap length (sym (append-nil (made past)))));
+    serials = λ n. p.ends_made n ∙ (rw b.table (a.serials n ∙ ap (λ ms. count_by (λ z. is_end z && (seq_of z == n)) ms) (sym (append-nil (made past)))));
+    tokens = λ n. p.tokens_made n ∙ (rw b.table (a.tokens n ∙ ap (λ ms. count_by (λ z. not (is_end z) && (seq_of z == n)) ms) (sym (append-nil (made past)))));
+    endpoints = λ x i. a.endpoints x i;
+  }
+    where
+      at : (z : Thing) → place_of new.table z ≡ (if has s.handles z then option_map (λ (before : Place). places.Unread (peer past y))
+          (place_of old.table z) else place_of old.table z)
+      at z = rw b.table at (p.places z)

@@ -1,5 +1,0 @@
-use Rattle.std.proofs.Common.{◌≡◌, take}
-use Rattle.bind_core.proofs.handle.Handles.names.Given as goal
-
-abbrev pub invariant-loop-handle : goal.invariant-loop-handle
-invariant-loop-handle l = l.names.items ≡ take l.handle-index l.handle-items

@@ -1,0 +1,44 @@
+use Rattle.std.proofs.Common.{◌≡◌, ℕ, ◌*◌, List, length, refl, sym, ap, ◌∙◌, subst}
+use Rattle.std.proofs.lemmas.Result.{IfOk-weaker}
+use Rattle.mj_schema.specs.declared.schema.Schema.{Schema}
+use Rattle.message_header.specs.FirstFailed.{first_failed}
+use Rattle.message_header.specs.Said.{header_said}
+use Rattle.wire_model.specs.HeaderMarks.{header_marks}
+use Rattle.wire_model.specs.Message.{ids_read}
+use Rattle.wire_model.specs.Stands.{IsFine}
+use Rattle.bind_model.specs.Replies.{at_endpoint, headed}
+use Rattle.bind_model.specs.WireOf.{wire_of}
+use Rattle.bind_core.specs.steps.Founds.{IsRead, Tells, header_of}
+use Rattle.bind_core.specs.Agreement.{past_of, schema_of, wire_in}
+use Rattle.bind_core.proofs.Arriving.{delivers}
+use Rattle.bind_core.proofs.WireReads.{header_fails, header_reads}
+use Rattle.bind_core.proofs.reading.read.Goals as goal
+
+pub returns-in-Err : goal.returns-in-Err
+returns-in-Err c =
+    ap (headed (wire_in c.args.state.now) (past_of c.args.state.now) c.args.seq c.args.end c.args.message.now)
+    (header_fails (schema_of c.args.state.now) c.args.message.now.bytes c.in-Err.fault
+    (ap (λ (bytes : List ℕ). first_failed (header_marks bytes)) (sym c.as_slice.ensures) ∙ c.in-Err.ensures.first))
+
+pub returns : goal.returns
+returns c =
+    let schema = schema_of c.args.state.now in
+    let past = past_of c.args.state.now in
+    let m = c.args.message.now in
+    let header = c.in-Ok.header in
+    let same = c.as_slice.ensures in
+    let fine : IsFine (header_marks m.bytes) = subst (λ (bytes : List ℕ). IsFine (header_marks bytes)) same (c.in-Ok.ensures.exactly.0 refl) in
+    let said : header ≡ header_said m.bytes = c.in-Ok.ensures.said ∙ ap (λ (bytes : List ℕ). header_said bytes) same in
+    let read : IsRead (wire_of schema) past c.args.end m header = record {
+      front = c.requires.front;
+      says = header_reads schema m.bytes header fine said;
+      counted = c.in-Ok.ensures.placed.counted ∙ ap (λ (bytes : List ℕ). 4 * length (ids_read bytes)) same;
+    } in
+    IfOk-weaker c.deliver.result _ _
+    (λ found told.
+    delivers (wire_of schema) past c.args.seq c.args.end m header read c.if-header.false c.find-endpoint.result
+    (c.find-endpoint.ensures ∙ c.requires.holds.agrees.endpoints c.args.end header.interface_id) found
+    (subst (λ (s : Schema). IsRead (wire_of s) past c.args.end m header
+    → Tells (wire_of s) past c.args.end found (at_endpoint (wire_of s) past c.args.seq c.args.end m (header_of m header) c.find-endpoint.result))
+    c.deref.ensures (told past c.args.end) read))
+    c.deliver.ensures

@@ -1,0 +1,11 @@
+use Rattle.std.proofs.Common.{refl}
+use Rattle.bind_core.specs.Agreement.{past_of, wire_in}
+use Rattle.bind_core.proofs.Still.{skipped}
+use Rattle.bind_core.proofs.Held.{finish}
+use Rattle.bind_core.proofs.state.skip.Goals as goal
+
+pub returns : goal.returns
+returns c =
+    finish c.args.state.now _ c.args.seq _ _ c.requires.able refl refl c.push_reserved.ensures refl
+    (skipped (wire_in c.args.state.now) (past_of c.args.state.now) c.args.seq _ c.args.state.now.pipes c.args.state.now.endpoints c.requires.able.holds.agrees)
+    tt

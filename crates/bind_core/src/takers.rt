@@ -1,0 +1,59 @@
+//! Who takes at an end when nobody asks.
+
+ghost use Rattle.std.specs.Prelude.{◌≡◌, Some};
+ghost use Rattle.bind_model.specs.Ready.{on_of};
+ghost use Rattle.bind_core.specs.steps.Takers.{id_meant, taker_for, taker_of};
+
+use crate::state::State;
+use bind_model::{Endpoint, State as EndpointState};
+use message_header::{CONTROL_ID, read_header};
+use mj_base::{EndId, SeqId};
+
+/// The sequence that an endpoint is bound on.
+fn bound_on(endpoint: Endpoint) -> Option<SeqId>
+    ensures { result ≡ on_of (Some endpoint) }
+{
+    match endpoint.state {
+        EndpointState::Bound(seq) => Some(seq),
+        EndpointState::Pending | EndpointState::Closed => None,
+    }
+}
+
+/// Who takes a message for this endpoint, where endpoint 0 is bound on that sequence.
+fn taker_for(main: Option<SeqId>, endpoint: Option<Endpoint>) -> Option<SeqId>
+    ensures { result ≡ taker_for main endpoint }
+{
+    let Some(found) = endpoint else {
+        return main;
+    };
+    match found.state {
+        EndpointState::Pending => None,
+        EndpointState::Bound(seq) => Some(seq),
+        EndpointState::Closed => main,
+    }
+}
+
+/// The id of the endpoint that a message is for; none where it has no header, or is a control.
+fn id_meant(bytes: &[u8]) -> Option<u32>
+    ensures { result ≡ id_meant bytes.now }
+{
+    match read_header(bytes) {
+        Ok(header) if header.interface_id != CONTROL_ID => Some(header.interface_id),
+        _ => None,
+    }
+}
+
+/// The sequence whose take at an end would consume a message or find it bad.
+pub(crate) fn taker(state: &State, end: EndId) -> Option<SeqId>
+    ensures { result ≡ taker_of state.now end }
+{
+    let main = state.endpoints.find(end, 0)?;
+    if state.pipes.is_closed(end) {
+        return None;
+    }
+    let message = state.pipes.front(end)?;
+    match id_meant(message.bytes.as_slice()) {
+        Some(id) => taker_for(bound_on(main), state.endpoints.find(end, id)),
+        None => bound_on(main),
+    }
+}

@@ -1,0 +1,55 @@
+-- Groups of sequences that no command links.
+use Rattle.std.specs.Prelude.{ℕ, ◌≡◌, Bool, List, [], ◌∷◌, ◌++◌, map, filter}
+use Rattle.handle_table.specs.declared.thing.Thing.{Thing}
+use Rattle.bind_model.specs.declared.endpoint.PendingId.{PendingId}
+use Rattle.bind_model.specs.declared.asked.Closing.{Closing}
+use Rattle.bind_model.specs.declared.asked.Closing.TheVariants as closings
+use Rattle.bind_model.specs.declared.asked.Asked.{Asked}
+use Rattle.bind_model.specs.declared.asked.Asked.TheVariants.{Join, Bind, Associate, Attach, Call, Answer, Raw, Take, Close}
+use Rattle.bind_model.specs.declared.event.Event.{Event}
+use Rattle.handle_table.specs.Things.{seq_of}
+use Rattle.bind_model.specs.Wire.{Wire}
+use Rattle.bind_model.specs.Replies.{legal}
+
+abbrev pub seqs_of : List Thing → List ℕ
+seqs_of things = map seq_of things
+
+abbrev pub seqs_of_pendings : List PendingId → List ℕ
+seqs_of_pendings ps = map (λ (p : PendingId). p.end.seq) ps
+
+abbrev pub closes_seqs : Closing → List ℕ
+closes_seqs (closings.Handle x) = seq_of x ∷ []
+closes_seqs (closings.Pending p) = p.end.seq ∷ []
+closes_seqs (closings.Responder r) = r.end.seq ∷ []
+closes_seqs (closings.Endpoint y id) = y.seq ∷ []
+
+-- the sequences that a command names, or that numbered what it names
+abbrev pub names : Asked → List ℕ
+names (Join t) = t.0 ∷ []
+names (Bind x side interface) = seq_of x ∷ []
+names (Associate y side interface) = y.seq ∷ []
+names (Attach p t) = p.end.seq ∷ t.0 ∷ []
+names (Call y id s) = y.seq ∷ seqs_of s.handles ++ seqs_of_pendings s.pendings
+names (Answer r s) = r.end.seq ∷ seqs_of s.handles ++ seqs_of_pendings s.pendings
+names (Raw x bytes handles) = seq_of x ∷ seqs_of handles
+names (Take y) = y.seq ∷ []
+names (Close thing) = closes_seqs thing
+names asked = []
+
+-- all of these are in the group, or none, as this one
+abbrev pub AllIn : (ℕ → Bool) → ℕ → List ℕ → Type 0
+AllIn inside s [] = Unit {0}
+AllIn inside s (t ∷ ts) = (inside t ≡ inside s) × AllIn inside s ts
+
+-- no command links a sequence of the group with one outside
+abbrev pub Apart : (ℕ → Bool) → List Event → Type 0
+Apart inside [] = Unit {0}
+Apart inside (event ∷ past) = AllIn inside event.seq.0 (names event.asked) × Apart inside past
+
+-- the events of the group
+abbrev pub events_of : (ℕ → Bool) → List Event → List Event
+events_of inside past = filter (λ (e : Event). inside e.seq.0) past
+
+-- the events of a group apart are a legal history by themselves
+abbrev pub GroupsApart : Wire → ℕ → List Event → Type 0
+GroupsApart wire seqs past = (inside : ℕ → Bool) → Apart inside past → legal wire seqs (events_of inside past)

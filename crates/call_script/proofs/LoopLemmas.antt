@@ -1,0 +1,101 @@
+-- The lines that have been read.
+use Rattle.std.proofs.Common.{◌≡◌, ◌<◌, ◌≤◌, ◌+◌, ℕ, suc, List, [], ◌∷◌, ◌++◌, length, take, drop, get_or, sym, ◌∙◌, ap, subst, arith}
+use Rattle.std.proofs.Common.{append_assoc, Ok, Err}
+use Rattle.std.specs.Prelude.{map, reverse}
+use Rattle.std.proofs.lemmas.Grind.{common_steps}
+use Rattle.std.proofs.lemmas.List.{map-append, take_more, reverse-append}
+use Rattle.mj_base.specs.declared.limits.TheConstants.{MAX_SCRIPT_LINES}
+use Rattle.indexmap.specs.IndexMap.{index_map_len}
+use Rattle.mj_schema.specs.declared.schema.Schema.{Schema}
+use Rattle.call_script.specs.declared.commands.Stop.{Stop}
+use Rattle.call_script.specs.declared.commands.Stop.TheVariants as reasons
+use Rattle.call_script.specs.declared.script.Script.{Script}
+use Rattle.call_script.specs.declared.script_error.LineRefusal.{LineRefusal}
+use Rattle.call_script.specs.declared.script_error.ScriptError.{ScriptError}
+use Rattle.call_script.specs.declared.reading.Reader.{Reader}
+use Rattle.call_script.specs.Forms.{Form, form_words, header_words}
+use Rattle.call_script.specs.Script.{line_number, AreTaken, AreScript, IsRefusedBehind}
+use Rattle.call_script.specs.declared.split.Words.{Words}
+use Rattle.call_script.specs.steps.Pieces.{words_now}
+use Rattle.call_script.specs.steps.Lines.{HasRead, ReadsOn, AnswersBehind, error_of}
+
+-- the words of forms, in order, and of one more
+pub forms_more : (past : List Form) (form : Form) → map form_words (reverse (form ∷ past)) ≡ map form_words (reverse past) ++ form_words form ∷ []
+forms_more past form = ap (map form_words) (reverse-append (form ∷ []) past) ∙ map-append form_words (reverse past) (form ∷ [])
+
+-- so many lines have been read, and the next has this number
+pub record IsAt (schema : Schema) (reader : Reader) (done : List (List (List ℕ))) (number : ℕ) : Type 0 where
+  pub past : List Form
+  pub read : HasRead schema reader past
+  pub words : map form_words (reverse past) ≡ done
+  pub next : number ≡ line_number past
+  pub few : number ≤ suc MAX_SCRIPT_LINES
+
+-- one line more
+pub goes_on : (schema : Schema) (old new : Reader) (done : List (List (List ℕ))) (words : List (List ℕ)) (number : ℕ)
+    → IsAt schema old done number → ReadsOn schema old new words number (Ok tt) → IsAt schema new (done ++ words ∷ []) (number + 1)
+goes_on schema old new done words number at (small, on) =
+    let more = on at.past at.read at.next in
+    record {
+      past = more.0 ∷ at.past;
+      read = more.2;
+      words = forms_more at.past more.0 ∙ (ap (λ ws. ws ++ form_words more.0 ∷ []) at.words ∙ ap (λ w. done ++ w ∷ []) (sym more.1));
+      next = let n = at.next in omega (arith, n);
+      few = omega (arith, small);
+    }
+
+-- a line that is refused
+stops_at : (schema : Schema) (old new : Reader) (done rest : List (List (List ℕ))) (words : List (List ℕ)) (number : ℕ) (why : LineRefusal)
+    → IsAt schema old done number → ReadsOn schema old new words number (Err (reasons.Refused why))
+    → IsRefusedBehind schema (header_words ∷ (done ++ words ∷ rest)) number why
+stops_at schema old new done rest words number why at refuses = record {
+  forms = at.past;
+  lines = reverse old.lines.items;
+  words = words;
+  rest = rest;
+  spelled = ap (λ d. header_words ∷ (d ++ words ∷ rest)) (sym at.words);
+  taken = at.read.taken;
+  few = let n = at.next in let f = at.few in omega (arith, n, f);
+  number = at.next;
+  refused = refuses at.past at.read at.next;
+}
+
+-- a line that isn't taken
+pub stops : (schema : Schema) (old new : Reader) (texts done rest : List (List (List ℕ))) (words : List (List ℕ)) (number : ℕ) (stop : Stop)
+    (error : ScriptError)
+    → IsAt schema old done number → ReadsOn schema old new words number (Err stop) → texts ≡ done ++ words ∷ rest → error ≡ error_of number stop
+    → AnswersBehind schema texts (Err error)
+stops schema old new texts done rest words number (reasons.Refused why) error at refuses whole is =
+    subst (λ e. AnswersBehind schema texts (Err e)) (sym is)
+    (subst (λ t. IsRefusedBehind schema (header_words ∷ t) number why) (sym whole) (stops_at schema old new done rest words number why at refuses))
+stops schema old new texts done rest words number reasons.Memory error at refuses whole is = subst (λ e. AnswersBehind schema texts (Err e)) (sym is) tt
+
+-- all lines have been read
+pub ends : (schema : Schema) (reader : Reader) (done : List (List (List ℕ))) (number : ℕ) (script : Script)
+    → IsAt schema reader done number → script.lines ≡ reader.lines.items → script.names ≡ index_map_len reader.names.numbers
+    → AreScript schema (header_words ∷ done) script
+ends schema reader done number script at lines names = record {
+  forms = at.past;
+  spelled = ap (λ d. header_words ∷ d) (sym at.words);
+  taken = subst (λ ls. AreTaken schema at.past (reverse ls)) (sym lines) at.read.taken;
+  names = names ∙ at.read.table.count;
+  few = let n = at.next in let f = at.few in omega (arith, n, f);
+}
+
+-- one line more, and those around it
+pub lines_more : (lines : List Words) (k : ℕ) (d : Words) → k < length lines
+    → map words_now (take (k + 1) lines) ≡ map words_now (take k lines) ++ words_now (get_or lines k d) ∷ []
+lines_more lines k d h = rw (take_more lines k d h) (map-append words_now (take k lines) (get_or lines k d ∷ []))
+
+pub lines_around : (lines : List Words) (k : ℕ) (d : Words) → k < length lines
+    → map words_now lines ≡ map words_now (take k lines) ++ words_now (get_or lines k d) ∷ map words_now (drop (k + 1) lines)
+lines_around lines k d h =
+    let cut : lines ≡ take (k + 1) lines ++ drop (k + 1) lines = grind (arith, common_steps) in
+    ap (map words_now) cut
+    ∙ (map-append words_now (take (k + 1) lines) (drop (k + 1) lines)
+    ∙ (ap (λ ws. ws ++ map words_now (drop (k + 1) lines)) (lines_more lines k d h)
+    ∙ append_assoc (map words_now (take k lines)) (words_now (get_or lines k d) ∷ []) (map words_now (drop (k + 1) lines))))
+
+-- all the lines
+pub lines_all : (lines : List Words) (k : ℕ) → length lines ≤ k → map words_now (take k lines) ≡ map words_now lines
+lines_all lines k h = let all : take k lines ≡ lines = grind (arith, common_steps) in ap (map words_now) all

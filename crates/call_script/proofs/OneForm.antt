@@ -1,0 +1,100 @@
+-- Words have one form.
+use Rattle.std.proofs.Common.{◌≡◌, ◌<◌, ◌≤◌, ℕ, List, [], ◌∷◌, ◌++◌, refl, sym, ◌∙◌, arith, true, lit≤}
+use Rattle.std.specs.Prelude.{codes, decimal}
+use Rattle.std.specs.Char.{digit_value}
+use Rattle.std.specs.Str.Parse.{AllDigits}
+use Rattle.std.proofs.lemmas.Fmt.{decimal_injective, decimal_is_IsNumeral}
+use Rattle.std.proofs.lemmas.List.{append_cancel_right}
+use Rattle.handle_table.specs.declared.thing.TokenSort.{TokenSort}
+use Rattle.handle_table.specs.declared.thing.TokenSort.TheVariants.{SharedBuffer, Platform}
+use Rattle.wire_encoder.specs.declared.endpoint.EndpointSide.{EndpointSide}
+use Rattle.wire_encoder.specs.declared.endpoint.EndpointSide.TheVariants.{Remote, Receiver}
+use Rattle.call_script.specs.Letters.{endpoint_word, is_name}
+use Rattle.call_script.specs.Forms.{Said, Pipe, Mint, Bind, Call, Take, CloseToken, CloseEndpoint, IsSaid, said_words}
+use Rattle.call_script.specs.Forms.{Form, Join, Of, IsForm, form_words, sort_word, side_word}
+use Rattle.call_script.specs.steps.Numbers.{IsEndpoint}
+use Rattle.call_script.proofs.Endpoints.{parts_of, name_parts}
+use Rattle.call_script.proofs.Sayings.{first_is, rest_is, pipe_only, mint_only, bind_only, call_only, take_only, close_only, Closes, Token, Endpoint}
+
+sort_one : (a b : TokenSort) → sort_word a ≡ sort_word b → a ≡ b
+sort_one SharedBuffer SharedBuffer e = refl
+sort_one SharedBuffer Platform e = absurd cc
+sort_one Platform SharedBuffer e = absurd cc
+sort_one Platform Platform e = refl
+
+side_one : (a b : EndpointSide) → side_word a ≡ side_word b → a ≡ b
+side_one Remote Remote e = refl
+side_one Remote Receiver e = absurd cc
+side_one Receiver Remote e = absurd cc
+side_one Receiver Receiver e = refl
+
+-- the word of an endpoint has one name and one id
+endpoint_one : (word a b : List ℕ) (m n : ℕ) → IsEndpoint word a m → IsEndpoint word b n → (a ≡ b) × (m ≡ n)
+endpoint_one word a b m n one other =
+    let parts : a ∷ decimal m ∷ [] ≡ b ∷ decimal n ∷ [] = sym (parts_of word a m one) ∙ parts_of word b n other in
+    let names : a ≡ b = cc in
+    let digits : decimal m ≡ decimal n = cc in
+    let s = one.2 in
+    let t = other.2 in
+    (names, decimal_injective m n (omega arith) (omega arith) digits)
+
+-- a name is no endpoint
+no_endpoint : (word name : List ℕ) (id : ℕ) → is_name word ≡ true → IsEndpoint word name id → ⊥
+no_endpoint word name id named is =
+    let parts : word ∷ [] ≡ name ∷ decimal id ∷ [] = sym (name_parts word named) ∙ parts_of word name id is in absurd cc
+
+-- what is said has one meaning
+pub said_one : (a b : Said) → IsSaid a → IsSaid b → said_words a ≡ said_words b → a ≡ b
+said_one (Pipe x y) b ha hb e = let p = pipe_only (x ∷ y ∷ []) b hb e in cc
+said_one (Mint sort x) b ha hb e =
+    let p = mint_only (sort_word sort ∷ x ∷ []) b hb e in
+    let words : sort_word sort ≡ sort_word p.sort = cc in
+    let same = sort_one sort p.sort words in cc
+said_one (Bind x side i) b ha hb e =
+    let p = bind_only (x ∷ side_word side ∷ i ∷ []) b hb e in
+    let words : side_word side ≡ side_word p.side = cc in
+    let same = side_one side p.side words in cc
+said_one (Call x n m v ts) b ha hb e =
+    let p = call_only (endpoint_word x n ∷ m ∷ v ∷ ts) b hb e in
+    let words : endpoint_word x n ≡ endpoint_word p.end p.id = cc in
+    let same = endpoint_one (endpoint_word x n) x p.end n p.id (refl, ha.0, ha.1) (words, p.named, p.small) in cc
+said_one (Take x ns) b ha hb e = let p = take_only (x ∷ ns) b hb e in cc
+said_one (CloseToken x) b ha hb e = go (close_only (x ∷ []) b hb e)
+  where
+    go : Closes (x ∷ []) b → CloseToken x ≡ b
+    go (Token y is are named) = cc
+    go (Endpoint y n is are named small) =
+        let word : x ≡ endpoint_word y n = cc in absurd (no_endpoint x y n ha (word, named, small))
+said_one (CloseEndpoint x k) b ha hb e = go (close_only (endpoint_word x k ∷ []) b hb e)
+  where
+    go : Closes (endpoint_word x k ∷ []) b → CloseEndpoint x k ≡ b
+    go (Token y is are named) =
+        let word : endpoint_word x k ≡ y = cc in absurd (no_endpoint y x k named (sym word, ha.0, ha.1))
+    go (Endpoint y n is are named small) =
+        let word : endpoint_word x k ≡ endpoint_word y n = cc in
+        let same = endpoint_one (endpoint_word x k) x y k n (refl, ha.0, ha.1) (word, named, small) in cc
+
+-- a join is no line of a sequence
+no_digit : digit_value 106 < 10 → ⊥
+no_digit d = let big : 10 ≤ digit_value 106 = lit≤ tt in omega (arith, d, big)
+
+not_joined : (ds : List ℕ) → AllDigits 10 ds → codes "join" ≡ ds ++ codes ":" → ⊥
+not_joined [] a e = absurd cc
+not_joined (d ∷ ds) a e = let first : d ≡ 106 = cc in no_digit (rw first at a.0)
+
+join_word : (seq : ℕ) → seq < 1 → codes "join" ≡ decimal seq ++ codes ":" → ⊥
+join_word seq h e = not_joined (decimal seq) (decimal_is_IsNumeral seq (omega (arith, h))).0.1 e
+
+-- a line has one form
+pub form_one : (a b : Form) → IsForm a → IsForm b → form_words a ≡ form_words b → a ≡ b
+form_one (Join m n x y) (Join m' n' x' y') ha hb e =
+    let one : decimal m ≡ decimal m' = cc in
+    let two : decimal n ≡ decimal n' = cc in
+    let first : m ≡ m' = decimal_injective m m' (omega (arith, ha.0)) (omega (arith, hb.0)) one in
+    let second : n ≡ n' = decimal_injective n n' (omega (arith, ha.1)) (omega (arith, hb.1)) two in cc
+form_one (Join m n x y) (Of seq said) ha hb e = absurd (join_word seq hb.0 (first_is _ _ _ _ e))
+form_one (Of seq said) (Join m n x y) ha hb e = absurd (join_word seq ha.0 (sym (first_is _ _ _ _ e)))
+form_one (Of m a) (Of n b) ha hb e =
+    let digits : decimal m ≡ decimal n = append_cancel_right (decimal m) (decimal n) (codes ":") (first_is _ _ _ _ e) in
+    let seq : m ≡ n = decimal_injective m n (omega (arith, ha.0)) (omega (arith, hb.0)) digits in
+    let said : a ≡ b = said_one a b ha.1 hb.1 (rest_is _ _ _ _ e) in cc

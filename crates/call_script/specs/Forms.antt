@@ -1,0 +1,103 @@
+-- The forms of a script's lines, with names, interfaces, methods and values as words.
+use Rattle.std.specs.Prelude.{ℕ, ◌≡◌, ◌<◌, ◌^◌, ◌++◌, Bool, true, false, List, [], ◌∷◌, length, codes, decimal}
+use Rattle.handle_table.specs.declared.thing.TokenSort.{TokenSort}
+use Rattle.handle_table.specs.declared.thing.TokenSort.TheVariants.{SharedBuffer, Platform}
+use Rattle.wire_encoder.specs.declared.endpoint.EndpointSide.{EndpointSide}
+use Rattle.wire_encoder.specs.declared.endpoint.EndpointSide.TheVariants.{Remote, Receiver}
+use Rattle.call_script.specs.declared.script.TheConstants.{SEQUENCES}
+use Rattle.call_script.specs.Letters.{endpoint_word, is_name, are_names, is_interface_word, is_method_word}
+
+-- what a sequence is told to do
+pub data Said : Type 0 where
+  Pipe : (first second : List ℕ) → Said
+  Mint : (sort : TokenSort) (name : List ℕ) → Said
+  Bind : (end : List ℕ) (side : EndpointSide) (interface : List ℕ) → Said
+  Call : (end : List ℕ) (id : ℕ) (method value : List ℕ) (tokens : List (List ℕ)) → Said
+  Take : (end : List ℕ) (names : List (List ℕ)) → Said
+  CloseToken : (token : List ℕ) → Said
+  CloseEndpoint : (end : List ℕ) (id : ℕ) → Said
+
+-- a line behind the first: of the setup, or of a sequence
+pub data Form : Type 0 where
+  Join : (seq other : ℕ) (first second : List ℕ) → Form
+  Of : (seq : ℕ) (said : Said) → Form
+
+-- the word for a sort of token
+abbrev pub sort_word : TokenSort → List ℕ
+sort_word SharedBuffer = codes "shared_buffer"
+sort_word Platform = codes "platform"
+
+-- the word for a side of an endpoint
+abbrev pub side_word : EndpointSide → List ℕ
+side_word Remote = codes "remote"
+side_word Receiver = codes "receiver"
+
+-- the words behind the sequence
+abbrev pub said_words : Said → List (List ℕ)
+said_words (Pipe first second) = codes "pipe" ∷ first ∷ second ∷ []
+said_words (Mint sort name) = codes "mint" ∷ sort_word sort ∷ name ∷ []
+said_words (Bind end side interface) = codes "bind" ∷ end ∷ side_word side ∷ interface ∷ []
+said_words (Call end id method value tokens) = codes "call" ∷ endpoint_word end id ∷ method ∷ value ∷ tokens
+said_words (Take end names) = codes "take" ∷ end ∷ names
+said_words (CloseToken token) = codes "close" ∷ token ∷ []
+said_words (CloseEndpoint end id) = codes "close" ∷ endpoint_word end id ∷ []
+
+-- the words of a line
+abbrev pub form_words : Form → List (List ℕ)
+form_words (Join seq other first second) = codes "join" ∷ decimal seq ∷ decimal other ∷ first ∷ second ∷ []
+form_words (Of seq said) = (decimal seq ++ codes ":") ∷ said_words said
+
+-- the words of the first line
+abbrev pub header_words : List (List ℕ)
+header_words = codes "seqs" ∷ decimal SEQUENCES ∷ []
+
+-- names are names, numbers are in their range, and what names an interface or a method has the letters of one
+abbrev pub IsSaid : Said → Type 0
+IsSaid (Pipe first second) = (is_name first ≡ true) × (is_name second ≡ true)
+IsSaid (Mint sort name) = is_name name ≡ true
+IsSaid (Bind end side interface) = (is_name end ≡ true) × (is_interface_word interface ≡ true)
+IsSaid (Call end id method value tokens) =
+    (is_name end ≡ true) × (id < 2 ^ 32) × (is_method_word method ≡ true) × (0 < length value) × (are_names tokens ≡ true)
+IsSaid (Take end names) = (is_name end ≡ true) × (are_names names ≡ true)
+IsSaid (CloseToken token) = is_name token ≡ true
+IsSaid (CloseEndpoint end id) = (is_name end ≡ true) × (id < 2 ^ 32)
+
+-- sequences are there, and what is said is said right
+abbrev pub IsForm : Form → Type 0
+IsForm (Join seq other first second) = (seq < SEQUENCES) × (other < SEQUENCES) × (is_name first ≡ true) × (is_name second ≡ true)
+IsForm (Of seq said) = (seq < SEQUENCES) × IsSaid said
+
+-- whether a line is of the setup
+abbrev pub is_setup : Form → Bool
+is_setup (Join seq other first second) = true
+is_setup (Of seq said) = false
+
+-- the names that are set by what is said
+abbrev pub said_sets : Said → List (List ℕ)
+said_sets (Pipe first second) = first ∷ second ∷ []
+said_sets (Mint sort name) = name ∷ []
+said_sets (Bind end side interface) = []
+said_sets (Call end id method value tokens) = []
+said_sets (Take end names) = names
+said_sets (CloseToken token) = []
+said_sets (CloseEndpoint end id) = []
+
+-- the names that a line sets
+abbrev pub sets : Form → List (List ℕ)
+sets (Join seq other first second) = first ∷ second ∷ []
+sets (Of seq said) = said_sets said
+
+-- the names that are needed by what is said
+abbrev pub said_needs : Said → List (List ℕ)
+said_needs (Pipe first second) = []
+said_needs (Mint sort name) = []
+said_needs (Bind end side interface) = end ∷ []
+said_needs (Call end id method value tokens) = end ∷ tokens
+said_needs (Take end names) = end ∷ []
+said_needs (CloseToken token) = token ∷ []
+said_needs (CloseEndpoint end id) = end ∷ []
+
+-- the names that a line needs
+abbrev pub needs : Form → List (List ℕ)
+needs (Join seq other first second) = []
+needs (Of seq said) = said_needs said

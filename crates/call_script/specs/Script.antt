@@ -1,0 +1,202 @@
+-- Which bytes are which script, and the first refusal of those that are none. Lines behind the first are judged one by one, each by
+-- those before it, the newest first.
+use Rattle.std.specs.Prelude.{ℕ, ◌≡◌, ◌<◌, ◌+◌, ◌++◌, ◌⊎◌, Bool, true, false, ◌&&◌, ◌||◌, not, List, [], ◌∷◌, length, map, reverse, slice_get}
+use Rattle.std.specs.Prelude.{Some, is_some}
+use Rattle.std.specs.List.{list_any, list_all}
+use Rattle.std.specs.Str.{bytes_eq}
+use Rattle.mj_base.specs.declared.limits.TheConstants.{MAX_SCRIPT_LINES}
+use Rattle.mj_schema.specs.declared.schema.Schema.{Schema}
+use Rattle.mj_schema.specs.KindTrees.{StructKind}
+use Rattle.mj_schema.specs.Lookups.{interface_named}
+use Rattle.byte_rules.specs.Lang.{Lang}
+use Rattle.byte_rules.specs.Judged.{Spells}
+use Rattle.value_text.specs.Rules.{value}
+use Rattle.wire_model.specs.Trees.{Tree, view}
+use Rattle.wire_model.specs.declared.target.MessageSide.TheVariants.{Request}
+use Rattle.wire_model.specs.declared.target.Target.{Target}
+use Rattle.wire_encoder.specs.Prepared.{IsPrepared, IsPrepareRefusal}
+use Rattle.wire_encoder.specs.declared.prepared.Prepared.{Prepared}
+use Rattle.wire_encoder.specs.declared.refusal.PrepareError.{PrepareError}
+use Rattle.wire_encoder.specs.declared.refusal.PrepareError.TheVariants.{Memory}
+use Rattle.call_script.specs.declared.script.NameId.{NameId}
+use Rattle.call_script.specs.declared.script.Command.{Command}
+use Rattle.call_script.specs.declared.script.Command.TheVariants as commands
+use Rattle.call_script.specs.declared.script.Line.{Line}
+use Rattle.call_script.specs.declared.script.Script.{Script}
+use Rattle.call_script.specs.declared.script_error.LineRefusal.{LineRefusal}
+use Rattle.call_script.specs.declared.script_error.LineRefusal.TheVariants.{BadLine, DoubleName, UnknownName, BadValue, TooManyLines}
+use Rattle.call_script.specs.Pieces.{text_words}
+use Rattle.call_script.specs.Targets.{message_named}
+use Rattle.call_script.specs.Forms.{Form, Join, Of, Pipe, Mint, Bind, Call, Take, CloseToken, CloseEndpoint, form_words, header_words, IsForm}
+use Rattle.call_script.specs.Forms.{is_setup, sets, needs}
+
+-- ## What stands before a line
+
+-- the names that are set, in order
+abbrev pub names_set : List Form → List (List ℕ)
+names_set [] = []
+names_set (form ∷ past) = names_set past ++ sets form
+
+-- the number of a line: the first one has number 1
+abbrev pub line_number : List Form → ℕ
+line_number past = length past + 2
+
+-- whether a name stands in a list
+abbrev pub has_name : List (List ℕ) → List ℕ → Bool
+has_name names name = list_any (bytes_eq name) names
+
+-- ## Tests of a line
+
+-- whether a line may stand behind these: what is of the setup stands behind nothing else
+abbrev pub is_placed : List Form → Form → Bool
+is_placed past form = not (is_setup form) || list_all is_setup past
+
+-- the line has this form, which may stand there
+pub record IsFormOf (past : List Form) (words : List (List ℕ)) (form : Form) : Type 0 where
+  pub sound : IsForm form
+  pub placed : is_placed past form ≡ true
+  pub spelled : words ≡ form_words form
+
+-- whether one of some more names stands among those before it
+abbrev pub doubled : List (List ℕ) → List (List ℕ) → Bool
+doubled names [] = false
+doubled names (name ∷ more) = has_name names name || doubled (names ++ name ∷ []) more
+
+-- whether a line sets a name again
+abbrev pub doubles : List (List ℕ) → Form → Bool
+doubles names form = doubled names (sets form)
+
+-- whether the interface or the method that is named is there
+abbrev pub finds : Schema → Form → Bool
+finds schema (Of seq (Bind end side interface)) = is_some (interface_named schema.interfaces interface)
+finds schema (Of seq (Call end id method word tokens)) = is_some (message_named schema Request method)
+finds schema form = true
+
+-- whether all that it names is there, of names those before
+abbrev pub knows : Schema → List (List ℕ) → Form → Bool
+knows schema names form = finds schema form && list_all (has_name names) (needs form)
+
+-- the texts of a method's parameters: a struct of this number, with 512 brackets open at once at most
+abbrev pub parameters_rule : Schema → ℕ → Lang Tree
+parameters_rule schema number = value schema 512 (StructKind number false)
+
+-- the word is the value that was prepared, of the struct of this number
+abbrev pub IsValueOf : Schema → ℕ → List ℕ → Prepared → Type 0
+IsValueOf schema number word prepared = Spells (parameters_rule schema number) (view prepared.value) word × IsPrepared schema prepared
+
+-- for a reason that isn't want of memory
+abbrev pub IsReason : PrepareError → Type 0
+IsReason Memory = ⊥
+IsReason _ = Unit {0}
+
+-- the word is no value of the target's parameters, or one that isn't prepared
+abbrev pub IsNoValue : Schema → Target → ℕ → List ℕ → Type 0
+IsNoValue schema target number word =
+    (tree : Tree) → Spells (parameters_rule schema number) tree word → (error : PrepareError) × IsReason error × IsPrepareRefusal schema target tree error
+
+-- the value of a call isn't one
+abbrev pub HasNoValue : Schema → Form → Type 0
+HasNoValue schema (Of seq (Call end id method word tokens)) =
+    (target : Target) (number : ℕ) → message_named schema Request method ≡ Some (target, number) → IsNoValue schema target number word
+HasNoValue schema form = ⊥
+
+-- ## What a line asks
+
+-- the name of this number
+abbrev pub IsNamed : List (List ℕ) → NameId → List ℕ → Type 0
+IsNamed names id name = slice_get names id.0 ≡ Some name
+
+-- the names of these numbers, in order
+abbrev pub AreNamed : List (List ℕ) → List NameId → List (List ℕ) → Type 0
+AreNamed names [] [] = Unit {0}
+AreNamed names (id ∷ ids) (name ∷ rest) = IsNamed names id name × AreNamed names ids rest
+AreNamed names _ _ = ⊥
+
+-- the command that a line's form asks, with names, interfaces and methods by their numbers and its value prepared
+abbrev pub Asks : Schema → List (List ℕ) → Form → Command → Type 0
+Asks schema names (Join seq other x y) (commands.Join other' first second) = (other'.0 ≡ other) × IsNamed names first x × IsNamed names second y
+Asks schema names (Of seq (Pipe x y)) (commands.Pipe first second) = IsNamed names first x × IsNamed names second y
+Asks schema names (Of seq (Mint sort x)) (commands.Mint sort' name) = (sort' ≡ sort) × IsNamed names name x
+Asks schema names (Of seq (Bind x side interface)) (commands.Bind end side' number) =
+    IsNamed names end x × (side' ≡ side) × (interface_named schema.interfaces interface ≡ Some number)
+Asks schema names (Of seq (Call x id method word ts)) (commands.Call end id' prepared tokens) =
+    IsNamed names end x × (id' ≡ id) × AreNamed names tokens ts
+    × ((number : ℕ) × (message_named schema Request method ≡ Some (prepared.target, number)) × IsValueOf schema number word prepared)
+Asks schema names (Of seq (Take x ns)) (commands.Take end got) = IsNamed names end x × AreNamed names got ns
+Asks schema names (Of seq (CloseToken x)) (commands.CloseToken token) = IsNamed names token x
+Asks schema names (Of seq (CloseEndpoint x id)) (commands.CloseEndpoint end id') = IsNamed names end x × (id' ≡ id)
+Asks schema names form command = ⊥
+
+-- the sequence of a line
+abbrev pub seq_of : Form → ℕ
+seq_of (Join seq other x y) = seq
+seq_of (Of seq said) = seq
+
+-- the line of a form behind these
+pub record IsLine (schema : Schema) (past : List Form) (form : Form) (line : Line) : Type 0 where
+  pub number : line.number ≡ line_number past
+  pub seq : line.seq.0 ≡ seq_of form
+  pub command : Asks schema (names_set (form ∷ past)) form line.command
+
+-- no name is set again, all that is named is there, and the line is what the form asks
+pub record IsTaken (schema : Schema) (past : List Form) (form : Form) (line : Line) : Type 0 where
+  pub placed : is_placed past form ≡ true
+  pub sound : IsForm form
+  pub single : doubles (names_set past) form ≡ false
+  pub known : knows schema (names_set past) form ≡ true
+  pub means : IsLine schema past form line
+
+-- the lines of these forms, the newest first as well
+abbrev pub AreTaken : Schema → List Form → List Line → Type 0
+AreTaken schema [] [] = Unit {0}
+AreTaken schema (form ∷ past) (line ∷ lines) = IsTaken schema past form line × AreTaken schema past lines
+AreTaken schema _ _ = ⊥
+
+-- ## The script, and its refusals
+
+-- the lines are the script's: the first says how many sequences there are, and the others are its lines, 65,536 at most in all
+pub record AreScript (schema : Schema) (texts : List (List (List ℕ))) (script : Script) : Type 0 where
+  pub forms : List Form
+  pub spelled : texts ≡ header_words ∷ map form_words (reverse forms)
+  pub taken : AreTaken schema forms (reverse script.lines)
+  pub names : script.names ≡ length (names_set forms)
+  pub few : length forms < MAX_SCRIPT_LINES
+
+-- the bytes are the script
+abbrev pub IsScriptOf : Schema → List ℕ → Script → Type 0
+IsScriptOf schema bytes script = AreScript schema (text_words bytes) script
+
+-- a line of these words behind those is refused; of several reasons the first in this order is meant
+abbrev pub IsRefused : Schema → List Form → List (List ℕ) → LineRefusal → Type 0
+IsRefused schema past words BadLine = (form : Form) → IsFormOf past words form → ⊥
+IsRefused schema past words DoubleName = (form : Form) × IsFormOf past words form × (doubles (names_set past) form ≡ true)
+IsRefused schema past words UnknownName = (form : Form) × IsFormOf past words form × (doubles (names_set past) form ≡ false)
+    × (knows schema (names_set past) form ≡ false)
+IsRefused schema past words BadValue =
+    (form : Form) × IsFormOf past words form × (doubles (names_set past) form ≡ false) × (knows schema (names_set past) form ≡ true) × HasNoValue schema form
+IsRefused schema past words TooManyLines =
+    (form : Form) × (line : Line) × (words ≡ form_words form) × IsTaken schema past form line × (MAX_SCRIPT_LINES < line_number past)
+
+-- the line of this number is the first that is refused
+pub record IsRefusedBehind (schema : Schema) (texts : List (List (List ℕ))) (line : ℕ) (why : LineRefusal) : Type 0 where
+  pub forms : List Form
+  pub lines : List Line
+  pub words : List (List ℕ)
+  pub rest : List (List (List ℕ))
+  pub spelled : texts ≡ header_words ∷ (map form_words (reverse forms) ++ words ∷ rest)
+  pub taken : AreTaken schema forms lines
+  pub few : length forms < MAX_SCRIPT_LINES
+  pub number : line ≡ line_number forms
+  pub refused : IsRefused schema forms words why
+
+-- the first line doesn't say how many sequences there are, or there is none
+abbrev pub HasNoHeader : List (List (List ℕ)) → Type 0
+HasNoHeader texts = (rest : List (List (List ℕ))) → texts ≡ header_words ∷ rest → ⊥
+
+-- the first refusal of these lines
+abbrev pub AreRefused : Schema → List (List (List ℕ)) → ℕ → LineRefusal → Type 0
+AreRefused schema texts line why = ((line ≡ 1) × (why ≡ BadLine) × HasNoHeader texts) ⊎ IsRefusedBehind schema texts line why
+
+-- the first refusal of the bytes
+abbrev pub IsFirstRefusal : Schema → List ℕ → ℕ → LineRefusal → Type 0
+IsFirstRefusal schema bytes line why = AreRefused schema (text_words bytes) line why

@@ -1,0 +1,53 @@
+-- What the readers of a line's command answer.
+use Rattle.std.specs.Prelude.{ℕ, ◌≡◌, ◌++◌, true, false, List, length, Option, Some, None, Result, Ok, Err}
+use Rattle.std.specs.List.{list_all}
+use Rattle.mj_schema.specs.declared.schema.Schema.{Schema}
+use Rattle.wire_model.specs.declared.target.Target.{Target}
+use Rattle.wire_encoder.specs.declared.prepared.Prepared.{Prepared}
+use Rattle.wire_encoder.specs.declared.refusal.PrepareError.{PrepareError}
+use Rattle.call_script.specs.declared.name_table.NameTable.{NameTable}
+use Rattle.call_script.specs.declared.script.NameId.{NameId}
+use Rattle.call_script.specs.declared.script.Command.{Command}
+use Rattle.call_script.specs.declared.script_error.LineRefusal.TheVariants as refusals
+use Rattle.call_script.specs.declared.commands.Stop.{Stop}
+use Rattle.call_script.specs.declared.commands.Stop.TheVariants as stops
+use Rattle.call_script.specs.Forms.{Said, Form, Of, sets}
+use Rattle.call_script.specs.Script.{knows, has_name, Asks, AreNamed, HasNoValue, IsReason, IsValueOf, IsNoValue}
+use Rattle.call_script.specs.steps.Names.{IsTable}
+
+-- what a line asks where these names are set before it, or why it is refused
+abbrev pub Gives : Schema → List (List ℕ) → Form → Result Command Stop → Type 0
+Gives schema names form (Ok command) = (knows schema names form ≡ true) × Asks schema (names ++ sets form) form command
+Gives schema names form (Err (stops.Refused refusals.UnknownName)) = knows schema names form ≡ false
+Gives schema names form (Err (stops.Refused refusals.BadValue)) = (knows schema names form ≡ true) × HasNoValue schema form
+Gives schema names form (Err (stops.Refused _)) = ⊥
+Gives schema names form (Err stops.Memory) = Unit {0}
+
+-- the same where a table has the names, the line's own behind the first so many
+abbrev pub Commands : Schema → NameTable → ℕ → Form → Result Command Stop → Type 0
+Commands schema table count form result = (names : List (List ℕ)) → IsTable table (names ++ sets form) → count ≡ length names → Gives schema names form result
+
+-- of what is said to any sequence
+abbrev pub Says : Schema → NameTable → ℕ → Said → Result Command Stop → Type 0
+Says schema table count said result = (seq : ℕ) → Commands schema table count (Of seq said) result
+
+-- the numbers of all these names, or none where one isn't there
+abbrev pub AreFound : List (List ℕ) → List (List ℕ) → List (List ℕ) → Option (List NameId) → Type 0
+AreFound names own words (Some ids) = (list_all (has_name names) words ≡ true) × AreNamed (names ++ own) ids words
+AreFound names own words None = list_all (has_name names) words ≡ false
+
+abbrev pub FindsAll : NameTable → ℕ → List (List ℕ) → Option (List NameId) → Type 0
+FindsAll table count words found = (names own : List (List ℕ)) → IsTable table (names ++ own) → count ≡ length names → AreFound names own words found
+
+-- the stop for a value that isn't prepared
+abbrev pub StopsFor : PrepareError → Stop → Type 0
+StopsFor error (stops.Refused refusals.BadValue) = IsReason error
+StopsFor error (stops.Refused _) = ⊥
+StopsFor error stops.Memory = Unit {0}
+
+-- the value that was prepared, or why the word is none
+abbrev pub Values : Schema → Target → ℕ → List ℕ → Result Prepared Stop → Type 0
+Values schema target number word (Ok prepared) = (prepared.target ≡ target) × IsValueOf schema number word prepared
+Values schema target number word (Err (stops.Refused refusals.BadValue)) = IsNoValue schema target number word
+Values schema target number word (Err (stops.Refused _)) = ⊥
+Values schema target number word (Err stops.Memory) = Unit {0}

@@ -1,0 +1,54 @@
+-- What the readers of forms answer.
+use Rattle.std.specs.Prelude.{ℕ, ◌≡◌, ◌<◌, List, ◌∷◌, map, Option, Some, None}
+use Rattle.handle_table.specs.declared.thing.TokenSort.{TokenSort}
+use Rattle.wire_encoder.specs.declared.endpoint.EndpointSide.{EndpointSide}
+use Rattle.call_script.specs.declared.form.Form.{Form as WrittenForm}
+use Rattle.call_script.specs.declared.form.Form.TheVariants as forms
+use Rattle.call_script.specs.declared.form.Said.{Said as WrittenSaid}
+use Rattle.call_script.specs.declared.form.Said.TheVariants as saids
+use Rattle.call_script.specs.declared.script.TheConstants.{SEQUENCES}
+use Rattle.call_script.specs.Forms.{Said, Form, Join, Of, Pipe, Mint, Bind, Call, Take, CloseToken, CloseEndpoint, IsSaid, IsForm, said_words, form_words}
+use Rattle.call_script.specs.Forms.{sort_word, side_word}
+
+-- forms without where their words lie
+abbrev pub said_view : WrittenSaid → Said
+said_view (saids.Pipe first second) = Pipe first.now second.now
+said_view (saids.Mint sort name) = Mint sort name.now
+said_view (saids.Bind end side interface) = Bind end.now side interface.now
+said_view (saids.Call end id method value tokens) = Call end.now id method.now value.now (map (λ word. word.now) tokens.now)
+said_view (saids.Take end names) = Take end.now (map (λ word. word.now) names.now)
+said_view (saids.CloseToken token) = CloseToken token.now
+said_view (saids.CloseEndpoint end id) = CloseEndpoint end.now id
+
+abbrev pub form_view : WrittenForm → Form
+form_view (forms.Join seq other first second) = Join seq other first.now second.now
+form_view (forms.Of seq said) = Of seq (said_view said)
+
+-- the number of a sequence that is there, in this spelling
+abbrev pub SpellsSequence : (ℕ → List ℕ) → List ℕ → Option ℕ → Type 0
+SpellsSequence text word (Some n) = (word ≡ text n) × (n < SEQUENCES)
+SpellsSequence text word None = (n : ℕ) → n < SEQUENCES → word ≡ text n → ⊥
+
+-- the sort of token and the side of an endpoint of this word
+abbrev pub SpellsSort : List ℕ → Option TokenSort → Type 0
+SpellsSort word (Some sort) = word ≡ sort_word sort
+SpellsSort word None = (sort : TokenSort) → word ≡ sort_word sort → ⊥
+
+abbrev pub SpellsSide : List ℕ → Option EndpointSide → Type 0
+SpellsSide word (Some side) = word ≡ side_word side
+SpellsSide word None = (side : EndpointSide) → word ≡ side_word side → ⊥
+
+-- what is said by a command and these words, or none where nothing is
+abbrev pub SpellsBehind : List ℕ → List (List ℕ) → Option WrittenSaid → Type 0
+SpellsBehind command words (Some said) = IsSaid (said_view said) × (command ∷ words ≡ said_words (said_view said))
+SpellsBehind command words None = (said : Said) → IsSaid said → command ∷ words ≡ said_words said → ⊥
+
+-- the line of a sequence of these words, or none
+abbrev pub SpellsOf : List ℕ → List (List ℕ) → Option WrittenForm → Type 0
+SpellsOf start words (Some form) = IsForm (form_view form) × (start ∷ words ≡ form_words (form_view form))
+SpellsOf start words None = (seq : ℕ) (said : Said) → IsForm (Of seq said) → start ∷ words ≡ form_words (Of seq said) → ⊥
+
+-- the form of these words, or none where they have none
+abbrev pub SpellsForm : List (List ℕ) → Option WrittenForm → Type 0
+SpellsForm words (Some form) = IsForm (form_view form) × (words ≡ form_words (form_view form))
+SpellsForm words None = (form : Form) → IsForm form → words ≡ form_words form → ⊥

@@ -1,0 +1,65 @@
+-- What the readers of whole lines answer.
+use Rattle.std.specs.Prelude.{ℕ, ◌≡◌, ◌≤◌, ◌++◌, Bool, true, List, [], ◌∷◌, reverse, not, Result, Ok, Err}
+use Rattle.std.specs.List.{list_all}
+use Rattle.mj_base.specs.declared.limits.TheConstants.{MAX_SCRIPT_LINES}
+use Rattle.mj_schema.specs.declared.schema.Schema.{Schema}
+use Rattle.call_script.specs.declared.commands.Stop.{Stop}
+use Rattle.call_script.specs.declared.commands.Stop.TheVariants as stops
+use Rattle.call_script.specs.declared.reading.Reader.{Reader}
+use Rattle.call_script.specs.declared.script.Line.{Line}
+use Rattle.call_script.specs.declared.script.Script.{Script}
+use Rattle.call_script.specs.declared.script_error.ScriptError.{ScriptError}
+use Rattle.call_script.specs.declared.script_error.ScriptError.TheVariants as errors
+use Rattle.call_script.specs.Forms.{Form, form_words, header_words, is_setup}
+use Rattle.call_script.specs.Script.{is_placed, names_set, line_number, AreTaken, IsRefused, AreScript, AreRefused, IsRefusedBehind}
+use Rattle.call_script.specs.steps.Names.{IsTable}
+
+-- what has been read: the forms so far, the newest first
+pub record HasRead (schema : Schema) (reader : Reader) (past : List Form) : Type 0 where
+  pub taken : AreTaken schema past (reverse reader.lines.items)
+  pub table : IsTable reader.names (names_set past)
+  pub setup : list_all is_setup past ≡ not reader.started
+
+-- a line is added, and noted as one of a sequence or of the setup
+abbrev pub Pushes : Reader → Reader → Line → Bool → Result (Unit {0}) Stop → Type 0
+Pushes old new line started (Ok done) =
+    (new.names ≡ old.names) × (new.lines.items ≡ old.lines.items ++ line ∷ []) × (new.started ≡ started)
+Pushes old new line started (Err (stops.Refused why)) = ⊥
+Pushes old new line started (Err stops.Memory) = Unit {0}
+
+-- a line more has been read, of these words
+abbrev pub ReadsOn : Schema → Reader → Reader → List (List ℕ) → ℕ → Result (Unit {0}) Stop → Type 0
+ReadsOn schema old new words number (Ok done) =
+    (number ≤ MAX_SCRIPT_LINES)
+    × ((past : List Form) → HasRead schema old past → number ≡ line_number past → (form : Form) × (words ≡ form_words form) × HasRead schema new (form ∷ past))
+ReadsOn schema old new words number (Err (stops.Refused why)) =
+    (past : List Form) → HasRead schema old past → number ≡ line_number past → IsRefused schema past words why
+ReadsOn schema old new words number (Err stops.Memory) = Unit {0}
+
+-- a line more has been read, of this form, which may stand here
+abbrev pub TakesForm : Schema → Reader → Reader → Form → ℕ → Result (Unit {0}) Stop → Type 0
+TakesForm schema old new form number (Ok done) =
+    (number ≤ MAX_SCRIPT_LINES)
+    × ((past : List Form) → HasRead schema old past → is_placed past form ≡ true → number ≡ line_number past
+    → HasRead schema new (form ∷ past))
+TakesForm schema old new form number (Err (stops.Refused why)) =
+    (past : List Form) → HasRead schema old past → is_placed past form ≡ true → number ≡ line_number past
+    → IsRefused schema past (form_words form) why
+TakesForm schema old new form number (Err stops.Memory) = Unit {0}
+
+-- the error of a stop at a line
+abbrev pub error_of : ℕ → Stop → ScriptError
+error_of number (stops.Refused why) = errors.Refused number why
+error_of number stops.Memory = errors.Memory
+
+-- the script of lines, or their first refusal
+abbrev pub AnswersAll : Schema → List (List (List ℕ)) → Result Script ScriptError → Type 0
+AnswersAll schema texts (Ok script) = AreScript schema texts script
+AnswersAll schema texts (Err (errors.Refused line why)) = AreRefused schema texts line why
+AnswersAll schema texts (Err errors.Memory) = Unit {0}
+
+-- the same of the lines behind the first
+abbrev pub AnswersBehind : Schema → List (List (List ℕ)) → Result Script ScriptError → Type 0
+AnswersBehind schema texts (Ok script) = AreScript schema (header_words ∷ texts) script
+AnswersBehind schema texts (Err (errors.Refused line why)) = IsRefusedBehind schema (header_words ∷ texts) line why
+AnswersBehind schema texts (Err errors.Memory) = Unit {0}

@@ -1,0 +1,203 @@
+//! Reads a whole script.
+
+ghost use Rattle.std.specs.Prelude.{◌≡◌, IfOk, Err, map, IsTrue, ◌↔◌, ℕ};
+ghost use Rattle.call_script.specs.Forms.{IsForm, header_words, is_setup, sets};
+ghost use Rattle.call_script.specs.Script.{IsScriptOf, IsFirstRefusal, seq_of};
+ghost use Rattle.call_script.specs.Sound.{IsScript};
+ghost use Rattle.call_script.specs.declared.script_error.LineRefusal.{LineRefusal};
+ghost use Rattle.call_script.specs.declared.script_error.ScriptError.TheVariants as errors;
+ghost use Rattle.call_script.specs.steps.Forms.{form_view};
+ghost use Rattle.call_script.specs.steps.Pieces.{words_now};
+ghost use Rattle.call_script.specs.steps.Names.{Adds};
+ghost use Rattle.call_script.specs.steps.Lines.{Pushes, TakesForm, ReadsOn, AnswersBehind, AnswersAll, error_of};
+
+use crate::commands::{Stop, command_of};
+use crate::few_words::two_words;
+use crate::form::{Form, Said, read_form};
+use crate::name_table::{NameTable, add_all, no_names};
+use crate::script::{Line, SEQUENCES, Script};
+use crate::script_error::{LineRefusal, ScriptError};
+use crate::split::{Words, text_words};
+use mj_base::limits::MAX_SCRIPT_LINES;
+use mj_base::{Items, SeqId};
+use mj_schema::Schema;
+use std::alloc::{AllocError, Global};
+
+/// What has been read: the names that are set, the lines, and whether one of a sequence is among them.
+#[derive(Drop)]
+pub(crate) struct Reader {
+    pub names: NameTable,
+    pub lines: Vec<Line>,
+    pub started: bool,
+}
+
+/// Whether a line is of the setup.
+fn is_setup(form: &Form) -> bool
+    ensures { result ≡ is_setup (form_view form.now) }
+{
+    match form {
+        Form::Join(_, _, _, _) => true,
+        Form::Of(_, _) => false,
+    }
+}
+
+/// The sequence of a line.
+fn seq_of(form: &Form) -> u32
+    ensures { result ≡ seq_of (form_view form.now) }
+{
+    match form {
+        Form::Join(seq, _, _, _) => *seq,
+        Form::Of(seq, _) => *seq,
+    }
+}
+
+/// Adds the names that a line sets, in order; false where one is set again.
+fn set_names(alloc: Global, table: &mut NameTable, form: &Form) -> Result<bool, AllocError>
+    requires { IsForm (form_view form.now) }
+    ensures { IfOk result (λ added. Adds table.old table.new (sets (form_view form.now)) added) }
+{
+    match form {
+        Form::Join(_, _, first, second) => add_all(alloc, table, &[*first, *second]),
+        Form::Of(_, Said::Pipe(first, second)) => add_all(alloc, table, &[*first, *second]),
+        Form::Of(_, Said::Mint(_, name)) => add_all(alloc, table, &[*name]),
+        Form::Of(_, Said::Take(_, names)) => add_all(alloc, table, *names),
+        Form::Of(_, _) => Ok(true),
+    }
+}
+
+/// Adds a line, and notes whether it is one of a sequence.
+fn push_line(reader: &mut Reader, line: Line, started: bool) -> Result<(), Stop>
+    ensures { Pushes reader.old reader.new line started result }
+{
+    match reader.lines.push(line) {
+        Ok(()) => {
+            reader.started = started;
+            Ok(())
+        }
+        Err(_) => Err(Stop::Memory),
+    }
+}
+
+/// Reads a line of a form that may stand here.
+fn take_form(
+    alloc: Global,
+    schema: &Schema,
+    reader: &mut Reader,
+    number: u32,
+    form: &Form,
+) -> Result<(), Stop>
+    requires { IsForm (form_view form.now) }
+    ensures { TakesForm schema.now reader.old reader.new (form_view form.now) number result }
+{
+    let count = reader.names.numbers.len();
+    match set_names(alloc, &mut reader.names, form) {
+        Ok(true) => {}
+        Ok(false) => return Err(Stop::Refused(LineRefusal::DoubleName)),
+        Err(_) => return Err(Stop::Memory),
+    }
+    let command = command_of(alloc, schema, &reader.names, count, form)?;
+    if number as usize > MAX_SCRIPT_LINES {
+        return Err(Stop::Refused(LineRefusal::TooManyLines));
+    }
+    let line = Line {
+        number,
+        seq: SeqId(seq_of(form)),
+        command,
+    };
+    push_line(reader, line, !is_setup(form))
+}
+
+/// Reads a line of these words.
+fn read_line(
+    alloc: Global,
+    schema: &Schema,
+    reader: &mut Reader,
+    number: u32,
+    words: &[&[u8]],
+) -> Result<(), Stop>
+    ensures { ReadsOn schema.now reader.old reader.new (map (λ word. word.now) words.now) number result }
+{
+    let form = match read_form(alloc, words) {
+        Ok(Some(form)) => form,
+        Ok(None) => return Err(Stop::Refused(LineRefusal::BadLine)),
+        Err(_) => return Err(Stop::Memory),
+    };
+    if is_setup(&form) && reader.started {
+        return Err(Stop::Refused(LineRefusal::BadLine));
+    }
+    take_form(alloc, schema, reader, number, &form)
+}
+
+/// The error of a stop at the line of this number.
+fn error_of(number: u32, stop: Stop) -> ScriptError
+    ensures { result ≡ error_of number stop }
+{
+    match stop {
+        Stop::Refused(why) => ScriptError::Refused { line: number, why },
+        Stop::Memory => ScriptError::Memory,
+    }
+}
+
+/// The script of these lines behind the first, which is right.
+fn read_lines(alloc: Global, schema: &Schema, lines: &[Words]) -> Result<Script, ScriptError>
+    ensures { AnswersBehind schema.now (map words_now lines.now) result }
+{
+    let mut reader = Reader {
+        names: no_names(alloc),
+        lines: Vec::new(alloc),
+        started: false,
+    };
+    let mut number = 2;
+    for line in lines {
+        if let Err(stop) = read_line(alloc, schema, &mut reader, number, line.words.as_slice()) {
+            return Err(error_of(number, stop));
+        }
+        number += 1;
+    }
+    Ok(Script {
+        names: reader.names.numbers.len(),
+        lines: Items::from_vec(reader.lines),
+    })
+}
+
+/// Whether the line says how many sequences there are.
+fn is_header(words: &[&[u8]]) -> bool
+    ensures { IsTrue result ↔ (map (λ word. word.now) words.now ≡ header_words) }
+{
+    match two_words(words) {
+        Some((command, count)) => command == b"seqs".as_slice() && count == b"1".as_slice(),
+        None => false,
+    }
+}
+
+/// The script of these lines.
+fn read_all(alloc: Global, schema: &Schema, lines: &[Words]) -> Result<Script, ScriptError>
+    ensures { AnswersAll schema.now (map words_now lines.now) result }
+{
+    match lines.split_first() {
+        Some((first, rest)) if is_header(first.words.as_slice()) => read_lines(alloc, schema, rest),
+        _ => Err(ScriptError::Refused {
+            line: 1,
+            why: LineRefusal::BadLine,
+        }),
+    }
+}
+
+/// Reads a script for this schema: the first line says that there is one sequence, then lines join
+/// pipes, and then lines of the sequence follow; 65,536 lines at most in all. Takes time in proportion
+/// to the text, times the interfaces and methods that each line's words are compared with.
+///
+/// # Errors
+///
+/// `Refused` with the first line that is refused, and `Memory` where memory ran out.
+pub fn read_script(alloc: Global, schema: &Schema, bytes: &[u8]) -> Result<Script, ScriptError>
+    ensures ok { IfOk result (IsScriptOf schema.now bytes.now) }
+    ensures sound { IfOk result (IsScript schema.now) }
+    ensures refused { (line : ℕ) (why : LineRefusal) → result ≡ Err (errors.Refused line why)
+        → IsFirstRefusal schema.now bytes.now line why }
+{
+    match text_words(alloc, bytes) {
+        Ok(lines) => read_all(alloc, schema, lines.as_slice()),
+        Err(_) => Err(ScriptError::Memory),
+    }
+}

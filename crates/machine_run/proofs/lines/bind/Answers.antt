@@ -1,7 +1,0 @@
-use Rattle.std.proofs.Common.{sym, ◌∙◌}
-use Rattle.machine_run.proofs.SlotLemmas.{took_none}
-use Rattle.machine_run.proofs.lines.bind.Goals as goal
-
-pub returns-in-None-clause-took : goal.returns-in-None-clause-took
-returns-in-None-clause-took c =
-    took_none c.args.held.now.slots.items c.take.new.self.slots.items c.args.name (sym c.take.ensures.before ∙ c.in-None.is) c.take.ensures.after

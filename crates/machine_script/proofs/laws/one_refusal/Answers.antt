@@ -1,5 +1,0 @@
-use Rattle.machine_script.proofs.OneAnswer.{one_refusal}
-use Rattle.machine_script.proofs.laws.one_refusal.Goals as goal
-
-pub returns : goal.returns
-returns c = one_refusal

@@ -1,8 +1,0 @@
-pub mod Pieces
-pub mod Letters
-pub mod Targets
-pub mod Forms
-pub mod Script
-pub mod Same
-pub mod Sound
-pub mod steps

@@ -1,0 +1,18 @@
+use Rattle.mojo_tool.proofs.Asking.{ok_goes}
+use Rattle.mojo_tool.proofs.Messages.{of_none}
+use Rattle.mojo_tool.proofs.Running.{no_script, script_text}
+use Rattle.mojo_tool.proofs.run.decide_script.Goals as goal
+
+pub returns-in-Err-read_script-clause-stop : goal.returns-in-Err-read_script-clause-stop
+returns-in-Err-read_script-clause-stop g c =
+    no_script _ _ c.args.name.now c.args.schema c.in-Ok.bytes.items c.in-Err-read_script.stop c.in-Ok.ensures.bytes c.in-Ok.ensures.short
+    (rw c.as_slice.ensures.value at c.in-Err-read_script.ensures.stop)
+
+pub returns-in-Err-read_script-clause-named : goal.returns-in-Err-read_script-clause-named
+returns-in-Err-read_script-clause-named g c = of_none _ c.in-Err-read_script.stop c.in-Err-read_script.ensures.named
+
+pub returns-clause-text : goal.returns-clause-text
+returns-clause-text g c =
+    ok_goes _ _ _
+    (λ text is. script_text _ c.args.name.now c.in-Ok.bytes.items text c.args.schema c.in-Ok-read_script.script c.in-Ok.ensures.bytes c.in-Ok.ensures.short
+    (rw c.as_slice.ensures.value at c.in-Ok-read_script.ensures.script) is) c.run.ensures.text

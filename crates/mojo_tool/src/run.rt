@@ -1,0 +1,140 @@
+//! From a script and the files to the text of its history, or to why there is none.
+
+ghost use Rattle.std.specs.Prelude.{◌≡◌, Some, map, IfOk, IfErr};
+ghost use Rattle.std.specs.Arc.{arc_value};
+ghost use Rattle.mj_io.specs.Outside.{FilesGoOn};
+ghost use Rattle.call_script.specs.Script.{IsScriptOf};
+ghost use Rattle.call_script.specs.Sound.{IsScript};
+ghost use Rattle.command_line.specs.Asked.{Run, run_words};
+ghost use Rattle.mojo_tool.specs.Work.{ComesTo, IsAmong, Scripting, Running};
+ghost use Rattle.mojo_tool.specs.Answers.{IsTextOf, IsRunText};
+ghost use Rattle.mojo_tool.specs.steps.Stops.{Stops, IsOf, NoScript};
+ghost use Rattle.mojo_tool.specs.steps.Fetches.{HaveRunnableOver, NotSupported, NotRunnable};
+
+use crate::check::{fetch_all, refused};
+use crate::decide::{Stop, fetch};
+use crate::refusal::ToolRefusal;
+use call_script::{Script, ScriptError};
+use mj_base::Items;
+use mj_io::Files;
+use mj_schema::Schema;
+use mojom_compile::{Cause, FileRefusal, InterfacePlace};
+use std::alloc::Global;
+use std::sync::Arc;
+
+/// The refusal of an interface of which a method has a response, by the name of its file.
+fn unsupported<'a>(names: &[&'a str], place: InterfacePlace) -> Stop<'a>
+    ensures { NotSupported (map (λ name. name.now) names.now) place result }
+{
+    match names.get(place.file as usize).copied() {
+        Some(name) => Stop::Refused(ToolRefusal::Refused(
+            name,
+            FileRefusal {
+                at: place.at,
+                cause: Cause::Unsupported,
+            },
+        )),
+        // Not reached: the file is one of those that were given.
+        None => Stop::NoMemory,
+    }
+}
+
+/// The schema of the files of these names, of whose methods none has a response.
+fn fetch_runnable<'a, F: Files>(
+    alloc: Global,
+    names: &[&'a str],
+    files: &mut F,
+) -> Result<Schema, Stop<'a>>
+    ensures on { FilesGoOn (F.state files.old) (F.state files.new) }
+    ensures schema { IfOk result (HaveRunnableOver (F.state files.old).held (map (λ name. name.now) names.now)) }
+    ensures stop { IfErr result (NotRunnable (F.state files.old) (F.state files.new) (map (λ name. name.now) names.now)) }
+    ensures among { IfErr result (IsOf (IsAmong (map (λ name. name.now) names.now))) }
+{
+    match fetch_all(alloc, names, files) {
+        Err(stop) => Err(stop),
+        Ok(fetched) => match mojom_compile::compile_with_responses(alloc, fetched.as_slice()) {
+            Ok((schema, None)) => Ok(schema),
+            Ok((_, Some(place))) => Err(unsupported(names, place)),
+            Err(error) => Err(refused(names, error)),
+        },
+    }
+}
+
+/// The script that the bytes are.
+fn read_script<'a>(alloc: Global, schema: &Schema, bytes: &[u8]) -> Result<Script, Stop<'a>>
+    ensures script { IfOk result (IsScriptOf schema.now bytes.now) }
+    ensures sound { IfOk result (IsScript schema.now) }
+    ensures stop { IfErr result (NoScript schema.now bytes.now) }
+    ensures named { IfErr result (IsOf (λ named. ⊥)) }
+{
+    match call_script::read_script(alloc, schema, bytes) {
+        Ok(script) => Ok(script),
+        Err(ScriptError::Refused { line, why }) => {
+            Err(Stop::Refused(ToolRefusal::RefusedLine(line, why)))
+        }
+        Err(ScriptError::Memory) => Err(Stop::NoMemory),
+    }
+}
+
+/// The text of the script's history. The error is want of memory.
+#[tactic(auto, using(crate::proofs::Ran::run_text))]
+fn run<'a>(alloc: Global, schema: Schema, script: &Script) -> Result<Items<u8>, Stop<'a>>
+    requires { IsScript schema script.now }
+    ensures text { IfOk result (IsTextOf schema script.now) }
+    ensures memory { IfErr result (λ stop. stop ≡ Stop.NoMemory) }
+{
+    let Ok(schema) = Arc::new(alloc, schema) else {
+        return Err(Stop::NoMemory);
+    };
+    let Ok(shared) = Arc::try_clone(&schema) else {
+        return Err(Stop::NoMemory);
+    };
+    let Ok(ran) = script_run::run_alone(alloc, shared, script) else {
+        return Err(Stop::NoMemory);
+    };
+    match history_text::render(alloc, &schema, ran.history.as_slice(), ran.left.as_slice()) {
+        Ok(text) => Ok(Items::from_vec(text)),
+        Err(_) => Err(Stop::NoMemory),
+    }
+}
+
+/// The text that a script's name asks for.
+fn decide_script<'a, F: Files>(
+    alloc: Global,
+    name: &'a str,
+    schema: Schema,
+    files: &mut F,
+) -> Result<Items<u8>, Stop<'a>>
+    ensures on { FilesGoOn (F.state files.old) (F.state files.new) }
+    ensures text { IfOk result (IsRunText (F.state files.old).held (λ files work. Scripting files name.now schema work)) }
+    ensures stop { IfErr result (Stops (F.state files.old) (F.state files.new) (λ files work. Scripting files name.now schema work)) }
+    ensures named { IfErr result (IsOf (λ named. named ≡ name.now)) }
+{
+    match fetch(alloc, files, name) {
+        Err(stop) => Err(stop),
+        Ok(bytes) => match read_script(alloc, &schema, bytes.as_slice()) {
+            Err(stop) => Err(stop),
+            Ok(script) => run(alloc, schema, &script),
+        },
+    }
+}
+
+/// The text of a run that the names and the files ask for.
+pub fn decide_run<'a, F: Files>(
+    alloc: Global,
+    script: &'a str,
+    names: &[&'a str],
+    files: &mut F,
+) -> Result<Items<u8>, Stop<'a>>
+    ensures on { FilesGoOn (F.state files.old) (F.state files.new) }
+    ensures text { IfOk result (IsRunText (F.state files.old).held
+        (λ files work. Running files (run_words script.now (map (λ name. name.now) names.now)) work)) }
+    ensures stop { IfErr result (Stops (F.state files.old) (F.state files.new)
+        (λ files work. Running files (run_words script.now (map (λ name. name.now) names.now)) work)) }
+    ensures reached { IfErr result (IsOf (ComesTo (Some (Run (run_words script.now (map (λ name. name.now) names.now)))) (F.state files.old).held)) }
+{
+    match fetch_runnable(alloc, names, files) {
+        Err(stop) => Err(stop),
+        Ok(schema) => decide_script(alloc, script, schema, files),
+    }
+}

@@ -1,4 +1,0 @@
-pub mod Parts
-pub mod Tight
-pub mod Stands
-pub mod Refusals

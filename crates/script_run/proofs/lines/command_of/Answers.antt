@@ -1,0 +1,11 @@
+use Rattle.std.proofs.Common.{◌∙◌}
+use Rattle.std.proofs.lemmas.Result.{IfOk-weaker}
+use Rattle.script_run.proofs.LineDone.{called_is}
+use Rattle.script_run.proofs.lines.command_of.Goals as goal
+
+pub returns-in-Call-clause-asked : goal.returns-in-Call-clause-asked
+returns-in-Call-clause-asked c =
+    let asked = rw (c.end-end.ensures, c.as_slice.ensures) at c.call.ensures.asked in
+    IfOk-weaker c.call.result _ _
+    (λ command a. a ∙ called_is c.args.held.now.slots.items c.args.line.now c.in-Call.name c.in-Call.id c.in-Call.prepared c.in-Call.names c.in-Call.is)
+    asked
