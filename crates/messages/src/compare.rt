@@ -1,13 +1,12 @@
 //! What the proved code makes of a message, beside what it literally is.
 
-use crate::same::are_same;
 use message_validator::{Checked, check};
 use mj_base::Fault;
 use mj_schema::Schema;
 use std::alloc::{AllocError, Global};
 use wire_decoder::decode;
 use wire_model::Expected;
-use wire_reference::{Outcome, read};
+use wire_reference::{Outcome, are_same, read};
 
 /// A message's surroundings: what it is expected to be, and with how many handles it came.
 #[derive(Clone, Copy)]

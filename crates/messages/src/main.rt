@@ -5,7 +5,6 @@
 mod case;
 mod compare;
 mod edits;
-mod same;
 
 use crate::case::{Case, cases};
 use crate::compare::{Setting, Verdict, compare};

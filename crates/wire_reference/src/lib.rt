@@ -10,7 +10,9 @@ mod judge;
 mod list;
 mod nodes;
 mod rows;
+mod same;
 mod values;
 mod whole;
 
+pub use same::are_same;
 pub use whole::{Message, Outcome, read};

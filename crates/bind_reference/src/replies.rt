@@ -1,0 +1,106 @@
+//! The one reply to a command, by the events before it.
+
+use crate::call::called;
+use crate::close::closed;
+use crate::past::{ends_made, is_out, tokens_made};
+use crate::take::took;
+use bind_model::{Asked, Endpoint, Event, State, Told, Why};
+use handle_table::{Thing, TokenId};
+use mj_base::{EndId, Items, SeqId};
+use mj_schema::Schema;
+use std::alloc::{AllocError, Global};
+
+/// A test: why it fails, where it doesn't hold.
+pub fn unless(holds: bool, why: Why) -> Option<Why> {
+    if holds { None } else { Some(why) }
+}
+
+/// The test that an endpoint doesn't wait to be attached.
+pub fn unbound(id: u32, endpoint: Endpoint) -> Option<Why> {
+    match endpoint.state {
+        State::Pending => Some(Why::Unbound(id)),
+        State::Bound(_) | State::Closed => None,
+    }
+}
+
+/// The test that an endpoint is bound nowhere else.
+pub fn elsewhere(seq: SeqId, endpoint: Endpoint) -> Option<Why> {
+    match endpoint.state {
+        State::Bound(other) => unless(other == seq, Why::Elsewhere(other)),
+        State::Pending | State::Closed => None,
+    }
+}
+
+/// The first test that fails.
+pub fn first_of(tests: &[Option<Why>]) -> Option<Why> {
+    for test in tests {
+        if test.is_some() {
+            return *test;
+        }
+    }
+    None
+}
+
+/// Two new ends, each with the next number of its sequence.
+fn join(alloc: Global, past: &[Event], seq: SeqId, other: SeqId) -> Result<Told, AllocError> {
+    let first = EndId {
+        seq: seq.0,
+        serial: ends_made(alloc, past, seq.0)?,
+    };
+    let before = if other == seq { 1 } else { 0 };
+    let second = EndId {
+        seq: other.0,
+        serial: ends_made(alloc, past, other.0)?.saturating_add(before),
+    };
+    let ends = vec![in alloc; Thing::End(first), Thing::End(second)]?;
+    Ok(Told::Made(Items::from_vec(ends)))
+}
+
+/// A new token, with the next number of its sequence.
+fn mint(alloc: Global, past: &[Event], seq: SeqId) -> Result<Told, AllocError> {
+    let token = TokenId {
+        seq: seq.0,
+        serial: tokens_made(alloc, past, seq.0)?,
+    };
+    let things = vec![in alloc; Thing::Token(token)]?;
+    Ok(Told::Made(Items::from_vec(things)))
+}
+
+/// What comes of binding a thing.
+fn bind(schema: &Schema, past: &[Event], thing: Thing, interface: u32) -> Told {
+    if !is_out(past, thing) || interface as usize >= schema.interfaces.len() {
+        return Told::No(Why::NoName);
+    }
+    match thing {
+        Thing::End(end) => Told::Bound(end),
+        Thing::Token(_) => Told::No(Why::NotPipe),
+    }
+}
+
+/// The one reply to a command of a sequence, of so many; none where scripts don't ask it.
+pub fn answer(
+    alloc: Global,
+    schema: &Schema,
+    seqs: u32,
+    past: &[Event],
+    seq: SeqId,
+    asked: &Asked,
+) -> Result<Option<Told>, AllocError> {
+    match asked {
+        Asked::Pipe => Ok(Some(join(alloc, past, seq, seq)?)),
+        Asked::Join(other) if other.0 < seqs => Ok(Some(join(alloc, past, seq, *other)?)),
+        Asked::Join(_) => Ok(Some(Told::No(Why::NoName))),
+        Asked::Mint(_) => Ok(Some(mint(alloc, past, seq)?)),
+        Asked::Bind(thing, _, interface) => Ok(Some(bind(schema, past, *thing, *interface))),
+        Asked::Call(end, id, outgoing) => {
+            Ok(Some(called(alloc, schema, past, seq, *end, *id, outgoing)?))
+        }
+        Asked::Take(end) => Ok(Some(took(alloc, schema, past, seq, *end)?)),
+        Asked::Close(closing) => closed(alloc, past, seq, *closing),
+        Asked::Skip(_) => Ok(Some(Told::Skipped)),
+        Asked::Associate(_, _, _)
+        | Asked::Attach(_, _)
+        | Asked::Answer(_, _)
+        | Asked::Raw(_, _, _) => Ok(None),
+    }
+}

@@ -1,0 +1,133 @@
+//! Compares the runs of scripts with those that they literally have: of each walk of a file, all scripts of a
+//! few lines.
+#![tactic(auto)]
+
+mod played;
+mod same;
+mod tally;
+mod walk;
+
+use crate::played::Played;
+use crate::tally::Tally;
+use crate::walk::{Walk, walks};
+use mj_io::{Fetched, Files, RealFiles};
+use mj_schema::Schema;
+use std::alloc::Global;
+use std::env::Env;
+use std::io::Print;
+use std::process::ExitCode;
+use std::sync::Arc;
+use std::{env, io};
+
+/// The bytes that a file of walks has at most.
+const MOST_BYTES: u64 = 1_048_576;
+
+/// Compares the run of a text, if it is a script. The first run of a walk that differs is printed.
+fn compare<R: Print + AllocGlobal>(
+    rt: &R,
+    schema: &Arc<Schema>,
+    text: &str,
+    tally: &mut Tally,
+) -> io::Result<()> {
+    tally.texts = tally.texts.saturating_add(1);
+    let Some(played) = Played::new(rt.alloc(), schema, text)? else {
+        return Ok(());
+    };
+    let is_right = played.is_right(rt.alloc())?;
+    if !is_right && tally.differ == 0 {
+        println!(rt; "the script:\n{text}")?;
+        played.print(rt, schema)?;
+    }
+    tally.add_script(&played.events, is_right)?;
+    Ok(())
+}
+
+/// Compares the runs of all texts of a walk with so many lines behind the first ones.
+fn compare_texts<R: Print + AllocGlobal>(
+    rt: &R,
+    schema: &Arc<Schema>,
+    walk: &Walk,
+    lines: u32,
+    tally: &mut Tally,
+) -> io::Result<()> {
+    for number in 0..walk.count(lines) {
+        let text = walk.text(rt.alloc(), lines, number)?;
+        compare(rt, schema, text.as_str(), tally)?;
+    }
+    Ok(())
+}
+
+/// Compares the runs of all texts of a walk.
+fn compare_walk<R: Print + AllocGlobal>(rt: &R, schema: Schema, walk: &Walk) -> io::Result<Tally> {
+    let schema = Arc::new(rt.alloc(), schema)?;
+    let mut tally = Tally::new(rt.alloc());
+    for lines in 0..=walk.most {
+        compare_texts(rt, &schema, walk, lines, &mut tally)?;
+    }
+    Ok(tally)
+}
+
+/// Prints what came of a walk.
+fn print_tally<R: Print>(rt: &R, name: &str, tally: &Tally) -> io::Result<()> {
+    println!(rt;
+        "{name}: {} texts, {} scripts, {} events, {} differ",
+        tally.texts, tally.scripts, tally.events, tally.differ
+    )?;
+    for count in &tally.counts {
+        println!(rt; "  {} {}", count.times, count.reply)?;
+    }
+    Ok(())
+}
+
+/// Compares the walks of a text, and prints what came of each.
+fn compare_walks<R: Print + AllocGlobal>(rt: &R, text: &str, total: &mut Tally) -> io::Result<()> {
+    for walk in &walks(rt.alloc(), text)? {
+        match walk.schema(rt.alloc())? {
+            Some(schema) => {
+                let tally = compare_walk(rt, schema, walk)?;
+                print_tally(rt, walk.name.as_str(), &tally)?;
+                total.add(&tally);
+            }
+            None => {
+                total.differ = total.differ.saturating_add(1);
+                println!(rt; "{}: its definitions are refused", walk.name.as_str())?;
+            }
+        }
+    }
+    Ok(())
+}
+
+/// The bytes of a file; none where it can't be read.
+fn bytes_of<F: Files>(alloc: Global, files: &mut F, name: &str) -> Option<Vec<u8>> {
+    let mut bytes = Vec::new(alloc);
+    match files.fetch(alloc, name, MOST_BYTES, &mut bytes) {
+        Ok(Fetched::Whole) => Some(bytes),
+        Ok(Fetched::Longer) | Err(_) => None,
+    }
+}
+
+/// Compares the walks of each file that the words name.
+fn run_files<R: std::rt::Files + Env + Print + AllocGlobal>(rt: &R) -> io::Result<Tally> {
+    let mut files = RealFiles::new(rt);
+    let mut tally = Tally::new(rt.alloc());
+    for name in env::args(rt)?.skip(1) {
+        let bytes = bytes_of(rt.alloc(), &mut files, name.as_str());
+        match bytes.as_ref().map(|bytes| str::from_utf8(bytes.as_slice())) {
+            Some(Ok(text)) => compare_walks(rt, text, &mut tally)?,
+            _ => {
+                tally.differ = tally.differ.saturating_add(1);
+                println!(rt; "{name}: it can't be read")?;
+            }
+        }
+    }
+    Ok(tally)
+}
+
+fn main(rt: HostRuntime) -> io::Result<ExitCode> {
+    let tally = run_files(&rt)?;
+    println!(rt; "{} scripts, {} differences", tally.scripts, tally.differ)?;
+    if tally.differ > 0 {
+        return Ok(ExitCode::FAILURE);
+    }
+    Ok(ExitCode::SUCCESS)
+}

@@ -1,0 +1,72 @@
+//! A script that was run, and the events that it literally has.
+
+ghost use Rattle.std.specs.Arc.{arc_value};
+ghost use Rattle.call_script.specs.Sound.{IsScript};
+
+use crate::same::are_same_events;
+use bind_model::Event;
+use bind_reference::{events_of, left};
+use call_script::{SEQUENCES, Script, ScriptError, read_script};
+use handle_table::Thing;
+use history_text::render;
+use mj_schema::Schema;
+use script_run::{NoMemory, Ran, run_alone};
+use std::alloc::{AllocError, Global};
+use std::io;
+use std::io::Print;
+use std::sync::Arc;
+
+/// What comes of a script: what its run left, and all events and what isn't closed by the definition.
+#[derive(Drop)]
+pub struct Played {
+    ran: Ran,
+    pub events: Vec<Event>,
+    left: Vec<Thing>,
+}
+
+/// What a run of a script leaves.
+fn run(alloc: Global, schema: &Arc<Schema>, script: &Script) -> Result<Ran, AllocError>
+    requires { IsScript (arc_value schema.now) script.now }
+{
+    let Ok(shared) = Arc::try_clone(schema) else {
+        return Err(AllocError);
+    };
+    match run_alone(alloc, shared, script) {
+        Ok(ran) => Ok(ran),
+        Err(NoMemory) => Err(AllocError),
+    }
+}
+
+impl Played {
+    /// What comes of a text; none where it is no script.
+    pub fn new(
+        alloc: Global,
+        schema: &Arc<Schema>,
+        text: &str,
+    ) -> Result<Option<Played>, AllocError> {
+        let script = match read_script(alloc, schema, text.as_bytes()) {
+            Ok(script) => script,
+            Err(ScriptError::Refused { .. }) => return Ok(None),
+            Err(ScriptError::Memory) => return Err(AllocError),
+        };
+        let ran = run(alloc, schema, &script)?;
+        let events = events_of(alloc, schema, &script)?;
+        let left = left(alloc, SEQUENCES, &events)?;
+        Ok(Some(Played { ran, events, left }))
+    }
+
+    /// Whether the run is the one that the definition gives.
+    pub fn is_right(&self, alloc: Global) -> Result<bool, AllocError> {
+        let is_history = are_same_events(alloc, self.ran.history.as_slice(), &self.events)?;
+        Ok(is_history && self.ran.left.as_slice() == self.left.as_slice())
+    }
+
+    /// Prints both histories.
+    pub fn print<R: Print + AllocGlobal>(&self, rt: &R, schema: &Schema) -> io::Result<()> {
+        let events = self.ran.history.as_slice();
+        let run = render(rt.alloc(), schema, events, self.ran.left.as_slice())?;
+        let wanted = render(rt.alloc(), schema, &self.events, &self.left)?;
+        println!(rt; "the run:\n{}", str::from_utf8(&run).unwrap_or(""))?;
+        println!(rt; "wanted:\n{}", str::from_utf8(&wanted).unwrap_or(""))
+    }
+}
