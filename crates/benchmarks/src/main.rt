@@ -1,10 +1,13 @@
-//! Times the packing of structs, the reading and printing of files, their check, and messages, in processor
-//! time.
+//! Times the packing of structs, the reading and printing of files, their check, messages, and runs, in
+//! processor time.
 #![tactic(auto)]
 
 mod checking;
 mod packing;
 mod reading;
+mod running;
+mod schemas;
+mod timing;
 mod wire;
 
 use std::env::Env;
@@ -20,10 +23,11 @@ fn run<R: Print + Env + AllocGlobal + CpuClock>(rt: &R) -> io::Result<()> {
             "packing" => return packing::time_all(rt),
             "reading" => return reading::time_all(rt),
             "wire" => return wire::time_all(rt),
+            "run" => return running::time_all(rt),
             _ => {}
         }
     }
-    println!(rt; "usage: benchmarks packing | reading | checking | wire")
+    println!(rt; "usage: benchmarks packing | reading | checking | wire | run")
 }
 
 fn main(rt: HostRuntime) -> io::Result<()> {

@@ -3,8 +3,6 @@
 mod batch;
 mod encoding;
 mod hostile;
-mod schemas;
-mod timing;
 
 use std::io;
 use std::io::Print;

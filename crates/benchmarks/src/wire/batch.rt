@@ -1,8 +1,8 @@
 //! Batches of items: a number, a kind, a flag, a name and four tags each.
 
+use crate::schemas::schema_of;
+use crate::timing::{ROUNDS, least, mebibytes_a_second, now, picoseconds_each};
 use crate::wire::encoding::{target_of, time_encode};
-use crate::wire::schemas::schema_of;
-use crate::wire::timing::{ROUNDS, least, mebibytes_a_second, now, picoseconds_each};
 use message_validator::{Checked, check};
 use mj_base::push_le32;
 use mj_schema::Schema;

@@ -3,7 +3,7 @@
 ghost use Rattle.std.specs.Prelude.{IfSome};
 ghost use Rattle.wire_encoder.specs.Prepared.{HasTarget};
 
-use crate::wire::timing::{ROUNDS, least, now};
+use crate::timing::{ROUNDS, least, now};
 use mj_schema::Schema;
 use std::alloc::{AllocError, Global};
 use std::io;

@@ -1,8 +1,8 @@
 //! Messages of 16 MiB that are made to be dear, each refused by its last object or at once.
 
+use crate::schemas::schema_of;
+use crate::timing::{ROUNDS, least, mebibytes_a_second, now};
 use crate::wire::batch::EXPECTED;
-use crate::wire::schemas::schema_of;
-use crate::wire::timing::{ROUNDS, least, mebibytes_a_second, now};
 use message_validator::check;
 use mj_base::{Fault, push_le32};
 use mj_schema::Schema;
