@@ -5,6 +5,8 @@ pub mod Parts
 pub mod Dots
 pub mod Endpoints
 pub mod NameBytes
+pub mod WordBytes
+pub mod Interfaces
 pub mod NameLemmas
 pub mod TableLemmas
 pub mod Sayings

@@ -7,7 +7,7 @@ use Rattle.std.proofs.lemmas.Bool.Decides.{nat_tests}
 use Rattle.call_script.specs.Letters.{is_name, is_name_byte, is_small_letter}
 use Rattle.call_script.proofs.Splits.{both}
 
-letter_small : (c : ℕ) → is_small_letter c ≡ true → c < 128
+pub letter_small : (c : ℕ) → is_small_letter c ≡ true → c < 128
 letter_small c e = let t = (both (nat_le 97 c) (nat_le c 122) e).1 in grind (arith, nat_tests)
 
 byte_small : (c : ℕ) → is_name_byte c ≡ true → c < 128

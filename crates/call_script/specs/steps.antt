@@ -3,5 +3,6 @@ pub mod Pieces
 pub mod Numbers
 pub mod Forms
 pub mod Names
+pub mod Interfaces
 pub mod Commands
 pub mod Lines

@@ -5,15 +5,17 @@ ghost use Rattle.std.specs.List.{range_with_len};
 ghost use Rattle.wire_encoder.specs.Prepared.{parameters_of};
 ghost use Rattle.call_script.specs.declared.script.NameId.{NameId};
 ghost use Rattle.call_script.specs.Forms.{Bind, Call, Take, CloseToken, CloseEndpoint, IsForm, IsSaid};
-ghost use Rattle.call_script.specs.Letters.{is_name, are_names};
+ghost use Rattle.call_script.specs.Letters.{is_name, are_names, is_interface_word, is_method_word};
 ghost use Rattle.call_script.specs.steps.Forms.{said_view, form_view};
+ghost use Rattle.call_script.specs.steps.Interfaces.{IsIndexed};
 ghost use Rattle.call_script.specs.steps.Commands.{FindsAll, StopsFor, Values, Says, Commands};
 
 use crate::form::{Form, Said};
+use crate::indexed_schema::{IndexedSchema, interface_named};
 use crate::name_table::{NameTable, find};
 use crate::script::{Command, NameId};
 use crate::script_error::LineRefusal;
-use crate::targets::{interface_named, message_named, parameters_kind};
+use crate::targets::{message_named, parameters_kind};
 use mj_base::{Items, SeqId};
 use mj_schema::Schema;
 use std::alloc::{AllocError, Global};
@@ -98,17 +100,19 @@ fn value_of(
 
 /// What a binding asks.
 fn bind_command(
-    schema: &Schema,
+    indexed: &IndexedSchema,
     table: &NameTable,
     count: usize,
     end: &[u8],
     side: EndpointSide,
     interface: &[u8],
 ) -> Result<Command, Stop>
-    requires { is_name end.now ≡ true }
-    ensures { Says schema.now table.now count (Bind end.now side interface.now) result }
+    requires indexed { IsIndexed indexed.now }
+    requires end { is_name end.now ≡ true }
+    requires interface { is_interface_word interface.now ≡ true }
+    ensures { Says indexed.now.schema.now table.now count (Bind end.now side interface.now) result }
 {
-    let Some(number) = interface_named(schema.interfaces.as_slice(), interface) else {
+    let Some(number) = interface_named(indexed, interface) else {
         return Err(Stop::Refused(LineRefusal::UnknownName));
     };
     match find(table, count, end) {
@@ -130,17 +134,19 @@ struct CallWords<'w, 'a> {
 /// What a call asks.
 fn call_command(
     alloc: Global,
-    schema: &Schema,
+    indexed: &IndexedSchema,
     table: &NameTable,
     count: usize,
     call: &CallWords,
 ) -> Result<Command, Stop>
+    requires indexed { IsIndexed indexed.now }
     requires end { is_name call.now.end.now ≡ true }
+    requires method { is_method_word call.now.method.now ≡ true }
     requires tokens { are_names (map (λ name. name.now) call.now.tokens.now) ≡ true }
-    ensures { Says schema.now table.now count (Call call.now.end.now call.now.id call.now.method.now call.now.value.now
+    ensures { Says indexed.now.schema.now table.now count (Call call.now.end.now call.now.id call.now.method.now call.now.value.now
         (map (λ name. name.now) call.now.tokens.now)) result }
 {
-    let Some((target, number)) = message_named(schema, MessageSide::Request, call.method) else {
+    let Some((target, number)) = message_named(indexed, MessageSide::Request, call.method) else {
         return Err(Stop::Refused(LineRefusal::UnknownName));
     };
     let Some(end) = find(table, count, call.end) else {
@@ -151,7 +157,7 @@ fn call_command(
         Ok(None) => return Err(Stop::Refused(LineRefusal::UnknownName)),
         Err(_) => return Err(Stop::Memory),
     };
-    let prepared = value_of(alloc, schema, target, number, call.value)?;
+    let prepared = value_of(alloc, indexed.schema, target, number, call.value)?;
     Ok(Command::Call(end, call.id, prepared, tokens))
 }
 
@@ -213,20 +219,21 @@ fn close_endpoint_command(
 /// What is asked by what is said to a sequence.
 fn said_command(
     alloc: Global,
-    schema: &Schema,
+    indexed: &IndexedSchema,
     table: &NameTable,
     count: usize,
     said: &Said,
 ) -> Result<Command, Stop>
+    requires indexed { IsIndexed indexed.now }
     requires sound { IsSaid (said_view said.now) }
     requires room { count < 2 ^ 63 }
-    ensures { Says schema.now table.now count (said_view said.now) result }
+    ensures { Says indexed.now.schema.now table.now count (said_view said.now) result }
 {
     match said {
         Said::Pipe(_, _) => Ok(Command::Pipe(NameId(count), NameId(count + 1))),
         Said::Mint(sort, _) => Ok(Command::Mint(*sort, NameId(count))),
         Said::Bind(end, side, interface) => bind_command(
-            schema, table, count, *end, *side, *interface,
+            indexed, table, count, *end, *side, *interface,
         ),
         Said::Call(end, id, method, value, tokens) => {
             let call = CallWords {
@@ -236,11 +243,17 @@ fn said_command(
                 value: *value,
                 tokens: *tokens,
             };
-            call_command(alloc, schema, table, count, &call)
+            call_command(alloc, indexed, table, count, &call)
         }
-        Said::Take(end, names) => take_command(alloc, schema, table, count, *end, *names),
-        Said::CloseToken(token) => close_command(schema, table, count, *token),
-        Said::CloseEndpoint(end, id) => close_endpoint_command(schema, table, count, *end, *id),
+        Said::Take(end, names) => take_command(alloc, indexed.schema, table, count, *end, *names),
+        Said::CloseToken(token) => close_command(indexed.schema, table, count, *token),
+        Said::CloseEndpoint(end, id) => close_endpoint_command(
+            indexed.schema,
+            table,
+            count,
+            *end,
+            *id,
+        ),
     }
 }
 
@@ -248,14 +261,15 @@ fn said_command(
 /// those are looked up.
 pub(crate) fn command_of(
     alloc: Global,
-    schema: &Schema,
+    indexed: &IndexedSchema,
     table: &NameTable,
     count: usize,
     form: &Form,
 ) -> Result<Command, Stop>
+    requires indexed { IsIndexed indexed.now }
     requires sound { IsForm (form_view form.now) }
     requires room { count < 2 ^ 63 }
-    ensures { Commands schema.now table.now count (form_view form.now) result }
+    ensures { Commands indexed.now.schema.now table.now count (form_view form.now) result }
 {
     match form {
         Form::Join(_, other, _, _) => Ok(Command::Join(
@@ -263,6 +277,6 @@ pub(crate) fn command_of(
             NameId(count),
             NameId(count + 1),
         )),
-        Form::Of(_, said) => said_command(alloc, schema, table, count, said),
+        Form::Of(_, said) => said_command(alloc, indexed, table, count, said),
     }
 }

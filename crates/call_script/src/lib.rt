@@ -4,6 +4,7 @@
 mod commands;
 mod few_words;
 mod form;
+mod indexed_schema;
 pub mod laws;
 mod letters;
 mod name_table;
@@ -17,4 +18,3 @@ mod targets;
 pub use reading::read_script;
 pub use script::{Command, Line, NameId, SEQUENCES, Script};
 pub use script_error::{LineRefusal, ScriptError};
-pub use targets::message_named;

@@ -7,6 +7,7 @@ ghost use Rattle.call_script.specs.Sound.{IsScript};
 ghost use Rattle.call_script.specs.declared.script_error.LineRefusal.{LineRefusal};
 ghost use Rattle.call_script.specs.declared.script_error.ScriptError.TheVariants as errors;
 ghost use Rattle.call_script.specs.steps.Forms.{form_view};
+ghost use Rattle.call_script.specs.steps.Interfaces.{IsIndexed};
 ghost use Rattle.call_script.specs.steps.Pieces.{words_now};
 ghost use Rattle.call_script.specs.steps.Names.{Adds};
 ghost use Rattle.call_script.specs.steps.Lines.{Pushes, TakesForm, ReadsOn, AnswersBehind, AnswersAll, error_of};
@@ -14,6 +15,7 @@ ghost use Rattle.call_script.specs.steps.Lines.{Pushes, TakesForm, ReadsOn, Answ
 use crate::commands::{Stop, command_of};
 use crate::few_words::two_words;
 use crate::form::{Form, Said, read_form};
+use crate::indexed_schema::{IndexedSchema, index};
 use crate::name_table::{NameTable, add_all, no_names};
 use crate::script::{Line, SEQUENCES, Script};
 use crate::script_error::{LineRefusal, ScriptError};
@@ -81,13 +83,14 @@ fn push_line(reader: &mut Reader, line: Line, started: bool) -> Result<(), Stop>
 /// Reads a line of a form that may stand here.
 fn take_form(
     alloc: Global,
-    schema: &Schema,
+    indexed: &IndexedSchema,
     reader: &mut Reader,
     number: u32,
     form: &Form,
 ) -> Result<(), Stop>
-    requires { IsForm (form_view form.now) }
-    ensures { TakesForm schema.now reader.old reader.new (form_view form.now) number result }
+    requires indexed { IsIndexed indexed.now }
+    requires form { IsForm (form_view form.now) }
+    ensures { TakesForm indexed.now.schema.now reader.old reader.new (form_view form.now) number result }
 {
     let count = reader.names.numbers.len();
     match set_names(alloc, &mut reader.names, form) {
@@ -95,7 +98,7 @@ fn take_form(
         Ok(false) => return Err(Stop::Refused(LineRefusal::DoubleName)),
         Err(_) => return Err(Stop::Memory),
     }
-    let command = command_of(alloc, schema, &reader.names, count, form)?;
+    let command = command_of(alloc, indexed, &reader.names, count, form)?;
     if number as usize > MAX_SCRIPT_LINES {
         return Err(Stop::Refused(LineRefusal::TooManyLines));
     }
@@ -110,12 +113,13 @@ fn take_form(
 /// Reads a line of these words.
 fn read_line(
     alloc: Global,
-    schema: &Schema,
+    indexed: &IndexedSchema,
     reader: &mut Reader,
     number: u32,
     words: &[&[u8]],
 ) -> Result<(), Stop>
-    ensures { ReadsOn schema.now reader.old reader.new (map (λ word. word.now) words.now) number result }
+    requires { IsIndexed indexed.now }
+    ensures { ReadsOn indexed.now.schema.now reader.old reader.new (map (λ word. word.now) words.now) number result }
 {
     let form = match read_form(alloc, words) {
         Ok(Some(form)) => form,
@@ -125,7 +129,7 @@ fn read_line(
     if is_setup(&form) && reader.started {
         return Err(Stop::Refused(LineRefusal::BadLine));
     }
-    take_form(alloc, schema, reader, number, &form)
+    take_form(alloc, indexed, reader, number, &form)
 }
 
 /// The error of a stop at the line of this number.
@@ -138,9 +142,14 @@ fn error_of(number: u32, stop: Stop) -> ScriptError
     }
 }
 
-/// The script of these lines behind the first, which is right.
-fn read_lines(alloc: Global, schema: &Schema, lines: &[Words]) -> Result<Script, ScriptError>
-    ensures { AnswersBehind schema.now (map words_now lines.now) result }
+/// The script of these lines behind the first, by numbered interfaces.
+fn read_numbered(
+    alloc: Global,
+    indexed: &IndexedSchema,
+    lines: &[Words],
+) -> Result<Script, ScriptError>
+    requires { IsIndexed indexed.now }
+    ensures { AnswersBehind indexed.now.schema.now (map words_now lines.now) result }
 {
     let mut reader = Reader {
         names: no_names(alloc),
@@ -149,7 +158,7 @@ fn read_lines(alloc: Global, schema: &Schema, lines: &[Words]) -> Result<Script,
     };
     let mut number = 2;
     for line in lines {
-        if let Err(stop) = read_line(alloc, schema, &mut reader, number, line.words.as_slice()) {
+        if let Err(stop) = read_line(alloc, indexed, &mut reader, number, line.words.as_slice()) {
             return Err(error_of(number, stop));
         }
         number += 1;
@@ -158,6 +167,16 @@ fn read_lines(alloc: Global, schema: &Schema, lines: &[Words]) -> Result<Script,
         names: reader.names.numbers.len(),
         lines: Items::from_vec(reader.lines),
     })
+}
+
+/// The script of these lines behind the first, which is right.
+fn read_lines(alloc: Global, schema: &Schema, lines: &[Words]) -> Result<Script, ScriptError>
+    ensures { AnswersBehind schema.now (map words_now lines.now) result }
+{
+    match index(alloc, schema) {
+        Ok(indexed) => read_numbered(alloc, &indexed, lines),
+        Err(_) => Err(ScriptError::Memory),
+    }
 }
 
 /// Whether the line says how many sequences there are.
@@ -185,7 +204,7 @@ fn read_all(alloc: Global, schema: &Schema, lines: &[Words]) -> Result<Script, S
 
 /// Reads a script for this schema: the first line says that there is one sequence, then lines join
 /// pipes, and then lines of the sequence follow; 65,536 lines at most in all. Takes time in proportion
-/// to the text, times the interfaces and methods that each line's words are compared with.
+/// to the text and the interfaces, times the methods of an interface that a call's word is compared with.
 ///
 /// # Errors
 ///

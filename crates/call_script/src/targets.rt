@@ -1,14 +1,17 @@
 //! The interfaces and methods that words name.
 
-ghost use Rattle.std.specs.Prelude.{◌≡◌, ◌<◌, ◌^◌, false, length, option_map};
+ghost use Rattle.std.specs.Prelude.{◌≡◌, ◌<◌, true, false, length, option_map};
 ghost use Rattle.std.specs.Option.{option_copied};
-ghost use Rattle.mj_schema.specs.Lookups.{interface_named};
+ghost use Rattle.std.specs.Str.{IsAscii};
 ghost use Rattle.wire_encoder.specs.Prepared.{parameters_of};
 ghost use Rattle.call_script.specs.Targets.{methods_of, method_named, target_in, target_named, message_named};
 ghost use Rattle.call_script.specs.Targets.{later_dot, last_dot, split_word, target_between};
+ghost use Rattle.call_script.specs.Letters.{is_method_word};
+ghost use Rattle.call_script.specs.steps.Interfaces.{IsIndexed};
 ghost use Rattle.mj_schema.specs.KindTrees.{StructKind};
 
-use mj_schema::{InterfaceRow, Kind, KindNode, MethodRow, Schema};
+use crate::indexed_schema::{IndexedSchema, interface_named};
+use mj_schema::{Kind, KindNode, MethodRow, Schema};
 use wire_model::{MessageSide, Target};
 
 /// The kind of the parameters of a struct's number.
@@ -52,19 +55,6 @@ fn target_in(schema: &Schema, side: MessageSide, name: &[u8], interface: u32) ->
     })
 }
 
-/// The number of the interface whose full name has these bytes, which are a part of a word.
-pub(crate) fn interface_named(interfaces: &[InterfaceRow], name: &[u8]) -> Option<u32>
-    requires { length interfaces.now < 2 ^ 32 }
-    ensures { result ≡ interface_named interfaces.now name.now }
-{
-    for (number, interface) in interfaces.iter().enumerate() {
-        if interface.name.as_str().as_bytes() == name {
-            return Some(number as u32);
-        }
-    }
-    None
-}
-
 /// The place of the last dot, where one byte more is looked at.
 fn later_dot(word: &[u8], place: usize, before: Option<usize>) -> Option<usize>
     requires { place < length word.now }
@@ -102,24 +92,28 @@ fn split_word(word: &[u8]) -> Option<(&[u8], &[u8])>
 
 /// A message of the method of a name in the interface of a full name.
 fn target_between(
-    schema: &Schema,
+    indexed: &IndexedSchema,
     side: MessageSide,
     interface: &[u8],
     method: &[u8],
 ) -> Option<Target>
-    ensures { result ≡ target_between schema.now side (interface.now, method.now) }
+    requires indexed { IsIndexed indexed.now }
+    requires text { IsAscii interface.now }
+    ensures { result ≡ target_between indexed.now.schema.now side (interface.now, method.now) }
 {
-    let number = interface_named(schema.interfaces.as_slice(), interface)?;
-    target_in(schema, side, method, number)
+    let number = interface_named(indexed, interface)?;
+    target_in(indexed.schema, side, method, number)
 }
 
 /// What a word names: the interface is all before its last dot, the method the rest.
 #[tactic(auto, using(crate::proofs::Dots::target_is, crate::proofs::Dots::no_target))]
-fn target_named(schema: &Schema, side: MessageSide, word: &[u8]) -> Option<Target>
-    ensures { result ≡ target_named schema.now side word.now }
+fn target_named(indexed: &IndexedSchema, side: MessageSide, word: &[u8]) -> Option<Target>
+    requires indexed { IsIndexed indexed.now }
+    requires word { is_method_word word.now ≡ true }
+    ensures { result ≡ target_named indexed.now.schema.now side word.now }
 {
     match split_word(word) {
-        Some((interface, method)) => target_between(schema, side, interface, method),
+        Some((interface, method)) => target_between(indexed, side, interface, method),
         None => None,
     }
 }
@@ -136,10 +130,16 @@ fn parameters_of(schema: &Schema, target: Target) -> Option<u32>
 }
 
 /// The message that a word names, with the number of the struct of its parameters.
-pub fn message_named(schema: &Schema, side: MessageSide, word: &[u8]) -> Option<(Target, u32)>
-    ensures { result ≡ message_named schema.now side word.now }
+pub(crate) fn message_named(
+    indexed: &IndexedSchema,
+    side: MessageSide,
+    word: &[u8],
+) -> Option<(Target, u32)>
+    requires indexed { IsIndexed indexed.now }
+    requires word { is_method_word word.now ≡ true }
+    ensures { result ≡ message_named indexed.now.schema.now side word.now }
 {
-    let target = target_named(schema, side, word)?;
-    let number = parameters_of(schema, target)?;
+    let target = target_named(indexed, side, word)?;
+    let number = parameters_of(indexed.schema, target)?;
     Some((target, number))
 }

@@ -2,8 +2,8 @@ use Rattle.std.proofs.Common.{take}
 use Rattle.std.specs.Prelude.{map}
 use Rattle.call_script.specs.steps.Pieces.{words_now}
 use Rattle.call_script.proofs.LoopLemmas.{IsAt}
-use Rattle.call_script.proofs.reading.read_lines.Given as goal
+use Rattle.call_script.proofs.reading.read_numbered.Given as goal
 
 -- so many lines have been read
 abbrev pub invariant-loop-line : goal.invariant-loop-line
-invariant-loop-line l = IsAt l.schema l.reader (map words_now (take l.line-index l.lines)) l.number
+invariant-loop-line l = IsAt l.indexed.schema.now l.reader (map words_now (take l.line-index l.lines)) l.number

@@ -1,0 +1,19 @@
+use Rattle.std.proofs.Common.{◌≡◌, sym, None}
+use Rattle.std.specs.Prelude.{string_bytes}
+use Rattle.std.specs.HashMap.{get_by_text}
+use Rattle.std.proofs.lemmas.Map.Text.{hash_map_updates_text}
+use Rattle.call_script.proofs.Interfaces.{stays_noted}
+use Rattle.call_script.proofs.NameLemmas.{noted}
+use Rattle.call_script.proofs.indexed_schema.note.Goals as goal
+
+pub returns-in-Some : goal.returns-in-Some
+returns-in-Some c = stays_noted c.args.numbers.now c.args.name.now c.args.number c.in-Some._first.now (sym c.in-Some.ensures.value)
+
+pub returns : goal.returns
+returns c q =
+    let key = c.in_ok-from_str.field-0 in
+    let fresh : get_by_text c.args.numbers.now c.args.name.now ≡ None = sym c.in_default.ensures.value in
+    let named : string_bytes key ≡ c.args.name.now = c.in_ok-from_str.ensures.ok in
+    rw (sym named)
+    (noted (get_by_text c.args.numbers.now) (get_by_text c.insert.new.self) (string_bytes key) c.args.number (rw named fresh) q
+    (hash_map_updates_text (string_bytes key) c.args.numbers.now c.insert.new.self _ c.in_ok-insert.ensures.updates q))
