@@ -1,0 +1,4 @@
+mod Beside
+mod Callbacks
+mod Orders
+mod Ranges
