@@ -5,15 +5,18 @@ use Rattle.call_script.proofs.commands.said_command.Goals as goal
 
 pub returns-in-Bind : goal.returns-in-Bind
 returns-in-Bind c =
-    subst (λ said. Says c.args.indexed.now.schema.now c.args.table.now c.args.count (said_view said) c.bind_command.result) (sym c.in-Bind.is) c.bind_command.ensures
+    subst (λ said. Says c.args.indexed.now.schema.now c.args.table.now c.args.count (said_view said) c.bind_command.result)
+    (sym c.in-Bind.is) c.bind_command.ensures
 
 pub returns-in-Call : goal.returns-in-Call
 returns-in-Call c =
-    subst (λ said. Says c.args.indexed.now.schema.now c.args.table.now c.args.count (said_view said) c.call_command.result) (sym c.in-Call.is) c.call_command.ensures
+    subst (λ said. Says c.args.indexed.now.schema.now c.args.table.now c.args.count (said_view said) c.call_command.result)
+    (sym c.in-Call.is) c.call_command.ensures
 
 pub returns-in-Take : goal.returns-in-Take
 returns-in-Take c =
-    subst (λ said. Says c.args.indexed.now.schema.now c.args.table.now c.args.count (said_view said) c.take_command.result) (sym c.in-Take.is) c.take_command.ensures
+    subst (λ said. Says c.args.indexed.now.schema.now c.args.table.now c.args.count (said_view said) c.take_command.result)
+    (sym c.in-Take.is) c.take_command.ensures
 
 pub returns-in-CloseToken : goal.returns-in-CloseToken
 returns-in-CloseToken c =

@@ -21,8 +21,10 @@ loop-line-preserved c =
 
 pub returns-in-Err : goal.returns-in-Err
 returns-in-Err c =
-    stops c.args.indexed.now.schema.now c.loop-line.reader c.read_line.new.reader _ _ _ _ c.loop-line.number c.in-Err.stop c.error_of.result c.loop-line.invariant
-    (subst (λ words. ReadsOn c.args.indexed.now.schema.now c.loop-line.reader c.read_line.new.reader (map (λ word. word.now) words) c.loop-line.number (Err c.in-Err.stop))
+    stops c.args.indexed.now.schema.now c.loop-line.reader c.read_line.new.reader _ _ _ _
+    c.loop-line.number c.in-Err.stop c.error_of.result c.loop-line.invariant
+    (subst (λ words. ReadsOn c.args.indexed.now.schema.now c.loop-line.reader c.read_line.new.reader (map (λ word. word.now) words) c.loop-line.number
+    (Err c.in-Err.stop))
     c.as_slice.ensures.value c.in-Err.ensures)
     (rw (← c.line-item.is) at (lines_around c.args.lines.now c.loop-line.line-index c.line-item.result c.loop-line-test.true))
     c.error_of.ensures
