@@ -1,5 +1,5 @@
 -- That a binding is done, by what its parts did.
-use Rattle.std.proofs.Common.{◌≡◌, ℕ, true, [], ◌∷◌, ◌++◌, sym, subst}
+use Rattle.std.proofs.Common.{◌≡◌, ℕ, true, [], ◌∷◌, ◌++◌, refl, sym, subst}
 use Rattle.std.specs.Prelude.{◌==◌, ◌&&◌, if◌then◌else◌, Some}
 use Rattle.mj_base.specs.declared.ids.EndId.{EndId}
 use Rattle.mj_base.specs.declared.ids.SeqId.{SeqId}
@@ -23,7 +23,8 @@ use Rattle.bind_core.specs.declared.state.State.{State}
 use Rattle.bind_core.proofs.Held.{finish}
 use Rattle.bind_core.proofs.Binding.{bound_agrees}
 
-module _ (old new : State) (seq : SeqId) (able : HasRoom old seq) (schema : schema_of new ≡ schema_of old) (seqs : new.seqs ≡ old.seqs) where
+module _ (old new : State) (seq : SeqId) (able : HasRoom old seq) (schema : schema_of new ≡ schema_of old) (seqs : new.seqs ≡ old.seqs)
+    (unmoved : new.responders ≡ old.responders) where
   abbrev done_with : Thing → EndId → EndpointSide → ℕ → Type 0
   done_with handle x side interface = Done old new seq (commands.Bind handle side interface) (replies.Bound x)
 
@@ -38,5 +39,6 @@ module _ (old new : State) (seq : SeqId) (able : HasRoom old seq) (schema : sche
       let k = kept (wire_in old) old.seqs (past_of old) able.holds.legal in
       let q : Puts (End x) places.Bound old.pipes new.pipes = subst (λ (z : Thing). Puts z places.Bound old.pipes new.pipes) h p in
       subst (λ (z : Thing). done_with z x side interface) (sym h)
-      (finish old new seq (commands.Bind (End x) side interface) (replies.Bound x) able schema seqs events (sym t)
+      (finish old new seq (commands.Bind (End x) side interface) (replies.Bound x) able schema seqs unmoved
+      (record { none = refl; handed = λ wire. refl; after = λ rs. refl }) events (sym t)
       (bound_agrees (wire_in old) (past_of old) k seq x side interface o old.pipes new.pipes old.endpoints new.endpoints q g able.holds.agrees) tt)

@@ -14,7 +14,6 @@ use Rattle.message_pipe.specs.Ends.{end_of, is_closed, peer_of, unread_at, with_
 use Rattle.message_pipe.specs.Mail.{weighs}
 use Rattle.message_pipe.specs.declared.message.Message.{Message}
 use Rattle.message_pipe.specs.declared.pipe_end.PipeEnd.{PipeEnd}
-use Rattle.wire_model.specs.Trees.{view}
 use Rattle.wire_encoder.specs.declared.prepared.Prepared.{Prepared}
 use Rattle.bind_model.specs.declared.asked.Asked.TheVariants as asks
 use Rattle.bind_model.specs.declared.asked.Outgoing.{Outgoing}
@@ -31,12 +30,12 @@ use Rattle.bind_model.proofs.Kept.{Kept, bound_made}
 use Rattle.bind_model.proofs.Outcomes.{Outcome, outcome, Writes, Open, calls}
 use Rattle.bind_core.specs.steps.Calls.{AreOf, command_with, request_id, sealed_bytes}
 use Rattle.bind_core.specs.steps.Placing.{PutsAll}
-use Rattle.bind_core.specs.Plain.{asked_of}
+use Rattle.bind_core.specs.Plain.{asked_of, outgoing_of}
 use Rattle.bind_core.specs.Agreement.{Agrees, past_of, schema_of, wire_in}
 use Rattle.bind_core.specs.steps.Doing.{CanDo, Done, told_in}
-use Rattle.bind_core.specs.steps.Ways.{asks_of, way_at, way_to, way_open, all_out, way}
+use Rattle.bind_core.specs.steps.Ways.{asks_of, suits, way_at, way_to, way_open, all_out, way}
 use Rattle.bind_core.specs.declared.call.Request.{Request}
-use Rattle.bind_core.specs.declared.call.Writes.{Writes as Written}
+use Rattle.bind_core.specs.declared.writing.Writes.{Writes as Written}
 use Rattle.bind_core.specs.declared.commands.Reply.TheVariants as replies
 use Rattle.bind_core.specs.declared.endpoint_table.Line.{Line}
 use Rattle.bind_core.specs.declared.state.State.{State}
@@ -48,7 +47,7 @@ use Rattle.bind_core.proofs.Sending.{sent_agrees}
 -- ## What a way says
 
 -- a test that was passed
-passed : (b : Bool) (why : Why) (rest : Result EndId Why) (x : EndId) → (if b then Err why else rest) ≡ Ok x → (b ≡ false) × (rest ≡ Ok x)
+pub passed : (b : Bool) (why : Why) (rest : Result EndId Why) (x : EndId) → (if b then Err why else rest) ≡ Ok x → (b ≡ false) × (rest ≡ Ok x)
 passed true why rest x h = absurd cc
 passed false why rest x h = (refl, h)
 
@@ -66,7 +65,7 @@ module _ (pipes : Contents) (things : List Thing) (y : EndId) (prepared : Prepar
       let c = passed (nat_le MAX_UNREAD_MESSAGES (weighs (unread_at pipes.ends z))) Full _ x b.1 in
       let d : ◌≡◌ {A = Result EndId Why} (Ok z) (Ok x) = c.1 in cc
 
-  to_is : (peer_closed : Bool) (o : Option EndId) (x : EndId) → way_to pipes peer_closed things o ≡ Ok x → o ≡ Some x
+  pub to_is : (peer_closed : Bool) (o : Option EndId) (x : EndId) → way_to pipes peer_closed things o ≡ Ok x → o ≡ Some x
   to_is peer_closed None x h = absurd cc
   to_is peer_closed (Some z) x h = ap (λ (w : EndId). Some w) (at_is peer_closed z x h)
 
@@ -75,7 +74,7 @@ module _ (pipes : Contents) (things : List Thing) (y : EndId) (prepared : Prepar
   asked_right true false h = refl
   asked_right false b h = absurd cc
 
-  token_right : (a b : Bool) → not (a && b) ≡ false → b ≡ true
+  pub token_right : (a b : Bool) → not (a && b) ≡ false → b ≡ true
   token_right true true h = refl
   token_right true false h = cc
   token_right false b h = absurd cc
@@ -85,7 +84,7 @@ module _ (pipes : Contents) (things : List Thing) (y : EndId) (prepared : Prepar
   open_goes (Ok r) x h =
       let a = passed (is_receiver r.side) WrongSide _ x h in
       let b = passed (not (asks_of r.interface prepared.target)) WrongMethod _ x a.1 in
-      let c = passed (not ((length things == prepared.handles) && (length prepared.endpoints.items == 0))) WrongTokens _ x b.1 in
+      let c = passed (not (suits prepared things)) WrongTokens _ x b.1 in
       record {
         peer = to_is r.peer_closed (peer_of (end_of pipes.ends y)) x c.1;
         asks = asked_right (prepared.target.interface == r.interface) (is_response prepared.target.side) b.0;
@@ -114,7 +113,7 @@ module _ (old : State) (seq : SeqId) (r : Request) (can : CanDo old seq (command
 
   -- what is asked, and what is told where it is sent
   abbrev out : Outgoing
-  out = record { target = r.prepared.target; parameters = view r.prepared.value; handles = r.handles; pendings = [] }
+  out = outgoing_of r.prepared r.handles
 
   abbrev number : ℕ
   number = request_id (past_of old) r.end r.id r.prepared
@@ -151,22 +150,25 @@ module _ (old : State) (seq : SeqId) (r : Request) (can : CanDo old seq (command
     pub there : is_some (end_of old.pipes.ends x) ≡ true
     there = ap (λ (o : Option PipeEnd). is_some o) (can.able.holds.agrees.ends x) ∙ rw (peer_here, k.peers r.end made_here) refl
 
-    module _ (new : State) (schema : schema_of new ≡ schema_of old) (seqs : new.seqs ≡ old.seqs) (same : new.endpoints ≡ old.endpoints) where
+    module _ (new : State) (schema : schema_of new ≡ schema_of old) (seqs : new.seqs ≡ old.seqs) (same : new.endpoints ≡ old.endpoints)
+        (unmoved : new.responders ≡ old.responders) where
       pub call_done : (request : ℕ) (things : List Thing) (w : Written) (mid : Contents) → request ≡ number → things ≡ r.handles
-          → AreOf (command_with r things) things (sealed_bytes r.id request r.prepared) w
+          → AreOf r.prepared things (sealed_bytes r.id request r.prepared) w
           → Becomes x (with_message w.message) old.pipes mid → PutsAll r.handles (places.Unread x) mid new.pipes
-          → new.history.events ≡ old.history.events ++ record { seq = seq; asked = w.asked; told = tells.Sent request w.noted } ∷ []
+          → new.history.events ≡ old.history.events ++ record { seq = seq; asked = asks.Call r.end r.id w.outgoing; told = tells.Sent request w.noted } ∷ []
           → Done old new seq (command_with r r.handles) (replies.Sent request w.told)
       call_done request things w mid n e a b p events =
-          finish old new seq (command_with r r.handles) (replies.Sent request w.told) can.able schema seqs
-          (events ∙ rw (a.asked, a.noted, a.told, e) refl)
+          finish old new seq (command_with r r.handles) (replies.Sent request w.told) can.able schema seqs unmoved
+          (record { none = refl; handed = λ wire. refl; after = λ rs. refl })
+          (events ∙ rw (a.outgoing, a.noted, a.told, e) refl)
           told
           (subst
           (λ (tables : List (List (List Line))).
           Agrees (wire_in old) (record { seq = seq; asked = asked_of (command_with r r.handles); told = tells.Sent request w.told }
           ∷ past_of old) new.pipes tables)
           (sym same)
-          (sent_agrees (wire_in old) (past_of old) k seq r.end r.id out request w.told known.0.own known.0.open_there old.pipes mid new.pipes old.endpoints
+          (sent_agrees (wire_in old) (past_of old) k seq (asks.Call r.end r.id out) r.end r.handles request w.told refl (λ z. refl) known.0.own
+          known.0.open_there old.pipes mid new.pipes old.endpoints
           (subst (λ (z : EndId). Becomes z (with_message (record { bytes = w.told; handles = r.handles; emitted = false })) old.pipes mid) peer_here
           (subst (λ (m : Message). Becomes x (with_message m) old.pipes mid) message b))
           (subst (λ (z : EndId). PutsAll r.handles (places.Unread z) mid new.pipes) peer_here p)

@@ -1,4 +1,4 @@
--- What a call is told, by its way.
+-- What a call is told, by its way, and the tests that answers share.
 use Rattle.std.proofs.Common.{◌≡◌, ℕ, ◌+◌, Bool, true, false, List, [], ◌∷◌, length, refl, sym, ap, ◌∙◌}
 use Rattle.std.specs.Prelude.{if◌then◌else◌, ◌||◌, ◌&&◌, not, ◌==◌, nat_le, is_some, Option, Some, None, Result, Ok, Err}
 use Rattle.std.specs.List.{list_all}
@@ -36,7 +36,8 @@ use Rattle.bind_model.specs.Machine.{made, peer, is_gone, out, unread, endpoint_
 use Rattle.bind_model.specs.Replies.{answer, called, drawn, first_of, unless, is_receiver, is_response, wrong_tokens, cannot_write, tokens_right, all_suit, request_of, all_out as all_out_past, all_pending}
 use Rattle.bind_model.proofs.Kept.{Kept, bound_made}
 use Rattle.bind_core.specs.steps.Opens.{opened}
-use Rattle.bind_core.specs.steps.Ways.{asks_of, way_at, way_open, all_out, way}
+use Rattle.bind_core.specs.Plain.{outgoing_of}
+use Rattle.bind_core.specs.steps.Ways.{asks_of, way_at, way_open, all_out, suits, way}
 use Rattle.bind_core.specs.steps.Calls.{request_id, sealed_bytes}
 use Rattle.bind_core.specs.Agreement.{Agrees, is_out}
 use Rattle.bind_core.specs.declared.endpoint_table.Line.{Line}
@@ -48,12 +49,12 @@ told_of_way done (Ok x) = done
 told_of_way done (Err why) = No why
 
 -- a test, as the code has it and as the machine does
-test_if : (b : Bool) (why : Why) (rest : Result EndId Why) (tests : List (Option Why)) (done : Told) → told_of_way done rest ≡ first_of tests done
+pub test_if : (b : Bool) (why : Why) (rest : Result EndId Why) (tests : List (Option Why)) (done : Told) → told_of_way done rest ≡ first_of tests done
     → told_of_way done (if b then Err why else rest) ≡ first_of (unless (not b) why ∷ tests) done
 test_if true why rest tests done h = refl
 test_if false why rest tests done h = h
 
-test_not : (b : Bool) (why : Why) (rest : Result EndId Why) (tests : List (Option Why)) (done : Told) → told_of_way done rest ≡ first_of tests done
+pub test_not : (b : Bool) (why : Why) (rest : Result EndId Why) (tests : List (Option Why)) (done : Told) → told_of_way done rest ≡ first_of tests done
     → told_of_way done (if not b then Err why else rest) ≡ first_of (unless b why ∷ tests) done
 test_not true why rest tests done h = h
 test_not false why rest tests done h = refl
@@ -87,7 +88,7 @@ responds_is : (schema : Schema) (prepared : Prepared) → IsPrepared schema prep
 unfolding wire_of
 responds_is schema prepared p h = rw p.flags (responds_by (method_of schema prepared.target) prepared.target h)
 
-sealed_is : (schema : Schema) (prepared : Prepared) → IsPrepared schema prepared → (id request : ℕ)
+pub sealed_is : (schema : Schema) (prepared : Prepared) → IsPrepared schema prepared → (id request : ℕ)
     → (wire_of schema).sealed prepared.target (view prepared.value) (record { id = id; request = request; ids = [] }) ≡ sealed_bytes id request prepared
 unfolding wire_of
 sealed_is schema prepared p id request = rw (← p.flags, ← p.payload) refl
@@ -96,11 +97,40 @@ suits_none : (wire : Wire) (past : List Event) (wants : List WantedEndpoint) →
 suits_none wire past [] = refl
 suits_none wire past (w ∷ wants) = sym (eqb-suc-zero (length wants))
 
+-- ## What calls and answers share
+
+-- as many handles and endpoints as the parameters name
+pub tokens_is : (schema : Schema) (past : List Event) (prepared : Prepared) → IsPrepared schema prepared → (things : List Thing)
+    → suits prepared things ≡ tokens_right (wire_of schema) past (outgoing_of prepared things)
+tokens_is schema past prepared p things =
+    rw (handles_of_wire schema prepared p, wants_of_wire schema prepared p, suits_none (wire_of schema) past prepared.endpoints.items) refl
+
+module _ (wire : Wire) (past : List Event) (k : Kept wire past) (pipes : Contents) (endpoints : List (List (List Line)))
+    (a : Agrees wire past pipes endpoints) (things : List Thing) where
+  -- the last tests
+  pub last : (y : EndId) (done : Told) (peer_closed : Bool) → told_of_way done (way_at pipes peer_closed things (peer past y))
+      ≡ first_of (cannot_write wire past y peer_closed things) done
+  last y done peer_closed =
+      rw (closed_is wire past k pipes endpoints a (peer past y), unread_is wire past k pipes endpoints a (peer past y))
+      (test_if (has things (End (peer past y))) SelfSend _ _ done
+      (test_if (is_gone past (peer past y) || peer_closed) Disconnected _ _ done
+      (test_if (nat_le MAX_UNREAD_MESSAGES (weighs (unread wire past (peer past y)))) Full (Ok (peer past y)) [] done refl)))
+
+  -- the handles of all are with callers, and there are no pendings
+  pub outs_is : all_out pipes things ≡ all_out_past past things
+  outs_is = ap (λ b. b && is_distinct things) (all_same (λ (z : Thing). is_out (place_of pipes.table z)) (λ z. has (out past) z) a.outs things)
+
+-- ## Calls
+
+and_true : (b : Bool) → (b && true) ≡ b
+and_true true = refl
+and_true false = refl
+
 module _ (schema : Schema) (seqs : ℕ) (past : List Event) (k : Kept (wire_of schema) past) (pipes : Contents) (endpoints : List (List (List Line)))
     (a : Agrees (wire_of schema) past pipes endpoints)
     (seq : SeqId) (y : EndId) (id : ℕ) (prepared : Prepared) (p : IsPrepared schema prepared) (things : List Thing) where
   abbrev pub outgoing : Outgoing
-  outgoing = record { target = prepared.target; parameters = view prepared.value; handles = things; pendings = [] }
+  outgoing = outgoing_of prepared things
 
   abbrev pub sent : Told
   sent = Sent (request_of (wire_of schema) past y id prepared.target)
@@ -115,37 +145,21 @@ module _ (schema : Schema) (seqs : ℕ) (past : List Event) (k : Kept (wire_of s
       ∷ None
       ∷ cannot_write (wire_of schema) past y r.peer_closed things
 
-  tokens_is : ((length things == prepared.handles) && (length prepared.endpoints.items == 0)) ≡ tokens_right (wire_of schema) past outgoing
-  tokens_is = rw (handles_of_wire schema prepared p, wants_of_wire schema prepared p, suits_none (wire_of schema) past prepared.endpoints.items) refl
-
-  last : (peer_closed : Bool) → told_of_way sent (way_at pipes peer_closed things (peer past y))
-      ≡ first_of (cannot_write (wire_of schema) past y peer_closed things) sent
-  last peer_closed =
-      rw (closed_is (wire_of schema) past k pipes endpoints a (peer past y), unread_is (wire_of schema) past k pipes endpoints a (peer past y))
-      (test_if (has things (End (peer past y))) SelfSend _ _ sent
-      (test_if (is_gone past (peer past y) || peer_closed) Disconnected _ _ sent
-      (test_if (nat_le MAX_UNREAD_MESSAGES (weighs (unread (wire_of schema) past (peer past y)))) Full (Ok (peer past y)) [] sent refl)))
-
   opened_way : has (made past) (End y) ≡ true → (r : Endpoint) → told_of_way sent (way_open prepared things pipes y (Ok r)) ≡ first_of (tests_of r) sent
   opened_way m r =
-      rw (peer_is (wire_of schema) past k pipes endpoints a y m, tokens_is)
+      rw (peer_is (wire_of schema) past k pipes endpoints a y m, tokens_is schema past prepared p things)
       (test_if (is_receiver r.side) WrongSide _ _ sent
       (test_not (asks_of r.interface prepared.target) WrongMethod _ _ sent
       (test_not (tokens_right (wire_of schema) past outgoing) WrongTokens (way_at pipes r.peer_closed things (peer past y))
-      (None ∷ cannot_write (wire_of schema) past y r.peer_closed things) sent (last r.peer_closed))))
+      (None ∷ cannot_write (wire_of schema) past y r.peer_closed things) sent (last (wire_of schema) past k pipes endpoints a things y sent r.peer_closed))))
 
   each_way : (o : Result Endpoint Why) → (has (made past) (End y) ≡ true)
       → told_of_way sent (way_open prepared things pipes y o) ≡ told_of_opened o (λ r. first_of (tests_of r) sent)
   each_way (Ok r) m = opened_way m r
   each_way (Err why) m = refl
 
-  outs_is : all_out pipes things ≡ (all_out_past past things && all_pending past [])
-  outs_is = ap (λ b. b && is_distinct things) (all_same (λ (z : Thing). is_out (place_of pipes.table z)) (λ z. has (out past) z) a.outs things)
-      ∙ sym (right (all_out_past past things))
-    where
-      right : (b : Bool) → (b && true) ≡ b
-      right true = refl
-      right false = refl
+  own_is : all_out pipes things ≡ (all_out_past past things && all_pending past [])
+  own_is = outs_is (wire_of schema) past k pipes endpoints a things ∙ sym (and_true (all_out_past past things))
 
   at_endpoint : (o : Option Endpoint) → endpoint_at (wire_of schema) past y id ≡ o
       → told_of_way sent (if not (all_out pipes things) then Err NoName else way_open prepared things pipes y (opened seq (is_gone past y) id o))
@@ -157,7 +171,7 @@ module _ (schema : Schema) (seqs : ℕ) (past : List Event) (k : Kept (wire_of s
       go false = refl
   at_endpoint (Some r) e =
       let m : has (made past) (End y) ≡ true = bound_made (wire_of schema) past k (End y) (k.endpoints y id r e) in
-      rw outs_is
+      rw own_is
       (test_not (all_out_past past things && all_pending past []) NoName (way_open prepared things pipes y (opened seq (is_gone past y) id (Some r))) _ sent
       (each_way (opened seq (is_gone past y) id (Some r)) m ∙ opened_tests (is_gone past y) seq id r tests_of sent))
 

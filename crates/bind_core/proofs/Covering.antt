@@ -31,7 +31,7 @@ use Rattle.bind_core.specs.Agreement.{Holds, end_with, past_of, schema_of, wire_
 use Rattle.bind_core.specs.steps.Doing.{Done, Undone, told_in}
 use Rattle.bind_core.specs.steps.Takers.{taker_of}
 use Rattle.bind_core.specs.declared.commands.Command.{Command}
-use Rattle.bind_core.specs.declared.commands.Command.TheVariants.{Pipe, Join, Mint, Bind, Call, Take, Close, Skip}
+use Rattle.bind_core.specs.declared.commands.Command.TheVariants.{Pipe, Join, Mint, Bind, Call, Answer, Take, Close, Skip}
 use Rattle.bind_core.specs.declared.commands.Refused.{Refused}
 use Rattle.bind_core.specs.declared.commands.Reply.{Reply}
 use Rattle.bind_core.specs.declared.state.State.{State}
@@ -93,8 +93,10 @@ module _ (wire : Wire) (seqs : ℕ) (past : List Event) (seq : SeqId) (y : EndId
   near_named (Join other) told e h = h
   near_named (Mint sort) told e h = h
   near_named (Call x id prepared handles) told e h = h
+  near_named (Answer r prepared handles) told e h = h
   near_named (Take x) told e h = h
   near_named (Close (Rattle.bind_core.specs.declared.commands.ToClose.TheVariants.Handle x)) told e h = h
+  near_named (Close (Rattle.bind_core.specs.declared.commands.ToClose.TheVariants.Responder r)) told e h = h
   near_named (Close (Rattle.bind_core.specs.declared.commands.ToClose.TheVariants.Endpoint x id)) told e h = h
   near_named (Skip line) told e h = h
 

@@ -1,5 +1,5 @@
 -- That a closing is done, by what its parts did.
-use Rattle.std.proofs.Common.{◌≡◌, ℕ, true, List, [], ◌∷◌, ◌++◌, sym, ap, ◌∙◌, subst}
+use Rattle.std.proofs.Common.{◌≡◌, ℕ, true, List, [], ◌∷◌, ◌++◌, refl, sym, ap, ◌∙◌, subst}
 use Rattle.std.specs.Prelude.{◌==◌, ◌&&◌, if◌then◌else◌, Some, None}
 use Rattle.std.specs.Option.{option_map}
 use Rattle.mj_base.specs.declared.ids.EndId.{EndId}
@@ -30,21 +30,22 @@ use Rattle.bind_core.specs.declared.endpoint_table.Line.{Line}
 use Rattle.bind_core.specs.declared.state.State.{State}
 use Rattle.bind_core.specs.Plain.{closing_of}
 use Rattle.bind_core.proofs.Held.{finish}
+use Rattle.bind_core.proofs.Quiet.{IsQuiet}
 use Rattle.bind_core.proofs.Closed.{handle_told, handle_closed, end_told, end_closed}
 
 module _ (old new : State) (seq : SeqId) (able : HasRoom old seq) (schema : schema_of new ≡ schema_of old) (seqs : new.seqs ≡ old.seqs)
-    (goes told : List Thing) (t : told ≡ goes) where
+    (unmoved : new.responders ≡ old.responders) (goes told : List Thing) (t : told ≡ goes) where
   -- the event of a closing of this, with which these went
   abbrev event_with : ToClose → List Thing → Event
   event_with what things = record { seq = seq; asked = asks.Close (closing_of what); told = tells.Closed things }
 
   -- a closing is done where what went is what the history says, and the rest agrees with the event
-  close_done : (what : ToClose) → new.history.events ≡ old.history.events ++ event_with what goes ∷ []
+  close_done : (what : ToClose) → IsQuiet (commands.Close what) (replies.Closed told) → new.history.events ≡ old.history.events ++ event_with what goes ∷ []
       → tells.Closed goes ≡ told_to old seq (asks.Close (closing_of what))
       → Agrees (wire_in old) (event_with what goes ∷ past_of old) new.pipes new.endpoints
       → Done old new seq (commands.Close what) (replies.Closed told)
-  close_done what events answered agrees =
-      finish old new seq (commands.Close what) (replies.Closed told) able schema seqs
+  close_done what quiet events answered agrees =
+      finish old new seq (commands.Close what) (replies.Closed told) able schema seqs unmoved quiet
       (events ∙ ap (λ (things : List Thing). old.history.events ++ event_with what things ∷ []) (sym t))
       (ap (λ (things : List Thing). tells.Closed things) t ∙ answered)
       (subst (λ (things : List Thing). Agrees (wire_in old) (event_with what things ∷ past_of old) new.pipes new.endpoints) (sym t) agrees)
@@ -57,7 +58,7 @@ module _ (old new : State) (seq : SeqId) (able : HasRoom old seq) (schema : sche
       → Done old new seq (commands.Close (close.Handle x)) (replies.Closed told)
   handle_done x mid at e same events p c =
       let o : has (out (past_of old)) x ≡ true = sym (able.holds.agrees.outs x) ∙ at in
-      close_done (close.Handle x) events
+      close_done (close.Handle x) (record { none = refl; handed = λ wire. refl; after = λ rs. refl }) events
       (handle_told (wire_in old) old.seqs (past_of old) able.holds.legal seq able.within old.pipes old.endpoints able.holds.agrees x goes e o)
       (subst (λ (tables : List (List (List Line))). Agrees (wire_in old) (event_with (close.Handle x) goes ∷ past_of old) new.pipes tables) (sym same)
       (handle_closed (wire_in old) old.seqs (past_of old) able.holds.legal seq able.within old.pipes old.endpoints able.holds.agrees x goes e o
@@ -73,7 +74,7 @@ module _ (old new : State) (seq : SeqId) (able : HasRoom old seq) (schema : sche
       → Closes goes old.pipes new.pipes
       → Done old new seq (commands.Close (close.Endpoint y 0)) (replies.Closed told)
   end_done y r f h e g events c =
-      close_done (close.Endpoint y 0) events
+      close_done (close.Endpoint y 0) (record { none = refl; handed = λ wire. refl; after = λ rs. refl }) events
       (end_told (wire_in old) old.seqs (past_of old) able.holds.legal seq able.within old.pipes old.endpoints able.holds.agrees y goes e h)
       (end_closed (wire_in old) old.seqs (past_of old) able.holds.legal seq able.within old.pipes old.endpoints able.holds.agrees y goes e h r f
       new.pipes new.endpoints g c)

@@ -7,13 +7,16 @@ use Rattle.mj_schema.specs.declared.schema.Schema.{Schema}
 use Rattle.bind_model.specs.declared.event.Event.{Event}
 use Rattle.bind_model.specs.declared.told.Told.{Told}
 use Rattle.bind_model.specs.WireOf.{wire_of}
-use Rattle.bind_model.specs.Replies.{legal}
-use Rattle.bind_core.specs.Plain.{asked_of, told_of, HandsBack}
+use Rattle.bind_model.specs.Replies.{legal, responders_out}
+use Rattle.bind_core.specs.Plain.{asked_of, told_of, HandsBack, HandsResponders}
+use Rattle.bind_core.specs.Responders.{CountsResponders}
 use Rattle.bind_core.specs.Agreement.{Agrees, past_of, schema_of, wire_in}
 use Rattle.bind_core.specs.steps.Doing.{HasRoom, Done, told_in}
 use Rattle.bind_core.specs.declared.commands.Command.{Command}
 use Rattle.bind_core.specs.declared.commands.Reply.{Reply}
+use Rattle.bind_core.specs.declared.responder.ResponderName.{ResponderName}
 use Rattle.bind_core.specs.declared.state.State.{State}
+use Rattle.bind_core.proofs.Quiet.{IsQuiet, counts_still}
 
 reverse-snoc : (events : List Event) (event : Event) → reverse (events ++ event ∷ []) ≡ event ∷ reverse events
 reverse-snoc events event = reverse-append events (event ∷ [])
@@ -28,15 +31,17 @@ module _ (old new : State) (seq : SeqId) (command : Command) (reply : Reply) whe
   pub goes : HasRoom old seq → told_of reply ≡ told_in old seq command → legal (wire_in old) old.seqs (event_of seq command reply ∷ past_of old)
   goes can told = (can.within, told, can.holds.legal)
 
-  pub finish : HasRoom old seq
+  pub finish_with : HasRoom old seq
       → schema_of new ≡ schema_of old
       → new.seqs ≡ old.seqs
       → new.history.events ≡ old.history.events ++ event_of seq command reply ∷ []
       → told_of reply ≡ told_in old seq command
       → Agrees (wire_in old) (event_of seq command reply ∷ past_of old) new.pipes new.endpoints
+      → CountsResponders (wire_in old) (event_of seq command reply ∷ past_of old) new.responders
       → HandsBack command reply
+      → HandsResponders (wire_in old) command reply
       → Done old new seq command reply
-  finish can schema seqs events told agrees back =
+  finish_with can schema seqs events told agrees responders back hands =
       let past : past_of new ≡ event_of seq command reply ∷ past_of old = ap reverse events ∙ reverse-snoc old.history.events (event_of seq command reply) in
       record {
         holds = record {
@@ -47,6 +52,9 @@ module _ (old new : State) (seq : SeqId) (command : Command) (reply : Reply) whe
           agrees =
               subst (λ (w : Schema). Agrees (wire_of w) (past_of new) new.pipes new.endpoints) (sym schema)
               (subst (λ (p : List Event). Agrees (wire_in old) p new.pipes new.endpoints) (sym past) agrees);
+          responders =
+              subst (λ (w : Schema). CountsResponders (wire_of w) (past_of new) new.responders) (sym schema)
+              (subst (λ (p : List Event). CountsResponders (wire_in old) p new.responders) (sym past) responders);
           few = let n = can.few in omega (arith, ap length events, length-append old.history.events (event_of seq command reply ∷ []));
         };
         schema = schema;
@@ -54,5 +62,25 @@ module _ (old new : State) (seq : SeqId) (command : Command) (reply : Reply) whe
         events = events ∙ ap (λ (t : Told). old.history.events ++ record { seq = seq; asked = asked_of command; told = t } ∷ []) told;
         told = told;
         back = back;
+        responders = hands;
         few = can.few;
       }
+
+  -- where no responder moves
+  pub finish : HasRoom old seq
+      → schema_of new ≡ schema_of old
+      → new.seqs ≡ old.seqs
+      → new.responders ≡ old.responders
+      → IsQuiet command reply
+      → new.history.events ≡ old.history.events ++ event_of seq command reply ∷ []
+      → told_of reply ≡ told_in old seq command
+      → Agrees (wire_in old) (event_of seq command reply ∷ past_of old) new.pipes new.endpoints
+      → HandsBack command reply
+      → Done old new seq command reply
+  finish can schema seqs same quiet events told agrees back =
+      finish_with can schema seqs events told agrees
+      (subst (λ (counts : List (ResponderName × ℕ)). CountsResponders (wire_in old) (event_of seq command reply ∷ past_of old) counts) (sym same)
+      (counts_still (wire_in old) (event_of seq command reply) (past_of old) old.responders (quiet.handed (wire_in old))
+      (quiet.after (responders_out (wire_in old) (past_of old))) can.holds.responders))
+      back
+      (quiet.none ∙ sym (quiet.handed (wire_in old)))

@@ -25,9 +25,16 @@ mod Differing
 mod Parted
 mod Counted
 mod Naming
+mod Keyed
+mod Numbers
+mod Waited
+mod Quiet
+mod Responding
 mod Calling
 mod Sending
 mod Called
+mod Replying
+mod Replied
 mod EndOrder
 mod WhoTakes
 mod Untouched

@@ -29,11 +29,11 @@ all_equal Equal Equal t = refl
 all_equal Equal Greater t = refl
 all_equal Greater s t = refl
 
-tied : (n m : ℕ) → is_eq (nat_cmp n m) ≡ (n == m)
+pub tied : (n m : ℕ) → is_eq (nat_cmp n m) ≡ (n == m)
 tied n m = sym (unsigned_ties n m)
 
 -- a name is found where it is the same
-named : (x : EndId) (id : ℕ) (name : EndpointName) → is_at (name_cmp (name_of x id)) name ≡ is_named x id name
+pub named : (x : EndId) (id : ℕ) (name : EndpointName) → is_at (name_cmp (name_of x id)) name ≡ is_named x id name
 named x id name =
     all_equal (nat_cmp x.seq name.end.seq) (nat_cmp x.serial name.end.serial) (nat_cmp id name.id)
     ∙ (λ i. (tied x.seq name.end.seq i && tied x.serial name.end.serial i) && tied id name.id i)
@@ -46,7 +46,7 @@ same_place : (entries : List (EndpointName × ℕ)) (x y : EndId) (n m : ℕ) �
     → lookup (is_named x n) entries ≡ lookup (is_named y m) entries
 same_place entries x y n m p q r = λ i. lookup (λ name. ((p i == name.end.seq) && (q i == name.end.serial)) && (r i == name.id)) entries
 
-apart : (n m : ℕ) → (n ≡ m → ⊥) → (n == m) ≡ false
+pub apart : (n m : ℕ) → (n ≡ m → ⊥) → (n == m) ≡ false
 apart n m f = go (n == m) refl
   where
     go : (b : Bool) → (n == m) ≡ b → b ≡ false

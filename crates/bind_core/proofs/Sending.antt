@@ -17,12 +17,11 @@ use Rattle.message_pipe.specs.Contents.{Contents, Becomes}
 use Rattle.message_pipe.specs.Ends.{with_message}
 use Rattle.message_pipe.specs.declared.message.Message.{Message}
 use Rattle.message_pipe.specs.declared.pipe_end.PipeEnd.{PipeEnd}
-use Rattle.bind_model.specs.declared.asked.Outgoing.{Outgoing}
-use Rattle.bind_model.specs.declared.asked.Asked.TheVariants.{Call}
+use Rattle.bind_model.specs.declared.asked.Asked.{Asked}
 use Rattle.bind_model.specs.declared.told.Told.TheVariants.{Sent}
 use Rattle.bind_model.specs.declared.event.Event.{Event}
 use Rattle.bind_model.specs.Wire.{Wire}
-use Rattle.bind_model.specs.Machine.{made, peer, gone, is_gone, out, taken, written, unread}
+use Rattle.bind_model.specs.Machine.{made, peer, gone, is_gone, given, lands, out, puts, taken, written, unread, endpoint_at}
 use Rattle.bind_model.specs.Replies.{all_out}
 use Rattle.bind_model.proofs.Kept.{Kept, most, own_times}
 use Rattle.bind_model.proofs.Counting.{absent, times-present}
@@ -31,20 +30,25 @@ use Rattle.bind_core.specs.Agreement.{Agrees, end_in, end_with, is_out, is_shut}
 use Rattle.bind_core.specs.declared.endpoint_table.Line.{Line}
 use Rattle.bind_core.proofs.After.{out_after, unread_after, end_after}
 
-module _ (wire : Wire) (past : List Event) (k : Kept wire past) (seq : SeqId) (y : EndId) (id : ℕ) (s : Outgoing) (request : ℕ) (bytes : List ℕ)
-    (own : all_out past s.handles ≡ true) (alive : is_gone past (peer past y) ≡ false) where
+-- a call or an answer that takes these handles in and writes this message at y
+module _ (wire : Wire) (past : List Event) (k : Kept wire past) (seq : SeqId) (asked : Asked) (y : EndId) (handles : List Thing) (request : ℕ) (bytes : List ℕ)
+    (gives : given (Sent request bytes) asked ≡ handles)
+    (lays : (x : EndId) → puts wire past (written wire past) (endpoint_at wire past) (Sent request bytes) asked x ≡ lands past y bytes handles x)
+    (own : all_out past handles ≡ true) (alive : is_gone past (peer past y) ≡ false) where
   abbrev pub sent_event : Event
-  sent_event = record { seq = seq; asked = Call y id s; told = Sent request bytes }
+  sent_event = record { seq = seq; asked = asked; told = Sent request bytes }
 
   abbrev pub sent_message : Message
-  sent_message = record { bytes = bytes; handles = s.handles; emitted = false }
+  sent_message = record { bytes = bytes; handles = handles; emitted = false }
 
   few : (x : EndId) → length (taken past x ++ []) ≤ length (written wire past x)
   few x = rw (append-nil (taken past x)) (k.counted x)
 
   unread_now : (x : EndId) → unread wire (sent_event ∷ past) x ≡ unread wire past x
       ++ (if is_gone past x then [] else (if same_end (peer past y) x then sent_message ∷ [] else []))
-  unread_now x = unread_after wire sent_event past x (few x)
+  unread_now x =
+      unread_after wire sent_event past x (few x)
+      ∙ ap (λ (ps : List Message). unread wire past x ++ (if is_gone past x then [] else ps)) (lays x)
 
   gone_now : gone (sent_event ∷ past) ≡ gone past
   gone_now = append-nil (gone past)
@@ -75,8 +79,8 @@ module _ (wire : Wire) (past : List Event) (k : Kept wire past) (seq : SeqId) (y
       go false true ms e f = rw (append-nil ms) refl
       go false false ms e f = rw (append-nil ms) refl
 
-  not_gone_own : (z : Thing) → has s.handles z ≡ true → has (gone past) z ≡ false
-  not_gone_own z h = absent z (gone past) (omega (arith, k.one z, times-present z s.handles h, own_times wire past k s.handles own z, most wire past k z))
+  not_gone_own : (z : Thing) → has handles z ≡ true → has (gone past) z ≡ false
+  not_gone_own z h = absent z (gone past) (omega (arith, k.one z, times-present z handles h, own_times wire past k handles own z, most wire past k z))
 
   out_now : (q : Place) (b o : Bool) (p : Option Place) → is_out (Some q) ≡ false → is_out p ≡ o
       → is_out (if b then option_map (λ (before : Place). q) p else p) ≡ ((o && not b) || false)
@@ -107,16 +111,16 @@ module _ (wire : Wire) (past : List Event) (k : Kept wire past) (seq : SeqId) (y
       nowhere (Some r) = n
 
   pub sent_agrees : (old mid new : Contents) (endpoints : List (List (List Line))) → Becomes (peer past y) (with_message sent_message) old mid
-      → PutsAll s.handles (places.Unread (peer past y)) mid new
+      → PutsAll handles (places.Unread (peer past y)) mid new
       → Agrees wire past old endpoints → Agrees wire (sent_event ∷ past) new endpoints
   sent_agrees old mid new endpoints b p a = record {
     ends = λ x. p.ends x ∙ (b.ends x ∙ (ap (λ (o : Option PipeEnd). if same_end (peer past y) x then option_map (with_message sent_message) o else o)
         (a.ends x) ∙ ends_now x));
-    outs = λ z. ap is_out (at z) ∙ (out_now (places.Unread (peer past y)) (has s.handles z) (has (out past) z) (place_of old.table z) refl (a.outs z)
-        ∙ sym (out_after wire sent_event past z));
+    outs = λ z. ap is_out (at z) ∙ (out_now (places.Unread (peer past y)) (has handles z) (has (out past) z) (place_of old.table z) refl (a.outs z)
+        ∙ sym (out_after wire sent_event past z ∙ ap (λ (hs : List Thing). (has (out past) z && not (has hs z)) || false) gives));
     there = λ z. ap (λ (o : Option Place). is_some o) (at z)
-        ∙ (some_now (places.Unread (peer past y)) (has s.handles z) (place_of old.table z) ∙ (a.there z ∙ ap (λ ms. has ms z) (sym (append-nil (made past)))));
-    shuts = λ z. ap is_shut (at z) ∙ (shut_now (places.Unread (peer past y)) (has s.handles z) (has (gone past) z) (place_of old.table z) refl (a.shuts z)
+        ∙ (some_now (places.Unread (peer past y)) (has handles z) (place_of old.table z) ∙ (a.there z ∙ ap (λ ms. has ms z) (sym (append-nil (made past)))));
+    shuts = λ z. ap is_shut (at z) ∙ (shut_now (places.Unread (peer past y)) (has handles z) (has (gone past) z) (place_of old.table z) refl (a.shuts z)
         (not_gone_own z) ∙ ap (λ gs. has gs z) (sym (append-nil (gone past))));
     made = p.made ∙ (b.made ∙ (a.made ∙ ap length (sym (append-nil (made past)))));
     serials = λ n. p.ends_made n ∙ (rw b.table (a.serials n ∙ ap (λ ms. count_by (λ z. is_end z && (seq_of z == n)) ms) (sym (append-nil (made past)))));
@@ -124,6 +128,6 @@ module _ (wire : Wire) (past : List Event) (k : Kept wire past) (seq : SeqId) (y
     endpoints = λ x i. a.endpoints x i;
   }
     where
-      at : (z : Thing) → place_of new.table z ≡ (if has s.handles z then option_map (λ (before : Place). places.Unread (peer past y))
+      at : (z : Thing) → place_of new.table z ≡ (if has handles z then option_map (λ (before : Place). places.Unread (peer past y))
           (place_of old.table z) else place_of old.table z)
       at z = rw b.table at (p.places z)

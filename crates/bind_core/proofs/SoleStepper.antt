@@ -9,7 +9,8 @@ use Rattle.bind_model.specs.declared.event.Event.{Event}
 use Rattle.bind_core.specs.declared.commands.Command.{Command}
 use Rattle.bind_core.specs.declared.commands.Reply.{Reply}
 use Rattle.bind_core.specs.declared.commands.Refused.{Refused}
-use Rattle.bind_core.specs.Plain.{asked_of, told_of, HandsBack}
+use Rattle.bind_model.specs.WireOf.{wire_of}
+use Rattle.bind_core.specs.Plain.{asked_of, told_of, HandsBack, HandsResponders}
 use Rattle.bind_core.specs.Seen.{Continues, KeepsLegal, Saw, told_behind}
 
 -- all that was seen continues itself
@@ -26,9 +27,10 @@ module _ (schema : Schema) (seqs : ℕ) (me : SeqId) (old new : List Event) (com
   -- what a stepper sees of a step that none other came before
   pub saw_alone : (result : Result Reply Refused) → me.0 < seqs
       → IfOk result (λ reply. new ≡ old ++ its_event ∷ []) → IfOk result (λ reply. told_of reply ≡ told_behind schema seqs me old command)
-      → IfOk result (λ reply. HandsBack command reply) → OnOk result (length old < MAX_EVENTS)
+      → IfOk result (λ reply. HandsBack command reply) → IfOk result (λ reply. HandsResponders (wire_of schema) command reply)
+      → OnOk result (length old < MAX_EVENTS)
       → IfOk result (λ reply. Saw schema seqs me old new command reply)
-  saw_alone (Ok reply) within event told back room = record {
+  saw_alone (Ok reply) within event told back responders room = record {
     before = old;
     others = nothing_between me old;
     event = event;
@@ -36,5 +38,6 @@ module _ (schema : Schema) (seqs : ℕ) (me : SeqId) (old new : List Event) (com
     legal = still_legal within event;
     told = told;
     back = back;
+    responders = responders;
   }
-  saw_alone (Err refused) within event told back room = tt
+  saw_alone (Err refused) within event told back responders room = tt

@@ -20,6 +20,7 @@ use Rattle.bind_model.specs.WireOf.{wire_of}
 use Rattle.bind_model.specs.Machine.{made, out, gone, peer, is_gone, unread, endpoint_at}
 use Rattle.bind_model.specs.Replies.{legal, serials, tokens}
 use Rattle.bind_core.specs.Lines.{found_at}
+use Rattle.bind_core.specs.Responders.{CountsResponders}
 use Rattle.bind_core.specs.declared.endpoint_table.Line.{Line}
 use Rattle.bind_core.specs.declared.state.State.{State}
 
@@ -67,4 +68,5 @@ wire_in s = wire_of (schema_of s)
 pub record Holds (s : State) : Type 0 where
   pub legal : legal (wire_in s) s.seqs (past_of s)
   pub agrees : Agrees (wire_in s) (past_of s) s.pipes s.endpoints
+  pub responders : CountsResponders (wire_in s) (past_of s) s.responders
   pub few : length s.history.events ≤ MAX_EVENTS

@@ -7,6 +7,10 @@ use Rattle.bind_model.specs.declared.event.Event.{Event}
 use Rattle.bind_model.specs.Replies.{drawn}
 use Rattle.bind_core.specs.declared.requests.EndpointName.{EndpointName}
 
+-- the name of the endpoint of this id at an end
+abbrev pub endpoint_name : EndId → ℕ → EndpointName
+endpoint_name x id = record { end = x; id = id }
+
 -- whether it is the name of the endpoint of this id at an end
 abbrev pub is_named : EndId → ℕ → EndpointName → Bool
 is_named x id name = same_end x name.end && (id == name.id)

@@ -7,5 +7,7 @@ pub mod Lines
 pub mod Log
 pub mod Plain
 pub mod Play
+pub mod Responders
 pub mod Seen
+pub mod Waits
 pub mod steps

@@ -10,7 +10,7 @@ use Rattle.bind_model.specs.WireOf.{wire_of}
 use Rattle.bind_core.specs.declared.commands.Command.{Command}
 use Rattle.bind_core.specs.declared.commands.Reply.{Reply}
 use Rattle.bind_core.specs.declared.commands.Refused.{Refused}
-use Rattle.bind_core.specs.Plain.{asked_of, told_of, HandsBack, command_of, IsSpentAt}
+use Rattle.bind_core.specs.Plain.{asked_of, told_of, HandsBack, HandsResponders, command_of, IsSpentAt}
 
 -- the events of one sequence
 abbrev pub own_of : SeqId → List Event → List Event
@@ -39,6 +39,7 @@ pub record Saw (schema : Schema) (seqs : ℕ) (me : SeqId) (old new : List Event
   pub legal : KeepsLegal schema seqs old new
   pub told : told_of reply ≡ told_behind schema seqs me before command
   pub back : HandsBack command reply
+  pub responders : HandsResponders (wire_of schema) command reply
 
 -- no event of one's own, and the command comes back: it is spent exactly where 16,777,216 events stand
 pub record Waited (schema : Schema) (seqs : ℕ) (me : SeqId) (old new : List Event) (command : Command) (refused : Refused) : Type 0 where

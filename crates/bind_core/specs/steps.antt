@@ -1,9 +1,11 @@
 -- Definitions that serve proofs alone: no public clause cites them.
+pub mod Answering
 pub mod Calls
 pub mod Counting
 pub mod Doing
 pub mod FirstTaken
 pub mod Founds
+pub mod Keys
 pub mod LineChanges
 pub mod Marks
 pub mod Numbering

@@ -1,25 +1,23 @@
 //! Calling: a message to the other end.
 
-ghost use Rattle.std.specs.Prelude.{◌≡◌, length, Ok, IfOk, IfErr};
-ghost use Rattle.message_pipe.specs.Ends.{end_of, peer_of};
+ghost use Rattle.std.specs.Prelude.{◌≡◌, Ok, IfOk, IfErr};
 ghost use Rattle.bind_model.specs.Replies as replies;
 ghost use Rattle.bind_core.specs.Plain.{asked_of};
-ghost use Rattle.bind_core.specs.steps.Ways.{all_out, asks_of, way, way_at, way_to};
-ghost use Rattle.bind_core.specs.steps.Calls.{AreOf, command_with, request_id, sealed_bytes};
+ghost use Rattle.bind_core.specs.steps.Ways.{all_out, asks_of, way};
+ghost use Rattle.bind_core.specs.steps.Calls.{command_with, request_id};
 ghost use Rattle.bind_core.specs.Agreement.{past_of};
 ghost use Rattle.bind_core.specs.steps.Doing.{CanDo, Done, Undone};
 
 use crate::close::open_at;
 use crate::commands::{Command, Refused, Reply};
-use crate::copy::copy_value;
 use crate::state::{State, refuse};
-use crate::things::{all_out, contains, put_all};
-use bind_model::{Asked, Event, Outgoing, Parameters, Told, Why};
+use crate::things::{all_out, put_all};
+use crate::writing::{outgoing, suits, way_to, writes_of};
+use bind_model::{Asked, Event, Told, Why};
 use handle_table::{Handles, Place, Thing};
-use message_pipe::{Message, Pipes};
 use mj_base::{EndId, Items, SeqId};
 use std::alloc::{AllocError, Global};
-use wire_encoder::{EndpointSide, Head, Prepared, seal};
+use wire_encoder::{EndpointSide, Prepared};
 use wire_model::{MessageSide, Target};
 
 /// What is called: the endpoint of an id at an end, what is sent from it, and the handles that go with it.
@@ -103,32 +101,6 @@ fn asks_of(interface: u32, target: Target) -> bool
         }
 }
 
-/// The end that a message with these handles goes to, unless nothing can be written there.
-fn way_at(pipes: &Pipes, peer: EndId, peer_closed: bool, things: &[Thing]) -> Result<EndId, Why>
-    ensures { result ≡ way_at pipes.now peer_closed things.now peer }
-{
-    if contains(things, Thing::End(peer)) {
-        return Err(Why::SelfSend);
-    }
-    if pipes.is_closed(peer) || peer_closed {
-        return Err(Why::Disconnected);
-    }
-    if pipes.is_full(peer) {
-        return Err(Why::Full);
-    }
-    Ok(peer)
-}
-
-/// The end that a message from another goes to, unless nothing can be written there.
-fn way_to(pipes: &Pipes, end: EndId, peer_closed: bool, things: &[Thing]) -> Result<EndId, Why>
-    ensures { result ≡ way_to pipes.now peer_closed things.now (peer_of (end_of pipes.now.ends end)) }
-{
-    match pipes.peer(end) {
-        None => Err(Why::NoName),
-        Some(peer) => way_at(pipes, peer, peer_closed, things),
-    }
-}
-
 /// The end that a call goes to, or why it is refused. It is told whether the caller has all the handles.
 fn way(
     state: &State,
@@ -151,7 +123,7 @@ fn way(
     if !asks_of(endpoint.interface, prepared.target) {
         return Err(Why::WrongMethod);
     }
-    if things.len() != prepared.handles as usize || !prepared.endpoints.is_empty() {
+    if !suits(prepared, things) {
         return Err(Why::WrongTokens);
     }
     way_to(&state.pipes, request.end, endpoint.peer_closed, things)
@@ -161,57 +133,8 @@ fn way(
 fn asked(alloc: Global, request: &Request, things: Items<Thing>) -> Result<Asked, AllocError>
     ensures { IfOk result (λ asked. asked ≡ asked_of (command_with request.now things)) }
 {
-    let parameters = Parameters::new(copy_value(alloc, &request.prepared.value)?);
-    let outgoing = Outgoing {
-        target: request.prepared.target,
-        parameters,
-        handles: things,
-        pendings: Items::new(alloc),
-    };
+    let outgoing = outgoing(alloc, &request.prepared, things)?;
     Ok(Asked::Call(request.end, request.id, outgoing))
-}
-
-/// All that a call writes: its plain form, its message, and the bytes twice, for the history and for the
-/// caller.
-#[derive(Drop)]
-struct Writes {
-    asked: Asked,
-    message: Message,
-    noted: Items<u8>,
-    told: Items<u8>,
-}
-
-/// Makes all that a call writes, with its request id.
-fn writes_of(
-    alloc: Global,
-    request: &Request,
-    things: Items<Thing>,
-    request_id: u64,
-) -> Result<Writes, AllocError>
-    requires { length request.now.prepared.endpoints.items ≡ 0 }
-    ensures { IfOk result (λ writes. AreOf (command_with request.now things) things (sealed_bytes request.now.id request_id request.now.prepared) writes) }
-{
-    let head = Head {
-        interface_id: request.id,
-        request_id,
-        ids: &[],
-    };
-    let bytes = Items::from_vec(seal(alloc, &request.prepared, &head)?);
-    let noted = bytes.copy(alloc)?;
-    let told = bytes.copy(alloc)?;
-    let carried = things.copy(alloc)?;
-    let asked = asked(alloc, request, things)?;
-    let message = Message {
-        bytes,
-        handles: carried,
-        emitted: false,
-    };
-    Ok(Writes {
-        asked,
-        message,
-        noted,
-        told,
-    })
 }
 
 /// The request id of a call: 1, 2, 3 and so on at each endpoint, or 0 where no response is expected.
@@ -240,7 +163,7 @@ fn send(
     ensures undone { IfErr result (λ refused. Undone state.old state.new (command_with request request.handles) refused) }
 {
     let request_id = request_id_of(state, &request);
-    let Ok(writes) = writes_of(alloc, &request, things, request_id) else {
+    let Ok(writes) = writes_of(alloc, &request.prepared, request.id, request_id, things) else {
         return Err(Refused::Memory(request.into_command()));
     };
     let Ok(()) = state
@@ -256,15 +179,16 @@ fn send(
     let Request {
         end,
         id,
-        prepared: _,
+        prepared,
         handles,
     } = request;
     put_all(&mut state.pipes, handles, Place::Unread(peer));
     let event = Event {
         seq,
-        asked: writes.asked,
+        asked: Asked::Call(end, id, writes.outgoing),
         told: Told::Sent(request_id, writes.noted),
     };
-    state.history.push_sent(end, id, request_id, event);
+    let method = prepared.target.method;
+    state.history.push_sent(end, id, request_id, method, event);
     Ok(Reply::Sent(request_id, writes.told))
 }

@@ -1,5 +1,6 @@
 //! What a core is asked, and what it replies.
 
+use crate::responder::Responder;
 use bind_model::{BadWhy, Parameters, Why};
 use handle_table::{Ended, Handle, Handles, Thing, TokenSort};
 use mj_base::{EndId, Items, SeqId};
@@ -9,11 +10,13 @@ use wire_model::Target;
 /// What is closed.
 pub enum ToClose {
     Handle(Handle),
+    /// The right to answer a request, which then isn't answered.
+    Responder(Responder),
     /// The endpoint of this id at an end; with id 0, the end.
     Endpoint(EndId, u32),
 }
 
-/// What a caller asks. It takes the handles with it.
+/// What a caller asks. It takes the handles and the responder with it.
 pub enum Command {
     /// A new pipe.
     Pipe,
@@ -25,6 +28,8 @@ pub enum Command {
     Bind(Handle, EndpointSide, u32),
     /// A request from the endpoint of this id at an end, with the handles that its parameters name.
     Call(EndId, u32, Prepared, Handles),
+    /// The response to a request, with the handles that its parameters name.
+    Answer(Responder, Prepared, Handles),
     /// The oldest unread message at an end.
     Take(EndId),
     Close(ToClose),
@@ -34,13 +39,15 @@ pub enum Command {
 
 /// What a take got: the id of the endpoint that the message was for, its method and side, its
 /// parameters, its request id (0 where it has none), the handles that the parameters name in the order
-/// of their indexes, and what went with those that they don't name.
+/// of their indexes, the right to answer it where it is a request with a response, and what went with
+/// the handles that the parameters don't name.
 pub struct Received {
     pub id: u32,
     pub target: Target,
     pub parameters: Parameters,
     pub request: u64,
     pub handles: Handles,
+    pub responder: Option<Responder>,
     pub gone: Items<Thing>,
 }
 
@@ -77,6 +84,7 @@ impl ToClose {
     pub fn retire(self, over: &Ended) {
         match self {
             ToClose::Handle(handle) => handle.retire(over),
+            ToClose::Responder(responder) => responder.retire(over),
             ToClose::Endpoint(_, _) => {}
         }
     }
@@ -88,6 +96,10 @@ impl Command {
         match self {
             Command::Bind(handle, _, _) => handle.retire(over),
             Command::Call(_, _, _, handles) => handles.retire(over),
+            Command::Answer(responder, _, handles) => {
+                responder.retire(over);
+                handles.retire(over);
+            }
             Command::Close(closed) => closed.retire(over),
             Command::Pipe
             | Command::Join(_)
@@ -107,9 +119,13 @@ impl Received {
             parameters: _,
             request: _,
             handles,
+            responder,
             gone: _,
         } = self;
         handles.retire(over);
+        if let Some(responder) = responder {
+            responder.retire(over);
+        }
     }
 }
 

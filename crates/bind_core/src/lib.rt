@@ -1,6 +1,7 @@
 //! The machine: a core that does commands, keeps their history, and hands out handles.
 #![tactic(auto)]
 
+mod answer;
 mod bind;
 mod call;
 mod close;
@@ -17,18 +18,23 @@ mod left;
 mod machine;
 mod mint;
 mod reading;
+mod receive;
 mod requests;
+mod responder;
 mod state;
 mod stepper;
 mod take;
 mod takers;
 mod things;
+mod waiting;
 mod watch;
+mod writing;
 
 pub use commands::{Command, Received, Refused, Reply, ToClose};
 pub use copy::copy_value;
 pub use history::History;
 pub use machine::Core;
+pub use responder::Responder;
 pub use stepper::{Alone, Stepper};
 
 #[cfg(test)]

@@ -8,13 +8,14 @@ ghost use Rattle.bind_model.specs.Ready.{ready};
 ghost use Rattle.bind_model.specs.Replies.{Legal};
 ghost use Rattle.bind_model.specs.WireOf.{wire_of};
 ghost use Rattle.bind_core.specs.Left.{left};
-ghost use Rattle.bind_core.specs.Plain.{asked_of, told_of, HandsBack, command_of, IsSpentAt, IsOf};
+ghost use Rattle.bind_core.specs.Plain.{asked_of, told_of, HandsBack, HandsResponders, command_of, IsSpentAt, IsOf};
 ghost use Rattle.bind_core.specs.Play.{told_at};
 
 use crate::commands::{Command, Refused, Reply};
 use crate::end_set::EndSet;
 use crate::endpoints::Endpoints;
 use crate::history::History;
+use crate::responder::Responders;
 use crate::state::State;
 use crate::watch::{end_named, unwatch, watch};
 use crate::{left, state};
@@ -76,6 +77,7 @@ impl Core {
                 history: History::new(alloc),
                 pipes: Pipes::new(alloc),
                 endpoints: Endpoints::new(alloc),
+                responders: Responders::new(alloc),
             },
             watched: EndSet::new(alloc),
         }
@@ -92,6 +94,8 @@ impl Core {
             self.old.events ++ record { seq = seq; asked = asked_of command; told = told_at self.old seq command } ∷ []) }
         ensures told { IfOk result (λ reply. told_of reply ≡ told_at self.old seq command) }
         ensures back { IfOk result (λ reply. HandsBack command reply) }
+        // It hands out the responder that the event gives, and no other.
+        ensures responders { IfOk result (λ reply. HandsResponders (wire_of self.old.schema) command reply) }
         ensures refused { IfErr result (λ refused. (command_of refused ≡ command) × (self.new ≡ self.old)) }
         // It is spent exactly where 16,777,216 events stand.
         ensures room { OnOk result (length self.old.events < MAX_EVENTS) }
@@ -153,6 +157,7 @@ impl Core {
             history,
             pipes,
             endpoints: _,
+            responders: _,
         } = state;
         let over = pipes.end();
         (history, over)

@@ -1,16 +1,16 @@
 //! What a message that is taken says.
 
-ghost use Rattle.std.specs.Prelude.{ℕ, ◌≡◌, List, length, Some, None, IfOk};
+ghost use Rattle.std.specs.Prelude.{◌≡◌, [], List, length, Some, IfOk};
 ghost use Rattle.mj_base.specs.declared.ids.EndId.{EndId as end_id};
 ghost use Rattle.message_pipe.specs.declared.message.Message.{Message as a_message};
-ghost use Rattle.bind_model.specs.declared.endpoint.Endpoint.{Endpoint as an_endpoint};
 ghost use Rattle.bind_model.specs.declared.event.Event.{Event};
 ghost use Rattle.bind_model.specs.declared.told.Told.TheVariants as tells;
-ghost use Rattle.bind_model.specs.Machine.{goes_behind};
-ghost use Rattle.bind_model.specs.Replies.{at_endpoint, got_asked, headed, judged};
+ghost use Rattle.wire_model.specs.Message.{ids_read};
+ghost use Rattle.bind_model.specs.Machine.{endpoint_at, first_strange, goes_behind};
+ghost use Rattle.bind_model.specs.Replies.{at_endpoint, got_known, headed, is_response, judged};
 ghost use Rattle.bind_model.specs.Wire.{Wire};
-ghost use Rattle.bind_model.specs.WireOf.{comes_to, content_in, wire_of};
-ghost use Rattle.bind_core.specs.steps.Founds.{Tells, IsRead, front_at, header_of};
+ghost use Rattle.bind_model.specs.WireOf.{comes_to, content_in};
+ghost use Rattle.bind_core.specs.steps.Founds.{Tells, IsRead, front_at, header_of, is_unasked};
 ghost use Rattle.bind_core.specs.Agreement.{Holds, past_of, wire_in};
 
 use crate::indexes::part_named;
@@ -21,7 +21,6 @@ use message_header::{CONTROL_ID, read_header};
 use message_pipe::Message;
 use message_validator::{Checked, check};
 use mj_base::{EndId, Header, Items, SeqId};
-use mj_schema::Schema;
 use std::alloc::{AllocError, Global};
 use wire_decoder::decode;
 use wire_encoder::EndpointSide;
@@ -37,13 +36,13 @@ pub(crate) enum Found {
     /// A message for the endpoint of this id, which isn't there or is closed.
     Dropped(u32),
     Value(Arrived),
-    /// What no command of today leads to: a control, a response, or a message that carries ids.
+    /// What no command of today leads to: a control, or a message that carries ids.
     Later,
 }
 
-/// A request for the endpoint of an id: its method, its parameters, its request id (0 where it has
-/// none), the things of the handles that the parameters name in the order of their indexes, and those
-/// of the others.
+/// A request or a response for the endpoint of an id: its method and side, its parameters, its request id
+/// (0 where it has none), the things of the handles that the parameters name in the order of their
+/// indexes, and those of the others.
 #[derive(Drop)]
 pub(crate) struct Arrived {
     pub(crate) id: u32,
@@ -75,7 +74,28 @@ fn dropped(header: &Header) -> Found
     Found::Dropped(header.interface_id)
 }
 
-/// The request that a message which was checked stands for.
+/// Whether a message of this side is a response.
+pub(crate) fn is_response(side: MessageSide) -> bool
+    ensures { result ≡ is_response side }
+{
+    match side {
+        MessageSide::Request => false,
+        MessageSide::Response => true,
+    }
+}
+
+/// Whether a message for an endpoint is a response that nobody waits for.
+fn is_unasked(state: &State, end: EndId, id: u32, peer_closed: bool, checked: &Checked<'_>) -> bool
+    ensures { result ≡ is_unasked (past_of state.now) end id peer_closed checked.now.expected.side checked.now.request checked.now.method }
+{
+    is_response(checked.expected.side)
+        && (peer_closed
+            || !state
+                .history
+                .is_asked(end, id, checked.request, checked.method))
+}
+
+/// What a message that was checked, and that is no unasked response, stands for.
 fn arrive(
     alloc: Global,
     header: &Header,
@@ -83,11 +103,12 @@ fn arrive(
     checked: &Checked<'_>,
 ) -> Result<Found, AllocError>
     requires bytes { checked.now.bytes.now ≡ message.now.bytes }
-    ensures { IfOk result (λ found. (wire : Wire) (past : List Event) (y : end_id) (r : an_endpoint) → IsRead wire past y message.now header.now
-        → Tells wire past y found (got_asked wire past y message.now (header_of message.now header.now) r
-        (content_in checked.now.schema.now checked.now.expected message.now.bytes checked.now.number))) }
+    ensures { IfOk result (λ found. (wire : Wire) (past : List Event) (y : end_id) → IsRead wire past y message.now header.now
+        → Tells wire past y found (got_known wire past y message.now (header_of message.now header.now)
+        (content_in checked.now.schema.now checked.now.expected message.now.bytes checked.now.number)
+        (first_strange (endpoint_at wire past y) [] (ids_read message.now.bytes)))) }
 {
-    if checked.expected.side == MessageSide::Response || header.ids.len > 0 {
+    if header.ids.len > 0 {
         return Ok(Found::Later);
     }
     let value = decode(alloc, checked)?;
@@ -97,7 +118,7 @@ fn arrive(
         target: Target {
             interface: checked.expected.interface,
             method: checked.method,
-            side: MessageSide::Request,
+            side: checked.expected.side,
         },
         parameters: Parameters::new(value),
         request: checked.request,
@@ -108,15 +129,17 @@ fn arrive(
 
 /// What a message for an endpoint that is bound on the sequence which takes it stands for.
 fn judge(
+    state: &State,
     alloc: Global,
-    schema: &Schema,
+    end: EndId,
     endpoint: Endpoint,
     header: &Header,
     message: &Message,
 ) -> Result<Found, AllocError>
-    ensures { IfOk result (λ found. (past : List Event) (y : end_id) → IsRead (wire_of schema.now) past y message.now header.now
-        → Tells (wire_of schema.now) past y found (judged (wire_of schema.now) past y message.now (header_of message.now header.now) endpoint
-        ((wire_of schema.now).stands endpoint.side endpoint.interface message.now.bytes (length message.now.handles)))) }
+    ensures { IfOk result (λ found. IsRead (wire_in state.now) (past_of state.now) end message.now header.now
+        → Tells (wire_in state.now) (past_of state.now) end found (judged (wire_in state.now) (past_of state.now) end message.now
+        (header_of message.now header.now) endpoint
+        ((wire_in state.now).stands endpoint.side endpoint.interface message.now.bytes (length message.now.handles)))) }
 {
     let expected = Expected {
         interface: endpoint.interface,
@@ -126,23 +149,35 @@ fn judge(
     let Ok(handles) = u32::try_from(message.handles.len()) else {
         return Ok(Found::Later);
     };
-    match check(schema, expected, message.bytes.as_slice(), handles) {
-        Err(fault) => Ok(Found::Bad(BadWhy::Message(fault))),
-        Ok(checked) => arrive(alloc, header, message, &checked),
+    let checked = match check(&state.schema, expected, message.bytes.as_slice(), handles) {
+        Err(fault) => return Ok(Found::Bad(BadWhy::Message(fault))),
+        Ok(checked) => checked,
+    };
+    if is_unasked(
+        state,
+        end,
+        header.interface_id,
+        endpoint.peer_closed,
+        &checked,
+    ) {
+        return Ok(Found::Bad(BadWhy::Unasked(checked.request)));
     }
+    arrive(alloc, header, message, &checked)
 }
 
 /// What a message for the endpoint of its id stands for.
 fn deliver(
+    state: &State,
     alloc: Global,
-    schema: &Schema,
     seq: SeqId,
+    end: EndId,
     endpoint: Option<Endpoint>,
     header: &Header,
     message: &Message,
 ) -> Result<Found, AllocError>
-    ensures { IfOk result (λ found. (past : List Event) (y : end_id) → IsRead (wire_of schema.now) past y message.now header.now
-        → Tells (wire_of schema.now) past y found (at_endpoint (wire_of schema.now) past seq y message.now (header_of message.now header.now) endpoint)) }
+    ensures { IfOk result (λ found. IsRead (wire_in state.now) (past_of state.now) end message.now header.now
+        → Tells (wire_in state.now) (past_of state.now) end found
+        (at_endpoint (wire_in state.now) (past_of state.now) seq end message.now (header_of message.now header.now) endpoint)) }
 {
     let Some(endpoint) = endpoint else {
         return Ok(dropped(header));
@@ -153,7 +188,7 @@ fn deliver(
         EndpointState::Bound(other) if other.0 != seq.0 => {
             Ok(Found::Nothing(Why::Elsewhere(other)))
         }
-        EndpointState::Bound(_) => judge(alloc, schema, endpoint, header, message),
+        EndpointState::Bound(_) => judge(state, alloc, end, endpoint, header, message),
     }
 }
 
@@ -178,5 +213,5 @@ pub(crate) fn read(
         return Ok(Found::Later);
     }
     let endpoint = state.endpoints.find(end, header.interface_id);
-    deliver(alloc, &state.schema, seq, endpoint, &header, message)
+    deliver(state, alloc, seq, end, endpoint, &header, message)
 }

@@ -3,7 +3,7 @@
 ghost use Rattle.std.specs.Prelude.{ℕ, ◌≡◌, ◌+◌, ◌<◌, ◌^◌, ◌==◌, ◌&&◌, ◌||◌, not, if◌then◌else◌, OnOk, IsTrue};
 ghost use Rattle.mj_base.specs.declared.ids.EndId.{EndId as end_id};
 ghost use Rattle.handle_table.specs.Things.{same_end};
-ghost use Rattle.bind_core.specs.Counts.{count_at};
+ghost use Rattle.bind_core.specs.Counts.{count_at, endpoint_name};
 ghost use Rattle.bind_core.specs.steps.Counting.{is_counted};
 
 use mj_base::EndId;
@@ -16,6 +16,15 @@ use std::marker::Model;
 pub(crate) struct EndpointName {
     end: EndId,
     id: u32,
+}
+
+impl EndpointName {
+    /// The endpoint of an id at an end.
+    pub(crate) fn new(end: EndId, id: u32) -> EndpointName
+        ensures { result ≡ endpoint_name end id }
+    {
+        EndpointName { end, id }
+    }
 }
 
 /// For each endpoint, how many requests with a response were sent there. Contracts see a list of names

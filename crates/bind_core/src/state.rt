@@ -6,10 +6,12 @@ ghost use Rattle.bind_core.specs.Plain.{asked_of, IsOf};
 ghost use Rattle.bind_core.specs.Agreement.{Holds, schema_of};
 ghost use Rattle.bind_core.specs.steps.Doing.{CanDo, Done, Undone, told_in};
 
+use crate::answer::{answer, close_responder};
 use crate::close::{close_endpoint, close_handle};
 use crate::commands::{Command, Refused, Reply, ToClose};
 use crate::endpoints::Endpoints;
 use crate::history::History;
+use crate::responder::Responders;
 use crate::{bind, call, join, mint, take};
 use bind_model::{Asked, Event, Told, Why};
 use message_pipe::Pipes;
@@ -19,14 +21,15 @@ use mj_schema::Schema;
 use std::alloc::Global;
 use std::sync::Arc;
 
-/// The schema, how many sequences there are, all events, the pipes with the places of all handles, and
-/// the endpoints of ends.
+/// The schema, how many sequences there are, all events, the pipes with the places of all handles, the
+/// endpoints of ends, and the responders that are with callers.
 pub struct State {
     pub schema: Arc<Schema>,
     pub seqs: u32,
     pub history: History,
     pub pipes: Pipes,
     pub endpoints: Endpoints,
+    pub responders: Responders,
 }
 
 /// Does one command.
@@ -72,8 +75,14 @@ fn dispatch(
         Command::Call(end, id, prepared, handles) => {
             call::call(state, alloc, seq, end, id, prepared, handles)
         }
+        Command::Answer(responder, prepared, handles) => {
+            answer(state, alloc, seq, responder, prepared, handles)
+        }
         Command::Take(end) => take::take(state, alloc, seq, end),
         Command::Close(ToClose::Handle(handle)) => close_handle(state, alloc, seq, handle),
+        Command::Close(ToClose::Responder(responder)) => {
+            close_responder(state, alloc, seq, responder)
+        }
         Command::Close(ToClose::Endpoint(end, id)) => close_endpoint(state, alloc, seq, end, id),
         Command::Skip(line) => Ok(skip(state, seq, line)),
     }

@@ -1,33 +1,30 @@
 //! Taking: the oldest unread message at an end.
 
-ghost use Rattle.std.specs.Prelude.{◌≡◌, ◌≤◌, ◌<◌, ◌++◌, ◌∷◌, [], true, Ok, Err, Some, length, vec_len, vec_capacity, IfOk, IfErr};
-ghost use Rattle.handle_table.specs.Places.{place_of, is_kept};
-ghost use Rattle.handle_table.specs.declared.places.Place.TheVariants as places;
-ghost use Rattle.message_pipe.specs.Contents.{Puts};
+ghost use Rattle.std.specs.Prelude.{◌≡◌, Ok, Err, Some, IfOk, IfErr};
 ghost use Rattle.message_pipe.specs.Ends.{carried_in, end_of, peer_of, spread, unread_at};
 ghost use Rattle.message_pipe.specs.Mail.{front_of};
 ghost use Rattle.bind_model.specs.declared.asked.Asked.TheVariants as asks;
 ghost use Rattle.bind_model.specs.Replies.{bad};
-ghost use Rattle.bind_core.specs.steps.Founds.{IsDropped, IsGot, Tells, things_in};
-ghost use Rattle.bind_core.specs.steps.Placing.{PutsAll};
+ghost use Rattle.bind_core.specs.steps.Founds.{IsDropped, Tells, things_in};
 ghost use Rattle.bind_core.specs.Agreement.{Holds, past_of, wire_in};
 ghost use Rattle.bind_core.specs.steps.Doing.{CanDo, Done, HasRoom, Undone, told_to};
-ghost use Rattle.bind_core.specs.steps.Taking.{IsBrought, LieThere, front_found, nothing_at};
+ghost use Rattle.bind_core.specs.steps.Taking.{front_found, nothing_at};
 
 use crate::close::{Goes, goes_with};
-use crate::commands::{Command, Received, Refused, Reply};
-use crate::copy::copy_value;
-use crate::reading::{Arrived, Found, read};
+use crate::commands::{Command, Refused, Reply};
+use crate::reading::{Found, read};
+use crate::receive::receive;
 use crate::state::{State, refuse};
-use bind_model::{Asked, BadWhy, Event, Got, Parameters, Told, Why};
-use handle_table::{Handle, Handles, Thing};
+use bind_model::{Asked, BadWhy, Event, Told, Why};
+use handle_table::Thing;
 use message_pipe::{Message, Pipes};
 use mj_base::{EndId, Items, SeqId};
 use std::alloc::{AllocError, Global};
 
-/// Takes the oldest unread message at an end. A request is got, with the handles that its parameters
-/// name; a message whose endpoint isn't there or is closed is dropped; a bad one closes the end. Without
-/// memory nothing happens.
+/// Takes the oldest unread message at an end. A request or a response is got, with the handles that its
+/// parameters name, and a request with the right to answer it where its method has a response; a message
+/// whose endpoint isn't there or is closed is dropped; a bad one closes the end. Without memory nothing
+/// happens.
 pub fn take(state: &mut State, alloc: Global, seq: SeqId, end: EndId) -> Result<Reply, Refused>
     requires { CanDo state.old seq (Command.Take end) }
     ensures done { IfOk result (λ reply. Done state.old state.new seq (Command.Take end) reply) }
@@ -107,7 +104,7 @@ fn spoil(
 }
 
 /// What goes with things of the message that is taken at an end. Nothing is closed yet.
-fn goes_behind(
+pub(crate) fn goes_behind(
     pipes: &Pipes,
     alloc: Global,
     end: EndId,
@@ -165,116 +162,4 @@ fn discard(
         told: Told::Dropped(id, goes.noted),
     });
     Ok(Reply::Dropped(id, goes.told))
-}
-
-/// All that a request brings: the reply as it is noted, the things whose handles come out, what goes, and
-/// room for the handles.
-pub(crate) struct Brings {
-    pub(crate) noted: Got,
-    pub(crate) things: Items<Thing>,
-    pub(crate) gone: Items<Thing>,
-    pub(crate) room: Vec<Handle>,
-}
-
-/// Makes all that a request at an end brings.
-fn gather(pipes: &Pipes, alloc: Global, end: EndId, arrived: &Arrived) -> Result<Brings, AllocError>
-    ensures { IfOk result (λ brings. IsBrought pipes.now end arrived.now brings) }
-{
-    let left = arrived.left.copy(alloc)?.into_vec();
-    let goes = goes_behind(pipes, alloc, end, left)?;
-    let noted = Got {
-        id: arrived.id,
-        target: arrived.target,
-        parameters: Parameters::new(copy_value(alloc, arrived.parameters.value())?),
-        request: arrived.request,
-        handles: arrived.named.copy(alloc)?,
-        pendings: Items::new(alloc),
-        gone: goes.noted,
-    };
-    let things = arrived.named.copy(alloc)?;
-    let room = Vec::with_capacity(alloc, things.len())?;
-    Ok(Brings {
-        noted,
-        things,
-        gone: goes.told,
-        room,
-    })
-}
-
-/// Hands out the handle of one thing that is kept, into a list with room for it.
-fn hand_one(pipes: &mut Pipes, thing: Thing, out: &mut Vec<Handle>)
-    requires kept { is_kept (place_of pipes.old.table thing) ≡ true }
-    requires room { vec_len out.old < vec_capacity out.old }
-    ensures handles { out.new.items ≡ out.old.items ++ thing ∷ [] }
-    ensures capacity { vec_capacity out.new ≡ vec_capacity out.old }
-    ensures places { Puts thing places.Out pipes.old pipes.new }
-{
-    if let Some(handle) = pipes.take(thing) {
-        out.push_reserved(handle);
-    }
-}
-
-/// Hands out the handles of things that are kept, in their order.
-fn hand_out(pipes: &mut Pipes, things: &[Thing], room: Vec<Handle>) -> Handles
-    requires empty { room.items ≡ [] }
-    requires room { length things.now ≤ vec_capacity room }
-    requires there { LieThere pipes.old things.now }
-    ensures handles { result ≡ things.now }
-    ensures places { PutsAll things.now places.Out pipes.old pipes.new }
-{
-    let mut out = room;
-    for thing in things {
-        hand_one(pipes, *thing, &mut out);
-    }
-    Handles::from_vec(out)
-}
-
-/// Gets a request.
-fn receive(
-    state: &mut State,
-    alloc: Global,
-    seq: SeqId,
-    end: EndId,
-    arrived: Arrived,
-) -> Result<Reply, Refused>
-    requires able { HasRoom state.old seq }
-    requires told { IsGot (wire_in state.old) (past_of state.old) end arrived (told_to state.old seq (asks.Take end)) }
-    ensures done { IfOk result (λ reply. Done state.old state.new seq (Command.Take end) reply) }
-    ensures undone { IfErr result (λ refused. Undone state.old state.new (Command.Take end) refused) }
-{
-    match gather(&state.pipes, alloc, end, &arrived) {
-        Ok(brings) => Ok(accept(state, seq, end, arrived, brings)),
-        Err(_) => Err(Refused::Memory(Command::Take(end))),
-    }
-}
-
-/// Notes a request, lets its message go with what its parameters don't name, and hands its handles out.
-fn accept(state: &mut State, seq: SeqId, end: EndId, arrived: Arrived, brings: Brings) -> Reply
-    requires able { HasRoom state.old seq }
-    requires told { IsGot (wire_in state.old) (past_of state.old) end arrived (told_to state.old seq (asks.Take end)) }
-    requires brought { IsBrought state.old.pipes end arrived brings }
-    ensures { Done state.old state.new seq (Command.Take end) result }
-{
-    let Brings {
-        noted,
-        things,
-        gone,
-        room,
-    } = brings;
-    let _front = state.pipes.pop_front(end);
-    state.pipes.close(gone.as_slice());
-    let handles = hand_out(&mut state.pipes, things.as_slice(), room);
-    state.history.push_reserved(Event {
-        seq,
-        asked: Asked::Take(end),
-        told: Told::Taken(noted),
-    });
-    Reply::Got(Received {
-        id: arrived.id,
-        target: arrived.target,
-        parameters: arrived.parameters,
-        request: arrived.request,
-        handles,
-        gone,
-    })
 }

@@ -22,6 +22,7 @@ pub(crate) fn end_named(command: &Command) -> Option<EndId>
             Thing::Token(_) => None,
         },
         Command::Call(end, _, _, _) | Command::Take(end) => Some(*end),
+        Command::Answer(responder, _, _) => Some(responder.id().end),
         Command::Close(ToClose::Endpoint(end, _)) => Some(*end),
         _ => None,
     }

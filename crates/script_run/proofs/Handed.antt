@@ -20,7 +20,10 @@ use Rattle.bind_model.specs.declared.told.Why.TheVariants.{NoName, NotPipe, Disc
 use Rattle.wire_encoder.specs.declared.endpoint.EndpointSide.{EndpointSide}
 use Rattle.bind_model.specs.Machine.{out, given, handed, is_gone, endpoint_at, is_closed, goes_with}
 use Rattle.bind_model.specs.Replies.{answer, legal, unless, bound_as, called, sent, request_of, all_out, all_pending, unbound, elsewhere, is_receiver}
-use Rattle.bind_model.specs.Replies.{is_response, wrong_tokens, wrong_pipe, cannot_write}
+use Rattle.bind_model.specs.Replies.{answered_with, is_response, responders_out, same_responder, same_target, wrong_tokens, wrong_pipe, cannot_write}
+use Rattle.bind_model.specs.declared.endpoint.ResponderId.{ResponderId}
+use Rattle.wire_model.specs.declared.target.MessageSide.TheVariants.{Response}
+use Rattle.std.specs.List.{list_any}
 use Rattle.bind_model.specs.Wire.{Wire}
 use Rattle.bind_model.proofs.Counting.{times-append, times-present, absent}
 use Rattle.bind_model.proofs.Fresh.{kept}
@@ -86,6 +89,22 @@ module _ (wire : Wire) (seqs : ℕ) (past : List Event) (seq : SeqId) where
         | inr p ↦ rw p.1 refl
       ]
 
+  answer_given : (q : ResponderId) (s : Outgoing) (o : Option Endpoint) (told : Told) → is_done told ≡ true
+      → told ≡ answered_with wire past seq q s o → given told (Answer q s) ≡ s.handles
+  answer_given q s None told d e = refused told (Answer q s) d NoName e
+  answer_given q s (Some r) told d e = elim (first_cases (
+      unless (list_any (λ p. same_responder p q) (responders_out wire past) && all_out past s.handles && all_pending past s.pendings) NoName
+      ∷ unless (not (is_gone past q.end || is_closed r)) Disconnected
+      ∷ elsewhere seq r
+      ∷ unless (same_target s.target (record { interface = q.interface; method = q.method; side = Response })) WrongMethod
+      ∷ wrong_tokens wire past s
+      ∷ wrong_pipe past q.end s.pendings
+      ∷ cannot_write wire past q.end r.peer_closed s.handles)
+      (sent wire q.id s q.request) told e) [
+        | inl r ↦ refused told (Answer q s) d r.0 r.1
+        | inr p ↦ rw p.1 refl
+      ]
+
   -- where a command of a script is done, all that went with it is taken
   pub given_is : (asked : Asked) (told : Told) → IsPlain asked → told ≡ answer wire seqs past seq asked → is_done told ≡ true
       → given told asked ≡ things_asked asked
@@ -100,7 +119,7 @@ module _ (wire : Wire) (seqs : ℕ) (past : List Event) (seq : SeqId) where
         | inl r ↦ refused told (Close (closings.Handle x)) d r.0 r.1
         | inr p ↦ rw p.1 refl
       ]
-  given_is (Answer r s) told plain e d = absurd plain
+  given_is (Answer r s) told plain e d = answer_given r s (endpoint_at wire past r.end r.id) told d e
   given_is (Raw x bytes handles) told plain e d = absurd plain
   given_is asked told plain e d = none_given told asked refl
 

@@ -49,8 +49,10 @@ things_same (commands.Join other) = refl
 things_same (commands.Mint sort) = refl
 things_same (commands.Bind handle side interface) = refl
 things_same (commands.Call end id prepared handles) = refl
+things_same (commands.Answer responder prepared handles) = refl
 things_same (commands.Take end) = refl
 things_same (commands.Close (close.Handle handle)) = refl
+things_same (commands.Close (close.Responder responder)) = refl
 things_same (commands.Close (close.Endpoint end id)) = refl
 things_same (commands.Skip line) = refl
 

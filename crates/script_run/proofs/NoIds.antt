@@ -45,10 +45,10 @@ dropped P (suc n) (x ∷ xs) a = dropped P n xs a.1
 
 -- ## Who writes
 
--- a call without endpoints, or the machine
+-- a call or an answer without endpoints, or the machine
 abbrev HasNoIds : Origin → Type 0
 HasNoIds (OfCall y outgoing head) = head.ids ≡ []
-HasNoIds (OfAnswer r outgoing head) = ⊥
+HasNoIds (OfAnswer r outgoing head) = head.ids ≡ []
 HasNoIds (OfRaw bytes handles) = ⊥
 HasNoIds (OfMachine id) = Unit {0}
 
@@ -80,7 +80,8 @@ writers_none : (wire : Wire) (past : List Event) (told : Told) (asked : Asked) �
     → AllByRecursion HasNoIds (writers wire past told asked x)
 writers_none wire past (Sent request bytes) (Call y id o) plain x =
     call_none (OfCall y o (record { id = id; request = request; ids = ids_of o.pendings })) (ap ids_of plain) (same_end (peer past y) x)
-writers_none wire past (Sent request bytes) (Answer r o) plain x = absurd plain
+writers_none wire past (Sent request bytes) (Answer r o) plain x =
+    call_none (OfAnswer r o (record { id = r.id; request = request; ids = ids_of o.pendings })) (ap ids_of plain) (same_end (peer past r.end) x)
 writers_none wire past (Wrote z) (Raw y bytes handles) plain x = absurd plain
 writers_none wire past (Taken g) (Take y) plain x =
     machine_none past y (endpoint_at wire past y)
@@ -139,7 +140,18 @@ message_none schema (OfCall y o head) none =
       ids = head.ids;
     })
     (payload_for schema o.target o.parameters) none)
-message_none schema (OfAnswer r o head) none = absurd none
+message_none schema (OfAnswer r o head) none =
+    header_none (sealed schema o.target o.parameters head) o.handles false schema
+    (none_read
+    (record {
+      interface = head.id;
+      name = o.target.method;
+      flags = flags_for (method_of schema o.target) o.target;
+      nonce = 0;
+      request = head.request;
+      ids = head.ids;
+    })
+    (payload_for schema o.target o.parameters) none)
 message_none schema (OfRaw bytes handles) none = absurd none
 message_none schema (OfMachine id) none = header_none _ [] true schema
     (none_read (record { interface = CONTROL_ID; name = 0; flags = 0; nonce = 0; request = 0; ids = [] })

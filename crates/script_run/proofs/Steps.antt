@@ -12,7 +12,7 @@ use Rattle.bind_model.specs.WireOf.{wire_of}
 use Rattle.bind_core.specs.Plain.{asked_of}
 use Rattle.bind_core.specs.Play.{Play, told_at}
 use Rattle.bind_core.specs.declared.commands.Command.{Command}
-use Rattle.bind_core.specs.declared.commands.Command.TheVariants.{Pipe, Join, Mint, Bind, Call, Take, Close, Skip}
+use Rattle.bind_core.specs.declared.commands.Command.TheVariants.{Pipe, Join, Mint, Bind, Call, Answer, Take, Close, Skip}
 use Rattle.bind_core.specs.declared.commands.ToClose.TheVariants as close
 use Rattle.call_script.specs.declared.script.TheConstants.{SEQUENCES}
 use Rattle.script_run.specs.steps.Going.{past_in, IsPlain, IsGoing, told_next, Went}
@@ -24,8 +24,10 @@ plain_command (Join other) = tt
 plain_command (Mint sort) = tt
 plain_command (Bind handle side interface) = tt
 plain_command (Call end id prepared handles) = refl
+plain_command (Answer responder prepared handles) = refl
 plain_command (Take end) = tt
 plain_command (Close (close.Handle handle)) = tt
+plain_command (Close (close.Responder responder)) = tt
 plain_command (Close (close.Endpoint end id)) = tt
 plain_command (Skip line) = tt
 

@@ -202,7 +202,7 @@ module _ (schema : Schema) (seqs : ℕ) (past : List Event) (h : legal (wire_of 
 
   puts_few : (told : Told) (asked : Asked) → IsPlain asked → AtOne told asked
   puts_few (Sent request bytes) (Call y id o) p = record { end = peer past y; few = lands_few y bytes o.handles }
-  puts_few (Sent request bytes) (Answer r o) p = absurd p
+  puts_few (Sent request bytes) (Answer r o) p = record { end = peer past r.end; few = lands_few r.end bytes o.handles }
   puts_few (Wrote z) (Raw y bytes handles) p = absurd p
   puts_few (Taken g) (Take y) p = record { end = some_end; few = λ x. omega (arith, ap length (take_none y (Taken g) x)) }
   puts_few (Dropped id gone) (Take y) p = record { end = some_end; few = λ x. omega (arith, ap length (take_none y (Dropped id gone) x)) }

@@ -18,16 +18,20 @@ impl Run {
     fn keep(&mut self, reply: Reply) -> Result<(), NoMemory>
         requires kept { vec_len self.old.kept < vec_capacity self.old.kept }
         requires refused { vec_len self.old.refused < vec_capacity self.old.refused }
+        requires responders { vec_len self.old.held.responders < vec_capacity self.old.held.responders }
         ensures { self.new.core ≡ self.old.core }
     {
         match comes_with(reply) {
-            Comes::New(handles) => match self.held.give_new(&[], handles) {
-                Ok(()) => Ok(()),
-                Err(handles) => {
-                    self.kept.push_reserved(handles);
-                    Err(NoMemory)
+            Comes::New(handles, responder) => {
+                self.held.keep(responder);
+                match self.held.give_new(&[], handles) {
+                    Ok(()) => Ok(()),
+                    Err(handles) => {
+                        self.kept.push_reserved(handles);
+                        Err(NoMemory)
+                    }
                 }
-            },
+            }
             Comes::Back(command) => {
                 self.refused.push_reserved(command);
                 Ok(())

@@ -8,7 +8,7 @@ ghost use Rattle.script_run.specs.steps.Slots.{IsSound, empty, thing_at, held_at
 
 use crate::lines::first_needed;
 use crate::runner::NoMemory;
-use bind_core::{Command, ToClose};
+use bind_core::{Command, Responder, ToClose};
 use call_script::{Command as Asked, NameId};
 use handle_table::{Ended, Handle, Handles, Thing};
 use mj_base::EndId;
@@ -58,10 +58,20 @@ impl Slot {
     }
 }
 
-/// The handles that are held under names, by the numbers of the names, and the others.
+/// The handles that are held under names, by the numbers of the names, the others, and the responders.
 pub struct Held {
     pub slots: Vec<Slot>,
     pub others: Vec<Handle>,
+    pub responders: Vec<Responder>,
+}
+
+/// Lets all go, once all is over.
+fn retire_all(responders: Vec<Responder>, over: &Ended) {
+    let mut left = responders;
+    while let Some(responder) = left.pop() {
+        responder.retire(over);
+    }
+    left.destroy_empty();
 }
 
 impl Held {
@@ -78,6 +88,7 @@ impl Held {
         Ok(Held {
             slots,
             others: Vec::new(alloc),
+            responders: Vec::new(alloc),
         })
     }
 
@@ -96,6 +107,7 @@ impl Held {
         ensures before { result ≡ held_at self.old.slots.items name }
         ensures after { self.new.slots.items ≡ without_held self.old.slots.items name }
         ensures others { self.new.others ≡ self.old.others }
+        ensures responders { self.new.responders ≡ self.old.responders }
     {
         if name.0 >= self.slots.len() {
             return None;
@@ -103,14 +115,29 @@ impl Held {
         self.slots[name.0].take()
     }
 
-    /// Makes room for so many handles more.
+    /// Makes room for so many handles more, and for a responder.
     pub fn make_room(&mut self, count: usize) -> Result<(), NoMemory>
         ensures same { self.new.slots ≡ self.old.slots }
         ensures room { OnOk result (count + vec_len self.new.others ≤ vec_capacity self.new.others) }
+        ensures responders { OnOk result (vec_len self.new.responders < vec_capacity self.new.responders) }
     {
+        if self.responders.reserve(1).is_err() {
+            return Err(NoMemory);
+        }
         match self.others.reserve(count) {
             Ok(()) => Ok(()),
             Err(_) => Err(NoMemory),
+        }
+    }
+
+    /// Keeps a responder.
+    pub fn keep(&mut self, responder: Option<Responder>)
+        requires { vec_len self.old.responders < vec_capacity self.old.responders }
+        ensures same { (self.new.slots ≡ self.old.slots) × (self.new.others ≡ self.old.others) }
+    {
+        match responder {
+            Some(responder) => self.responders.push_reserved(responder),
+            None => {}
         }
     }
 
@@ -205,14 +232,20 @@ impl Held {
 
     /// Holds the handles of a command that came back under the names that its line took them from.
     pub fn give_back(&mut self, line: &Asked, back: Command)
-        requires { length (things_in back) + vec_len self.old.others ≤ vec_capacity self.old.others }
+        requires handles { length (things_in back) + vec_len self.old.others ≤ vec_capacity self.old.others }
+        requires responders { vec_len self.old.responders < vec_capacity self.old.responders }
         ensures { self.new.slots.items ≡ given (needed line.now) (things_in back) self.old.slots.items }
     {
         match back {
             Command::Bind(handle, _, _) => self.give_one(first_needed(line), handle),
             Command::Call(_, _, _, handles) => self.give_needed(line, handles),
+            Command::Answer(responder, _, handles) => {
+                self.responders.push_reserved(responder);
+                self.give_needed(line, handles);
+            }
             Command::Close(closed) => match closed {
                 ToClose::Handle(handle) => self.give_one(first_needed(line), handle),
+                ToClose::Responder(responder) => self.responders.push_reserved(responder),
                 ToClose::Endpoint(_, _) => {}
             },
             Command::Pipe
@@ -248,11 +281,16 @@ impl Held {
 
     /// Lets all go, once all is over.
     pub fn retire(self, over: &Ended) {
-        let Held { mut slots, others } = self;
+        let Held {
+            mut slots,
+            others,
+            responders,
+        } = self;
         while let Some(slot) = slots.pop() {
             slot.retire(over);
         }
         slots.destroy_empty();
         Handles::from_vec(others).retire(over);
+        retire_all(responders, over);
     }
 }

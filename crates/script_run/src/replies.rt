@@ -4,12 +4,13 @@ ghost use Rattle.std.specs.Prelude.{◌≡◌, length};
 ghost use Rattle.script_run.specs.steps.Lines.{things_in};
 ghost use Rattle.script_run.specs.steps.Replies.{comes_with};
 
-use bind_core::{Command, Received, Reply, ToClose};
+use bind_core::{Command, Received, Reply, Responder, ToClose};
 use handle_table::Handles;
 
-/// What comes with a reply: handles that are handed out, a refused command, or nothing.
+/// What comes with a reply: handles that are handed out, and maybe the right to answer a request, a
+/// refused command, or nothing.
 pub enum Comes {
-    New(Handles),
+    New(Handles, Option<Responder>),
     Back(Command),
     Nothing,
 }
@@ -19,7 +20,7 @@ pub fn comes_with(reply: Reply) -> Comes
     ensures { result ≡ comes_with reply }
 {
     match reply {
-        Reply::Made(handles) => Comes::New(handles),
+        Reply::Made(handles) => Comes::New(handles, None),
         Reply::Got(got) => {
             let Received {
                 id: _,
@@ -27,9 +28,10 @@ pub fn comes_with(reply: Reply) -> Comes
                 parameters: _,
                 request: _,
                 handles,
+                responder,
                 gone: _,
             } = got;
-            Comes::New(handles)
+            Comes::New(handles, responder)
         }
         Reply::No(_, command) => Comes::Back(command),
         Reply::Bound(_)
@@ -48,12 +50,14 @@ pub fn count_of(command: &Command) -> usize
 {
     match command {
         Command::Bind(_, _, _) | Command::Close(ToClose::Handle(_)) => 1,
-        Command::Call(_, _, _, handles) => handles.as_slice().len(),
+        Command::Call(_, _, _, handles) | Command::Answer(_, _, handles) => {
+            handles.as_slice().len()
+        }
         Command::Pipe
         | Command::Join(_)
         | Command::Mint(_)
         | Command::Take(_)
-        | Command::Close(ToClose::Endpoint(_, _))
+        | Command::Close(ToClose::Responder(_) | ToClose::Endpoint(_, _))
         | Command::Skip(_) => 0,
     }
 }

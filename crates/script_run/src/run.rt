@@ -74,6 +74,7 @@ impl Run {
         ensures told { IfOk result (λ reply. told_of reply ≡ told_next self.old.core seq (asked_of command)) }
         ensures back { IfOk result (λ reply. HandsBack command reply) }
         ensures room { OnOk result (length (things_in command) + vec_len self.new.held.others ≤ vec_capacity self.new.held.others) }
+        ensures responders { OnOk result (vec_len self.new.held.responders < vec_capacity self.new.held.responders) }
         ensures refused { OnOk result (vec_len self.new.refused < vec_capacity self.new.refused) }
         ensures same { (self.new.held.slots ≡ self.old.held.slots) × (self.new.kept ≡ self.old.kept) }
     {
@@ -114,11 +115,15 @@ impl Run {
     fn settle(&mut self, line: &Asked, reply: Reply) -> Result<(), NoMemory>
         requires kept { vec_len self.old.kept < vec_capacity self.old.kept }
         requires room { count_back (comes_with reply) + vec_len self.old.held.others ≤ vec_capacity self.old.held.others }
+        requires responders { vec_len self.old.held.responders < vec_capacity self.old.held.responders }
         ensures slots { OnOk result (self.new.held.slots.items ≡ settled line.now (comes_with reply) self.old.held.slots.items) }
         ensures core { self.new.core ≡ self.old.core }
     {
         match comes_with(reply) {
-            Comes::New(handles) => self.name(line, handles),
+            Comes::New(handles, responder) => {
+                self.held.keep(responder);
+                self.name(line, handles)
+            }
             Comes::Back(command) => {
                 self.held.give_back(line, command);
                 Ok(())

@@ -5,7 +5,7 @@ use Rattle.mj_base.specs.declared.ids.SeqId.{SeqId}
 use Rattle.bind_model.specs.declared.asked.Asked.{Asked}
 use Rattle.bind_model.specs.declared.told.Told.{Told}
 use Rattle.bind_model.specs.Replies.{answer}
-use Rattle.bind_core.specs.Plain.{asked_of, told_of, HandsBack, IsOf, command_of, IsSpentAt}
+use Rattle.bind_core.specs.Plain.{asked_of, told_of, HandsBack, HandsResponders, IsOf, command_of, IsSpentAt}
 use Rattle.bind_core.specs.declared.commands.Command.{Command}
 use Rattle.bind_core.specs.declared.commands.Reply.{Reply}
 use Rattle.bind_core.specs.declared.commands.Refused.{Refused}
@@ -40,6 +40,7 @@ pub record Done (old new : State) (seq : SeqId) (command : Command) (reply : Rep
   pub events : new.history.events ≡ old.history.events ++ record { seq = seq; asked = asked_of command; told = told_in old seq command } ∷ []
   pub told : told_of reply ≡ told_in old seq command
   pub back : HandsBack command reply
+  pub responders : HandsResponders (wire_in old) command reply
   pub few : length old.history.events < MAX_EVENTS
 
 -- no event

@@ -1,5 +1,5 @@
 -- What is found at the front of an end's mail.
-use Rattle.std.specs.Prelude.{ℕ, ◌≡◌, ◌*◌, List, [], length, Option, Some, None, Ok}
+use Rattle.std.specs.Prelude.{ℕ, ◌≡◌, ◌*◌, ◌&&◌, ◌||◌, not, Bool, List, [], length, Option, Some, None, Ok}
 use Rattle.mj_base.specs.declared.header.Header.{Header as Read}
 use Rattle.mj_base.specs.declared.ids.EndId.{EndId}
 use Rattle.message_pipe.specs.Mail.{front_of}
@@ -11,7 +11,8 @@ use Rattle.bind_model.specs.declared.told.Told.TheVariants as tells
 use Rattle.wire_model.specs.Message.{ids_read}
 use Rattle.bind_model.specs.Wire.{Wire, Header}
 use Rattle.bind_model.specs.Machine.{unread, ids_in, goes_behind}
-use Rattle.bind_model.specs.Replies.{bad}
+use Rattle.bind_model.specs.Replies.{bad, is_asked, is_response}
+use Rattle.wire_model.specs.declared.target.MessageSide.{MessageSide}
 use Rattle.bind_core.specs.declared.reading.Arrived.{Arrived}
 use Rattle.bind_core.specs.declared.reading.Found.{Found}
 use Rattle.bind_core.specs.declared.reading.Found.TheVariants.{Nothing, Bad, Dropped, Value, Later}
@@ -55,6 +56,10 @@ Tells wire past y (Bad why) told = told ≡ bad wire past y why
 Tells wire past y (Dropped id) told = IsDropped wire past y id told
 Tells wire past y (Value a) told = IsGot wire past y a told
 Tells wire past y Later told = Unit {0}
+
+-- whether a message of this side, for the endpoint of an id at an end, is a response that nobody waits for
+abbrev pub is_unasked : List Event → EndId → ℕ → Bool → MessageSide → ℕ → ℕ → Bool
+is_unasked past y id peer_closed side request method = is_response side && (peer_closed || not (is_asked past y id request method))
 
 -- what a header that was read of a message says
 abbrev pub header_of : Message → Read → Header

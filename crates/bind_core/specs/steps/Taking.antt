@@ -1,5 +1,5 @@
 -- Taking from an end: what there is to take, and what comes out of a message.
-use Rattle.std.specs.Prelude.{◌≡◌, ◌≤◌, true, List, [], length, Option, Some, None, Result, Ok, Err, if◌then◌else◌, vec_capacity}
+use Rattle.std.specs.Prelude.{ℕ, ◌≡◌, ◌≤◌, ◌&&◌, not, true, List, [], length, Option, Some, None, Result, Ok, Err, if◌then◌else◌, vec_capacity}
 use Rattle.mj_base.specs.declared.ids.EndId.{EndId}
 use Rattle.handle_table.specs.Places.{place_of, is_kept}
 use Rattle.handle_table.specs.Things.{has, is_distinct}
@@ -8,13 +8,17 @@ use Rattle.message_pipe.specs.Contents.{Contents}
 use Rattle.message_pipe.specs.Ends.{carried_in, end_of, is_closed, peer_of, spread, unread_at}
 use Rattle.message_pipe.specs.Mail.{front_of}
 use Rattle.message_pipe.specs.declared.message.Message.{Message}
+use Rattle.wire_model.specs.declared.target.Target.{Target}
+use Rattle.bind_model.specs.Replies.{is_response, same_responder}
+use Rattle.bind_model.specs.Wire.{Wire}
 use Rattle.bind_model.specs.declared.endpoint.Endpoint.{Endpoint}
+use Rattle.bind_model.specs.declared.endpoint.ResponderId.{ResponderId}
 use Rattle.bind_model.specs.declared.told.Why.{Why}
 use Rattle.bind_model.specs.declared.told.Why.TheVariants.{NoName, Disconnected, Empty, PeerClosed}
 use Rattle.bind_core.specs.Lines.{found_at}
 use Rattle.bind_core.specs.declared.endpoint_table.Line.{Line}
 use Rattle.bind_core.specs.declared.reading.Arrived.{Arrived}
-use Rattle.bind_core.specs.declared.take.Brings.{Brings}
+use Rattle.bind_core.specs.declared.receive.Brings.{Brings}
 
 -- why nothing is taken where nothing is unread, by the other end of the pipe
 abbrev pub nothing_at : Contents → Option EndId → Why
@@ -40,7 +44,18 @@ pub record LieThere (pipes : Contents) (things : List Thing) : Type 0 where
   pub once : is_distinct things ≡ true
   pub kept : (z : Thing) → has things z ≡ true → is_kept (place_of pipes.table z) ≡ true
 
--- all that a request at y brings was made
+-- the responder that a message at y for the endpoint of an id gives
+abbrev pub responder_due : Wire → EndId → ℕ → Target → ℕ → Option ResponderId
+responder_due wire y id target request =
+    if not (is_response target.side) && wire.responds target.interface target.method
+    then Some (record { end = y; id = id; request = request; interface = target.interface; method = target.method }) else None
+
+-- how often a name stands there
+abbrev pub times_in : Option ResponderId → ResponderId → ℕ
+times_in None r = 0
+times_in (Some q) r = if same_responder q r then 1 else 0
+
+-- all that a message at y brings was made
 pub record IsBrought (pipes : Contents) (y : EndId) (a : Arrived) (b : Brings) : Type 0 where
   pub noted : b.noted ≡ record {
     id = a.id;

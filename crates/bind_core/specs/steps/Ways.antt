@@ -38,13 +38,17 @@ abbrev pub way_to : Contents → Bool → List Thing → Option EndId → Result
 way_to pipes peer_closed things None = Err NoName
 way_to pipes peer_closed things (Some x) = way_at pipes peer_closed things x
 
+-- whether there are as many handles as the parameters name, and these want no endpoints
+abbrev pub suits : Prepared → List Thing → Bool
+suits prepared things = (length things == prepared.handles) && (length prepared.endpoints.items == 0)
+
 -- the end that a call from an open endpoint goes to
 abbrev pub way_open : Prepared → List Thing → Contents → EndId → Result Endpoint Why → Result EndId Why
 way_open prepared things pipes y (Err why) = Err why
 way_open prepared things pipes y (Ok r) =
     if is_receiver r.side then Err WrongSide
     else (if not (asks_of r.interface prepared.target) then Err WrongMethod
-    else (if not ((length things == prepared.handles) && (length prepared.endpoints.items == 0)) then Err WrongTokens
+    else (if not (suits prepared things) then Err WrongTokens
     else way_to pipes r.peer_closed things (peer_of (end_of pipes.ends y))))
 
 -- whether the handles of all are with callers, and none stands twice

@@ -27,15 +27,14 @@ use Rattle.script_run.specs.steps.Slots.{thing_at, held_at}
 abbrev pub past_in : Play → List Event
 past_in core = reverse core.events
 
--- what scripts ask: no endpoint is sent, made, attached or closed, nothing is answered, and nothing written raw
+-- what scripts ask: no endpoint is sent, made, attached or closed, and nothing written raw
 abbrev pub IsPlain : Asked → Type 0
 IsPlain (asks.Call y id outgoing) = outgoing.pendings ≡ []
 IsPlain (asks.Associate y side interface) = ⊥
 IsPlain (asks.Attach p t) = ⊥
-IsPlain (asks.Answer r outgoing) = ⊥
+IsPlain (asks.Answer r outgoing) = outgoing.pendings ≡ []
 IsPlain (asks.Raw x bytes handles) = ⊥
 IsPlain (asks.Close (closings.Pending p)) = ⊥
-IsPlain (asks.Close (closings.Responder r)) = ⊥
 IsPlain asked = Unit {0}
 
 -- the core of a script's sequences, whose events are legal and what scripts ask

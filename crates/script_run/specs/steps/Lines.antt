@@ -46,6 +46,7 @@ needed command = []
 abbrev pub things_in : core.Command → List Thing
 things_in (commands.Bind handle side interface) = handle ∷ []
 things_in (commands.Call end id prepared handles) = handles
+things_in (commands.Answer responder prepared handles) = handles
 things_in (commands.Close (close.Handle handle)) = handle ∷ []
 things_in command = []
 

@@ -1,5 +1,5 @@
 -- What comes back with replies, and what slots are once it is held again.
-use Rattle.std.specs.Prelude.{ℕ, List, length}
+use Rattle.std.specs.Prelude.{ℕ, List, length, None}
 use Rattle.bind_core.specs.declared.commands.Reply.{Reply}
 use Rattle.bind_core.specs.declared.commands.Reply.TheVariants.{Made, Got, No}
 use Rattle.call_script.specs.declared.script.Command.{Command}
@@ -10,10 +10,10 @@ use Rattle.script_run.specs.declared.replies.Comes.TheVariants.{New, Back, Nothi
 use Rattle.script_run.specs.steps.Lines.{needed, things_in}
 use Rattle.script_run.specs.steps.Slots.{given}
 
--- handles that are handed out, a refused command, or nothing
+-- handles that are handed out, and maybe a responder, a refused command, or nothing
 abbrev pub comes_with : Reply → Comes
-comes_with (Made handles) = New handles
-comes_with (Got g) = New g.handles
+comes_with (Made handles) = New handles None
+comes_with (Got g) = New g.handles g.responder
 comes_with (No why command) = Back command
 comes_with reply = Nothing
 
@@ -24,6 +24,6 @@ count_back comes = 0
 
 -- the slots once it is held under the names of the line
 abbrev pub settled : Command → Comes → List Slot → List Slot
-settled line (New handles) slots = given (sets line) handles slots
+settled line (New handles responder) slots = given (sets line) handles slots
 settled line (Back command) slots = given (needed line) (things_in command) slots
 settled line Nothing slots = slots

@@ -1,32 +1,73 @@
-use Rattle.std.proofs.Common.{Result, length, sym, ap, ◌∙◌, subst}
+use Rattle.std.proofs.Common.{◌≡◌, ℕ, List, length, refl, sym, ap, ◌∙◌, subst}
+use Rattle.std.specs.Prelude.{Some}
 use Rattle.std.proofs.lemmas.Result.{IfOk-weaker}
-use Rattle.mj_base.specs.declared.fault.Fault.{Fault}
+use Rattle.bounds_claims.specs.Runs.{first_fault}
+use Rattle.mj_schema.specs.declared.schema.Schema.{Schema}
+use Rattle.message_validator.specs.Before.{before_payload}
+use Rattle.wire_model.specs.Bytes.{number32}
+use Rattle.wire_model.specs.Expected.{message_marks}
+use Rattle.wire_model.specs.Message.{request_read}
 use Rattle.wire_model.specs.declared.target.MessageSide.{MessageSide}
 use Rattle.bind_model.specs.Replies.{judged}
-use Rattle.bind_model.specs.Wire.{Content}
-use Rattle.bind_model.specs.WireOf.{wire_of}
+use Rattle.bind_model.specs.WireOf.{content_in}
+use Rattle.bind_model.specs.declared.told.Told.{Told}
+use Rattle.bind_core.specs.Agreement.{past_of, schema_of, wire_in}
 use Rattle.bind_core.specs.steps.Founds.{Tells, header_of}
+use Rattle.bind_core.proofs.Arriving.{asked_told, unasked_told}
 use Rattle.bind_core.proofs.WireReads.{failed, passed}
 use Rattle.bind_core.proofs.reading.judge.Goals as goal
 
 pub returns-in-Err : goal.returns-in-Err
-returns-in-Err c past y read =
-    ap (judged (wire_of c.args.schema.now) past y c.args.message.now (header_of c.args.message.now c.args.header.now) c.args.endpoint)
-    (failed c.args.schema.now c.args.endpoint.side c.args.endpoint.interface c.args.message.now.bytes (length c.args.message.now.handles)
-    c.as_slice.result.now c.in-Ok.handles c.comes_to.result c.in-Err.fault c.as_slice.ensures (c.in-Ok.ensures.1 ∙ c.len.ensures) c.comes_to.ensures
-    c.in-Err.ensures.first)
+returns-in-Err c = λ read.
+    let s = c.args.state.now in
+    let m = c.args.message.now in
+    let e = c.args.endpoint in
+    ap (judged (wire_in s) (past_of s) c.args.end m (header_of m c.args.header.now) e)
+    (failed (schema_of s) e.side e.interface m.bytes (length m.handles) c.as_slice.result.now c.in-Ok.handles c.comes_to.result c.in-Err.fault
+    c.as_slice.ensures (c.in-Ok.ensures.1 ∙ c.len.ensures) c.comes_to.ensures
+    (subst
+    (λ (schema : Schema). first_fault (before_payload c.as_slice.result.now c.in-Ok.handles)
+    (message_marks schema (record { interface = e.interface; side = c.comes_to.result }) c.as_slice.result.now)
+    ≡ Some c.in-Err.fault)
+    c.deref.ensures c.in-Err.ensures.first))
 
-pub returns-in-Ok-check : goal.returns-in-Ok-check
-returns-in-Ok-check c =
+pub returns-then-is_unasked : goal.returns-then-is_unasked
+returns-then-is_unasked c = λ read.
+    let s = c.args.state.now in
+    let m = c.args.message.now in
+    let e = c.args.endpoint in
     let checked = c.in-Ok-check.checked in
     let kept = c.in-Ok-check.ensures.kept in
-    let stands = passed c.args.schema.now c.args.endpoint.side c.args.endpoint.interface c.args.message.now.bytes (length c.args.message.now.handles)
-    checked.schema.now checked.expected checked.bytes.now checked.handles checked.number kept.0
-    (kept.1 ∙ ap (λ (s : MessageSide). record { interface = c.args.endpoint.interface; side = s }) c.comes_to.ensures)
-    (kept.2 ∙ c.as_slice.ensures) (kept.3 ∙ c.in-Ok.ensures.1 ∙ c.len.ensures) checked.stands checked.parameters in
+    let same : checked.bytes.now ≡ m.bytes = kept.2 ∙ c.as_slice.ensures in
+    let stands = passed (schema_of s) e.side e.interface m.bytes (length m.handles) checked.schema.now checked.expected checked.bytes.now checked.handles
+    checked.number (kept.0 ∙ c.deref.ensures)
+    (kept.1 ∙ ap (λ (side : MessageSide). record { interface = e.interface; side = side }) c.comes_to.ensures)
+    same (kept.3 ∙ c.in-Ok.ensures.1 ∙ c.len.ensures) checked.stands checked.parameters in
+    ap (judged (wire_in s) (past_of s) c.args.end m (header_of m c.args.header.now) e) stands
+    ∙ unasked_told (wire_in s) (past_of s) c.args.end m (header_of m c.args.header.now) e
+    (content_in checked.schema.now checked.expected m.bytes checked.number) checked.request checked.method checked.expected.side
+    (checked.asked ∙ ap request_read same) (checked.named ∙ ap (λ (bytes : List ℕ). number32 bytes 12) same) refl
+    (sym c.is_unasked.ensures ∙ c.if-is_unasked.true)
+
+pub returns : goal.returns
+returns c =
+    let s = c.args.state.now in
+    let m = c.args.message.now in
+    let e = c.args.endpoint in
+    let checked = c.in-Ok-check.checked in
+    let kept = c.in-Ok-check.ensures.kept in
+    let same : checked.bytes.now ≡ m.bytes = kept.2 ∙ c.as_slice.ensures in
+    let stands = passed (schema_of s) e.side e.interface m.bytes (length m.handles) checked.schema.now checked.expected checked.bytes.now checked.handles
+    checked.number (kept.0 ∙ c.deref.ensures)
+    (kept.1 ∙ ap (λ (side : MessageSide). record { interface = e.interface; side = side }) c.comes_to.ensures)
+    same (kept.3 ∙ c.in-Ok.ensures.1 ∙ c.len.ensures) checked.stands checked.parameters in
     IfOk-weaker c.arrive.result _ _
-    (λ found told past y read.
-    subst (λ (answer : Result Content Fault). Tells (wire_of c.args.schema.now) past y found
-    (judged (wire_of c.args.schema.now) past y c.args.message.now (header_of c.args.message.now c.args.header.now) c.args.endpoint answer))
-    (sym stands) (told (wire_of c.args.schema.now) past y c.args.endpoint read))
+    (λ found told read.
+    subst (λ (t : Told). Tells (wire_in s) (past_of s) c.args.end found t)
+    (sym (ap (judged (wire_in s) (past_of s) c.args.end m (header_of m c.args.header.now) e) stands
+    ∙ asked_told (wire_in s) (past_of s) c.args.end m (header_of m c.args.header.now) e
+    (content_in checked.schema.now checked.expected m.bytes checked.number) checked.request checked.method checked.expected.side
+    (checked.asked ∙ ap request_read same) (checked.named ∙ ap (λ (bytes : List ℕ). number32 bytes 12) same) refl
+    (sym c.is_unasked.ensures ∙ c.if-is_unasked.false)))
+    (told (wire_in s) (past_of s) c.args.end read))
     c.arrive.ensures

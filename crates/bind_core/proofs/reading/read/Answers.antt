@@ -1,14 +1,13 @@
 use Rattle.std.proofs.Common.{◌≡◌, ℕ, ◌*◌, List, length, refl, sym, ap, ◌∙◌, subst}
 use Rattle.std.proofs.lemmas.Result.{IfOk-weaker}
-use Rattle.mj_schema.specs.declared.schema.Schema.{Schema}
 use Rattle.message_header.specs.FirstFailed.{first_failed}
 use Rattle.message_header.specs.Said.{header_said}
 use Rattle.wire_model.specs.HeaderMarks.{header_marks}
 use Rattle.wire_model.specs.Message.{ids_read}
 use Rattle.wire_model.specs.Stands.{IsFine}
-use Rattle.bind_model.specs.Replies.{at_endpoint, headed}
+use Rattle.bind_model.specs.Replies.{headed}
 use Rattle.bind_model.specs.WireOf.{wire_of}
-use Rattle.bind_core.specs.steps.Founds.{IsRead, Tells, header_of}
+use Rattle.bind_core.specs.steps.Founds.{IsRead}
 use Rattle.bind_core.specs.Agreement.{past_of, schema_of, wire_in}
 use Rattle.bind_core.proofs.Arriving.{delivers}
 use Rattle.bind_core.proofs.WireReads.{header_fails, header_reads}
@@ -37,8 +36,5 @@ returns c =
     IfOk-weaker c.deliver.result _ _
     (λ found told.
     delivers (wire_of schema) past c.args.seq c.args.end m header read c.if-header.false c.find-endpoint.result
-    (c.find-endpoint.ensures ∙ c.requires.holds.agrees.endpoints c.args.end header.interface_id) found
-    (subst (λ (s : Schema). IsRead (wire_of s) past c.args.end m header
-    → Tells (wire_of s) past c.args.end found (at_endpoint (wire_of s) past c.args.seq c.args.end m (header_of m header) c.find-endpoint.result))
-    c.deref.ensures (told past c.args.end) read))
+    (c.find-endpoint.ensures ∙ c.requires.holds.agrees.endpoints c.args.end header.interface_id) found (told read))
     c.deliver.ensures

@@ -11,5 +11,5 @@ pop_front-front-requires c =
 pub returns-clause-done : goal.returns-clause-done
 returns-clause-done c =
     drop_done c.args.state.now c.args.seq c.requires.able c.args.end c.args.id c.requires.told c.in-Ok.goes.noted c.in-Ok.ensures.noted
-    _ c.in-Ok.goes.told _ refl refl refl c.in-Ok.ensures.told c.push_reserved.ensures c.pop_front-front.ensures.rest
+    _ c.in-Ok.goes.told _ refl refl refl c.in-Ok.ensures.told refl c.push_reserved.ensures c.pop_front-front.ensures.rest
     (subst (λ (ts : List Thing). Closes ts c.pop_front-front.new.self c.close.new.self) c.as_slice.ensures c.close.ensures)

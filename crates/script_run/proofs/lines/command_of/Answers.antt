@@ -9,3 +9,9 @@ returns-in-Call-clause-asked c =
     IfOk-weaker c.call.result _ _
     (λ command a. a ∙ called_is c.args.held.now.slots.items c.args.line.now c.in-Call.name c.in-Call.id c.in-Call.prepared c.in-Call.names c.in-Call.is)
     asked
+
+pub returns-in-Bind-clause-prepared : goal.returns-in-Bind-clause-prepared
+returns-in-Bind-clause-prepared c schema read = c.bind.ensures.plain schema
+
+pub returns-in-CloseToken-clause-prepared : goal.returns-in-CloseToken-clause-prepared
+returns-in-CloseToken-clause-prepared c schema read = c.close.ensures.plain schema

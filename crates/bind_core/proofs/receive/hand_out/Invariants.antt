@@ -1,7 +1,7 @@
 use Rattle.std.proofs.Common.{◌≡◌, ◌≤◌, length, take, vec_capacity}
 use Rattle.handle_table.specs.declared.places.Place.TheVariants as places
 use Rattle.bind_core.specs.steps.Placing.{PutsAll}
-use Rattle.bind_core.proofs.take.hand_out.Given as goal
+use Rattle.bind_core.proofs.receive.hand_out.Given as goal
 
 -- those so far came out, in order, and there is room for the others
 abbrev pub invariant-loop-thing : goal.invariant-loop-thing

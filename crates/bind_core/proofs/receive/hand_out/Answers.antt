@@ -6,7 +6,7 @@ use Rattle.handle_table.specs.declared.thing.Thing.{Thing}
 use Rattle.handle_table.specs.declared.thing.Thing.TheVariants.{End}
 use Rattle.bind_core.specs.steps.Placing.{PutsAll}
 use Rattle.bind_core.proofs.Handing.{next_kept, one_longer, one_more}
-use Rattle.bind_core.proofs.take.hand_out.Goals as goal
+use Rattle.bind_core.proofs.receive.hand_out.Goals as goal
 
 pub hand_one-requires-clause-kept : goal.hand_one-requires-clause-kept
 hand_one-requires-clause-kept c =

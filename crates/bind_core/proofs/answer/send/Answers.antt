@@ -1,0 +1,41 @@
+use Rattle.std.proofs.Common.{◌≡◌, [], ◌∷◌, ◌++◌, refl, sym, subst}
+use Rattle.bind_model.specs.declared.asked.Asked.TheVariants as asks
+use Rattle.bind_model.specs.declared.endpoint.ResponderId.{ResponderId}
+use Rattle.bind_model.specs.declared.told.Told.TheVariants as tells
+use Rattle.bind_core.specs.declared.commands.Reply.TheVariants as replies
+use Rattle.bind_core.specs.declared.state.State.{State}
+use Rattle.bind_core.specs.steps.Answering.{command_with}
+use Rattle.bind_core.specs.steps.Calls.{AreOf, sealed_bytes}
+use Rattle.bind_core.specs.steps.Doing.{Done}
+use Rattle.bind_core.proofs.Replied.{alone, answer_done, spendable, there}
+use Rattle.bind_core.proofs.answer.send.Goals as goal
+
+pub writes_of-requires : goal.writes_of-requires
+writes_of-requires c = alone c.args.state.now c.args.seq c.args.response c.requires.can c.args.peer c.requires.free
+
+pub push-requires : goal.push-requires
+push-requires c = there c.args.state.now c.args.seq c.args.response c.requires.can c.args.peer c.requires.free
+
+pub spend-requires : goal.spend-requires
+spend-requires c = spendable c.args.state.now c.args.seq c.args.response c.requires.can c.args.peer c.requires.free
+
+pub returns-clause-done : goal.returns-clause-done
+returns-clause-done c =
+    let s = c.args.state.now in
+    let r = c.args.response in
+    let new : State = record {
+      schema = s.schema;
+      seqs = s.seqs;
+      history = c.push_reserved.new.self;
+      pipes = c.put_all.new.pipes;
+      endpoints = s.endpoints;
+      responders = c.spend.new.self;
+    } in
+    subst (λ (q : ResponderId). Done s new c.args.seq (command_with r r.handles) (replies.Sent q.request c.in-Ok.writes.told)) (sym c.id-id.ensures)
+    (answer_done s c.args.seq r c.requires.can c.args.peer c.requires.free new refl refl refl c.args.things c.in-Ok.writes c.push.new.self c.requires.same
+    (subst (λ (q : ResponderId). AreOf r.prepared c.args.things (sealed_bytes q.id q.request r.prepared) c.in-Ok.writes) c.id-id.ensures c.in-Ok.ensures)
+    c.in-Ok-push.ensures.ok c.put_all.ensures c.spend.ensures
+    (subst
+    (λ (q : ResponderId). c.push_reserved.new.self.events ≡ s.history.events
+    ++ record { seq = c.args.seq; asked = asks.Answer q c.in-Ok.writes.outgoing; told = tells.Sent q.request c.in-Ok.writes.noted } ∷ [])
+    c.id-id.ensures c.push_reserved.ensures))

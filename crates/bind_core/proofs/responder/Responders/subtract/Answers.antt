@@ -1,0 +1,37 @@
+use Rattle.std.proofs.Common.{◌≡◌, ◌≤◌, ◌-◌, ℕ, ap, refl, subst, ◌∙◌}
+use Rattle.std.specs.Prelude.{Option, Some, unwrap_or}
+use Rattle.std.specs.BTreeMap.{Updates, get}
+use Rattle.bind_core.specs.Responders.{count_of}
+use Rattle.bind_core.specs.declared.responder.ResponderName.{ResponderName}
+use Rattle.bind_core.proofs.Keyed.{count_found, count_less, count_there, responder_cmp, some_count}
+use Rattle.bind_core.proofs.responder.Responders.subtract.Goals.{in-Some, in_default}
+use Rattle.bind_core.proofs.responder.Responders.subtract.Goals as goal
+
+pub overflow_sub-count : goal.overflow_sub-count
+overflow_sub-count c =
+    let e : c.in-Some.count.now ≡ count_of c.args.self.now c.args.id =
+    count_found c.self.inside.counts c.args.self.now c.args.id c.in-Some.count.now c.self.view_is
+    (ap (λ (o : Option ℕ). unwrap_or o 0)
+    (c.in-Some.ensures.value ∙ ap (λ (name : ResponderName). get responder_cmp c.self.inside.counts name) c.name_of.ensures)) in
+    some_count c.in-Some.count.now (rw e c.requires)
+
+pub returns : goal.returns
+returns c =
+    let key = ap (λ (name : ResponderName). get responder_cmp c.self.inside.counts name) c.name_of.ensures in
+    elim c.match-get_mut.branch [
+      | in-Some w ↦ (λ r.
+          let e : w.in-Some.count.now ≡ count_of c.args.self.now c.args.id =
+          count_found c.self.inside.counts c.args.self.now c.args.id w.in-Some.count.now c.self.view_is
+          (ap (λ (o : Option ℕ). unwrap_or o 0) (w.in-Some.ensures.value ∙ key)) in
+          let some : 1 ≤ w.in-Some.count.now = some_count w.in-Some.count.now (rw e c.requires) in
+          rw (w.self-inside-is, ← c.self.view_is)
+          (count_less c.self.inside.counts (c.get_mut.follows.lender (w.in-Some.count.now - 1)) c.args.id w.in-Some.count.now (w.in-Some.ensures.value ∙ key)
+          some
+          (subst
+          (λ (name : ResponderName).
+          Updates responder_cmp c.self.inside.counts (c.get_mut.follows.lender (w.in-Some.count.now - 1)) name (Some (w.in-Some.count.now - 1)))
+          c.name_of.ensures ((c.get_mut.follows.holds (w.in-Some.count.now - 1)).3 (rw (← w.in-Some.ensures.value) refl)))
+          r))
+      | in_default w ↦
+          absurd (count_there c.self.inside.counts c.args.self.now c.args.id c.self.view_is (w.in_default.ensures.value ∙ key) c.requires)
+    ]

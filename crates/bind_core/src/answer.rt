@@ -1,0 +1,222 @@
+//! Answering: the response to a request goes back, or a request is never answered.
+
+ghost use Rattle.std.specs.Prelude.{◌≡◌, ◌==◌, ◌&&◌, not, Ok, IfOk, IfErr};
+ghost use Rattle.message_pipe.specs.Ends.{end_of, is_closed};
+ghost use Rattle.bind_core.specs.Lines.{found_at};
+ghost use Rattle.bind_core.specs.Plain.{asked_of};
+ghost use Rattle.bind_core.specs.Responders.{count_of};
+ghost use Rattle.bind_core.specs.steps.Answering.{answers_to, command_with, reached, way_back};
+ghost use Rattle.bind_core.specs.steps.Ways.{all_out};
+ghost use Rattle.bind_core.specs.steps.Doing.{CanDo, Done, Undone};
+
+use crate::commands::{Command, Refused, Reply, ToClose};
+use crate::responder::Responder;
+use crate::state::{State, refuse};
+use crate::things::{all_out, put_all};
+use crate::writing::{outgoing, suits, way_to, writes_of};
+use bind_model::{Asked, Closing, Endpoint, Event, ResponderId, State as EndpointState, Told, Why};
+use handle_table::{Handles, Place, Thing};
+use mj_base::{EndId, Items, SeqId};
+use std::alloc::{AllocError, Global};
+use wire_encoder::Prepared;
+use wire_model::{MessageSide, Target};
+
+/// What answers a request: the right to do so, what is sent, and the handles that go with it.
+struct Response {
+    responder: Responder,
+    prepared: Prepared,
+    handles: Handles,
+}
+
+impl Response {
+    ghost use Rattle.bind_core.specs.steps.Answering.{command_with};
+
+    /// The command that it came with.
+    fn into_command(self) -> Command
+        ensures { result ≡ command_with self self.handles }
+    {
+        let Response {
+            responder,
+            prepared,
+            handles,
+        } = self;
+        Command::Answer(responder, prepared, handles)
+    }
+}
+
+/// Sends a prepared response to the request of a responder, with the handles that its parameters name.
+pub fn answer(
+    state: &mut State,
+    alloc: Global,
+    seq: SeqId,
+    responder: Responder,
+    prepared: Prepared,
+    handles: Handles,
+) -> Result<Reply, Refused>
+    requires { CanDo state.old seq (Command.Answer responder prepared handles) }
+    ensures done { IfOk result (λ reply. Done state.old state.new seq (Command.Answer responder prepared handles) reply) }
+    ensures undone { IfErr result (λ refused. Undone state.old state.new (Command.Answer responder prepared handles) refused) }
+{
+    let response = Response {
+        responder,
+        prepared,
+        handles,
+    };
+    let Ok(things) = response.handles.things(alloc) else {
+        return Err(Refused::Memory(response.into_command()));
+    };
+    let Ok(own) = is_own(state, alloc, response.responder.id(), &things) else {
+        return Err(Refused::Memory(response.into_command()));
+    };
+    match way(state, seq, &response, &things, own) {
+        Ok(peer) => send(state, alloc, seq, response, Items::from_vec(things), peer),
+        Err(why) => match asked(alloc, &response, Items::from_vec(things)) {
+            Ok(asked) => refuse(state, seq, asked, why, response.into_command()),
+            Err(_) => Err(Refused::Memory(response.into_command())),
+        },
+    }
+}
+
+/// Whether a responder of this name and the handles of all are with callers, and none stands twice.
+fn is_own(
+    state: &State,
+    alloc: Global,
+    id: ResponderId,
+    things: &[Thing],
+) -> Result<bool, AllocError>
+    ensures { IfOk result (λ own. own ≡ (not (count_of state.now.responders id == 0) && all_out state.now.pipes things.now)) }
+{
+    if !state.responders.is_out(id) {
+        return Ok(false);
+    }
+    all_out(alloc, &state.pipes, things)
+}
+
+/// The endpoint that a request came to, or why nothing is sent from it: it isn't there, is closed, or is
+/// on another sequence.
+fn reached_at(state: &State, seq: SeqId, end: EndId, id: u32) -> Result<Endpoint, Why>
+    ensures { result ≡ reached seq (is_closed (end_of state.now.pipes.ends end)) (found_at state.now.endpoints end id) }
+{
+    let Some(endpoint) = state.endpoints.find(end, id) else {
+        return Err(Why::NoName);
+    };
+    if state.pipes.is_closed(end) {
+        return Err(Why::Disconnected);
+    }
+    match endpoint.state {
+        EndpointState::Closed => Err(Why::Disconnected),
+        EndpointState::Bound(other) if other.0 != seq.0 => Err(Why::Elsewhere(other)),
+        EndpointState::Bound(_) | EndpointState::Pending => Ok(endpoint),
+    }
+}
+
+/// Whether the target is the response of the method that a responder is for.
+fn answers_to(id: ResponderId, target: Target) -> bool
+    ensures { result ≡ answers_to id target }
+{
+    target.interface == id.interface
+        && target.method == id.method
+        && match target.side {
+            MessageSide::Request => false,
+            MessageSide::Response => true,
+        }
+}
+
+/// The end that an answer goes to, or why it is refused. It is told whether the caller has the responder
+/// and all the handles.
+fn way(
+    state: &State,
+    seq: SeqId,
+    response: &Response,
+    things: &[Thing],
+    own: bool,
+) -> Result<EndId, Why>
+    ensures { result ≡ way_back seq response.now.responder response.now.prepared things.now own state.now.pipes state.now.endpoints }
+{
+    if !own {
+        return Err(Why::NoName);
+    }
+    let id = response.responder.id();
+    let endpoint = reached_at(state, seq, id.end, id.id)?;
+    if !answers_to(id, response.prepared.target) {
+        return Err(Why::WrongMethod);
+    }
+    if !suits(&response.prepared, things) {
+        return Err(Why::WrongTokens);
+    }
+    way_to(&state.pipes, id.end, endpoint.peer_closed, things)
+}
+
+/// The plain form of an answer with these handles.
+fn asked(alloc: Global, response: &Response, things: Items<Thing>) -> Result<Asked, AllocError>
+    ensures { IfOk result (λ asked. asked ≡ asked_of (command_with response.now things)) }
+{
+    let outgoing = outgoing(alloc, &response.prepared, things)?;
+    Ok(Asked::Answer(response.responder.id(), outgoing))
+}
+
+/// Writes an answer that nothing refuses, and spends its responder.
+fn send(
+    state: &mut State,
+    alloc: Global,
+    seq: SeqId,
+    response: Response,
+    things: Items<Thing>,
+    peer: EndId,
+) -> Result<Reply, Refused>
+    requires can { CanDo state.old seq (command_with response response.handles) }
+    requires same { things ≡ response.handles }
+    requires free { way_back seq response.responder response.prepared response.handles
+        (not (count_of state.old.responders response.responder == 0) && all_out state.old.pipes response.handles)
+        state.old.pipes state.old.endpoints ≡ Ok peer }
+    ensures done { IfOk result (λ reply. Done state.old state.new seq (command_with response response.handles) reply) }
+    ensures undone { IfErr result (λ refused. Undone state.old state.new (command_with response response.handles) refused) }
+{
+    let id = response.responder.id();
+    let Ok(writes) = writes_of(alloc, &response.prepared, id.id, id.request, things) else {
+        return Err(Refused::Memory(response.into_command()));
+    };
+    // The way was free, so the end isn't full.
+    let Ok(()) = state.pipes.push(peer, writes.message) else {
+        return Err(Refused::Memory(response.into_command()));
+    };
+    let Response {
+        responder,
+        prepared: _,
+        handles,
+    } = response;
+    put_all(&mut state.pipes, handles, Place::Unread(peer));
+    state.responders.spend(responder);
+    state.history.push_reserved(Event {
+        seq,
+        asked: Asked::Answer(id, writes.outgoing),
+        told: Told::Sent(id.request, writes.noted),
+    });
+    Ok(Reply::Sent(id.request, writes.told))
+}
+
+/// Closes a responder: its request gets no answer. One that isn't out here comes back.
+pub fn close_responder(
+    state: &mut State,
+    alloc: Global,
+    seq: SeqId,
+    responder: Responder,
+) -> Result<Reply, Refused>
+    requires { CanDo state.old seq (Command.Close (ToClose.Responder responder)) }
+    ensures done { IfOk result (λ reply. Done state.old state.new seq (Command.Close (ToClose.Responder responder)) reply) }
+    ensures undone { IfErr result (λ refused. Undone state.old state.new (Command.Close (ToClose.Responder responder)) refused) }
+{
+    let id = responder.id();
+    let asked = Asked::Close(Closing::Responder(id));
+    if !state.responders.is_out(id) {
+        let command = Command::Close(ToClose::Responder(responder));
+        return refuse(state, seq, asked, Why::NoName, command);
+    }
+    state.responders.spend(responder);
+    state.history.push_reserved(Event {
+        seq,
+        asked,
+        told: Told::Closed(Items::new(alloc)),
+    });
+    Ok(Reply::Closed(Items::new(alloc)))
+}
