@@ -25,6 +25,7 @@ fn set_by(alloc: Global, line: Option<&Line>) -> Result<Vec<NameId>, AllocError>
         Some(
             Command::Bind(_, _, _)
             | Command::Call(_, _, _, _)
+            | Command::Answer(_, _, _)
             | Command::CloseToken(_)
             | Command::CloseEndpoint(_, _),
         )

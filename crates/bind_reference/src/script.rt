@@ -53,6 +53,8 @@ fn command_asks(
             call_asks(alloc, names, end, *id, prepared, handles.as_slice())
         }
         Command::Take(name, _) => Ok(names.end(*name).map(|end| Asked::Take(end))),
+        // No request that it knows has a response, so there are no responders.
+        Command::Answer(_, _, _) => Ok(None),
         Command::CloseToken(name) => Ok(
             names
                 .held(*name)

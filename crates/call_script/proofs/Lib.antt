@@ -11,11 +11,13 @@ pub mod NameLemmas
 pub mod TableLemmas
 pub mod Sayings
 pub mod SaidLemmas
+pub mod PartLemmas
 pub mod LineLemmas
 pub mod LoopLemmas
 pub mod OneForm
 pub mod OneName
 pub mod OneValue
+pub mod AutoLemmas
 pub mod OneAnswer
 pub mod OneScript
 pub mod SoundLemmas

@@ -1,5 +1,5 @@
 -- One line more.
-use Rattle.std.proofs.Common.{◌≡◌, ◌<◌, ◌≤◌, ℕ, List, [], ◌∷◌, ◌++◌, length, refl, sym, ◌∙◌, ap, subst, lit<}
+use Rattle.std.proofs.Common.{◌≡◌, ◌<◌, ◌≤◌, ℕ, List, [], ◌∷◌, ◌++◌, append-nil, refl, sym, ◌∙◌, ap, subst, lit<}
 use Rattle.std.specs.Prelude.{Bool, true, false, ◌||◌, ◌&&◌, ◌↔◌, IsTrue, codes, decimal, not, reverse, Result, Ok, Err}
 use Rattle.std.specs.List.{list_all}
 use Rattle.std.specs.Str.{bytes_eq}
@@ -9,19 +9,22 @@ use Rattle.std.proofs.lemmas.List.{reverse-append}
 use Rattle.mj_base.specs.declared.limits.TheConstants.{MAX_SCRIPT_LINES}
 use Rattle.mj_schema.specs.declared.schema.Schema.{Schema}
 use Rattle.call_script.specs.declared.script.TheConstants.{SEQUENCES}
-use Rattle.call_script.specs.declared.script.Line.{Line}
-use Rattle.call_script.specs.declared.script.Command.{Command}
-use Rattle.call_script.specs.declared.script_error.LineRefusal.TheVariants.{TooManyLines}
+use Rattle.call_script.specs.declared.script.AutoReply.{AutoReply}
+use Rattle.call_script.specs.declared.script_error.LineRefusal.{LineRefusal}
+use Rattle.call_script.specs.declared.script_error.LineRefusal.TheVariants.{BadLine, DoubleName, UnknownName, BadValue, TooManyLines}
 use Rattle.call_script.specs.declared.commands.Stop.TheVariants as stops
 use Rattle.call_script.specs.declared.name_table.NameTable.{NameTable}
+use Rattle.call_script.specs.declared.additions.Part.{Part as WrittenPart}
+use Rattle.call_script.specs.declared.additions.Part.TheVariants as parts
 use Rattle.call_script.specs.declared.reading.Reader.{Reader}
-use Rattle.call_script.specs.Forms.{Form, IsForm, form_words, header_words, is_setup, sets}
-use Rattle.call_script.specs.Script.{is_placed, names_set, line_number, seq_of, Asks, IsTaken, IsRefused, AreTaken}
-use Rattle.call_script.specs.steps.Names.{Adds}
-use Rattle.call_script.specs.steps.Commands.{Commands}
+use Rattle.call_script.specs.Forms.{Form, Auto, IsForm, form_words, header_words, is_setup, sets, answers}
+use Rattle.call_script.specs.Script.{is_placed, names_set, methods_answered, line_number, doubled, doubles, finds, knows, IsFormOf, IsReply, IsTaken, IsRefused}
+use Rattle.call_script.specs.Script.{Part, OfLine, OfReply, lines_in, replies_in}
+use Rattle.call_script.specs.steps.Names.{IsTable, Adds}
+use Rattle.call_script.specs.steps.Commands.{Gives, Parts, part_view}
 use Rattle.indexmap.specs.IndexMap.{index_map_len}
 use Rattle.call_script.specs.declared.commands.Stop.{Stop}
-use Rattle.call_script.specs.steps.Lines.{HasRead, Pushes, TakesForm}
+use Rattle.call_script.specs.steps.Lines.{HasRead, Holds, Pushes, TakesForm}
 
 -- the number of sequences in decimal
 one_is : decimal SEQUENCES ≡ codes "1"
@@ -46,82 +49,154 @@ header_is words a b result are first second = (from, to)
         let b_is : b ≡ codes "1" = cc one_is in
         second ∙ (bytes_eq-Decides b (codes "1")).1 b_is
 
-module _ (schema : Schema) (past : List Form) (form : Form) (sound : IsForm form) (placed : is_placed past form ≡ true) where
-  -- the line is taken
-  pub is_taken : (old : Reader) (table : NameTable) (count : ℕ) (command : Command) (line : Line)
-      → HasRead schema old past
-      → Adds old.names table (sets form) true
-      → count ≡ length (names_set past)
-      → Commands schema table count form (Ok command)
-      → line.number ≡ line_number past → line.seq.0 ≡ seq_of form → line.command ≡ command
-      → IsTaken schema past form line
-  is_taken old table count command line read added counted gives number seq same =
-      let a = added (names_set past) read.table in
-      let g = gives (names_set past) a.1 counted in
-      record {
-        placed = placed;
-        sound = sound;
-        single = a.0;
-        known = g.0;
-        means = record { number = number; seq = seq; command = subst (Asks schema (names_set past ++ sets form) form) (sym same) g.1 };
-      }
+-- ## Parts, one more
 
-  -- what has been read with it
-  pub read_on : (old new : Reader) (line : Line)
-      → HasRead schema old past
-      → Adds old.names new.names (sets form) true
-      → IsTaken schema past form line
-      → reverse new.lines.items ≡ line ∷ reverse old.lines.items
-      → new.started ≡ not (is_setup form)
-      → HasRead schema new (form ∷ past)
-  read_on old new line read added taken lines started = record {
-    taken = subst (AreTaken schema (form ∷ past)) (sym lines) (taken, read.taken);
-    table = (added (names_set past) read.table).1;
-    setup = go (is_setup form) (list_all is_setup past) placed ∙ ap not (sym started);
-  }
-    where
-      go : (a b : Bool) → (not a || b) ≡ true → (a && b) ≡ not (not a)
-      go true true h = refl
-      go true false h = absurd cc
-      go false b h = refl
+lines_join : (xs ys : List Part) → lines_in (xs ++ ys) ≡ lines_in xs ++ lines_in ys
+lines_join [] ys = refl
+lines_join (OfLine line ∷ xs) ys = ap (λ ls. line ∷ ls) (lines_join xs ys)
+lines_join (OfReply reply ∷ xs) ys = lines_join xs ys
 
--- a line of a form, with what it asks by the names that are set with it
-pub record IsAsked (schema : Schema) (old : Reader) (table : NameTable) (form : Form) (line : Line) : Type 0 where
-  pub count : ℕ
+replies_join : (xs ys : List Part) → replies_in (xs ++ ys) ≡ replies_in xs ++ replies_in ys
+replies_join [] ys = refl
+replies_join (OfLine line ∷ xs) ys = replies_join xs ys
+replies_join (OfReply reply ∷ xs) ys = ap (λ rs. reply ∷ rs) (replies_join xs ys)
+
+lines_more : (parts : List Part) (part : Part) → lines_in (reverse (part ∷ parts)) ≡ lines_in (reverse parts) ++ lines_in (part ∷ [])
+lines_more parts part = ap lines_in (reverse-append (part ∷ []) parts) ∙ lines_join (reverse parts) (part ∷ [])
+
+replies_more : (parts : List Part) (part : Part) → replies_in (reverse (part ∷ parts)) ≡ replies_in (reverse parts) ++ replies_in (part ∷ [])
+replies_more parts part = ap replies_in (reverse-append (part ∷ []) parts) ∙ replies_join (reverse parts) (part ∷ [])
+
+-- what is held once it is added
+holds_lines : (old new : Reader) (parts : List Part) (part : Part) → Holds old new part → old.lines.items ≡ lines_in (reverse parts)
+    → new.lines.items ≡ lines_in (reverse (part ∷ parts))
+holds_lines old new parts (OfLine line) held before = held.1 ∙ (ap (λ ls. ls ++ line ∷ []) before ∙ sym (lines_more parts (OfLine line)))
+holds_lines old new parts (OfReply reply) held before =
+    held.1 ∙ (before ∙ (sym (append-nil (lines_in (reverse parts))) ∙ sym (lines_more parts (OfReply reply))))
+
+holds_replies : (old new : Reader) (parts : List Part) (part : Part) → Holds old new part → old.autos.items ≡ replies_in (reverse parts)
+    → new.autos.items ≡ replies_in (reverse (part ∷ parts))
+holds_replies old new parts (OfLine line) held before =
+    held.0 ∙ (before ∙ (sym (append-nil (replies_in (reverse parts))) ∙ sym (replies_more parts (OfLine line))))
+holds_replies old new parts (OfReply reply) held before = held.0 ∙ (ap (λ rs. rs ++ reply ∷ []) before ∙ sym (replies_more parts (OfReply reply)))
+
+-- ## A line of a form
+
+-- its names are set and its method noted, and the first so many of the table are those before it
+pub record IsNoted (old : Reader) (table methods : NameTable) (form : Form) (count : ℕ) : Type 0 where
   pub sound : IsForm form
   pub added : Adds old.names table (sets form) true
+  pub noted : Adds old.methods methods (answers form) true
   pub counted : count ≡ index_map_len old.names.numbers
-  pub seq : line.seq.0 ≡ seq_of form
-  pub command : Commands schema table count form (Ok line.command)
+
+-- neither is there again
+single : (schema : Schema) (old : Reader) (table methods : NameTable) (form : Form) (count : ℕ) (past : List Form)
+    → IsNoted old table methods form count → HasRead schema old past → doubles past form ≡ false
+single schema old table methods form count past is read =
+    rw ((is.added (names_set past) read.table).0, (is.noted (methods_answered past) read.methods).0) refl
+
+-- a method that has a response is all that an automatic reply names
+reply_known : (schema : Schema) (names : List (List ℕ)) (form : Form) (reply : AutoReply) → finds schema form ≡ true → IsReply schema form reply
+    → knows schema names form ≡ true
+reply_known schema names (Auto seq method word) reply found is = rw found refl
+reply_known schema names form reply found is = absurd is
 
 -- it is taken
-taken_by : (schema : Schema) (old : Reader) (table : NameTable) (form : Form) (line : Line) (past : List Form)
-    → IsAsked schema old table form line → HasRead schema old past → is_placed past form ≡ true → line.number ≡ line_number past → IsTaken schema past form line
-taken_by schema old table form line past asked read placed number =
-    is_taken schema past form asked.sound placed old table asked.count line.command line read asked.added
-    (asked.counted ∙ read.table.count) asked.command number
-    asked.seq refl
+taken_by : (schema : Schema) (old : Reader) (table methods : NameTable) (form : Form) (count number : ℕ) (part : WrittenPart) (past : List Form)
+    → IsNoted old table methods form count → Parts schema table count number form (Ok part) → HasRead schema old past → is_placed past form ≡ true
+    → number ≡ line_number past → IsTaken schema past form (part_view part)
+taken_by schema old table methods form count number (parts.Line line) past is gives read placed numbered =
+    let asked = gives.2 (names_set past) (is.added (names_set past) read.table).1 (is.counted ∙ read.table.count) in
+    record {
+      placed = placed;
+      sound = is.sound;
+      single = single schema old table methods form count past is read;
+      known = asked.0;
+      means = record { number = gives.0 ∙ numbered; seq = gives.1; command = asked.1 };
+    }
+taken_by schema old table methods form count number (parts.Reply reply) past is gives read placed numbered = record {
+  placed = placed;
+  sound = is.sound;
+  single = single schema old table methods form count past is read;
+  known = reply_known schema (names_set past) form reply gives.0 gives.1;
+  means = gives.1;
+}
+
+-- what has been read with it
+read_on : (schema : Schema) (past : List Form) (form : Form) (old new : Reader) (table methods : NameTable) (count : ℕ) (part : Part)
+    → is_placed past form ≡ true → IsNoted old table methods form count → HasRead schema old past → IsTaken schema past form part
+    → new.names ≡ table → new.methods ≡ methods → Holds (record old { names = table; methods = methods }) new part → new.started ≡ not (is_setup form)
+    → HasRead schema new (form ∷ past)
+read_on schema past form old new table methods count part placed is read taken names noted held started = record {
+  parts = part ∷ read.parts;
+  taken = (taken, read.taken);
+  autos = holds_replies (record old { names = table; methods = methods }) new read.parts part held read.autos;
+  lines = holds_lines (record old { names = table; methods = methods }) new read.parts part held read.lines;
+  table = subst (λ t. IsTable t (names_set past ++ sets form)) (sym names) (is.added (names_set past) read.table).1;
+  methods = subst (λ t. IsTable t (methods_answered past ++ answers form)) (sym noted) (is.noted (methods_answered past) read.methods).1;
+  setup = go (is_setup form) (list_all is_setup past) placed ∙ ap not (sym started);
+}
+  where
+    go : (a b : Bool) → (not a || b) ≡ true → (a && b) ≡ not (not a)
+    go true true h = refl
+    go true false h = absurd cc
+    go false b h = refl
 
 -- it is added, where memory serves
-pub takes : (schema : Schema) (old : Reader) (table : NameTable) (form : Form) (line : Line) (new : Reader) (result : Result (Unit {0}) Stop)
-    → IsAsked schema old table form line → line.number ≤ MAX_SCRIPT_LINES
-    → Pushes (record old { names = table }) new line (not (is_setup form)) result
-    → TakesForm schema old new form line.number result
-takes schema old table form line new (Ok done) asked few pushed = (few, on)
+pub takes : (schema : Schema) (old new : Reader) (table methods : NameTable) (form : Form) (count number : ℕ) (part : WrittenPart)
+    (result : Result (Unit {0}) Stop)
+    → IsNoted old table methods form count → Parts schema table count number form (Ok part) → number ≤ MAX_SCRIPT_LINES
+    → Pushes (record old { names = table; methods = methods }) new (part_view part) (not (is_setup form)) result
+    → TakesForm schema old new form number result
+takes schema old new table methods form count number part (Ok done) is gives few pushed = (few, on)
   where
-    on : (past : List Form) → HasRead schema old past → is_placed past form ≡ true → line.number ≡ line_number past → HasRead schema new (form ∷ past)
-    on past read placed number =
-        read_on schema past form asked.sound placed old new line read (subst (λ t. Adds old.names t (sets form) true) (sym pushed.0) asked.added)
-        (taken_by schema old table form line past asked read placed number)
-        (ap reverse pushed.1 ∙ reverse-append old.lines.items (line ∷ []))
-        pushed.2
-takes schema old table form line new (Err (stops.Refused why)) asked few pushed = absurd pushed
-takes schema old table form line new (Err stops.Memory) asked few pushed = tt
+    on : (past : List Form) → HasRead schema old past → is_placed past form ≡ true → number ≡ line_number past → HasRead schema new (form ∷ past)
+    on past read placed numbered =
+        read_on schema past form old new table methods count (part_view part) placed is read
+        (taken_by schema old table methods form count number part past is gives read placed numbered) pushed.0 pushed.1 pushed.2 pushed.3
+takes schema old new table methods form count number part (Err (stops.Refused why)) is gives few pushed = absurd pushed
+takes schema old new table methods form count number part (Err stops.Memory) is gives few pushed = tt
 
 -- it is one too many
-pub too_many : (schema : Schema) (old : Reader) (table : NameTable) (form : Form) (line : Line) (past : List Form)
-    → IsAsked schema old table form line → HasRead schema old past → is_placed past form ≡ true → line.number ≡ line_number past
-    → MAX_SCRIPT_LINES < line.number
-    → IsRefused schema past (form_words form) TooManyLines
-too_many schema old table form line past asked read placed number many =
-    (form, line, refl, taken_by schema old table form line past asked read placed number, subst (λ n. MAX_SCRIPT_LINES < n) number many)
+pub too_many : (schema : Schema) (old : Reader) (table methods : NameTable) (form : Form) (count number : ℕ) (part : WrittenPart) (past : List Form)
+    → IsNoted old table methods form count → Parts schema table count number form (Ok part) → HasRead schema old past → is_placed past form ≡ true
+    → number ≡ line_number past → MAX_SCRIPT_LINES < number → IsRefused schema past (form_words form) TooManyLines
+too_many schema old table methods form count number part past is gives read placed numbered many = (
+  form,
+  part_view part,
+  refl,
+  taken_by schema old table methods form count number part past is gives read placed numbered,
+  subst (λ n. MAX_SCRIPT_LINES < n) numbered many,
+)
+
+-- it is refused
+module _ (schema : Schema) (old : Reader) (form : Form) (sound : IsForm form) (past : List Form) (read : HasRead schema old past)
+    (placed : is_placed past form ≡ true) where
+  has_form : IsFormOf past (form_words form) form
+  has_form = record { sound = sound; placed = placed; spelled = refl }
+
+  pub named_again : (table : NameTable) → Adds old.names table (sets form) false → IsRefused schema past (form_words form) DoubleName
+  named_again table again = let twice = again (names_set past) read.table in (form, has_form, rw twice refl)
+
+  pub answered_again : (table : NameTable) → Adds old.methods table (answers form) false → IsRefused schema past (form_words form) DoubleName
+  answered_again table again =
+      let twice = again (methods_answered past) read.methods in (form, has_form, rw twice (either (doubled (names_set past) (sets form))))
+    where
+      either : (a : Bool) → (a || true) ≡ true
+      either true = refl
+      either false = refl
+
+  refused_with : (table methods : NameTable) (count : ℕ) (why : LineRefusal) → IsNoted old table methods form count
+      → Gives schema (names_set past) form (Err (stops.Refused why)) → IsRefused schema past (form_words form) why
+  refused_with table methods count BadLine is gives = absurd gives
+  refused_with table methods count DoubleName is gives = absurd gives
+  refused_with table methods count UnknownName is gives = (form, has_form, single schema old table methods form count past is read, gives)
+  refused_with table methods count BadValue is gives = (form, has_form, single schema old table methods form count past is read, gives.0, gives.1)
+  refused_with table methods count TooManyLines is gives = absurd gives
+
+pub refuses : (schema : Schema) (old new : Reader) (table methods : NameTable) (form : Form) (count number : ℕ) (stop : Stop)
+    → IsNoted old table methods form count → Parts schema table count number form (Err stop) → TakesForm schema old new form number (Err stop)
+refuses schema old new table methods form count number (stops.Refused why) is gives = λ past read placed numbered.
+    refused_with schema old form is.sound past read placed table methods count why is
+    (gives (names_set past) (is.added (names_set past) read.table).1 (is.counted ∙ read.table.count))
+refuses schema old new table methods form count number stops.Memory is gives = tt

@@ -14,7 +14,7 @@ use Rattle.call_script.specs.declared.script_error.LineRefusal.{LineRefusal}
 use Rattle.call_script.specs.declared.script_error.ScriptError.{ScriptError}
 use Rattle.call_script.specs.declared.reading.Reader.{Reader}
 use Rattle.call_script.specs.Forms.{Form, form_words, header_words}
-use Rattle.call_script.specs.Script.{line_number, AreTaken, AreScript, IsRefusedBehind}
+use Rattle.call_script.specs.Script.{line_number, AreScript, IsRefusedBehind}
 use Rattle.call_script.specs.declared.split.Words.{Words}
 use Rattle.call_script.specs.steps.Pieces.{words_now}
 use Rattle.call_script.specs.steps.Lines.{HasRead, ReadsOn, AnswersBehind, error_of}
@@ -50,7 +50,7 @@ stops_at : (schema : Schema) (old new : Reader) (done rest : List (List (List �
     → IsRefusedBehind schema (header_words ∷ (done ++ words ∷ rest)) number why
 stops_at schema old new done rest words number why at refuses = record {
   forms = at.past;
-  lines = reverse old.lines.items;
+  parts = at.read.parts;
   words = words;
   rest = rest;
   spelled = ap (λ d. header_words ∷ (d ++ words ∷ rest)) (sym at.words);
@@ -72,12 +72,16 @@ stops schema old new texts done rest words number reasons.Memory error at refuse
 
 -- all lines have been read
 pub ends : (schema : Schema) (reader : Reader) (done : List (List (List ℕ))) (number : ℕ) (script : Script)
-    → IsAt schema reader done number → script.lines ≡ reader.lines.items → script.names ≡ index_map_len reader.names.numbers
+    → IsAt schema reader done number → script.autos ≡ reader.autos.items → script.lines ≡ reader.lines.items
+    → script.names ≡ index_map_len reader.names.numbers
     → AreScript schema (header_words ∷ done) script
-ends schema reader done number script at lines names = record {
+ends schema reader done number script at autos lines names = record {
   forms = at.past;
+  parts = at.read.parts;
   spelled = ap (λ d. header_words ∷ d) (sym at.words);
-  taken = subst (λ ls. AreTaken schema at.past (reverse ls)) (sym lines) at.read.taken;
+  taken = at.read.taken;
+  autos = autos ∙ at.read.autos;
+  lines = lines ∙ at.read.lines;
   names = names ∙ at.read.table.count;
   few = let n = at.next in let f = at.few in omega (arith, n, f);
 }

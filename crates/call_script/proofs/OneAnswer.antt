@@ -5,14 +5,13 @@ use Rattle.std.specs.Prelude.{map, reverse, true, false}
 use Rattle.std.proofs.lemmas.List.{reverse-append, reverse-reverse, length-append}
 use Rattle.mj_base.specs.declared.limits.TheConstants.{MAX_SCRIPT_LINES}
 use Rattle.mj_schema.specs.declared.schema.Schema.{Schema}
-use Rattle.call_script.specs.declared.script.Line.{Line}
 use Rattle.call_script.specs.declared.script.Script.{Script}
 use Rattle.call_script.specs.declared.script_error.LineRefusal.{LineRefusal}
 use Rattle.call_script.specs.declared.script_error.LineRefusal.TheVariants.{BadLine, DoubleName, UnknownName, BadValue, TooManyLines}
 use Rattle.call_script.specs.Pieces.{text_words}
 use Rattle.call_script.specs.Forms.{Form, IsForm, form_words, header_words}
-use Rattle.call_script.specs.Script.{names_set, line_number, doubles, knows, IsFormOf, IsTaken, AreTaken, AreScript, IsRefused, IsRefusedBehind, HasNoValue}
-use Rattle.call_script.specs.Script.{AreRefused, IsScriptOf, IsFirstRefusal}
+use Rattle.call_script.specs.Script.{names_set, line_number, doubles, knows, IsFormOf, Part, IsTaken, AreTaken, AreScript, IsRefused, IsRefusedBehind}
+use Rattle.call_script.specs.Script.{HasNoValue, AreRefused, IsScriptOf, IsFirstRefusal}
 use Rattle.call_script.proofs.OneForm.{form_one}
 use Rattle.call_script.proofs.OneValue.{has_value}
 
@@ -20,17 +19,17 @@ use Rattle.call_script.proofs.OneValue.{has_value}
 
 module _ (schema : Schema) (past : List Form) (words : List (List ℕ)) where
   -- the form of a line that is taken
-  form_of : (form : Form) (line : Line) → IsTaken schema past form line → words ≡ form_words form → IsFormOf past words form
-  form_of form line taken spelled = record { sound = taken.sound; placed = taken.placed; spelled = spelled }
+  form_of : (form : Form) (part : Part) → IsTaken schema past form part → words ≡ form_words form → IsFormOf past words form
+  form_of form part taken spelled = record { sound = taken.sound; placed = taken.placed; spelled = spelled }
 
   -- words have one form
   one_form : (form other : Form) → IsFormOf past words form → IsFormOf past words other → form ≡ other
   one_form form other at also = form_one form other at.sound also.sound (sym at.spelled ∙ also.spelled)
 
   -- names that are set again are in no line that sets none again
-  not_doubled : (form : Form) → IsFormOf past words form → doubles (names_set past) form ≡ false → IsRefused schema past words DoubleName → ⊥
+  not_doubled : (form : Form) → IsFormOf past words form → doubles past form ≡ false → IsRefused schema past words DoubleName → ⊥
   not_doubled form at single (other, also, again) =
-      let same = ap (doubles (names_set past)) (one_form form other at also) in absurd cc
+      let same = ap (doubles past) (one_form form other at also) in absurd cc
 
   -- nor is what is unknown in a line whose names are known
   not_unknown : (form : Form) → IsFormOf past words form → knows schema (names_set past) form ≡ true → IsRefused schema past words UnknownName → ⊥
@@ -38,19 +37,19 @@ module _ (schema : Schema) (past : List Form) (words : List (List ℕ)) where
       let same = ap (knows schema (names_set past)) (one_form form other at also) in absurd cc
 
   -- nor does a line that is taken lack its value
-  not_lacking : (form : Form) (line : Line) → IsTaken schema past form line → words ≡ form_words form → IsRefused schema past words BadValue → ⊥
-  not_lacking form line taken spelled (other, also, single, known, none) =
-      has_value schema (names_set (form ∷ past)) form line.command
-      (subst (HasNoValue schema) (one_form other form also (form_of form line taken spelled)) none) taken.means.command
+  not_lacking : (form : Form) (part : Part) → IsTaken schema past form part → words ≡ form_words form → IsRefused schema past words BadValue → ⊥
+  not_lacking form part taken spelled (other, also, single, known, none) =
+      has_value schema past form part
+      (subst (HasNoValue schema) (one_form other form also (form_of form part taken spelled)) none) taken.means
 
   -- a line that is taken is refused for nothing
-  pub not_refused : (form : Form) (line : Line) (why : LineRefusal)
-      → IsTaken schema past form line → words ≡ form_words form → line_number past ≤ MAX_SCRIPT_LINES → IsRefused schema past words why → ⊥
-  not_refused form line BadLine taken spelled few refused = refused form (form_of form line taken spelled)
-  not_refused form line DoubleName taken spelled few refused = not_doubled form (form_of form line taken spelled) taken.single refused
-  not_refused form line UnknownName taken spelled few refused = not_unknown form (form_of form line taken spelled) taken.known refused
-  not_refused form line BadValue taken spelled few refused = not_lacking form line taken spelled refused
-  not_refused form line TooManyLines taken spelled few (other, line', are, taken', many) = omega (arith, few, many)
+  pub not_refused : (form : Form) (part : Part) (why : LineRefusal)
+      → IsTaken schema past form part → words ≡ form_words form → line_number past ≤ MAX_SCRIPT_LINES → IsRefused schema past words why → ⊥
+  not_refused form part BadLine taken spelled few refused = refused form (form_of form part taken spelled)
+  not_refused form part DoubleName taken spelled few refused = not_doubled form (form_of form part taken spelled) taken.single refused
+  not_refused form part UnknownName taken spelled few refused = not_unknown form (form_of form part taken spelled) taken.known refused
+  not_refused form part BadValue taken spelled few refused = not_lacking form part taken spelled refused
+  not_refused form part TooManyLines taken spelled few (other, part', are, taken', many) = omega (arith, few, many)
 
   -- of two reasons the first in order is meant
   no_other : (why : LineRefusal) → IsRefused schema past words BadLine → IsRefused schema past words why → BadLine ≡ why
@@ -58,28 +57,28 @@ module _ (schema : Schema) (past : List Form) (words : List (List ℕ)) where
   no_other DoubleName none (form, at, again) = absurd (none form at)
   no_other UnknownName none (form, at, single, unknown) = absurd (none form at)
   no_other BadValue none (form, at, single, known, lacks) = absurd (none form at)
-  no_other TooManyLines none (form, line, are, taken, many) = absurd (none form (form_of form line taken are))
+  no_other TooManyLines none (form, part, are, taken, many) = absurd (none form (form_of form part taken are))
 
   doubled_alone : (why : LineRefusal) → IsRefused schema past words DoubleName → IsRefused schema past words why → DoubleName ≡ why
   doubled_alone BadLine again none = sym (no_other DoubleName none again)
   doubled_alone DoubleName again refused = refl
   doubled_alone UnknownName again (form, at, single, unknown) = absurd (not_doubled form at single again)
   doubled_alone BadValue again (form, at, single, known, lacks) = absurd (not_doubled form at single again)
-  doubled_alone TooManyLines again (form, line, are, taken, many) = absurd (not_doubled form (form_of form line taken are) taken.single again)
+  doubled_alone TooManyLines again (form, part, are, taken, many) = absurd (not_doubled form (form_of form part taken are) taken.single again)
 
   unknown_alone : (why : LineRefusal) → IsRefused schema past words UnknownName → IsRefused schema past words why → UnknownName ≡ why
   unknown_alone BadLine unknown none = sym (no_other UnknownName none unknown)
   unknown_alone DoubleName unknown again = sym (doubled_alone UnknownName again unknown)
   unknown_alone UnknownName unknown refused = refl
   unknown_alone BadValue unknown (form, at, single, known, lacks) = absurd (not_unknown form at known unknown)
-  unknown_alone TooManyLines unknown (form, line, are, taken, many) = absurd (not_unknown form (form_of form line taken are) taken.known unknown)
+  unknown_alone TooManyLines unknown (form, part, are, taken, many) = absurd (not_unknown form (form_of form part taken are) taken.known unknown)
 
   value_alone : (why : LineRefusal) → IsRefused schema past words BadValue → IsRefused schema past words why → BadValue ≡ why
   value_alone BadLine lacks none = sym (no_other BadValue none lacks)
   value_alone DoubleName lacks again = sym (doubled_alone BadValue again lacks)
   value_alone UnknownName lacks unknown = sym (unknown_alone BadValue unknown lacks)
   value_alone BadValue lacks refused = refl
-  value_alone TooManyLines lacks (form, line, are, taken, many) = absurd (not_lacking form line taken are lacks)
+  value_alone TooManyLines lacks (form, part, are, taken, many) = absurd (not_lacking form part taken are lacks)
 
   pub one_reason : (why why' : LineRefusal) → IsRefused schema past words why → IsRefused schema past words why' → why ≡ why'
   one_reason BadLine why' r s = no_other why' r s
@@ -104,19 +103,19 @@ forms_join [] ys a b = b
 forms_join (x ∷ xs) ys a b = (a.0, forms_join xs ys a.1 b)
 
 -- those that are taken, the oldest first
-taken_forms : (schema : Schema) (forms : List Form) (lines : List Line) → AreTaken schema forms lines → AllForms (reverse forms)
-taken_forms schema [] lines taken = tt
+taken_forms : (schema : Schema) (forms : List Form) (parts : List Part) → AreTaken schema forms parts → AllForms (reverse forms)
+taken_forms schema [] parts taken = tt
 taken_forms schema (form ∷ past) [] taken = absurd taken
-taken_forms schema (form ∷ past) (line ∷ lines) taken =
-    subst AllForms (sym (reverse-append (form ∷ []) past)) (forms_join (reverse past) (form ∷ []) (taken_forms schema past lines taken.1) (taken.0.sound, tt))
+taken_forms schema (form ∷ past) (part ∷ parts) taken =
+    subst AllForms (sym (reverse-append (form ∷ []) past)) (forms_join (reverse past) (form ∷ []) (taken_forms schema past parts taken.1) (taken.0.sound, tt))
 
 -- one of the earlier lines
-taken_at : (schema : Schema) (later past : List Form) (form : Form) (lines : List Line) → AreTaken schema (later ++ form ∷ past) lines
-    → (line : Line) × IsTaken schema past form line
+taken_at : (schema : Schema) (later past : List Form) (form : Form) (parts : List Part) → AreTaken schema (later ++ form ∷ past) parts
+    → (part : Part) × IsTaken schema past form part
 taken_at schema [] past form [] taken = absurd taken
-taken_at schema [] past form (line ∷ lines) taken = (line, taken.0)
+taken_at schema [] past form (part ∷ parts) taken = (part, taken.0)
 taken_at schema (x ∷ later) past form [] taken = absurd taken
-taken_at schema (x ∷ later) past form (line ∷ lines) taken = taken_at schema later past form lines taken.1
+taken_at schema (x ∷ later) past form (part ∷ parts) taken = taken_at schema later past form parts taken.1
 
 -- the words of forms and then others, read in two ways
 pub data Ways (xs ys : List Form) (s t : List (List (List ℕ))) : Type 0 where
@@ -148,12 +147,12 @@ middle xs ys more form e =
     ∙ (append_assoc (reverse more) (form ∷ []) (reverse (reverse xs)) ∙ ap (λ l. reverse more ++ form ∷ l) (reverse-reverse xs)))))
 
 -- a refused line is none of those of more lines
-never_later : (schema : Schema) (xs ys : List Form) (lines : List Line) (words : List (List ℕ)) (why : LineRefusal) (form : Form) (more : List Form)
-    → AreTaken schema ys lines → length ys < MAX_SCRIPT_LINES → reverse ys ≡ reverse xs ++ form ∷ more → words ≡ form_words form
+never_later : (schema : Schema) (xs ys : List Form) (parts : List Part) (words : List (List ℕ)) (why : LineRefusal) (form : Form) (more : List Form)
+    → AreTaken schema ys parts → length ys < MAX_SCRIPT_LINES → reverse ys ≡ reverse xs ++ form ∷ more → words ≡ form_words form
     → IsRefused schema xs words why → ⊥
-never_later schema xs ys lines words why form more taken few e spelled refused =
+never_later schema xs ys parts words why form more taken few e spelled refused =
     let are : ys ≡ reverse more ++ form ∷ xs = middle xs ys more form e in
-    let at = taken_at schema (reverse more) xs form lines (subst (λ l. AreTaken schema l lines) are taken) in
+    let at = taken_at schema (reverse more) xs form parts (subst (λ l. AreTaken schema l parts) are taken) in
     let size : length ys ≡ length (reverse more) + suc (length xs) = ap length are ∙ length-append (reverse more) (form ∷ xs) in
     not_refused schema xs words form at.0 why at.1 spelled (omega (arith, size, few)) refused
 
@@ -168,7 +167,7 @@ pub refused_script : (schema : Schema) (texts : List (List (List ℕ))) (script 
 refused_script schema texts script line why is (inl none) = none.2 (map form_words (reverse is.forms)) is.spelled
 refused_script schema texts script line why is (inr behind) =
     go (ways (reverse is.forms) (reverse behind.forms) [] (behind.words ∷ behind.rest)
-    (taken_forms schema is.forms (reverse script.lines) is.taken) (taken_forms schema behind.forms behind.lines behind.taken) tails)
+    (taken_forms schema is.forms is.parts is.taken) (taken_forms schema behind.forms behind.parts behind.taken) tails)
   where
     tails : map form_words (reverse is.forms) ++ [] ≡ map form_words (reverse behind.forms) ++ behind.words ∷ behind.rest
     tails =
@@ -182,7 +181,7 @@ refused_script schema texts script line why is (inr behind) =
     go (Longer form more rest e f) = cc
     go (Shorter form more rest e f) =
         let words : behind.words ≡ form_words form = cc in
-        never_later schema behind.forms is.forms (reverse script.lines) behind.words why form more is.taken is.few e words behind.refused
+        never_later schema behind.forms is.forms is.parts behind.words why form more is.taken is.few e words behind.refused
 
 pub never_both : (schema : Schema) (bytes : List ℕ) (script : Script) (line : ℕ) (why : LineRefusal)
     → IsScriptOf schema bytes script → IsFirstRefusal schema bytes line why → ⊥
@@ -193,7 +192,7 @@ both_behind : (schema : Schema) (texts : List (List (List ℕ))) (line line' : �
     → IsRefusedBehind schema texts line why → IsRefusedBehind schema texts line' why' → (line ≡ line') × (why ≡ why')
 both_behind schema texts line line' why why' one other =
     go (ways (reverse one.forms) (reverse other.forms) (one.words ∷ one.rest) (other.words ∷ other.rest)
-    (taken_forms schema one.forms one.lines one.taken) (taken_forms schema other.forms other.lines other.taken) tails)
+    (taken_forms schema one.forms one.parts one.taken) (taken_forms schema other.forms other.parts other.taken) tails)
   where
     tails : map form_words (reverse one.forms) ++ one.words ∷ one.rest ≡ map form_words (reverse other.forms) ++ other.words ∷ other.rest
     tails =
@@ -210,10 +209,10 @@ both_behind schema texts line line' why why' one other =
         (one.number ∙ (lines ∙ sym other.number), one_reason schema one.forms one.words why why' one.refused refused)
     go (Longer form more rest e f) =
         let words : one.words ≡ form_words form = cc in
-        absurd (never_later schema one.forms other.forms other.lines one.words why form more other.taken other.few e words one.refused)
+        absurd (never_later schema one.forms other.forms other.parts one.words why form more other.taken other.few e words one.refused)
     go (Shorter form more rest e f) =
         let words : other.words ≡ form_words form = cc in
-        absurd (never_later schema other.forms one.forms one.lines other.words why' form more one.taken one.few e words other.refused)
+        absurd (never_later schema other.forms one.forms one.parts other.words why' form more one.taken one.few e words other.refused)
 
 refusals : (schema : Schema) (texts : List (List (List ℕ))) (line line' : ℕ) (why why' : LineRefusal)
     → AreRefused schema texts line why → AreRefused schema texts line' why' → (line ≡ line') × (why ≡ why')
@@ -233,7 +232,7 @@ pub same_forms : (schema : Schema) (texts : List (List (List ℕ))) (one other :
     → is.forms ≡ also.forms
 same_forms schema texts one other is also =
     go (ways (reverse is.forms) (reverse also.forms) [] []
-    (taken_forms schema is.forms (reverse one.lines) is.taken) (taken_forms schema also.forms (reverse other.lines) also.taken) tails)
+    (taken_forms schema is.forms is.parts is.taken) (taken_forms schema also.forms also.parts also.taken) tails)
   where
     tails : map form_words (reverse is.forms) ++ [] ≡ map form_words (reverse also.forms) ++ []
     tails =

@@ -10,11 +10,12 @@ use Rattle.handle_table.specs.declared.thing.TokenSort.TheVariants.{SharedBuffer
 use Rattle.wire_encoder.specs.declared.endpoint.EndpointSide.{EndpointSide}
 use Rattle.wire_encoder.specs.declared.endpoint.EndpointSide.TheVariants.{Remote, Receiver}
 use Rattle.call_script.specs.Letters.{endpoint_word, is_name}
-use Rattle.call_script.specs.Forms.{Said, Pipe, Mint, Bind, Call, Take, CloseToken, CloseEndpoint, IsSaid, said_words}
-use Rattle.call_script.specs.Forms.{Form, Join, Of, IsForm, form_words, sort_word, side_word}
+use Rattle.call_script.specs.Forms.{Said, Pipe, Mint, Bind, Call, Take, Answer, CloseToken, CloseEndpoint, IsSaid, said_words}
+use Rattle.call_script.specs.Forms.{Form, Join, Auto, Of, IsForm, form_words, sort_word, side_word}
 use Rattle.call_script.specs.steps.Numbers.{IsEndpoint}
 use Rattle.call_script.proofs.Endpoints.{parts_of, name_parts}
-use Rattle.call_script.proofs.Sayings.{first_is, rest_is, pipe_only, mint_only, bind_only, call_only, take_only, close_only, Closes, Token, Endpoint}
+use Rattle.call_script.proofs.Sayings.{first_is, rest_is, apart, pipe_only, mint_only, bind_only, call_only, take_only, answer_only, close_only}
+use Rattle.call_script.proofs.Sayings.{Closes, Token, Endpoint}
 
 sort_one : (a b : TokenSort) → sort_word a ≡ sort_word b → a ≡ b
 sort_one SharedBuffer SharedBuffer e = refl
@@ -59,6 +60,7 @@ said_one (Call x n m v ts) b ha hb e =
     let words : endpoint_word x n ≡ endpoint_word p.end p.id = cc in
     let same = endpoint_one (endpoint_word x n) x p.end n p.id (refl, ha.0, ha.1) (words, p.named, p.small) in cc
 said_one (Take x ns) b ha hb e = let p = take_only (x ∷ ns) b hb e in cc
+said_one (Answer r m v ts) b ha hb e = let p = answer_only (r ∷ m ∷ v ∷ ts) b hb e in cc
 said_one (CloseToken x) b ha hb e = go (close_only (x ∷ []) b hb e)
   where
     go : Closes (x ∷ []) b → CloseToken x ≡ b
@@ -74,16 +76,19 @@ said_one (CloseEndpoint x k) b ha hb e = go (close_only (endpoint_word x k ∷ [
         let word : endpoint_word x k ≡ endpoint_word y n = cc in
         let same = endpoint_one (endpoint_word x k) x y k n (refl, ha.0, ha.1) (word, named, small) in cc
 
--- a join is no line of a sequence
-no_digit : digit_value 106 < 10 → ⊥
-no_digit d = let big : 10 ≤ digit_value 106 = lit≤ tt in omega (arith, d, big)
+-- a line of the setup is none of a sequence
+no_digit : (c : ℕ) → 10 ≤ digit_value c → digit_value c < 10 → ⊥
+no_digit c big d = omega (arith, d, big)
 
-not_joined : (ds : List ℕ) → AllDigits 10 ds → codes "join" ≡ ds ++ codes ":" → ⊥
-not_joined [] a e = absurd cc
-not_joined (d ∷ ds) a e = let first : d ≡ 106 = cc in no_digit (rw first at a.0)
+not_joined : (c b : ℕ) (bytes ds : List ℕ) → 10 ≤ digit_value c → AllDigits 10 ds → c ∷ b ∷ bytes ≡ ds ++ codes ":" → ⊥
+not_joined c b bytes [] big a e = absurd cc
+not_joined c b bytes (d ∷ ds) big a e = let first : d ≡ c = cc in no_digit c big (rw first at a.0)
 
 join_word : (seq : ℕ) → seq < 1 → codes "join" ≡ decimal seq ++ codes ":" → ⊥
-join_word seq h e = not_joined (decimal seq) (decimal_is_IsNumeral seq (omega (arith, h))).0.1 e
+join_word seq h e = not_joined 106 111 (codes "in") (decimal seq) (lit≤ tt) (decimal_is_IsNumeral seq (omega (arith, h))).0.1 e
+
+auto_word : (seq : ℕ) → seq < 1 → codes "auto" ≡ decimal seq ++ codes ":" → ⊥
+auto_word seq h e = not_joined 97 117 (codes "to") (decimal seq) (lit≤ tt) (decimal_is_IsNumeral seq (omega (arith, h))).0.1 e
 
 -- a line has one form
 pub form_one : (a b : Form) → IsForm a → IsForm b → form_words a ≡ form_words b → a ≡ b
@@ -92,6 +97,13 @@ form_one (Join m n x y) (Join m' n' x' y') ha hb e =
     let two : decimal n ≡ decimal n' = cc in
     let first : m ≡ m' = decimal_injective m m' (omega (arith, ha.0)) (omega (arith, hb.0)) one in
     let second : n ≡ n' = decimal_injective n n' (omega (arith, ha.1)) (omega (arith, hb.1)) two in cc
+form_one (Join m n x y) (Auto seq method value) ha hb e = absurd (apart _ _ _ _ refl e)
+form_one (Auto seq method value) (Join m n x y) ha hb e = absurd (apart _ _ _ _ refl e)
+form_one (Auto m method value) (Auto n method' value') ha hb e =
+    let digits : decimal m ≡ decimal n = cc in
+    let seq : m ≡ n = decimal_injective m n (omega (arith, ha.0)) (omega (arith, hb.0)) digits in cc
+form_one (Auto m method value) (Of seq said) ha hb e = absurd (auto_word seq hb.0 (first_is _ _ _ _ e))
+form_one (Of seq said) (Auto m method value) ha hb e = absurd (auto_word seq ha.0 (sym (first_is _ _ _ _ e)))
 form_one (Join m n x y) (Of seq said) ha hb e = absurd (join_word seq hb.0 (first_is _ _ _ _ e))
 form_one (Of seq said) (Join m n x y) ha hb e = absurd (join_word seq ha.0 (sym (first_is _ _ _ _ e)))
 form_one (Of m a) (Of n b) ha hb e =

@@ -7,9 +7,8 @@ use Rattle.std.specs.Str.{bytes_eq}
 use Rattle.std.proofs.lemmas.Slice.Eq.{bytes_eq-Decides}
 use Rattle.mj_schema.specs.declared.schema.Schema.{Schema}
 use Rattle.call_script.specs.declared.script.NameId.{NameId}
-use Rattle.call_script.specs.declared.script.Line.{Line}
 use Rattle.call_script.specs.Forms.{Form, sets}
-use Rattle.call_script.specs.Script.{has_name, doubled, names_set, IsNamed, AreNamed, AreTaken}
+use Rattle.call_script.specs.Script.{has_name, doubled, names_set, IsNamed, AreNamed, Part, AreTaken}
 use Rattle.call_script.specs.steps.Names.{number_of}
 use Rattle.call_script.proofs.NameLemmas.{number_more}
 
@@ -61,12 +60,17 @@ numbered_more names (x ∷ more) so_far new =
     neither true b h = absurd cc
     neither false b h = (refl, h)
 
+either_way : (a b : Bool) → (a || b) ≡ false → a ≡ false
+either_way true b h = absurd cc
+either_way false b h = refl
+
 -- the names of a script
-pub numbered : (schema : Schema) (forms : List Form) (lines : List Line) → AreTaken schema forms lines → Numbered (names_set forms)
-numbered schema [] lines taken n q e = absurd cc
+pub numbered : (schema : Schema) (forms : List Form) (parts : List Part) → AreTaken schema forms parts → Numbered (names_set forms)
+numbered schema [] parts taken n q e = absurd cc
 numbered schema (form ∷ past) [] taken n q e = absurd taken
-numbered schema (form ∷ past) (line ∷ lines) taken n q e =
-    numbered_more (names_set past) (sets form) (numbered schema past lines taken.1) taken.0.single n q e
+numbered schema (form ∷ past) (part ∷ parts) taken n q e =
+    let single = either_way (doubled (names_set past) (sets form)) _ taken.0.single in
+    numbered_more (names_set past) (sets form) (numbered schema past parts taken.1) single n q e
 
 -- one number, and the same numbers
 pub id_one : (names : List (List ℕ)) → Numbered names → (a b : NameId) (q : List ℕ) → IsNamed names a q → IsNamed names b q → a ≡ b

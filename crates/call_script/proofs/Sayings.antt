@@ -5,7 +5,7 @@ use Rattle.std.specs.Str.{bytes_eq}
 use Rattle.std.proofs.lemmas.Slice.Eq.{bytes_eq-Decides}
 use Rattle.handle_table.specs.declared.thing.TokenSort.{TokenSort}
 use Rattle.wire_encoder.specs.declared.endpoint.EndpointSide.{EndpointSide}
-use Rattle.call_script.specs.Forms.{Said, Pipe, Mint, Bind, Call, Take, CloseToken, CloseEndpoint, IsSaid, said_words, sort_word, side_word}
+use Rattle.call_script.specs.Forms.{Said, Pipe, Mint, Bind, Call, Take, Answer, CloseToken, CloseEndpoint, IsSaid, said_words, sort_word, side_word}
 use Rattle.call_script.specs.Letters.{is_name, are_names, endpoint_word, is_interface_word, is_method_word}
 
 -- what is behind the first of two equal lists
@@ -24,7 +24,7 @@ pub rest_is : (a b : List ℕ) (xs ys : List (List ℕ)) → a ∷ xs ≡ b ∷ 
 rest_is a b xs ys e = ap rest e
 
 -- lists that begin with different words
-apart : (a b : List ℕ) (xs ys : List (List ℕ)) → bytes_eq a b ≡ false → a ∷ xs ≡ b ∷ ys → ⊥
+pub apart : (a b : List ℕ) (xs ys : List (List ℕ)) → bytes_eq a b ≡ false → a ∷ xs ≡ b ∷ ys → ⊥
 apart a b xs ys unlike e = let same : bytes_eq a b ≡ true = (bytes_eq-Decides a b).1 (first_is a b xs ys e) in absurd cc
 
 -- what each command is
@@ -42,6 +42,7 @@ pipe_only words (Mint s x) h e = absurd (apart _ _ _ _ refl e)
 pipe_only words (Bind x s i) h e = absurd (apart _ _ _ _ refl e)
 pipe_only words (Call x n m v ts) h e = absurd (apart _ _ _ _ refl e)
 pipe_only words (Take x ns) h e = absurd (apart _ _ _ _ refl e)
+pipe_only words (Answer r m v ts) h e = absurd (apart _ _ _ _ refl e)
 pipe_only words (CloseToken x) h e = absurd (apart _ _ _ _ refl e)
 pipe_only words (CloseEndpoint x n) h e = absurd (apart _ _ _ _ refl e)
 
@@ -58,6 +59,7 @@ mint_only words (Pipe x y) h e = absurd (apart _ _ _ _ refl e)
 mint_only words (Bind x s i) h e = absurd (apart _ _ _ _ refl e)
 mint_only words (Call x n m v ts) h e = absurd (apart _ _ _ _ refl e)
 mint_only words (Take x ns) h e = absurd (apart _ _ _ _ refl e)
+mint_only words (Answer r m v ts) h e = absurd (apart _ _ _ _ refl e)
 mint_only words (CloseToken x) h e = absurd (apart _ _ _ _ refl e)
 mint_only words (CloseEndpoint x n) h e = absurd (apart _ _ _ _ refl e)
 
@@ -76,6 +78,7 @@ bind_only words (Pipe x y) h e = absurd (apart _ _ _ _ refl e)
 bind_only words (Mint s x) h e = absurd (apart _ _ _ _ refl e)
 bind_only words (Call x n m v ts) h e = absurd (apart _ _ _ _ refl e)
 bind_only words (Take x ns) h e = absurd (apart _ _ _ _ refl e)
+bind_only words (Answer r m v ts) h e = absurd (apart _ _ _ _ refl e)
 bind_only words (CloseToken x) h e = absurd (apart _ _ _ _ refl e)
 bind_only words (CloseEndpoint x n) h e = absurd (apart _ _ _ _ refl e)
 
@@ -93,6 +96,7 @@ take_only words (Pipe x y) h e = absurd (apart _ _ _ _ refl e)
 take_only words (Mint s x) h e = absurd (apart _ _ _ _ refl e)
 take_only words (Bind x s i) h e = absurd (apart _ _ _ _ refl e)
 take_only words (Call x n m v ts) h e = absurd (apart _ _ _ _ refl e)
+take_only words (Answer r m v ts) h e = absurd (apart _ _ _ _ refl e)
 take_only words (CloseToken x) h e = absurd (apart _ _ _ _ refl e)
 take_only words (CloseEndpoint x n) h e = absurd (apart _ _ _ _ refl e)
 
@@ -129,8 +133,42 @@ call_only words (Pipe x y) h e = absurd (apart _ _ _ _ refl e)
 call_only words (Mint s x) h e = absurd (apart _ _ _ _ refl e)
 call_only words (Bind x s i) h e = absurd (apart _ _ _ _ refl e)
 call_only words (Take x ns) h e = absurd (apart _ _ _ _ refl e)
+call_only words (Answer r m v ts) h e = absurd (apart _ _ _ _ refl e)
 call_only words (CloseToken x) h e = absurd (apart _ _ _ _ refl e)
 call_only words (CloseEndpoint x n) h e = absurd (apart _ _ _ _ refl e)
+
+pub record IsAnswer (words : List (List ℕ)) (said : Said) : Type 0 where
+  pub responder : List ℕ
+  pub method : List ℕ
+  pub value : List ℕ
+  pub tokens : List (List ℕ)
+  pub is : said ≡ Answer responder method value tokens
+  pub are : words ≡ responder ∷ method ∷ value ∷ tokens
+  pub named : is_name responder ≡ true
+  pub worded : is_method_word method ≡ true
+  pub some : 0 < length value
+  pub all_named : are_names tokens ≡ true
+
+pub answer_only : (words : List (List ℕ)) (said : Said) → IsSaid said → codes "answer" ∷ words ≡ said_words said → IsAnswer words said
+answer_only words (Answer r m v ts) (hr, hm, hv, ht) e = record {
+  responder = r;
+  method = m;
+  value = v;
+  tokens = ts;
+  is = refl;
+  are = rest_is _ _ _ _ e;
+  named = hr;
+  worded = hm;
+  some = hv;
+  all_named = ht;
+}
+answer_only words (Pipe x y) h e = absurd (apart _ _ _ _ refl e)
+answer_only words (Mint s x) h e = absurd (apart _ _ _ _ refl e)
+answer_only words (Bind x s i) h e = absurd (apart _ _ _ _ refl e)
+answer_only words (Call x n m v ts) h e = absurd (apart _ _ _ _ refl e)
+answer_only words (Take x ns) h e = absurd (apart _ _ _ _ refl e)
+answer_only words (CloseToken x) h e = absurd (apart _ _ _ _ refl e)
+answer_only words (CloseEndpoint x n) h e = absurd (apart _ _ _ _ refl e)
 
 -- a close is of a token, or of an endpoint
 pub data Closes (words : List (List ℕ)) (said : Said) : Type 0 where
@@ -144,4 +182,5 @@ close_only words (Pipe x y) h e = absurd (apart _ _ _ _ refl e)
 close_only words (Mint s x) h e = absurd (apart _ _ _ _ refl e)
 close_only words (Bind x s i) h e = absurd (apart _ _ _ _ refl e)
 close_only words (Take x ns) h e = absurd (apart _ _ _ _ refl e)
+close_only words (Answer r m v ts) h e = absurd (apart _ _ _ _ refl e)
 close_only words (Call x n m v ts) h e = absurd (apart _ _ _ _ refl e)

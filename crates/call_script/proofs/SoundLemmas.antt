@@ -2,19 +2,20 @@
 use Rattle.std.proofs.Common.{◌≡◌, ◌<◌, ◌≤◌, ℕ, zero, suc, List, [], ◌∷◌, ◌++◌, length, refl, sym, ap, subst, arith, length-append, Ok, Err}
 use Rattle.std.specs.Prelude.{Some, slice_get, reverse, Result, IfOk}
 use Rattle.std.specs.List.{AllByRecursion}
-use Rattle.std.proofs.lemmas.List.{reverse-append, reverse-reverse, length-reverse}
+use Rattle.std.proofs.lemmas.List.{reverse-append, length-reverse}
 use Rattle.mj_schema.specs.declared.schema.Schema.{Schema}
+use Rattle.wire_model.specs.declared.target.MessageSide.TheVariants.{Response}
 use Rattle.call_script.specs.declared.script.NameId.{NameId}
 use Rattle.call_script.specs.declared.script.Command.{Command}
 use Rattle.call_script.specs.declared.script.Command.TheVariants as commands
-use Rattle.call_script.specs.declared.script.Line.{Line}
 use Rattle.call_script.specs.declared.script.Script.{Script}
 use Rattle.call_script.specs.declared.script_error.ScriptError.{ScriptError}
 use Rattle.call_script.specs.declared.script.TheConstants.{SEQUENCES}
-use Rattle.call_script.specs.Forms.{Form, Join, Of, Pipe, Mint, Bind, Call, Take, CloseToken, CloseEndpoint, IsForm, sets as line_sets}
-use Rattle.call_script.specs.Script.{names_set, seq_of, IsNamed, AreNamed, Asks, AreTaken, AreScript}
-use Rattle.call_script.specs.Sound.{sets, needs, AreWithin, IsReadWith, IsLine, IsScript}
+use Rattle.call_script.specs.Forms.{Form, Join, Auto, Of, Pipe, Mint, Bind, Call, Take, Answer, CloseToken, CloseEndpoint, IsForm, sets as line_sets}
+use Rattle.call_script.specs.Script.{names_set, seq_of, IsNamed, AreNamed, Asks, IsPart, Part, OfLine, OfReply, lines_in, replies_in, AreTaken, AreScript}
+use Rattle.call_script.specs.Sound.{sets, needs, AreWithin, IsReadWith, IsLine, IsReply, IsScript}
 use Rattle.call_script.specs.steps.Lines.{AnswersAll}
+use Rattle.call_script.proofs.AutoLemmas.{message_side}
 
 -- what has a name is among the names
 named_within : (names : List (List ℕ)) (n : ℕ) (q : List ℕ) → slice_get names n ≡ Some q → n < length names
@@ -41,6 +42,7 @@ module _ (names : List (List ℕ)) (count : ℕ) (few : length names ≤ count) 
   sets_within schema (Of seq (Take x ns)) (commands.Take i got) asks = all_within got ns asks.1
   sets_within schema (Of seq (Bind x side word)) (commands.Bind i s n) asks = tt
   sets_within schema (Of seq (Call x id method word ts)) (commands.Call i n p tokens) asks = tt
+  sets_within schema (Of seq (Answer x method word ts)) (commands.Answer i p tokens) asks = tt
   sets_within schema (Of seq (CloseToken x)) (commands.CloseToken i) asks = tt
   sets_within schema (Of seq (CloseEndpoint x n)) (commands.CloseEndpoint i m) asks = tt
   sets_within schema form command asks = absurd asks
@@ -52,6 +54,7 @@ module _ (names : List (List ℕ)) (count : ℕ) (few : length names ≤ count) 
   needs_within schema (Of seq (Take x ns)) (commands.Take i got) asks = (one_within i x asks.0, tt)
   needs_within schema (Of seq (Bind x side word)) (commands.Bind i s n) asks = (one_within i x asks.0, tt)
   needs_within schema (Of seq (Call x id method word ts)) (commands.Call i n p tokens) asks = (one_within i x asks.0, all_within tokens ts asks.2)
+  needs_within schema (Of seq (Answer x method word ts)) (commands.Answer i p tokens) asks = (one_within i x asks.0, all_within tokens ts asks.1)
   needs_within schema (Of seq (CloseToken x)) (commands.CloseToken i) asks = (one_within i x asks, tt)
   needs_within schema (Of seq (CloseEndpoint x n)) (commands.CloseEndpoint i m) asks = (one_within i x asks.0, tt)
   needs_within schema form command asks = absurd asks
@@ -59,6 +62,7 @@ module _ (names : List (List ℕ)) (count : ℕ) (few : length names ≤ count) 
 -- its value
 read_with : (schema : Schema) (names : List (List ℕ)) (form : Form) (command : Command) → Asks schema names form command → IsReadWith schema command
 read_with schema names (Of seq (Call x id method word ts)) (commands.Call i n p tokens) asks = asks.3.2.1
+read_with schema names (Of seq (Answer x method word ts)) (commands.Answer i p tokens) asks = asks.2.2.1
 read_with schema names (Join seq other x y) (commands.Join o f g) asks = tt
 read_with schema names (Of seq (Pipe x y)) (commands.Pipe f g) asks = tt
 read_with schema names (Of seq (Mint sort x)) (commands.Mint s i) asks = tt
@@ -71,55 +75,92 @@ read_with schema names form command asks = absurd asks
 -- its sequence
 seq_within : (form : Form) → IsForm form → seq_of form < SEQUENCES
 seq_within (Join seq other x y) sound = sound.0
+seq_within (Auto seq method word) sound = sound.0
 seq_within (Of seq said) sound = sound.0
 
--- the lines of forms, where so many names are set at last
-lines_sound : (schema : Schema) (forms : List Form) (lines : List Line) (count : ℕ) → length (names_set forms) ≤ count → AreTaken schema forms lines
-    → AllByRecursion (IsLine schema count) lines
-lines_sound schema [] [] count few taken = tt
-lines_sound schema [] (line ∷ lines) count few taken = absurd taken
-lines_sound schema (form ∷ past) [] count few taken = absurd taken
-lines_sound schema (form ∷ past) (line ∷ lines) count few taken =
-    let means = taken.0.means in
-    let fewer : length (names_set past) ≤ count = omega (arith, few, length-append (names_set past) (line_sets form)) in (
-      record {
-        seq = rw means.seq (seq_within form taken.0.sound);
-        sets = sets_within (names_set (form ∷ past)) count few schema form line.command means.command;
-        needs = needs_within (names_set (form ∷ past)) count few schema form line.command means.command;
-        read = read_with schema (names_set (form ∷ past)) form line.command means.command;
-      },
-      lines_sound schema past lines count fewer taken.1,
-    )
+-- what a form adds, where so many names are set at last
+abbrev IsSound : Schema → ℕ → Part → Type 0
+IsSound schema count (OfLine line) = IsLine schema count line
+IsSound schema count (OfReply reply) = IsReply schema reply
+
+part_sound : (schema : Schema) (past : List Form) (form : Form) (part : Part) (count : ℕ) → length (names_set (form ∷ past)) ≤ count → IsForm form
+    → IsPart schema past form part → IsSound schema count part
+part_sound schema past form (OfLine line) count few sound means = record {
+  seq = rw means.seq (seq_within form sound);
+  sets = sets_within (names_set (form ∷ past)) count few schema form line.command means.command;
+  needs = needs_within (names_set (form ∷ past)) count few schema form line.command means.command;
+  read = read_with schema (names_set (form ∷ past)) form line.command means.command;
+}
+part_sound schema past (Auto seq method word) (OfReply reply) count few sound means = record {
+  seq = rw means.seq sound.0;
+  side = message_side schema Response method reply.prepared.target means.number means.target;
+  read = means.value.1;
+  handles = means.handles;
+  endpoints = means.endpoints;
+}
+part_sound schema past form (OfReply reply) count few sound means = absurd means
+
+parts_sound : (schema : Schema) (forms : List Form) (parts : List Part) (count : ℕ) → length (names_set forms) ≤ count → AreTaken schema forms parts
+    → AllByRecursion (IsSound schema count) parts
+parts_sound schema [] [] count few taken = tt
+parts_sound schema [] (part ∷ parts) count few taken = absurd taken
+parts_sound schema (form ∷ past) [] count few taken = absurd taken
+parts_sound schema (form ∷ past) (part ∷ parts) count few taken =
+    let fewer : length (names_set past) ≤ count = omega (arith, few, length-append (names_set past) (line_sets form)) in
+    (part_sound schema past form part count few taken.0.sound taken.0.means, parts_sound schema past parts count fewer taken.1)
 
 -- as many as there are forms
-lines_count : (schema : Schema) (forms : List Form) (lines : List Line) → AreTaken schema forms lines → length lines ≡ length forms
-lines_count schema [] [] taken = refl
-lines_count schema [] (line ∷ lines) taken = absurd taken
-lines_count schema (form ∷ past) [] taken = absurd taken
-lines_count schema (form ∷ past) (line ∷ lines) taken = ap suc (lines_count schema past lines taken.1)
+parts_count : (schema : Schema) (forms : List Form) (parts : List Part) → AreTaken schema forms parts → length parts ≡ length forms
+parts_count schema [] [] taken = refl
+parts_count schema [] (part ∷ parts) taken = absurd taken
+parts_count schema (form ∷ past) [] taken = absurd taken
+parts_count schema (form ∷ past) (part ∷ parts) taken = ap suc (parts_count schema past parts taken.1)
 
 -- in either order
-all_joined : (P : Line → Type 0) (xs ys : List Line) → AllByRecursion P xs → AllByRecursion P ys → AllByRecursion P (xs ++ ys)
+all_joined : (P : Part → Type 0) (xs ys : List Part) → AllByRecursion P xs → AllByRecursion P ys → AllByRecursion P (xs ++ ys)
 all_joined P [] ys a b = b
 all_joined P (x ∷ xs) ys a b = (a.0, all_joined P xs ys a.1 b)
 
-all_reverse : (P : Line → Type 0) (xs : List Line) → AllByRecursion P xs → AllByRecursion P (reverse xs)
+all_reverse : (P : Part → Type 0) (xs : List Part) → AllByRecursion P xs → AllByRecursion P (reverse xs)
 all_reverse P [] a = tt
 all_reverse P (x ∷ xs) a =
     subst (AllByRecursion P) (sym (reverse-append (x ∷ []) xs)) (all_joined P (reverse xs) (x ∷ []) (all_reverse P xs a.1) (a.0, tt))
 
+-- the lines and the automatic replies among them
+sound_lines : (schema : Schema) (count : ℕ) (parts : List Part) → AllByRecursion (IsSound schema count) parts
+    → AllByRecursion (IsLine schema count) (lines_in parts)
+sound_lines schema count [] a = tt
+sound_lines schema count (OfLine line ∷ parts) a = (a.0, sound_lines schema count parts a.1)
+sound_lines schema count (OfReply reply ∷ parts) a = sound_lines schema count parts a.1
+
+sound_replies : (schema : Schema) (count : ℕ) (parts : List Part) → AllByRecursion (IsSound schema count) parts
+    → AllByRecursion (IsReply schema) (replies_in parts)
+sound_replies schema count [] a = tt
+sound_replies schema count (OfLine line ∷ parts) a = sound_replies schema count parts a.1
+sound_replies schema count (OfReply reply ∷ parts) a = (a.0, sound_replies schema count parts a.1)
+
+fewer_lines : (parts : List Part) → length (lines_in parts) ≤ length parts
+fewer_lines [] = omega arith
+fewer_lines (OfLine line ∷ parts) = let inner = fewer_lines parts in omega (arith, inner)
+fewer_lines (OfReply reply ∷ parts) = let inner = fewer_lines parts in omega (arith, inner)
+
 -- a script is sound
 pub script_sound : (schema : Schema) (texts : List (List (List ℕ))) (script : Script) → AreScript schema texts script → IsScript schema script
 script_sound schema texts script is = record {
-  lines =
-      subst (AllByRecursion (IsLine schema script.names)) (reverse-reverse script.lines)
-      (all_reverse (IsLine schema script.names) (reverse script.lines)
-      (lines_sound schema is.forms (reverse script.lines) script.names (let n = is.names in omega (arith, n)) is.taken));
+  autos = rw is.autos (sound_replies schema script.names (reverse is.parts) sound);
+  lines = rw is.lines (sound_lines schema script.names (reverse is.parts) sound);
   few =
-      let count = lines_count schema is.forms (reverse script.lines) is.taken in
-      let turned = length-reverse script.lines in
-      let few = is.few in omega (arith, count, turned, few);
+      let count = parts_count schema is.forms is.parts is.taken in
+      let turned = length-reverse is.parts in
+      let fewer = fewer_lines (reverse is.parts) in
+      let whole = ap length is.lines in
+      let few = is.few in omega (arith, count, turned, fewer, whole, few);
 }
+  where
+    sound : AllByRecursion (IsSound schema script.names) (reverse is.parts)
+    sound =
+        all_reverse (IsSound schema script.names) is.parts
+        (parts_sound schema is.forms is.parts script.names (let n = is.names in omega (arith, n)) is.taken)
 
 -- and so is one that was read
 pub read_sound : (schema : Schema) (texts : List (List (List ℕ))) (result : Result Script ScriptError) → AnswersAll schema texts result

@@ -81,6 +81,10 @@ word_small word e = subst (λ bytes. list_all is_small bytes ≡ true) (joined_p
 pub interface_is_ascii : (word : List ℕ) → is_interface_word word ≡ true → IsAscii word
 interface_is_ascii word e = ascii word (word_small word e)
 
+-- and so is that of a method
+pub method_is_ascii : (word : List ℕ) → is_method_word word ≡ true → IsAscii word
+method_is_ascii word e = interface_is_ascii word (both (is_interface_word word) (nat_le 2 (length (pieces 46 word))) e).0
+
 -- and so is what stands before the last dot of one of a method
 pub front_is_ascii : (word : List ℕ) (parts : Option (Bor (List ℕ) × Bor (List ℕ))) (interface method : Bor (List ℕ))
     → option_map (λ (p : Bor (List ℕ) × Bor (List ℕ)). (p.0.now, p.1.now)) parts ≡ split_word word → parts ≡ Some (interface, method)

@@ -14,12 +14,14 @@ pub data Said : Type 0 where
   Bind : (end : List ℕ) (side : EndpointSide) (interface : List ℕ) → Said
   Call : (end : List ℕ) (id : ℕ) (method value : List ℕ) (tokens : List (List ℕ)) → Said
   Take : (end : List ℕ) (names : List (List ℕ)) → Said
+  Answer : (responder method value : List ℕ) (tokens : List (List ℕ)) → Said
   CloseToken : (token : List ℕ) → Said
   CloseEndpoint : (end : List ℕ) (id : ℕ) → Said
 
 -- a line behind the first: of the setup, or of a sequence
 pub data Form : Type 0 where
   Join : (seq other : ℕ) (first second : List ℕ) → Form
+  Auto : (seq : ℕ) (method value : List ℕ) → Form
   Of : (seq : ℕ) (said : Said) → Form
 
 -- the word for a sort of token
@@ -39,12 +41,14 @@ said_words (Mint sort name) = codes "mint" ∷ sort_word sort ∷ name ∷ []
 said_words (Bind end side interface) = codes "bind" ∷ end ∷ side_word side ∷ interface ∷ []
 said_words (Call end id method value tokens) = codes "call" ∷ endpoint_word end id ∷ method ∷ value ∷ tokens
 said_words (Take end names) = codes "take" ∷ end ∷ names
+said_words (Answer responder method value tokens) = codes "answer" ∷ responder ∷ method ∷ value ∷ tokens
 said_words (CloseToken token) = codes "close" ∷ token ∷ []
 said_words (CloseEndpoint end id) = codes "close" ∷ endpoint_word end id ∷ []
 
 -- the words of a line
 abbrev pub form_words : Form → List (List ℕ)
 form_words (Join seq other first second) = codes "join" ∷ decimal seq ∷ decimal other ∷ first ∷ second ∷ []
+form_words (Auto seq method value) = codes "auto" ∷ decimal seq ∷ method ∷ value ∷ []
 form_words (Of seq said) = (decimal seq ++ codes ":") ∷ said_words said
 
 -- the words of the first line
@@ -59,17 +63,21 @@ IsSaid (Bind end side interface) = (is_name end ≡ true) × (is_interface_word 
 IsSaid (Call end id method value tokens) =
     (is_name end ≡ true) × (id < 2 ^ 32) × (is_method_word method ≡ true) × (0 < length value) × (are_names tokens ≡ true)
 IsSaid (Take end names) = (is_name end ≡ true) × (are_names names ≡ true)
+IsSaid (Answer responder method value tokens) =
+    (is_name responder ≡ true) × (is_method_word method ≡ true) × (0 < length value) × (are_names tokens ≡ true)
 IsSaid (CloseToken token) = is_name token ≡ true
 IsSaid (CloseEndpoint end id) = (is_name end ≡ true) × (id < 2 ^ 32)
 
 -- sequences are there, and what is said is said right
 abbrev pub IsForm : Form → Type 0
 IsForm (Join seq other first second) = (seq < SEQUENCES) × (other < SEQUENCES) × (is_name first ≡ true) × (is_name second ≡ true)
+IsForm (Auto seq method value) = (seq < SEQUENCES) × (is_method_word method ≡ true) × (0 < length value)
 IsForm (Of seq said) = (seq < SEQUENCES) × IsSaid said
 
 -- whether a line is of the setup
 abbrev pub is_setup : Form → Bool
 is_setup (Join seq other first second) = true
+is_setup (Auto seq method value) = true
 is_setup (Of seq said) = false
 
 -- the names that are set by what is said
@@ -79,13 +87,21 @@ said_sets (Mint sort name) = name ∷ []
 said_sets (Bind end side interface) = []
 said_sets (Call end id method value tokens) = []
 said_sets (Take end names) = names
+said_sets (Answer responder method value tokens) = []
 said_sets (CloseToken token) = []
 said_sets (CloseEndpoint end id) = []
 
 -- the names that a line sets
 abbrev pub sets : Form → List (List ℕ)
 sets (Join seq other first second) = first ∷ second ∷ []
+sets (Auto seq method value) = []
 sets (Of seq said) = said_sets said
+
+-- the methods that a line lets be answered by themselves
+abbrev pub answers : Form → List (List ℕ)
+answers (Join seq other first second) = []
+answers (Auto seq method value) = method ∷ []
+answers (Of seq said) = []
 
 -- the names that are needed by what is said
 abbrev pub said_needs : Said → List (List ℕ)
@@ -94,10 +110,12 @@ said_needs (Mint sort name) = []
 said_needs (Bind end side interface) = end ∷ []
 said_needs (Call end id method value tokens) = end ∷ tokens
 said_needs (Take end names) = end ∷ []
+said_needs (Answer responder method value tokens) = responder ∷ tokens
 said_needs (CloseToken token) = token ∷ []
 said_needs (CloseEndpoint end id) = end ∷ []
 
 -- the names that a line needs
 abbrev pub needs : Form → List (List ℕ)
 needs (Join seq other first second) = []
+needs (Auto seq method value) = []
 needs (Of seq said) = said_needs said

@@ -2,8 +2,9 @@
 use Rattle.std.specs.Prelude.{◌≡◌, List, [], ◌∷◌}
 use Rattle.wire_model.specs.Trees.{view}
 use Rattle.wire_encoder.specs.declared.prepared.Prepared.{Prepared}
+use Rattle.call_script.specs.declared.script.AutoReply.{AutoReply}
 use Rattle.call_script.specs.declared.script.Command.{Command}
-use Rattle.call_script.specs.declared.script.Command.TheVariants.{Call}
+use Rattle.call_script.specs.declared.script.Command.TheVariants.{Call, Answer}
 use Rattle.call_script.specs.declared.script.Line.{Line}
 use Rattle.call_script.specs.declared.script.Script.{Script}
 
@@ -20,7 +21,20 @@ pub record SamePrepared (one other : Prepared) : Type 0 where
 abbrev pub SameCommand : Command → Command → Type 0
 SameCommand (Call end id prepared tokens) (Call end' id' prepared' tokens') =
     (end ≡ end') × (id ≡ id') × SamePrepared prepared prepared' × (tokens ≡ tokens')
+SameCommand (Answer responder prepared tokens) (Answer responder' prepared' tokens') =
+    (responder ≡ responder') × SamePrepared prepared prepared' × (tokens ≡ tokens')
 SameCommand one other = one ≡ other
+
+-- the same sequence answers with the same
+pub record SameReply (one other : AutoReply) : Type 0 where
+  pub seq : one.seq ≡ other.seq
+  pub prepared : SamePrepared one.prepared other.prepared
+
+-- one by one
+abbrev pub SameReplies : List AutoReply → List AutoReply → Type 0
+SameReplies [] [] = Unit {0}
+SameReplies (reply ∷ replies) (reply' ∷ replies') = SameReply reply reply' × SameReplies replies replies'
+SameReplies _ _ = ⊥
 
 -- the same sequence asks the same in the line of one number
 pub record SameLine (one other : Line) : Type 0 where
@@ -34,7 +48,8 @@ SameLines [] [] = Unit {0}
 SameLines (line ∷ lines) (line' ∷ lines') = SameLine line line' × SameLines lines lines'
 SameLines _ _ = ⊥
 
--- as many names, and the same lines
+-- as many names, the same automatic replies, and the same lines
 pub record SameScript (one other : Script) : Type 0 where
   pub names : one.names ≡ other.names
+  pub autos : SameReplies one.autos other.autos
   pub lines : SameLines one.lines other.lines

@@ -1,7 +1,7 @@
 -- Which bytes are which script, and the first refusal of those that are none. Lines behind the first are judged one by one, each by
 -- those before it, the newest first.
 use Rattle.std.specs.Prelude.{ℕ, ◌≡◌, ◌<◌, ◌+◌, ◌++◌, ◌⊎◌, Bool, true, false, ◌&&◌, ◌||◌, not, List, [], ◌∷◌, length, map, reverse, slice_get}
-use Rattle.std.specs.Prelude.{Some, is_some}
+use Rattle.std.specs.Prelude.{Some, is_some, Ok}
 use Rattle.std.specs.List.{list_any, list_all}
 use Rattle.std.specs.Str.{bytes_eq}
 use Rattle.mj_base.specs.declared.limits.TheConstants.{MAX_SCRIPT_LINES}
@@ -12,12 +12,14 @@ use Rattle.byte_rules.specs.Lang.{Lang}
 use Rattle.byte_rules.specs.Judged.{Spells}
 use Rattle.value_text.specs.Rules.{value}
 use Rattle.wire_model.specs.Trees.{Tree, view}
-use Rattle.wire_model.specs.declared.target.MessageSide.TheVariants.{Request}
+use Rattle.wire_model.specs.declared.target.MessageSide.TheVariants.{Request, Response}
 use Rattle.wire_model.specs.declared.target.Target.{Target}
-use Rattle.wire_encoder.specs.Prepared.{IsPrepared, IsPrepareRefusal}
+use Rattle.wire_encoder.specs.FirstFailed.{Met}
+use Rattle.wire_encoder.specs.Prepared.{IsPrepared, IsPrepareRefusal, verdict}
 use Rattle.wire_encoder.specs.declared.prepared.Prepared.{Prepared}
 use Rattle.wire_encoder.specs.declared.refusal.PrepareError.{PrepareError}
 use Rattle.wire_encoder.specs.declared.refusal.PrepareError.TheVariants.{Memory}
+use Rattle.call_script.specs.declared.script.AutoReply.{AutoReply}
 use Rattle.call_script.specs.declared.script.NameId.{NameId}
 use Rattle.call_script.specs.declared.script.Command.{Command}
 use Rattle.call_script.specs.declared.script.Command.TheVariants as commands
@@ -27,8 +29,8 @@ use Rattle.call_script.specs.declared.script_error.LineRefusal.{LineRefusal}
 use Rattle.call_script.specs.declared.script_error.LineRefusal.TheVariants.{BadLine, DoubleName, UnknownName, BadValue, TooManyLines}
 use Rattle.call_script.specs.Pieces.{text_words}
 use Rattle.call_script.specs.Targets.{message_named}
-use Rattle.call_script.specs.Forms.{Form, Join, Of, Pipe, Mint, Bind, Call, Take, CloseToken, CloseEndpoint, form_words, header_words, IsForm}
-use Rattle.call_script.specs.Forms.{is_setup, sets, needs}
+use Rattle.call_script.specs.Forms.{Form, Join, Auto, Of, Pipe, Mint, Bind, Call, Take, Answer, CloseToken, CloseEndpoint}
+use Rattle.call_script.specs.Forms.{form_words, header_words, IsForm, is_setup, sets, answers, needs}
 
 -- ## What stands before a line
 
@@ -36,6 +38,11 @@ use Rattle.call_script.specs.Forms.{is_setup, sets, needs}
 abbrev pub names_set : List Form → List (List ℕ)
 names_set [] = []
 names_set (form ∷ past) = names_set past ++ sets form
+
+-- the methods that are answered by themselves, in order
+abbrev pub methods_answered : List Form → List (List ℕ)
+methods_answered [] = []
+methods_answered (form ∷ past) = methods_answered past ++ answers form
 
 -- the number of a line: the first one has number 1
 abbrev pub line_number : List Form → ℕ
@@ -62,14 +69,16 @@ abbrev pub doubled : List (List ℕ) → List (List ℕ) → Bool
 doubled names [] = false
 doubled names (name ∷ more) = has_name names name || doubled (names ++ name ∷ []) more
 
--- whether a line sets a name again
-abbrev pub doubles : List (List ℕ) → Form → Bool
-doubles names form = doubled names (sets form)
+-- whether a line sets a name again, or lets a method be answered again
+abbrev pub doubles : List Form → Form → Bool
+doubles past form = doubled (names_set past) (sets form) || doubled (methods_answered past) (answers form)
 
--- whether the interface or the method that is named is there
+-- whether the interface that is named is there, or the method, which has a response where one is given
 abbrev pub finds : Schema → Form → Bool
 finds schema (Of seq (Bind end side interface)) = is_some (interface_named schema.interfaces interface)
 finds schema (Of seq (Call end id method word tokens)) = is_some (message_named schema Request method)
+finds schema (Of seq (Answer responder method word tokens)) = is_some (message_named schema Response method)
+finds schema (Auto seq method word) = is_some (message_named schema Response method)
 finds schema form = true
 
 -- whether all that it names is there, of names those before
@@ -94,10 +103,23 @@ abbrev pub IsNoValue : Schema → Target → ℕ → List ℕ → Type 0
 IsNoValue schema target number word =
     (tree : Tree) → Spells (parameters_rule schema number) tree word → (error : PrepareError) × IsReason error × IsPrepareRefusal schema target tree error
 
--- the value of a call isn't one
+-- the value is to carry handles or endpoints
+abbrev pub WantsTokens : Schema → Target → Tree → Type 0
+WantsTokens schema target tree = (met : Met) × (verdict schema target tree ≡ Ok met) × ((0 < met.handles) ⊎ (0 < length met.endpoints))
+
+-- the word is no value of the target's parameters that is prepared and carries nothing
+abbrev pub IsNoBareValue : Schema → Target → ℕ → List ℕ → Type 0
+IsNoBareValue schema target number word = (tree : Tree) → Spells (parameters_rule schema number) tree word
+    → ((error : PrepareError) × IsReason error × IsPrepareRefusal schema target tree error) ⊎ WantsTokens schema target tree
+
+-- the value of a line isn't one
 abbrev pub HasNoValue : Schema → Form → Type 0
 HasNoValue schema (Of seq (Call end id method word tokens)) =
     (target : Target) (number : ℕ) → message_named schema Request method ≡ Some (target, number) → IsNoValue schema target number word
+HasNoValue schema (Of seq (Answer responder method word tokens)) =
+    (target : Target) (number : ℕ) → message_named schema Response method ≡ Some (target, number) → IsNoValue schema target number word
+HasNoValue schema (Auto seq method word) =
+    (target : Target) (number : ℕ) → message_named schema Response method ≡ Some (target, number) → IsNoBareValue schema target number word
 HasNoValue schema form = ⊥
 
 -- ## What a line asks
@@ -123,6 +145,9 @@ Asks schema names (Of seq (Call x id method word ts)) (commands.Call end id' pre
     IsNamed names end x × (id' ≡ id) × AreNamed names tokens ts
     × ((number : ℕ) × (message_named schema Request method ≡ Some (prepared.target, number)) × IsValueOf schema number word prepared)
 Asks schema names (Of seq (Take x ns)) (commands.Take end got) = IsNamed names end x × AreNamed names got ns
+Asks schema names (Of seq (Answer x method word ts)) (commands.Answer responder prepared tokens) =
+    IsNamed names responder x × AreNamed names tokens ts
+    × ((number : ℕ) × (message_named schema Response method ≡ Some (prepared.target, number)) × IsValueOf schema number word prepared)
 Asks schema names (Of seq (CloseToken x)) (commands.CloseToken token) = IsNamed names token x
 Asks schema names (Of seq (CloseEndpoint x id)) (commands.CloseEndpoint end id') = IsNamed names end x × (id' ≡ id)
 Asks schema names form command = ⊥
@@ -130,6 +155,7 @@ Asks schema names form command = ⊥
 -- the sequence of a line
 abbrev pub seq_of : Form → ℕ
 seq_of (Join seq other x y) = seq
+seq_of (Auto seq method word) = seq
 seq_of (Of seq said) = seq
 
 -- the line of a form behind these
@@ -138,27 +164,63 @@ pub record IsLine (schema : Schema) (past : List Form) (form : Form) (line : Lin
   pub seq : line.seq.0 ≡ seq_of form
   pub command : Asks schema (names_set (form ∷ past)) form line.command
 
--- no name is set again, all that is named is there, and the line is what the form asks
-pub record IsTaken (schema : Schema) (past : List Form) (form : Form) (line : Line) : Type 0 where
+-- the automatic reply of a form: the response of a method with this value, which carries nothing
+pub record IsAuto (schema : Schema) (asker : ℕ) (method word : List ℕ) (reply : AutoReply) : Type 0 where
+  pub seq : reply.seq.0 ≡ asker
+  pub number : ℕ
+  pub target : message_named schema Response method ≡ Some (reply.prepared.target, number)
+  pub value : IsValueOf schema number word reply.prepared
+  pub handles : reply.prepared.handles ≡ 0
+  pub endpoints : reply.prepared.endpoints.items ≡ []
+
+abbrev pub IsReply : Schema → Form → AutoReply → Type 0
+IsReply schema (Auto seq method word) reply = IsAuto schema seq method word reply
+IsReply schema form reply = ⊥
+
+-- what a form adds to a script
+pub data Part : Type 0 where
+  OfLine : Line → Part
+  OfReply : AutoReply → Part
+
+abbrev pub IsPart : Schema → List Form → Form → Part → Type 0
+IsPart schema past form (OfLine line) = IsLine schema past form line
+IsPart schema past form (OfReply reply) = IsReply schema form reply
+
+-- the lines of parts, and the automatic replies, both in order
+abbrev pub lines_in : List Part → List Line
+lines_in [] = []
+lines_in (OfLine line ∷ parts) = line ∷ lines_in parts
+lines_in (OfReply reply ∷ parts) = lines_in parts
+
+abbrev pub replies_in : List Part → List AutoReply
+replies_in [] = []
+replies_in (OfLine line ∷ parts) = replies_in parts
+replies_in (OfReply reply ∷ parts) = reply ∷ replies_in parts
+
+-- no name is set and no method answered again, all that is named is there, and the part is what the form adds
+pub record IsTaken (schema : Schema) (past : List Form) (form : Form) (part : Part) : Type 0 where
   pub placed : is_placed past form ≡ true
   pub sound : IsForm form
-  pub single : doubles (names_set past) form ≡ false
+  pub single : doubles past form ≡ false
   pub known : knows schema (names_set past) form ≡ true
-  pub means : IsLine schema past form line
+  pub means : IsPart schema past form part
 
--- the lines of these forms, the newest first as well
-abbrev pub AreTaken : Schema → List Form → List Line → Type 0
+-- the parts of these forms, the newest first as well
+abbrev pub AreTaken : Schema → List Form → List Part → Type 0
 AreTaken schema [] [] = Unit {0}
-AreTaken schema (form ∷ past) (line ∷ lines) = IsTaken schema past form line × AreTaken schema past lines
+AreTaken schema (form ∷ past) (part ∷ parts) = IsTaken schema past form part × AreTaken schema past parts
 AreTaken schema _ _ = ⊥
 
 -- ## The script, and its refusals
 
--- the lines are the script's: the first says how many sequences there are, and the others are its lines, 65,536 at most in all
+-- the lines are the script's: the first says how many sequences there are, and the others are its parts, 65,536 lines at most in all
 pub record AreScript (schema : Schema) (texts : List (List (List ℕ))) (script : Script) : Type 0 where
   pub forms : List Form
+  pub parts : List Part
   pub spelled : texts ≡ header_words ∷ map form_words (reverse forms)
-  pub taken : AreTaken schema forms (reverse script.lines)
+  pub taken : AreTaken schema forms parts
+  pub autos : script.autos ≡ replies_in (reverse parts)
+  pub lines : script.lines ≡ lines_in (reverse parts)
   pub names : script.names ≡ length (names_set forms)
   pub few : length forms < MAX_SCRIPT_LINES
 
@@ -169,22 +231,22 @@ IsScriptOf schema bytes script = AreScript schema (text_words bytes) script
 -- a line of these words behind those is refused; of several reasons the first in this order is meant
 abbrev pub IsRefused : Schema → List Form → List (List ℕ) → LineRefusal → Type 0
 IsRefused schema past words BadLine = (form : Form) → IsFormOf past words form → ⊥
-IsRefused schema past words DoubleName = (form : Form) × IsFormOf past words form × (doubles (names_set past) form ≡ true)
-IsRefused schema past words UnknownName = (form : Form) × IsFormOf past words form × (doubles (names_set past) form ≡ false)
-    × (knows schema (names_set past) form ≡ false)
+IsRefused schema past words DoubleName = (form : Form) × IsFormOf past words form × (doubles past form ≡ true)
+IsRefused schema past words UnknownName =
+    (form : Form) × IsFormOf past words form × (doubles past form ≡ false) × (knows schema (names_set past) form ≡ false)
 IsRefused schema past words BadValue =
-    (form : Form) × IsFormOf past words form × (doubles (names_set past) form ≡ false) × (knows schema (names_set past) form ≡ true) × HasNoValue schema form
+    (form : Form) × IsFormOf past words form × (doubles past form ≡ false) × (knows schema (names_set past) form ≡ true) × HasNoValue schema form
 IsRefused schema past words TooManyLines =
-    (form : Form) × (line : Line) × (words ≡ form_words form) × IsTaken schema past form line × (MAX_SCRIPT_LINES < line_number past)
+    (form : Form) × (part : Part) × (words ≡ form_words form) × IsTaken schema past form part × (MAX_SCRIPT_LINES < line_number past)
 
 -- the line of this number is the first that is refused
 pub record IsRefusedBehind (schema : Schema) (texts : List (List (List ℕ))) (line : ℕ) (why : LineRefusal) : Type 0 where
   pub forms : List Form
-  pub lines : List Line
+  pub parts : List Part
   pub words : List (List ℕ)
   pub rest : List (List (List ℕ))
   pub spelled : texts ≡ header_words ∷ (map form_words (reverse forms) ++ words ∷ rest)
-  pub taken : AreTaken schema forms lines
+  pub taken : AreTaken schema forms parts
   pub few : length forms < MAX_SCRIPT_LINES
   pub number : line ≡ line_number forms
   pub refused : IsRefused schema forms words why

@@ -4,19 +4,19 @@ ghost use Rattle.std.specs.Prelude.{◌≡◌, ◌<◌, ◌^◌, ◌+◌, IfOk, 
 ghost use Rattle.std.specs.List.{range_with_len};
 ghost use Rattle.wire_encoder.specs.Prepared.{parameters_of};
 ghost use Rattle.call_script.specs.declared.script.NameId.{NameId};
-ghost use Rattle.call_script.specs.Forms.{Bind, Call, Take, CloseToken, CloseEndpoint, IsForm, IsSaid};
+ghost use Rattle.call_script.specs.Forms.{Bind, Call, Take, Answer, CloseToken, CloseEndpoint, IsSaid};
 ghost use Rattle.call_script.specs.Letters.{is_name, are_names, is_interface_word, is_method_word};
-ghost use Rattle.call_script.specs.steps.Forms.{said_view, form_view};
+ghost use Rattle.call_script.specs.steps.Forms.{said_view};
 ghost use Rattle.call_script.specs.steps.Interfaces.{IsIndexed};
-ghost use Rattle.call_script.specs.steps.Commands.{FindsAll, StopsFor, Values, Says, Commands};
+ghost use Rattle.call_script.specs.steps.Commands.{FindsAll, StopsFor, Values, Says};
 
-use crate::form::{Form, Said};
+use crate::form::Said;
 use crate::indexed_schema::{IndexedSchema, interface_named};
 use crate::name_table::{NameTable, find};
 use crate::script::{Command, NameId};
 use crate::script_error::LineRefusal;
 use crate::targets::{message_named, parameters_kind};
-use mj_base::{Items, SeqId};
+use mj_base::Items;
 use mj_schema::Schema;
 use std::alloc::{AllocError, Global};
 use value_text::{TextError, read_value};
@@ -76,7 +76,7 @@ fn stop_for(error: &PrepareError) -> Stop
 }
 
 /// The value of this word, prepared for a target whose parameters are the struct of a number.
-fn value_of(
+pub(crate) fn value_of(
     alloc: Global,
     schema: &Schema,
     target: Target,
@@ -161,6 +161,46 @@ fn call_command(
     Ok(Command::Call(end, call.id, prepared, tokens))
 }
 
+/// The words of an answer.
+#[derive(Clone, Copy)]
+struct AnswerWords<'w, 'a> {
+    responder: &'a [u8],
+    method: &'a [u8],
+    value: &'a [u8],
+    tokens: &'w [&'a [u8]],
+}
+
+/// What an answer asks.
+fn answer_command(
+    alloc: Global,
+    indexed: &IndexedSchema,
+    table: &NameTable,
+    count: usize,
+    answer: &AnswerWords,
+) -> Result<Command, Stop>
+    requires indexed { IsIndexed indexed.now }
+    requires responder { is_name answer.now.responder.now ≡ true }
+    requires method { is_method_word answer.now.method.now ≡ true }
+    requires tokens { are_names (map (λ name. name.now) answer.now.tokens.now) ≡ true }
+    ensures { Says indexed.now.schema.now table.now count (Answer answer.now.responder.now answer.now.method.now answer.now.value.now
+        (map (λ name. name.now) answer.now.tokens.now)) result }
+{
+    let Some((target, number)) = message_named(indexed, MessageSide::Response, answer.method) else {
+        return Err(Stop::Refused(LineRefusal::UnknownName));
+    };
+    let Some(responder) = find(table, count, answer.responder) else {
+        return Err(Stop::Refused(LineRefusal::UnknownName));
+    };
+    let Ok(found) = find_all(alloc, table, count, answer.tokens) else {
+        return Err(Stop::Memory);
+    };
+    let Some(tokens) = found else {
+        return Err(Stop::Refused(LineRefusal::UnknownName));
+    };
+    let prepared = value_of(alloc, indexed.schema, target, number, answer.value)?;
+    Ok(Command::Answer(responder, prepared, tokens))
+}
+
 /// What a take asks, which sets so many names.
 fn take_command(
     alloc: Global,
@@ -216,8 +256,9 @@ fn close_endpoint_command(
     }
 }
 
-/// What is asked by what is said to a sequence.
-fn said_command(
+/// What is asked by what is said to a sequence. Its own names are set behind the first `count` of the
+/// table, and only those are looked up.
+pub(crate) fn said_command(
     alloc: Global,
     indexed: &IndexedSchema,
     table: &NameTable,
@@ -246,6 +287,15 @@ fn said_command(
             call_command(alloc, indexed, table, count, &call)
         }
         Said::Take(end, names) => take_command(alloc, indexed.schema, table, count, *end, *names),
+        Said::Answer(responder, method, value, tokens) => {
+            let answer = AnswerWords {
+                responder: *responder,
+                method: *method,
+                value: *value,
+                tokens: *tokens,
+            };
+            answer_command(alloc, indexed, table, count, &answer)
+        }
         Said::CloseToken(token) => close_command(indexed.schema, table, count, *token),
         Said::CloseEndpoint(end, id) => close_endpoint_command(
             indexed.schema,
@@ -254,29 +304,5 @@ fn said_command(
             *end,
             *id,
         ),
-    }
-}
-
-/// What a line's form asks. Its own names are set behind the first `count` of the table, and only
-/// those are looked up.
-pub(crate) fn command_of(
-    alloc: Global,
-    indexed: &IndexedSchema,
-    table: &NameTable,
-    count: usize,
-    form: &Form,
-) -> Result<Command, Stop>
-    requires indexed { IsIndexed indexed.now }
-    requires sound { IsForm (form_view form.now) }
-    requires room { count < 2 ^ 63 }
-    ensures { Commands indexed.now.schema.now table.now count (form_view form.now) result }
-{
-    match form {
-        Form::Join(_, other, _, _) => Ok(Command::Join(
-            SeqId(*other),
-            NameId(count),
-            NameId(count + 1),
-        )),
-        Form::Of(_, said) => said_command(alloc, indexed, table, count, said),
     }
 }

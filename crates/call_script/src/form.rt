@@ -22,6 +22,8 @@ pub(crate) enum Said<'w, 'a> {
     /// The name of an end, an id there, a method, a value and names of tokens.
     Call(&'a [u8], u32, &'a [u8], &'a [u8], &'w [&'a [u8]]),
     Take(&'a [u8], &'w [&'a [u8]]),
+    /// The name of a responder, a method, a value and names of tokens.
+    Answer(&'a [u8], &'a [u8], &'a [u8], &'w [&'a [u8]]),
     CloseToken(&'a [u8]),
     CloseEndpoint(&'a [u8], u32),
 }
@@ -31,6 +33,8 @@ pub(crate) enum Said<'w, 'a> {
 pub(crate) enum Form<'w, 'a> {
     /// Of two sequences, and names for the ends.
     Join(u32, u32, &'a [u8], &'a [u8]),
+    /// Of a sequence, a method and a value.
+    Auto(u32, &'a [u8], &'a [u8]),
     Of(u32, Said<'w, 'a>),
 }
 
@@ -185,6 +189,32 @@ fn take_of<'w, 'a>(words: &'w [&'a [u8]]) -> Option<Said<'w, 'a>>
     }
 }
 
+/// What stands behind `answer`.
+fn answer_of<'w, 'a>(
+    alloc: Global,
+    words: &'w [&'a [u8]],
+) -> Result<Option<Said<'w, 'a>>, AllocError>
+    ensures { IfOk result (λ found. SpellsBehind (codes "answer") (map (λ word. word.now) words.now) found) }
+{
+    let Some((responder, rest)) = first_word(words) else {
+        return Ok(None);
+    };
+    let Some((method, rest)) = first_word(rest) else {
+        return Ok(None);
+    };
+    let Some((value, tokens)) = first_word(rest) else {
+        return Ok(None);
+    };
+    if !is_method_word(alloc, method)? {
+        return Ok(None);
+    }
+    if !value.is_empty() && is_named_list(responder, tokens) {
+        Ok(Some(Said::Answer(responder, method, value, tokens)))
+    } else {
+        Ok(None)
+    }
+}
+
 /// What stands behind `close`.
 fn close_of<'w, 'a>(
     alloc: Global,
@@ -227,6 +257,9 @@ fn behind_command<'w, 'a>(
     if command == b"take".as_slice() {
         return Ok(take_of(words));
     }
+    if command == b"answer".as_slice() {
+        return answer_of(alloc, words);
+    }
     if command == b"close".as_slice() {
         return close_of(alloc, words);
     }
@@ -248,6 +281,23 @@ fn join_of<'w, 'a>(alloc: Global, words: &'w [&'a [u8]]) -> Result<Option<Form<'
     };
     if are_two_names(first, second) {
         Ok(Some(Form::Join(seq, other, first, second)))
+    } else {
+        Ok(None)
+    }
+}
+
+/// The automatic reply of these words.
+fn auto_of<'w, 'a>(alloc: Global, words: &'w [&'a [u8]]) -> Result<Option<Form<'w, 'a>>, AllocError>
+    ensures { IfOk result (λ found. SpellsForm (codes "auto" ∷ map (λ word. word.now) words.now) found) }
+{
+    let Some((seq, method, value)) = three_words(words) else {
+        return Ok(None);
+    };
+    let Some(seq) = sequence_number(alloc, seq)? else {
+        return Ok(None);
+    };
+    if is_method_word(alloc, method)? && !value.is_empty() {
+        Ok(Some(Form::Auto(seq, method, value)))
     } else {
         Ok(None)
     }
@@ -284,8 +334,10 @@ pub(crate) fn read_form<'w, 'a>(
         return Ok(None);
     };
     if start == b"join".as_slice() {
-        join_of(alloc, rest)
-    } else {
-        of_sequence(alloc, start, rest)
+        return join_of(alloc, rest);
     }
+    if start == b"auto".as_slice() {
+        return auto_of(alloc, rest);
+    }
+    of_sequence(alloc, start, rest)
 }

@@ -1,6 +1,7 @@
 //! Scripts of what the sequences of a machine ask.
 #![tactic(auto)]
 
+mod additions;
 mod commands;
 mod few_words;
 mod form;
@@ -16,5 +17,5 @@ mod split;
 mod targets;
 
 pub use reading::read_script;
-pub use script::{Command, Line, NameId, SEQUENCES, Script};
+pub use script::{AutoReply, Command, Line, NameId, SEQUENCES, Script};
 pub use script_error::{LineRefusal, ScriptError};

@@ -1,7 +1,7 @@
 //! The names that the lines of a script set, by their numbers.
 
 ghost use Rattle.std.specs.Prelude.{◌≡◌, IfOk, IfSome, IfNone, ◌∷◌, [], map, true};
-ghost use Rattle.call_script.specs.Letters.{is_name, are_names};
+ghost use Rattle.call_script.specs.Letters.{is_name, are_names, is_method_word};
 ghost use Rattle.call_script.specs.steps.Names.{IsTable, Adds, FindsAt, FindsNone};
 
 use crate::script::NameId;
@@ -63,6 +63,21 @@ pub(crate) fn add_all(
         }
     }
     Ok(true)
+}
+
+/// Adds the word of a method; false where it stands there already.
+pub(crate) fn add_method(
+    alloc: Global,
+    table: &mut NameTable,
+    method: &[u8],
+) -> Result<bool, AllocError>
+    requires { is_method_word method.now ≡ true }
+    ensures { IfOk result (λ added. Adds table.old table.new (method.now ∷ []) added) }
+{
+    match str::from_utf8(method) {
+        Ok(text) => add(alloc, table, text),
+        Err(_) => unreachable!(),
+    }
 }
 
 /// The number of a name among the first so many; none where it isn't there.

@@ -1,34 +1,39 @@
 //! Reads a whole script.
 
 ghost use Rattle.std.specs.Prelude.{◌≡◌, IfOk, Err, map, IsTrue, ◌↔◌, ℕ};
-ghost use Rattle.call_script.specs.Forms.{IsForm, header_words, is_setup, sets};
-ghost use Rattle.call_script.specs.Script.{IsScriptOf, IsFirstRefusal, seq_of};
+ghost use Rattle.call_script.specs.Forms.{IsForm, header_words, is_setup, sets, answers};
+ghost use Rattle.call_script.specs.Script.{IsScriptOf, IsFirstRefusal};
 ghost use Rattle.call_script.specs.Sound.{IsScript};
 ghost use Rattle.call_script.specs.declared.script_error.LineRefusal.{LineRefusal};
 ghost use Rattle.call_script.specs.declared.script_error.ScriptError.TheVariants as errors;
+ghost use Rattle.call_script.specs.steps.Commands.{part_view};
 ghost use Rattle.call_script.specs.steps.Forms.{form_view};
 ghost use Rattle.call_script.specs.steps.Interfaces.{IsIndexed};
 ghost use Rattle.call_script.specs.steps.Pieces.{words_now};
 ghost use Rattle.call_script.specs.steps.Names.{Adds};
 ghost use Rattle.call_script.specs.steps.Lines.{Pushes, TakesForm, ReadsOn, AnswersBehind, AnswersAll, error_of};
 
-use crate::commands::{Stop, command_of};
+use crate::additions::{Part, part_of};
+use crate::commands::Stop;
 use crate::few_words::two_words;
 use crate::form::{Form, Said, read_form};
 use crate::indexed_schema::{IndexedSchema, index};
-use crate::name_table::{NameTable, add_all, no_names};
-use crate::script::{Line, SEQUENCES, Script};
+use crate::name_table::{NameTable, add_all, add_method, no_names};
+use crate::script::{AutoReply, Line, SEQUENCES, Script};
 use crate::script_error::{LineRefusal, ScriptError};
 use crate::split::{Words, text_words};
+use mj_base::Items;
 use mj_base::limits::MAX_SCRIPT_LINES;
-use mj_base::{Items, SeqId};
 use mj_schema::Schema;
 use std::alloc::{AllocError, Global};
 
-/// What has been read: the names that are set, the lines, and whether one of a sequence is among them.
+/// What has been read: the names that are set, the methods that are answered by themselves and how, the
+/// lines that ask, and whether one of a sequence is among them.
 #[derive(Drop)]
 pub(crate) struct Reader {
     pub names: NameTable,
+    pub methods: NameTable,
+    pub autos: Vec<AutoReply>,
     pub lines: Vec<Line>,
     pub started: bool,
 }
@@ -38,18 +43,8 @@ fn is_setup(form: &Form) -> bool
     ensures { result ≡ is_setup (form_view form.now) }
 {
     match form {
-        Form::Join(_, _, _, _) => true,
+        Form::Join(_, _, _, _) | Form::Auto(_, _, _) => true,
         Form::Of(_, _) => false,
-    }
-}
-
-/// The sequence of a line.
-fn seq_of(form: &Form) -> u32
-    ensures { result ≡ seq_of (form_view form.now) }
-{
-    match form {
-        Form::Join(seq, _, _, _) => *seq,
-        Form::Of(seq, _) => *seq,
     }
 }
 
@@ -63,21 +58,34 @@ fn set_names(alloc: Global, table: &mut NameTable, form: &Form) -> Result<bool, 
         Form::Of(_, Said::Pipe(first, second)) => add_all(alloc, table, &[*first, *second]),
         Form::Of(_, Said::Mint(_, name)) => add_all(alloc, table, &[*name]),
         Form::Of(_, Said::Take(_, names)) => add_all(alloc, table, *names),
-        Form::Of(_, _) => Ok(true),
+        Form::Auto(_, _, _) | Form::Of(_, _) => Ok(true),
     }
 }
 
-/// Adds a line, and notes whether it is one of a sequence.
-fn push_line(reader: &mut Reader, line: Line, started: bool) -> Result<(), Stop>
-    ensures { Pushes reader.old reader.new line started result }
+/// Notes the method that a line lets be answered; false where it is answered already.
+fn note_method(alloc: Global, table: &mut NameTable, form: &Form) -> Result<bool, AllocError>
+    requires { IsForm (form_view form.now) }
+    ensures { IfOk result (λ added. Adds table.old table.new (answers (form_view form.now)) added) }
 {
-    match reader.lines.push(line) {
-        Ok(()) => {
-            reader.started = started;
-            Ok(())
-        }
-        Err(_) => Err(Stop::Memory),
+    match form {
+        Form::Auto(_, method, _) => add_method(alloc, table, *method),
+        Form::Join(_, _, _, _) | Form::Of(_, _) => Ok(true),
     }
+}
+
+/// Adds what a line adds, and notes whether it is one of a sequence.
+fn push_part(reader: &mut Reader, part: Part, started: bool) -> Result<(), Stop>
+    ensures { Pushes reader.old reader.new (part_view part) started result }
+{
+    let pushed = match part {
+        Part::Line(line) => reader.lines.push(line).is_ok(),
+        Part::Reply(reply) => reader.autos.push(reply).is_ok(),
+    };
+    if !pushed {
+        return Err(Stop::Memory);
+    }
+    reader.started = started;
+    Ok(())
 }
 
 /// Reads a line of a form that may stand here.
@@ -98,16 +106,16 @@ fn take_form(
         Ok(false) => return Err(Stop::Refused(LineRefusal::DoubleName)),
         Err(_) => return Err(Stop::Memory),
     }
-    let command = command_of(alloc, indexed, &reader.names, count, form)?;
+    match note_method(alloc, &mut reader.methods, form) {
+        Ok(true) => {}
+        Ok(false) => return Err(Stop::Refused(LineRefusal::DoubleName)),
+        Err(_) => return Err(Stop::Memory),
+    }
+    let part = part_of(alloc, indexed, &reader.names, count, number, form)?;
     if number as usize > MAX_SCRIPT_LINES {
         return Err(Stop::Refused(LineRefusal::TooManyLines));
     }
-    let line = Line {
-        number,
-        seq: SeqId(seq_of(form)),
-        command,
-    };
-    push_line(reader, line, !is_setup(form))
+    push_part(reader, part, !is_setup(form))
 }
 
 /// Reads a line of these words.
@@ -153,6 +161,8 @@ fn read_numbered(
 {
     let mut reader = Reader {
         names: no_names(alloc),
+        methods: no_names(alloc),
+        autos: Vec::new(alloc),
         lines: Vec::new(alloc),
         started: false,
     };
@@ -165,6 +175,7 @@ fn read_numbered(
     }
     Ok(Script {
         names: reader.names.numbers.len(),
+        autos: Items::from_vec(reader.autos),
         lines: Items::from_vec(reader.lines),
     })
 }
@@ -203,7 +214,7 @@ fn read_all(alloc: Global, schema: &Schema, lines: &[Words]) -> Result<Script, S
 }
 
 /// Reads a script for this schema: the first line says that there is one sequence, then lines join
-/// pipes, and then lines of the sequence follow; 65,536 lines at most in all. Takes time in proportion
+/// pipes and let methods be answered, and then lines of the sequence follow; 65,536 lines at most in all. Takes time in proportion
 /// to the text and the interfaces, times the methods of an interface that a call's word is compared with.
 ///
 /// # Errors

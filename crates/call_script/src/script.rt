@@ -26,13 +26,15 @@ pub enum Command {
     Call(NameId, u32, Prepared, Items<NameId>),
     /// The oldest unread message at an end, and names for what comes with it.
     Take(NameId, Items<NameId>),
+    /// The response of the responder of this name, with these handles and endpoints.
+    Answer(NameId, Prepared, Items<NameId>),
     /// To close what has this name.
     CloseToken(NameId),
     /// To close the endpoint of this id at an end.
     CloseEndpoint(NameId, u32),
 }
 
-/// A line: its number in the text, from 1; the sequence that asks; and what it asks.
+/// A line that asks: its number in the text, from 1; the sequence that asks; and what it asks.
 #[derive(Drop)]
 pub struct Line {
     pub number: u32,
@@ -40,10 +42,18 @@ pub struct Line {
     pub command: Command,
 }
 
-/// A script: how many names its lines set, and the lines behind the first, in order, the joins before
-/// all others.
+/// An automatic reply: the sequence answers every request of a method that it takes with this.
+#[derive(Drop)]
+pub struct AutoReply {
+    pub seq: SeqId,
+    pub prepared: Prepared,
+}
+
+/// A script: how many names its lines set; and what its lines behind the first say, in order: the
+/// automatic replies, and the lines that ask, the joins before all others.
 #[derive(Drop)]
 pub struct Script {
     pub names: usize,
+    pub autos: Items<AutoReply>,
     pub lines: Items<Line>,
 }

@@ -7,11 +7,13 @@ use thiserror::Error;
 pub enum LineRefusal {
     /// It has none of the forms, or a number that is out of its range.
     BadLine,
-    /// It sets a name that is set already.
+    /// It sets a name that is set already, or lets a method be answered that is answered already.
     DoubleName,
-    /// It names an interface or a method that the schema lacks, or a name that no line before it sets.
+    /// It names an interface, a method or a response that the schema lacks, or a name that no line
+    /// before it sets.
     UnknownName,
-    /// Its value is none of the method's parameters, or isn't one that can be sent.
+    /// Its value is none of the method's parameters, or isn't one that can be sent; or an automatic
+    /// reply's is to carry handles or endpoints.
     BadValue,
     /// It is line 65,537.
     TooManyLines,

@@ -2,9 +2,15 @@ pub mod SlotLemmas
 pub mod Holding
 pub mod Handed
 pub mod Steps
+pub mod ResponderLemmas
+pub mod Responding
+pub mod Answering
 pub mod LineDone
 pub mod NoIds
+pub mod Weights
 pub mod Waiting
 pub mod ReadyEnd
 pub mod Parts
 pub mod Draining
+pub mod ReplyDone
+pub mod Opening

@@ -4,7 +4,10 @@ use Rattle.std.specs.Prelude.{Option, slice_get}
 use Rattle.std.proofs.lemmas.List.{append-nil}
 use Rattle.std.proofs.lemmas.Option.{slice_get_past}
 use Rattle.bind_model.specs.declared.event.Event.{Event}
+use Rattle.bind_model.specs.Wire.{Wire}
+use Rattle.call_script.specs.declared.script.AutoReply.{AutoReply}
 use Rattle.call_script.specs.declared.script.Line.{Line}
+use Rattle.script_run.specs.Autos.{due, lines_done}
 use Rattle.script_run.specs.OfScript.{Next, AsksNext, IsPart, next_line}
 
 -- so many events were added, each the next
@@ -35,7 +38,8 @@ module _ (next : List Event → Option Next) (before : List Event) where
   phase_done after n p over = record { own = p.own; whole = p.whole; asks = p.asks; over = over p.own p.whole }
 
 -- the lines are a part by themselves
-pub lines_part : (lines : List Line) (past : List Event) → AsksNext (next_line lines) past → length past ≡ length lines → IsPart (next_line lines) [] past
-lines_part lines past asks count =
-    let none : slice_get lines (length past) ≡ None = slice_get_past lines (length past) (omega (arith, count)) in
-    record { own = past; whole = sym (append-nil past); asks = asks; over = rw none refl }
+pub lines_part : (wire : Wire) (autos : List AutoReply) (lines : List Line) (past : List Event) → AsksNext (next_line wire autos lines) past
+    → due wire autos past ≡ None → lines_done wire autos past ≡ length lines → IsPart (next_line wire autos lines) [] past
+lines_part wire autos lines past asks none count =
+    let over : slice_get lines (lines_done wire autos past) ≡ None = slice_get_past lines (lines_done wire autos past) (omega (arith, count)) in
+    record { own = past; whole = sym (append-nil past); asks = asks; over = rw (none, over) refl }

@@ -29,15 +29,20 @@ eqb-turned m n = go (m == n) (n == m) refl refl
     go false true e h = let t : (m == n) ≡ true = eq-eqb m n (sym (eqb-true n m h)) in cc
 
 -- an item that stands at a number
-there : {A : Type 0} (xs : List A) (n : ℕ) → n < length xs → (x : A) × (slice_get xs n ≡ Some x)
+pub there : {A : Type 0} (xs : List A) (n : ℕ) → n < length xs → (x : A) × (slice_get xs n ≡ Some x)
 there [] n h = absurd (omega arith)
 there (x ∷ xs) zero h = (x, refl)
 there (x ∷ xs) (suc n) h = there xs n (omega arith)
 
-set_own : {A : Type 0} (xs : List A) (n : ℕ) (x : A) → slice_get xs n ≡ Some x → set xs n x ≡ xs
+pub set_own : {A : Type 0} (xs : List A) (n : ℕ) (x : A) → slice_get xs n ≡ Some x → set xs n x ≡ xs
 set_own [] n x e = refl
 set_own (y ∷ xs) zero x e = let same : y ≡ x = cc in rw same refl
 set_own (y ∷ xs) (suc n) x e = ap (λ ys. y ∷ ys) (set_own xs n x e)
+
+pub set_past : {A : Type 0} (xs : List A) (n : ℕ) (x : A) → slice_get xs n ≡ None → set xs n x ≡ xs
+set_past [] n x e = refl
+set_past (y ∷ xs) zero x e = absurd cc
+set_past (y ∷ xs) (suc n) x e = ap (λ ys. y ∷ ys) (set_past xs n x e)
 
 -- ## One slot
 
@@ -227,11 +232,6 @@ all_back (n ∷ names) things slots sound e =
 pub none_taken : (slots : List Slot) (n : NameId) → held_at slots n ≡ None → without_held slots n ≡ slots
 none_taken slots n h = go (slice_get slots n.0) refl h
   where
-    set_past : {A : Type 0} (xs : List A) (k : ℕ) (x : A) → slice_get xs k ≡ None → set xs k x ≡ xs
-    set_past [] k x e = refl
-    set_past (y ∷ xs) zero x e = absurd cc
-    set_past (y ∷ xs) (suc k) x e = ap (λ ys. y ∷ ys) (set_past xs k x e)
-
     go : (o : Option Slot) → slice_get slots n.0 ≡ o → option_and_then (λ (s : Slot). s.held) o ≡ None → without_held slots n ≡ slots
     go None e p = set_past slots n.0 (record { thing = thing_at slots n; held = None }) e
     go (Some s) e p =

@@ -1,3 +1,4 @@
+pub mod Autos
 pub mod Names
 pub mod OfScript
 pub mod steps

@@ -4,6 +4,7 @@ ghost use Rattle.std.specs.Prelude.{◌≡◌, ◌+◌, ◌<◌, ◌≤◌, leng
 ghost use Rattle.call_script.specs.Sound.{sets};
 ghost use Rattle.script_run.specs.OfScript.{as_end};
 ghost use Rattle.script_run.specs.steps.Lines.{needed, things_in};
+ghost use Rattle.script_run.specs.steps.Responders.{responder_in};
 ghost use Rattle.script_run.specs.steps.Slots.{IsSound, empty, thing_at, held_at, without_held, with_held, given, given_one, taken_from, left_where};
 
 use crate::lines::first_needed;
@@ -58,20 +59,10 @@ impl Slot {
     }
 }
 
-/// The handles that are held under names, by the numbers of the names, the others, and the responders.
+/// The handles that are held under names, by the numbers of the names, and the others.
 pub struct Held {
     pub slots: Vec<Slot>,
     pub others: Vec<Handle>,
-    pub responders: Vec<Responder>,
-}
-
-/// Lets all go, once all is over.
-fn retire_all(responders: Vec<Responder>, over: &Ended) {
-    let mut left = responders;
-    while let Some(responder) = left.pop() {
-        responder.retire(over);
-    }
-    left.destroy_empty();
 }
 
 impl Held {
@@ -88,7 +79,6 @@ impl Held {
         Ok(Held {
             slots,
             others: Vec::new(alloc),
-            responders: Vec::new(alloc),
         })
     }
 
@@ -107,7 +97,6 @@ impl Held {
         ensures before { result ≡ held_at self.old.slots.items name }
         ensures after { self.new.slots.items ≡ without_held self.old.slots.items name }
         ensures others { self.new.others ≡ self.old.others }
-        ensures responders { self.new.responders ≡ self.old.responders }
     {
         if name.0 >= self.slots.len() {
             return None;
@@ -115,29 +104,14 @@ impl Held {
         self.slots[name.0].take()
     }
 
-    /// Makes room for so many handles more, and for a responder.
+    /// Makes room for so many handles more.
     pub fn make_room(&mut self, count: usize) -> Result<(), NoMemory>
         ensures same { self.new.slots ≡ self.old.slots }
         ensures room { OnOk result (count + vec_len self.new.others ≤ vec_capacity self.new.others) }
-        ensures responders { OnOk result (vec_len self.new.responders < vec_capacity self.new.responders) }
     {
-        if self.responders.reserve(1).is_err() {
-            return Err(NoMemory);
-        }
         match self.others.reserve(count) {
             Ok(()) => Ok(()),
             Err(_) => Err(NoMemory),
-        }
-    }
-
-    /// Keeps a responder.
-    pub fn keep(&mut self, responder: Option<Responder>)
-        requires { vec_len self.old.responders < vec_capacity self.old.responders }
-        ensures same { (self.new.slots ≡ self.old.slots) × (self.new.others ≡ self.old.others) }
-    {
-        match responder {
-            Some(responder) => self.responders.push_reserved(responder),
-            None => {}
         }
     }
 
@@ -209,6 +183,7 @@ impl Held {
             Asked::Take(_, names) => self.give_new(names.as_slice(), handles),
             Asked::Bind(_, _, _)
             | Asked::Call(_, _, _, _)
+            | Asked::Answer(_, _, _)
             | Asked::CloseToken(_)
             | Asked::CloseEndpoint(_, _) => self.give_new(&[], handles),
         }
@@ -221,7 +196,9 @@ impl Held {
     {
         match line {
             Asked::Bind(name, _, _) | Asked::CloseToken(name) => self.give(&[*name], handles),
-            Asked::Call(_, _, _, names) => self.give(names.as_slice(), handles),
+            Asked::Call(_, _, _, names) | Asked::Answer(_, _, names) => {
+                self.give(names.as_slice(), handles)
+            }
             Asked::Join(_, _, _)
             | Asked::Pipe(_, _)
             | Asked::Mint(_, _)
@@ -230,29 +207,39 @@ impl Held {
         }
     }
 
-    /// Holds the handles of a command that came back under the names that its line took them from.
-    pub fn give_back(&mut self, line: &Asked, back: Command)
-        requires handles { length (things_in back) + vec_len self.old.others ≤ vec_capacity self.old.others }
-        requires responders { vec_len self.old.responders < vec_capacity self.old.responders }
-        ensures { self.new.slots.items ≡ given (needed line.now) (things_in back) self.old.slots.items }
+    /// Holds the handles of a command that came back under the names that its line took them from. Its
+    /// responder, if it has one, is the result.
+    pub fn give_back(&mut self, line: &Asked, back: Command) -> Option<Responder>
+        requires { length (things_in back) + vec_len self.old.others ≤ vec_capacity self.old.others }
+        ensures slots { self.new.slots.items ≡ given (needed line.now) (things_in back) self.old.slots.items }
+        ensures responder { result ≡ responder_in back }
     {
         match back {
-            Command::Bind(handle, _, _) => self.give_one(first_needed(line), handle),
-            Command::Call(_, _, _, handles) => self.give_needed(line, handles),
-            Command::Answer(responder, _, handles) => {
-                self.responders.push_reserved(responder);
+            Command::Bind(handle, _, _) => {
+                self.give_one(first_needed(line), handle);
+                None
+            }
+            Command::Call(_, _, _, handles) => {
                 self.give_needed(line, handles);
+                None
+            }
+            Command::Answer(responder, _, handles) => {
+                self.give_needed(line, handles);
+                Some(responder)
             }
             Command::Close(closed) => match closed {
-                ToClose::Handle(handle) => self.give_one(first_needed(line), handle),
-                ToClose::Responder(responder) => self.responders.push_reserved(responder),
-                ToClose::Endpoint(_, _) => {}
+                ToClose::Handle(handle) => {
+                    self.give_one(first_needed(line), handle);
+                    None
+                }
+                ToClose::Responder(responder) => Some(responder),
+                ToClose::Endpoint(_, _) => None,
             },
             Command::Pipe
             | Command::Join(_)
             | Command::Mint(_)
             | Command::Take(_)
-            | Command::Skip(_) => {}
+            | Command::Skip(_) => None,
         }
     }
 
@@ -281,16 +268,11 @@ impl Held {
 
     /// Lets all go, once all is over.
     pub fn retire(self, over: &Ended) {
-        let Held {
-            mut slots,
-            others,
-            responders,
-        } = self;
+        let Held { mut slots, others } = self;
         while let Some(slot) = slots.pop() {
             slot.retire(over);
         }
         slots.destroy_empty();
         Handles::from_vec(others).retire(over);
-        retire_all(responders, over);
     }
 }

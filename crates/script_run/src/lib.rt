@@ -1,10 +1,12 @@
-//! Runs scripts: the lines in order, and then a take wherever a message is ready.
+//! Runs scripts: the lines in order, and then a take wherever a message is ready, with automatic replies.
 #![tactic(auto)]
 
+mod autos;
 mod drain;
 mod held;
 mod lines;
 mod replies;
+mod responders;
 mod run;
 mod runner;
 

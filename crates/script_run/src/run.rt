@@ -1,23 +1,27 @@
 //! A run, a step at a time.
 
-ghost use Rattle.std.specs.Prelude.{◌≡◌, ◌+◌, ◌*◌, ◌<◌, ◌≤◌, [], length, IfOk, OnOk, vec_len, vec_capacity};
-ghost use Rattle.std.specs.List.{AllByRecursion};
+ghost use Rattle.std.specs.Prelude.{◌≡◌, ◌+◌, ◌<◌, ◌≤◌, [], true, length, Some, IfOk, OnOk, slice_get, vec_len, vec_capacity};
 ghost use Rattle.std.specs.Arc.{arc_value};
-ghost use Rattle.call_script.specs.declared.script.NameId.{NameId as name_id};
+ghost use Rattle.std.specs.Option.{option_copied};
+ghost use Rattle.bind_model.specs.declared.endpoint.ResponderId.{ResponderId as responder_id};
+ghost use Rattle.bind_model.specs.WireOf.{wire_of};
 ghost use Rattle.bind_core.specs.Left.{left};
-ghost use Rattle.bind_core.specs.Plain.{asked_of, told_of, HandsBack, IsOf};
-ghost use Rattle.call_script.specs.Sound.{IsScript, IsLine, sets};
+ghost use Rattle.bind_core.specs.Plain.{asked_of, told_of, HandsBack, HandsResponders, IsOf};
+ghost use Rattle.call_script.specs.Sound.{IsLine, sets};
 ghost use Rattle.script_run.specs.steps.Slots.{IsSound, given};
-ghost use Rattle.script_run.specs.steps.Lines.{needed, things_in};
-ghost use Rattle.script_run.specs.steps.Replies.{comes_with, count_back, settled};
-ghost use Rattle.script_run.specs.steps.Going.{past_in, IsGoing, told_next, Went, HasNames, DidLine, DidLines};
+ghost use Rattle.script_run.specs.steps.Lines.{things_in};
+ghost use Rattle.script_run.specs.steps.Responders.{EndsWith};
+ghost use Rattle.script_run.specs.steps.Replies.{comes_with, count_back, settled, responder_with, responders_settled};
+ghost use Rattle.script_run.specs.steps.Going.{past_in, IsGoing, told_next, Went, IsUnnamed, DidLine};
 
+use crate::autos::due_after;
 use crate::held::Held;
-use crate::lines::{command_of, first_needed};
+use crate::lines::{command_of, responder_needed};
 use crate::replies::{Comes, comes_with, count_of};
+use crate::responders::Responders;
 use crate::runner::NoMemory;
-use bind_core::{Command, Core, History, Refused, Reply, ToClose};
-use call_script::{Command as Asked, Line, SEQUENCES, Script};
+use bind_core::{Command, Core, History, Refused, Reply};
+use call_script::{AutoReply, Command as Asked, Line, NameId, SEQUENCES};
 use handle_table::{Handles, Thing};
 use mj_base::limits::MAX_EVENTS;
 use mj_base::{Items, SeqId};
@@ -25,10 +29,29 @@ use mj_schema::Schema;
 use std::alloc::Global;
 use std::sync::Arc;
 
-/// A run so far: the core, the handles, and what came back for want of memory.
+/// The name of a line behind so many that it sets.
+fn name_behind(line: &Asked, count: usize) -> Option<NameId>
+    ensures { result ≡ slice_get (sets line.now) count }
+{
+    match line {
+        Asked::Join(_, first, second) | Asked::Pipe(first, second) => {
+            [*first, *second].as_slice().get(count).copied()
+        }
+        Asked::Mint(_, name) => [*name].as_slice().get(count).copied(),
+        Asked::Take(_, names) => names.as_slice().get(count).copied(),
+        Asked::Bind(_, _, _)
+        | Asked::Call(_, _, _, _)
+        | Asked::Answer(_, _, _)
+        | Asked::CloseToken(_)
+        | Asked::CloseEndpoint(_, _) => None,
+    }
+}
+
+/// A run so far: the core, the handles, the responders, and what came back for want of memory.
 pub struct Run {
     pub core: Core,
     pub held: Held,
+    pub responders: Responders,
     pub kept: Vec<Handles>,
     pub refused: Vec<Command>,
 }
@@ -37,12 +60,13 @@ impl Run {
     /// A run in which nothing was asked yet.
     pub fn new(alloc: Global, schema: Arc<Schema>, names: usize) -> Result<Run, NoMemory>
         ensures core { IfOk result (λ run. run.core ≡ record { schema = arc_value schema; seqs = SEQUENCES; events = [] }) }
-        ensures names { IfOk result (λ run. HasNames [] names [] run.held.slots.items) }
+        ensures names { IfOk result (IsUnnamed names) }
     {
         let held = Held::new(alloc, names)?;
         Ok(Run {
             core: Core::new(alloc, schema, SEQUENCES),
             held,
+            responders: Responders::new(alloc),
             kept: Vec::new(alloc),
             refused: Vec::new(alloc),
         })
@@ -50,7 +74,7 @@ impl Run {
 
     /// Room to keep what comes back at one step.
     pub fn room(&mut self) -> Result<(), NoMemory>
-        ensures same { (self.new.core ≡ self.old.core) × (self.new.held ≡ self.old.held) }
+        ensures same { (self.new.core ≡ self.old.core) × (self.new.held ≡ self.old.held) × (self.new.responders ≡ self.old.responders) }
         ensures kept { OnOk result (vec_len self.new.kept < vec_capacity self.new.kept) }
         ensures refused { OnOk result (vec_len self.new.refused < vec_capacity self.new.refused) }
     {
@@ -73,12 +97,18 @@ impl Run {
         ensures went { OnOk result (Went self.old.core self.new.core seq (asked_of command)) }
         ensures told { IfOk result (λ reply. told_of reply ≡ told_next self.old.core seq (asked_of command)) }
         ensures back { IfOk result (λ reply. HandsBack command reply) }
+        ensures handed { IfOk result (λ reply. HandsResponders (wire_of self.old.core.schema) command reply) }
         ensures room { OnOk result (length (things_in command) + vec_len self.new.held.others ≤ vec_capacity self.new.held.others) }
-        ensures responders { OnOk result (vec_len self.new.held.responders < vec_capacity self.new.held.responders) }
+        ensures responders { OnOk result (vec_len self.new.responders.others < vec_capacity self.new.responders.others) }
         ensures refused { OnOk result (vec_len self.new.refused < vec_capacity self.new.refused) }
         ensures same { (self.new.held.slots ≡ self.old.held.slots) × (self.new.kept ≡ self.old.kept) }
+        ensures named { self.new.responders.named ≡ self.old.responders.named }
     {
         if self.held.make_room(count_of(&command)).is_err() {
+            self.refused.push_reserved(command);
+            return Err(NoMemory);
+        }
+        if self.responders.make_room().is_err() {
             self.refused.push_reserved(command);
             return Err(NoMemory);
         }
@@ -101,6 +131,7 @@ impl Run {
         requires { vec_len self.old.kept < vec_capacity self.old.kept }
         ensures slots { OnOk result (self.new.held.slots.items ≡ given (sets line.now) handles self.old.held.slots.items) }
         ensures core { self.new.core ≡ self.old.core }
+        ensures responders { self.new.responders ≡ self.old.responders }
     {
         match self.held.name(line, handles) {
             Ok(()) => Ok(()),
@@ -111,53 +142,57 @@ impl Run {
         }
     }
 
-    /// Keeps what comes with a reply, under the names of its line.
-    fn settle(&mut self, line: &Asked, reply: Reply) -> Result<(), NoMemory>
+    /// Keeps what comes with a reply, under the names of its line; a responder that is to be answered by
+    /// itself has none.
+    fn settle(&mut self, line: &Asked, reply: Reply, is_due: bool) -> Result<(), NoMemory>
         requires kept { vec_len self.old.kept < vec_capacity self.old.kept }
         requires room { count_back (comes_with reply) + vec_len self.old.held.others ≤ vec_capacity self.old.held.others }
-        requires responders { vec_len self.old.held.responders < vec_capacity self.old.held.responders }
+        requires responders { vec_len self.old.responders.others < vec_capacity self.old.responders.others }
         ensures slots { OnOk result (self.new.held.slots.items ≡ settled line.now (comes_with reply) self.old.held.slots.items) }
+        ensures named { self.new.responders.named.items
+            ≡ responders_settled line.now is_due (comes_with reply) self.old.responders.named.items }
+        ensures last { (r : responder_id) → is_due ≡ true → responder_with (comes_with reply) ≡ Some r → EndsWith r self.new.responders.others.items }
         ensures core { self.new.core ≡ self.old.core }
     {
         match comes_with(reply) {
             Comes::New(handles, responder) => {
-                self.held.keep(responder);
+                let name = if is_due {
+                    None
+                } else {
+                    name_behind(line, handles.as_slice().len())
+                };
+                self.responders.hold(name, responder);
                 self.name(line, handles)
             }
             Comes::Back(command) => {
-                self.held.give_back(line, command);
+                let responder = self.held.give_back(line, command);
+                self.responders.hold(responder_needed(line), responder);
                 Ok(())
             }
             Comes::Nothing => Ok(()),
         }
     }
 
-    /// Does a line.
-    fn do_line(&mut self, alloc: Global, line: &Line) -> Result<(), NoMemory>
+    /// Does a line: the automatic reply that is due then.
+    pub fn do_line<'s>(
+        &mut self,
+        alloc: Global,
+        autos: &'s [AutoReply],
+        line: &Line,
+    ) -> Result<Option<&'s AutoReply>, NoMemory>
         requires going { IsGoing self.old.core }
         requires line { IsLine self.old.core.schema (length self.old.held.slots.items) line.now }
         requires few { length self.old.core.events < MAX_EVENTS }
         requires sound { IsSound self.old.held.slots.items }
-        ensures { OnOk result (DidLine line.now self.old self.new) }
+        requires names { length self.old.responders.named.items ≡ length self.old.held.slots.items }
+        ensures { IfOk result (λ found. DidLine autos.now line.now (option_copied found) self.old self.new) }
     {
         self.room()?;
-        let command = command_of(&mut self.held, alloc, line)?;
+        let command = command_of(&mut self.held, &mut self.responders, alloc, line)?;
         let reply = self.step(alloc, line.seq, command)?;
-        self.settle(&line.command, reply)
-    }
-
-    /// Does the lines of a script, in order.
-    pub fn do_lines(&mut self, alloc: Global, script: &Script) -> Result<(), NoMemory>
-        requires going { IsGoing self.old.core }
-        requires fresh { past_in self.old.core ≡ [] }
-        requires names { HasNames [] script.now.names [] self.old.held.slots.items }
-        requires script { IsScript self.old.core.schema script.now }
-        ensures { OnOk result (DidLines script.now.lines self.old.core self.new.core) }
-    {
-        for line in script.lines.as_slice() {
-            self.do_line(alloc, line)?;
-        }
-        Ok(())
+        let found = due_after(autos, line.seq, &reply);
+        self.settle(&line.command, reply, found.is_some())?;
+        Ok(found)
     }
 
     /// Ends the run, with what isn't closed: what is still held may be let go.
@@ -168,6 +203,7 @@ impl Run {
         let Run {
             core,
             held,
+            responders,
             mut kept,
             mut refused,
         } = self;
@@ -177,6 +213,7 @@ impl Run {
         };
         let (history, over) = core.end();
         held.retire(&over);
+        responders.retire(&over);
         while let Some(handles) = kept.pop() {
             handles.retire(&over);
         }

@@ -33,14 +33,15 @@ pub struct Ran {
 }
 
 /// Runs a script to its end: the command of each line in order, and then takes until no message is
-/// ready. The history has 131,072 events at most. Takes time in proportion to the script and to what its
-/// commands take.
+/// ready. Directly after a take of a request that an automatic reply is for comes the reply. The history
+/// has 262,144 events at most. Takes time in proportion to the script and to what its commands take, and
+/// for each request that is taken to the automatic replies.
 pub fn run_alone(alloc: Global, schema: Arc<Schema>, script: &Script) -> Result<Ran, NoMemory>
     requires { IsScript (arc_value schema) script.now }
     ensures legal { IfOk result (λ ran. Legal (wire_of (arc_value schema)) SEQUENCES ran.history.events) }
     ensures script { IfOk result (λ ran. OfScript (arc_value schema) script.now ran.history.events) }
     ensures left { IfOk result (λ ran. ran.left ≡ left SEQUENCES (reverse ran.history.events)) }
-    ensures few { IfOk result (λ ran. length ran.history.events ≤ 2 * MAX_SCRIPT_LINES) }
+    ensures few { IfOk result (λ ran. length ran.history.events ≤ 4 * MAX_SCRIPT_LINES) }
 {
     let mut run = Run::new(alloc, schema, script.names)?;
     let played = run.play(alloc, script);

@@ -1,14 +1,16 @@
-//! A script that makes a pipe, binds its ends and calls; the drain takes the call.
+//! A script that makes a pipe, binds its ends and calls; the drain takes the call, which is answered by
+//! itself, and the response.
 
-ghost use Rattle.std.specs.Prelude.{◌≡◌, [], ◌∷◌, codes, None, IfOk, IfSome};
+ghost use Rattle.std.specs.Prelude.{◌≡◌, [], ◌∷◌, codes, Some, IfOk, IfSome};
 ghost use Rattle.mj_schema.specs.Layout.{IsLaidOut};
 ghost use Rattle.mj_schema.specs.declared.schema.Schema.{Schema as schema};
 ghost use Rattle.wire_encoder.specs.Prepared.{HasTarget, IsPrepared};
-ghost use Rattle.call_script.specs.Sound.{IsScript};
+ghost use Rattle.wire_model.specs.declared.target.MessageSide.TheVariants as sides;
+ghost use Rattle.call_script.specs.Sound.{IsScript, IsReply};
 
 use crate::{Ran, run_alone};
 use bind_model::{Asked, Told};
-use call_script::{Command, Line, NameId, Script};
+use call_script::{AutoReply, Command, Line, NameId, Script};
 use handle_table::{Thing, TokenId, TokenSort};
 use mj_base::{EndId, Items, SeqId, Text};
 use mj_schema::{InterfaceRow, MethodRow, Schema, StructRow, VersionRow};
@@ -44,16 +46,16 @@ fn empty_struct(alloc: Global) -> Result<StructRow, AllocError>
     })
 }
 
-/// An interface of a method without parameters.
+/// An interface of a method without parameters, and with a response without any.
 fn one_method(alloc: Global) -> Result<InterfaceRow, AllocError>
     ensures name { IfOk result (λ row. row.name ≡ codes "t.P") }
-    ensures method { IfOk result (λ row. row.methods ≡ record { name = codes "Ping"; ordinal = 0; request = 0; response = None } ∷ []) }
+    ensures method { IfOk result (λ row. row.methods ≡ record { name = codes "Ping"; ordinal = 0; request = 0; response = Some 0 } ∷ []) }
 {
     let method = MethodRow {
         name: Text::from_str(alloc, "Ping")?,
         ordinal: 0,
         request: 0,
-        response: None,
+        response: Some(0),
     };
     Ok(InterfaceRow {
         name: Text::from_str(alloc, "t.P")?,
@@ -61,7 +63,7 @@ fn one_method(alloc: Global) -> Result<InterfaceRow, AllocError>
     })
 }
 
-/// The schema of `module t; interface P { Ping(); };`.
+/// The schema of `module t; interface P { Ping() => (); };`, but for one struct in place of two.
 fn schema_of(alloc: Global) -> Result<Schema, AllocError> {
     Ok(Schema {
         structs: Items::from_vec(vec![in alloc; empty_struct(alloc)?]?),
@@ -73,28 +75,48 @@ fn schema_of(alloc: Global) -> Result<Schema, AllocError> {
     })
 }
 
-/// The request of the first interface's first method.
-fn request_of(schema: &Schema) -> Option<Target>
-    ensures { IfSome result (HasTarget schema.now) }
+/// A message of the first interface's first method.
+fn target_of(schema: &Schema, side: MessageSide) -> Option<Target>
+    ensures there { IfSome result (HasTarget schema.now) }
+    ensures side { IfSome result (λ target. target.side ≡ side) }
 {
-    let _method = schema.method(0, 0)?;
+    let method = schema.method(0, 0)?;
+    let _number = match side {
+        MessageSide::Request => Some(method.request),
+        MessageSide::Response => method.response,
+    }?;
     Some(Target {
         interface: 0,
         method: 0,
-        side: MessageSide::Request,
+        side,
     })
 }
 
-/// A call of `Ping()`.
-fn ping(rt: &impl Abort, alloc: Global, schema: &Schema) -> Prepared
-    ensures { IsPrepared schema.now result }
+/// What a message of it sends.
+fn message(rt: &impl Abort, alloc: Global, schema: &Schema, side: MessageSide) -> Prepared
+    ensures prepared { IsPrepared schema.now result }
+    ensures side { result.target.side ≡ side }
 {
-    let Some(target) = request_of(schema) else {
+    let Some(target) = target_of(schema, side) else {
         panic!(rt; "no method")
     };
     match prepare(alloc, schema, target, Value::Struct(Vec::new(alloc))) {
         Ok(prepared) => prepared,
         Err(_error) => panic!(rt; "not prepared"),
+    }
+}
+
+/// Its automatic reply.
+fn reply(rt: &impl Abort, alloc: Global, schema: &Schema) -> AutoReply
+    ensures { IsReply schema.now result }
+{
+    let prepared = message(rt, alloc, schema, MessageSide::Response);
+    if prepared.handles > 0 || !prepared.endpoints.is_empty() {
+        panic!(rt; "carries something")
+    }
+    AutoReply {
+        seq: SeqId(0),
+        prepared,
     }
 }
 
@@ -110,8 +132,8 @@ fn line(number: u32, command: Command) -> Line
 }
 
 /// A pipe whose ends are bound, a call, a token, and a closing of what is held no more.
-fn script_of(alloc: Global, call: Prepared) -> Result<Script, AllocError>
-    ensures { IfOk result (λ script. (of : schema) → IsPrepared of call → IsScript of script) }
+fn script_of(alloc: Global, call: Prepared, reply: AutoReply) -> Result<Script, AllocError>
+    ensures { IfOk result (λ script. (of : schema) → IsPrepared of call → IsReply of reply → IsScript of script) }
 {
     let none = Items::new(alloc);
     let lines = vec![in alloc;
@@ -124,6 +146,7 @@ fn script_of(alloc: Global, call: Prepared) -> Result<Script, AllocError>
     ]?;
     Ok(Script {
         names: 3,
+        autos: Items::from_vec(vec![in alloc; reply]?),
         lines: Items::from_vec(lines),
     })
 }
@@ -132,7 +155,8 @@ fn script_of(alloc: Global, call: Prepared) -> Result<Script, AllocError>
 fn a_script_is_run_to_its_end(rt: HostRuntime) -> Result<(), Fail> {
     let alloc = rt.alloc();
     let schema = Arc::new(alloc, schema_of(alloc)?)?;
-    let script = script_of(alloc, ping(&rt, alloc, &schema))?;
+    let call = message(&rt, alloc, &schema, MessageSide::Request);
+    let script = script_of(alloc, call, reply(&rt, alloc, &schema))?;
     let Ran { history, left } = run_alone(alloc, schema, &script)?;
     let first = EndId { seq: 0, serial: 0 };
     let second = EndId { seq: 0, serial: 1 };
@@ -140,10 +164,14 @@ fn a_script_is_run_to_its_end(rt: HostRuntime) -> Result<(), Fail> {
     let things = [Thing::End(first), Thing::End(second), Thing::Token(token)];
     assert_eq!(rt; left.as_slice(), things.as_slice());
     let events = history.as_slice();
-    assert_eq!(rt; events.len(), 7);
-    assert!(rt; matches!(&events[3].told, Told::Sent(0, _)));
+    assert_eq!(rt; events.len(), 9);
+    assert!(rt; matches!(&events[3].told, Told::Sent(1, _)));
     assert!(rt; matches!(&events[5].asked, Asked::Skip(7)));
     assert!(rt; matches!(&events[6].asked, Asked::Take(end) if *end == second));
-    assert!(rt; matches!(&events[6].told, Told::Taken(got) if got.id == 0));
+    assert!(rt; matches!(&events[6].told, Told::Taken(got) if got.request == 1));
+    assert!(rt; matches!(&events[7].asked, Asked::Answer(responder, _) if responder.end == second));
+    assert!(rt; matches!(&events[7].told, Told::Sent(1, _)));
+    assert!(rt; matches!(&events[8].asked, Asked::Take(end) if *end == first));
+    assert!(rt; matches!(&events[8].told, Told::Taken(got) if got.request == 1));
     Ok(())
 }

@@ -1,33 +1,35 @@
 //! Scripts that are read, and scripts with the line that is refused first.
 
-use call_script::{ScriptError, read_script};
+use call_script::{Script, ScriptError, read_script};
 use mj_base::{Items, Text};
 use mj_schema::Schema;
 use mojom_compile::{Source, compile};
 use std::alloc::{AllocError, Global};
 use std::test::Fail;
 
-/// Two interfaces, one that takes numbers and a string, and one that takes a handle.
+/// Three interfaces: one that takes numbers and a string, one that takes a handle, and one whose
+/// responses carry handles and endpoints.
 const FILE: &str = "module t;
     interface A { Add(int32 a, string s) => (int32 sum); };
-    interface G { Give(handle h); };";
+    interface G { Give(handle h); };
+    interface R { Get(bool b) => (handle? h); Ask() => (pending_associated_remote<A>? r); };";
 
 /// What stands before the lines below.
 const HEAD: &str = "seqs 1\njoin 0 0 x y\n";
 
 /// What stands behind that head, and what is answered.
-const ROWS: [(&str, &str); 24] = [
-    ("", "1"),
-    ("0: bind x remote t.A\n0: bind y receiver t.A", "3"),
+const ROWS: [(&str, &str); 46] = [
+    ("", "1 0"),
+    ("0: bind x remote t.A\n0: bind y receiver t.A", "3 0"),
     (
         "0: pipe a b\n0: mint platform m\n0: mint shared_buffer n\n0: close m\n0: close x#7\n",
-        "6",
+        "6 0",
     ),
     (
         "0: call x#0 t.A.Add (1,\"a b\\\" c\")\n0: take y p q\n0: take y\n",
-        "4",
+        "4 0",
     ),
-    ("0: pipe a b\n0: call x#0 t.G.Give (%0) a b\n", "3"),
+    ("0: pipe a b\n0: call x#0 t.G.Give (%0) a b\n", "3 0"),
     ("join 0 0 a b\n0: close a\njoin 0 0 c d\n", "5 BadLine"),
     ("join 0 1 a b\n", "3 BadLine"),
     ("0: close  x\n", "3 BadLine"),
@@ -47,6 +49,37 @@ const ROWS: [(&str, &str); 24] = [
     ("0: call x#0 t.A.Sub (1)\n0: close z\n", "3 UnknownName"),
     ("0: call x#0 t.A.Add (1)\n0: close z\n", "3 BadValue"),
     ("0: call x#0 t.G.Give (%1) x\n", "3 BadValue"),
+    (
+        "auto 0 t.A.Add (7)\nauto 0 t.R.Get (null)\njoin 0 0 a b\n",
+        "2 2",
+    ),
+    ("0: take y r\n0: answer r t.A.Add (-7)\n0: close r\n", "4 0"),
+    (
+        "0: pipe a b\n0: answer x t.R.Get (%0) a\n0: answer a t.R.Get (%0)\n",
+        "4 0",
+    ),
+    ("auto 1 t.A.Add (7)\n", "3 BadLine"),
+    ("auto 0 Add (7)\n", "3 BadLine"),
+    ("auto 0 t.A.Add\n", "3 BadLine"),
+    ("auto 0 t.A.Add (7) x\n", "3 BadLine"),
+    ("auto 0 t.A.Add \n", "3 BadLine"),
+    ("0: close x\nauto 0 t.A.Add (7)\n", "4 BadLine"),
+    ("0: answer x#0 t.A.Add (7)\n", "3 BadLine"),
+    ("0: answer x t.A.Add\n", "3 BadLine"),
+    (
+        "auto 0 t.A.Add (7)\nauto 0 t.R.Get (null)\nauto 0 t.A.Add ()\n",
+        "5 DoubleName",
+    ),
+    ("auto 0 t.A.Add (7)\nauto 0 t.A.Sub (7)\n", "4 UnknownName"),
+    ("auto 0 t.G.Give ()\n", "3 UnknownName"),
+    ("0: answer x t.G.Give ()\n", "3 UnknownName"),
+    ("0: answer r t.A.Add (7)\n", "3 UnknownName"),
+    ("0: answer x t.A.Add (7) z\n", "3 UnknownName"),
+    ("0: answer x t.A.Add (1,\"a\")\n", "3 BadValue"),
+    ("auto 0 t.A.Add (1,\"a\")\n", "3 BadValue"),
+    ("auto 0 t.R.Get (%1)\n", "3 BadValue"),
+    ("auto 0 t.R.Get (%0)\n", "3 BadValue"),
+    ("auto 0 t.R.Ask (^0@0)\n", "3 BadValue"),
 ];
 
 /// The schema of the interfaces.
@@ -61,10 +94,10 @@ fn schema_of(alloc: Global) -> Result<Schema, Fail> {
     }
 }
 
-/// How many lines of the script stand behind the first, or its first refusal.
+/// How many lines of the script ask and how many are automatic replies, or its first refusal.
 fn answer(alloc: Global, schema: &Schema, text: &str) -> Result<String, AllocError> {
     match read_script(alloc, schema, text.as_bytes()) {
-        Ok(script) => format!(in alloc; "{}", script.lines.len()),
+        Ok(script) => format!(in alloc; "{} {}", script.lines.len(), script.autos.len()),
         Err(ScriptError::Refused { line, why }) => format!(in alloc; "{line} {why:?}"),
         Err(ScriptError::Memory) => String::from_str(alloc, "memory"),
     }
@@ -79,6 +112,29 @@ fn each_script_is_read_or_refused_in_its_first_bad_line(rt: HostRuntime) -> Resu
         text.push_str(lines)?;
         let told = answer(alloc, &schema, text.as_str())?;
         assert_eq!(rt; told.as_str(), wanted);
+    }
+    Ok(())
+}
+
+/// The numbers of a script's lines that ask, and how many automatic replies it has.
+fn lines_of(alloc: Global, script: &Script) -> Result<String, AllocError> {
+    let mut text = String::new(alloc);
+    for line in script.lines.as_slice() {
+        text.push_str(format!(in alloc; "{} ", line.number)?.as_str())?;
+    }
+    text.push_str(format!(in alloc; "and {}", script.autos.len())?.as_str())?;
+    Ok(text)
+}
+
+#[test]
+fn automatic_replies_stand_apart_and_count_as_lines(rt: HostRuntime) -> Result<(), Fail> {
+    let alloc = rt.alloc();
+    let schema = schema_of(alloc)?;
+    let text =
+        "seqs 1\nauto 0 t.A.Add (7)\njoin 0 0 x y\nauto 0 t.R.Get (null)\n0: take y r\n0: close r\n";
+    match read_script(alloc, &schema, text.as_bytes()) {
+        Ok(script) => assert_eq!(rt; lines_of(alloc, &script)?.as_str(), "3 5 6 and 2"),
+        Err(_) => return Err(Fail::new("no script")),
     }
     Ok(())
 }

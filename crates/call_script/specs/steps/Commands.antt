@@ -7,12 +7,16 @@ use Rattle.wire_encoder.specs.declared.prepared.Prepared.{Prepared}
 use Rattle.wire_encoder.specs.declared.refusal.PrepareError.{PrepareError}
 use Rattle.call_script.specs.declared.name_table.NameTable.{NameTable}
 use Rattle.call_script.specs.declared.script.NameId.{NameId}
+use Rattle.call_script.specs.declared.script.AutoReply.{AutoReply}
 use Rattle.call_script.specs.declared.script.Command.{Command}
 use Rattle.call_script.specs.declared.script_error.LineRefusal.TheVariants as refusals
 use Rattle.call_script.specs.declared.commands.Stop.{Stop}
 use Rattle.call_script.specs.declared.commands.Stop.TheVariants as stops
+use Rattle.call_script.specs.declared.additions.Part.{Part as WrittenPart}
+use Rattle.call_script.specs.declared.additions.Part.TheVariants as parts
 use Rattle.call_script.specs.Forms.{Said, Form, Of, sets}
-use Rattle.call_script.specs.Script.{knows, has_name, Asks, AreNamed, HasNoValue, IsReason, IsValueOf, IsNoValue}
+use Rattle.call_script.specs.Script.{finds, knows, has_name, Asks, AreNamed, HasNoValue, IsReason, IsValueOf, IsNoValue, IsReply, Part, OfLine, OfReply}
+use Rattle.call_script.specs.Script.{seq_of}
 use Rattle.call_script.specs.steps.Names.{IsTable}
 
 -- what a line asks where these names are set before it, or why it is refused
@@ -30,6 +34,23 @@ Commands schema table count form result = (names : List (List ℕ)) → IsTable 
 -- of what is said to any sequence
 abbrev pub Says : Schema → NameTable → ℕ → Said → Result Command Stop → Type 0
 Says schema table count said result = (seq : ℕ) → Commands schema table count (Of seq said) result
+
+-- the automatic reply of a line, or why it is refused
+abbrev pub Replies : Schema → Form → Result AutoReply Stop → Type 0
+Replies schema form (Ok reply) = (finds schema form ≡ true) × IsReply schema form reply
+Replies schema form (Err stop) = (names : List (List ℕ)) → Gives schema names form (Err stop)
+
+-- what the line of a number adds, or why it is refused
+abbrev pub Parts : Schema → NameTable → ℕ → ℕ → Form → Result WrittenPart Stop → Type 0
+Parts schema table count number form (Ok (parts.Line line)) =
+    (line.number ≡ number) × (line.seq.0 ≡ seq_of form) × Commands schema table count form (Ok line.command)
+Parts schema table count number form (Ok (parts.Reply reply)) = Replies schema form (Ok reply)
+Parts schema table count number form (Err stop) = Commands schema table count form (Err stop)
+
+-- parts without where their values lie
+abbrev pub part_view : WrittenPart → Part
+part_view (parts.Line line) = OfLine line
+part_view (parts.Reply reply) = OfReply reply
 
 -- the numbers of all these names, or none where one isn't there
 abbrev pub AreFound : List (List ℕ) → List (List ℕ) → List (List ℕ) → Option (List NameId) → Type 0

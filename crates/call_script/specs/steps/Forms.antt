@@ -7,8 +7,8 @@ use Rattle.call_script.specs.declared.form.Form.TheVariants as forms
 use Rattle.call_script.specs.declared.form.Said.{Said as WrittenSaid}
 use Rattle.call_script.specs.declared.form.Said.TheVariants as saids
 use Rattle.call_script.specs.declared.script.TheConstants.{SEQUENCES}
-use Rattle.call_script.specs.Forms.{Said, Form, Join, Of, Pipe, Mint, Bind, Call, Take, CloseToken, CloseEndpoint, IsSaid, IsForm, said_words, form_words}
-use Rattle.call_script.specs.Forms.{sort_word, side_word}
+use Rattle.call_script.specs.Forms.{Said, Form, Join, Auto, Of, Pipe, Mint, Bind, Call, Take, Answer, CloseToken, CloseEndpoint, IsSaid, IsForm}
+use Rattle.call_script.specs.Forms.{said_words, form_words, sort_word, side_word}
 
 -- forms without where their words lie
 abbrev pub said_view : WrittenSaid → Said
@@ -17,11 +17,13 @@ said_view (saids.Mint sort name) = Mint sort name.now
 said_view (saids.Bind end side interface) = Bind end.now side interface.now
 said_view (saids.Call end id method value tokens) = Call end.now id method.now value.now (map (λ word. word.now) tokens.now)
 said_view (saids.Take end names) = Take end.now (map (λ word. word.now) names.now)
+said_view (saids.Answer responder method value tokens) = Answer responder.now method.now value.now (map (λ word. word.now) tokens.now)
 said_view (saids.CloseToken token) = CloseToken token.now
 said_view (saids.CloseEndpoint end id) = CloseEndpoint end.now id
 
 abbrev pub form_view : WrittenForm → Form
 form_view (forms.Join seq other first second) = Join seq other first.now second.now
+form_view (forms.Auto seq method value) = Auto seq method.now value.now
 form_view (forms.Of seq said) = Of seq (said_view said)
 
 -- the number of a sequence that is there, in this spelling

@@ -6,26 +6,35 @@ use Rattle.mj_schema.specs.declared.schema.Schema.{Schema}
 use Rattle.call_script.specs.declared.commands.Stop.{Stop}
 use Rattle.call_script.specs.declared.commands.Stop.TheVariants as stops
 use Rattle.call_script.specs.declared.reading.Reader.{Reader}
-use Rattle.call_script.specs.declared.script.Line.{Line}
 use Rattle.call_script.specs.declared.script.Script.{Script}
 use Rattle.call_script.specs.declared.script_error.ScriptError.{ScriptError}
 use Rattle.call_script.specs.declared.script_error.ScriptError.TheVariants as errors
 use Rattle.call_script.specs.Forms.{Form, form_words, header_words, is_setup}
-use Rattle.call_script.specs.Script.{is_placed, names_set, line_number, AreTaken, IsRefused, AreScript, AreRefused, IsRefusedBehind}
+use Rattle.call_script.specs.Script.{is_placed, names_set, methods_answered, line_number, Part, OfLine, OfReply, lines_in, replies_in, AreTaken, IsRefused}
+use Rattle.call_script.specs.Script.{AreScript, AreRefused, IsRefusedBehind}
 use Rattle.call_script.specs.steps.Names.{IsTable}
 
 -- what has been read: the forms so far, the newest first
 pub record HasRead (schema : Schema) (reader : Reader) (past : List Form) : Type 0 where
-  pub taken : AreTaken schema past (reverse reader.lines.items)
+  pub parts : List Part
+  pub taken : AreTaken schema past parts
+  pub autos : reader.autos.items ≡ replies_in (reverse parts)
+  pub lines : reader.lines.items ≡ lines_in (reverse parts)
   pub table : IsTable reader.names (names_set past)
+  pub methods : IsTable reader.methods (methods_answered past)
   pub setup : list_all is_setup past ≡ not reader.started
 
--- a line is added, and noted as one of a sequence or of the setup
-abbrev pub Pushes : Reader → Reader → Line → Bool → Result (Unit {0}) Stop → Type 0
-Pushes old new line started (Ok done) =
-    (new.names ≡ old.names) × (new.lines.items ≡ old.lines.items ++ line ∷ []) × (new.started ≡ started)
-Pushes old new line started (Err (stops.Refused why)) = ⊥
-Pushes old new line started (Err stops.Memory) = Unit {0}
+-- a part is added to its list
+abbrev pub Holds : Reader → Reader → Part → Type 0
+Holds old new (OfLine line) = (new.autos.items ≡ old.autos.items) × (new.lines.items ≡ old.lines.items ++ line ∷ [])
+Holds old new (OfReply reply) = (new.autos.items ≡ old.autos.items ++ reply ∷ []) × (new.lines.items ≡ old.lines.items)
+
+-- the same, and noted as one of a sequence or of the setup
+abbrev pub Pushes : Reader → Reader → Part → Bool → Result (Unit {0}) Stop → Type 0
+Pushes old new part started (Ok done) =
+    (new.names ≡ old.names) × (new.methods ≡ old.methods) × Holds old new part × (new.started ≡ started)
+Pushes old new part started (Err (stops.Refused why)) = ⊥
+Pushes old new part started (Err stops.Memory) = Unit {0}
 
 -- a line more has been read, of these words
 abbrev pub ReadsOn : Schema → Reader → Reader → List (List ℕ) → ℕ → Result (Unit {0}) Stop → Type 0

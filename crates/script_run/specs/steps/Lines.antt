@@ -8,13 +8,14 @@ use Rattle.wire_encoder.specs.declared.prepared.Prepared.{Prepared}
 use Rattle.bind_model.specs.declared.asked.Asked.{Asked}
 use Rattle.bind_model.specs.declared.asked.Asked.TheVariants as asks
 use Rattle.bind_model.specs.declared.asked.Closing.TheVariants as closings
+use Rattle.bind_model.specs.declared.endpoint.ResponderId.{ResponderId}
 use Rattle.bind_core.specs.declared.commands.Command as core
 use Rattle.bind_core.specs.declared.commands.Command.TheVariants as commands
 use Rattle.bind_core.specs.declared.commands.ToClose.TheVariants as close
 use Rattle.call_script.specs.declared.script.NameId.{NameId}
 use Rattle.call_script.specs.declared.script.Command.{Command}
-use Rattle.call_script.specs.declared.script.Command.TheVariants.{Bind, Call, CloseToken}
-use Rattle.script_run.specs.OfScript.{or_skip, outgoing}
+use Rattle.call_script.specs.declared.script.Command.TheVariants.{Bind, Call, Answer, CloseToken}
+use Rattle.script_run.specs.OfScript.{or_skip, closed_of, outgoing}
 use Rattle.script_run.specs.declared.held.Slot.{Slot}
 use Rattle.script_run.specs.steps.Slots.{taken_from, left_by}
 
@@ -22,8 +23,8 @@ use Rattle.script_run.specs.steps.Slots.{taken_from, left_by}
 abbrev pub bound : ℕ → EndpointSide → ℕ → Option Thing → Asked
 bound number side interface thing = or_skip number (option_map (λ (x : Thing). asks.Bind x side interface) thing)
 
-abbrev pub shut : ℕ → Option Thing → Asked
-shut number thing = or_skip number (option_map (λ (x : Thing). asks.Close (closings.Handle x)) thing)
+abbrev pub shut : ℕ → Option Thing → Option ResponderId → Asked
+shut number thing responder = or_skip number (closed_of thing responder)
 
 abbrev pub taken : ℕ → Option EndId → Asked
 taken number end = or_skip number (option_map asks.Take end)
@@ -35,10 +36,15 @@ abbrev pub called : ℕ → Option EndId → ℕ → Prepared → Option (List T
 called number end id prepared things =
     or_skip number (option_and_then (λ (y : EndId). option_map (λ (xs : List Thing). asks.Call y id (outgoing prepared xs)) things) end)
 
+abbrev pub answered : ℕ → Option ResponderId → Prepared → Option (List Thing) → Asked
+answered number responder prepared things =
+    or_skip number (option_and_then (λ (r : ResponderId). option_map (λ (xs : List Thing). asks.Answer r (outgoing prepared xs)) things) responder)
+
 -- the names whose handles a command needs
 abbrev pub needed : Command → List NameId
 needed (Bind name side interface) = name ∷ []
 needed (Call end id prepared names) = names
+needed (Answer responder prepared names) = names
 needed (CloseToken name) = name ∷ []
 needed command = []
 

@@ -1,13 +1,18 @@
 -- What comes back with replies, and what slots are once it is held again.
-use Rattle.std.specs.Prelude.{ℕ, List, length, None}
+use Rattle.std.specs.Prelude.{ℕ, Bool, List, length, Option, None, slice_get, if◌then◌else◌}
+use Rattle.handle_table.specs.declared.thing.Thing.{Thing}
+use Rattle.bind_model.specs.declared.endpoint.ResponderId.{ResponderId}
 use Rattle.bind_core.specs.declared.commands.Reply.{Reply}
 use Rattle.bind_core.specs.declared.commands.Reply.TheVariants.{Made, Got, No}
 use Rattle.call_script.specs.declared.script.Command.{Command}
+use Rattle.call_script.specs.declared.script.NameId.{NameId}
 use Rattle.call_script.specs.Sound.{sets}
+use Rattle.script_run.specs.Names.{responder_needed}
 use Rattle.script_run.specs.declared.held.Slot.{Slot}
 use Rattle.script_run.specs.declared.replies.Comes.{Comes}
 use Rattle.script_run.specs.declared.replies.Comes.TheVariants.{New, Back, Nothing}
 use Rattle.script_run.specs.steps.Lines.{needed, things_in}
+use Rattle.script_run.specs.steps.Responders.{Rights, held_under, responder_in}
 use Rattle.script_run.specs.steps.Slots.{given}
 
 -- handles that are handed out, and maybe a responder, a refused command, or nothing
@@ -27,3 +32,18 @@ abbrev pub settled : Command → Comes → List Slot → List Slot
 settled line (New handles responder) slots = given (sets line) handles slots
 settled line (Back command) slots = given (needed line) (things_in command) slots
 settled line Nothing slots = slots
+
+-- the responder that comes with it
+abbrev pub responder_with : Comes → Option ResponderId
+responder_with (New handles responder) = responder
+responder_with comes = None
+
+-- the name for it, where it isn't answered at once
+abbrev pub place_for : Bool → List NameId → List Thing → Option NameId
+place_for is_due names handles = if is_due then None else slice_get names (length handles)
+
+-- the responders that are held under names then
+abbrev pub responders_settled : Command → Bool → Comes → Rights → Rights
+responders_settled line is_due (New handles responder) named = held_under (place_for is_due (sets line) handles) responder named
+responders_settled line is_due (Back command) named = held_under (responder_needed line) (responder_in command) named
+responders_settled line is_due Nothing named = named

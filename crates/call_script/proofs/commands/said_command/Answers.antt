@@ -18,6 +18,11 @@ returns-in-Take c =
     subst (λ said. Says c.args.indexed.now.schema.now c.args.table.now c.args.count (said_view said) c.take_command.result)
     (sym c.in-Take.is) c.take_command.ensures
 
+pub returns-in-Answer : goal.returns-in-Answer
+returns-in-Answer c =
+    subst (λ said. Says c.args.indexed.now.schema.now c.args.table.now c.args.count (said_view said) c.answer_command.result)
+    (sym c.in-Answer.is) c.answer_command.ensures
+
 pub returns-in-CloseToken : goal.returns-in-CloseToken
 returns-in-CloseToken c =
     subst (λ said. Says c.args.indexed.now.schema.now c.args.table.now c.args.count (said_view said) c.close_command.result)

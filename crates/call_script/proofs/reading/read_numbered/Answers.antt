@@ -7,7 +7,15 @@ use Rattle.call_script.proofs.reading.read_numbered.Goals as goal
 pub loop-line-init : goal.loop-line-init
 loop-line-init c = record {
   past = [];
-  read = record { taken = rw c.new.ensures.items tt; table = c.no_names.ensures; setup = refl };
+  read = record {
+    parts = [];
+    taken = tt;
+    autos = c.new.ensures.items;
+    lines = c.new-2.ensures.items;
+    table = c.no_names.ensures;
+    methods = c.no_names-2.ensures;
+    setup = refl;
+  };
   words = refl;
   next = refl;
   few = lit≤ tt;
@@ -33,4 +41,4 @@ pub returns : goal.returns
 returns c =
     ends c.args.indexed.now.schema.now c.loop-line.reader _ c.loop-line.number _
     (rw (lines_all c.args.lines.now c.loop-line.line-index c.loop-line-test.false) at c.loop-line.invariant)
-    c.from_vec.ensures c.len.ensures.len
+    c.from_vec.ensures c.from_vec-2.ensures c.len.ensures.len

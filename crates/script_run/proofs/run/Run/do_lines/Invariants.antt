@@ -1,14 +1,13 @@
-use Rattle.std.proofs.Common.{◌≡◌, length}
-use Rattle.script_run.specs.OfScript.{AsksNext, next_line}
-use Rattle.script_run.specs.steps.Going.{past_in, IsGoing, HasNames}
+use Rattle.std.proofs.Common.{◌≡◌, ◌≤◌, ◌*◌}
+use Rattle.script_run.specs.Autos.{lines_done}
+use Rattle.script_run.specs.steps.Going.{past_in, wire_in, todo, IsBetween}
 use Rattle.script_run.proofs.run.Run.do_lines.Given as goal
 
--- an event for each line so far
+-- so many lines are done
 abbrev pub invariant-loop-line : goal.invariant-loop-line
 invariant-loop-line l = record {
-  going : IsGoing l.self.core;
+  between : IsBetween l.script.autos l.script.lines l.script.names l.self;
   schema : l.self.core.schema ≡ l.fn.self.core.schema;
-  names : HasNames l.script.lines l.script.names (past_in l.self.core) l.self.held.slots.items;
-  asks : AsksNext (next_line l.script.lines) (past_in l.self.core);
-  count : length (past_in l.self.core) ≡ l.line-index;
+  count : lines_done (wire_in l.self.core) l.script.autos (past_in l.self.core) ≡ l.line-index;
+  few : todo l.self.core ≤ 4 * l.line-index;
 }
