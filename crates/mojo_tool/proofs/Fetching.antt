@@ -16,7 +16,7 @@ use Rattle.mojom_files.specs.declared.cause.Cause.{Cause}
 use Rattle.mojom_files.specs.declared.refusal.Refusal.{Refusal}
 use Rattle.mojom_compile.specs.Schemas.{IsSchemaOfFiles, IsRefusalOf, IsWhy}
 use Rattle.schema_text.specs.Listing.{listing}
-use Rattle.mojo_tool.specs.Work.{Work, Missing, TooLong, Refuses, Rejects, Checks, FetchingAll, Leads, Tabling, GatheringWith, Gathering, Listing, Checking, AskedFor}
+use Rattle.mojo_tool.specs.Work.{Work, Missing, TooLong, Refuses, Rejects, Checks, FetchingAll, Leads, Tabling, Gathering, Listing, Checking, AskedFor}
 use Rattle.mojo_tool.specs.Work.{AreFetched, IsAmong, name_at, unchecked}
 use Rattle.mojo_tool.specs.Answers.{ReadFailed, refused_work, refused_name, IsCheckText}
 use Rattle.mojo_tool.specs.steps.Stops.{Stops, IsOf, HasBytes, IsLonger, IsLost, NotFetched}
@@ -277,13 +277,13 @@ asked_of_all (Some files) names sources next work are asked =
     (leads_all files names [] [] sources (next files) work are asked)
 
 -- what tables lead on to
-abbrev tabled : (List Named → List Source → Schema → Work → Type 0) → List Named → List Source → Work → Type 0
-tabled next files sources w = Tabling (next files sources) sources w
+abbrev tabled : (List Named → Schema → Work → Type 0) → List Named → List Source → Work → Type 0
+tabled next files sources w = Tabling (next files) sources w
 
-refused_so : (held : Option (List Named)) (names : List (List ℕ)) (sources : List Source) (next : List Named → List Source → Schema → Work → Type 0)
+refused_so : (held : Option (List Named)) (names : List (List ℕ)) (sources : List Source) (next : List Named → Schema → Work → Type 0)
     (error : SchemaError) (work : Work) → AreBytes held names sources → IsRefusalOf sources error
     → ((files : List Named) → AreFetched files names sources → work ≡ unchecked sources error)
-    → AskedFor held (λ files w. GatheringWith files names (next files) w) work
+    → AskedFor held (λ files w. Gathering files names (next files) w) work
 refused_so None names sources next error work are is e = tt
 refused_so (Some files) names sources next error work are is e =
     asked_of_all (Some files) names sources (tabled next) work are (inr (error, is, e files are))
@@ -294,9 +294,9 @@ is_refusal sources error other (inl memory) = absurd (other memory)
 is_refusal sources error other (inr is) = is
 
 -- where they have no schema there is no text
-not_tabled_stops : (before now : FilesState) (names : List (List ℕ)) (sources : List Source) (next : List Named → List Source → Schema → Work → Type 0)
+not_tabled_stops : (before now : FilesState) (names : List (List ℕ)) (sources : List Source) (next : List Named → Schema → Work → Type 0)
     (error : SchemaError) (stop : Stop) → AreBytes before.held names sources → IsWhy sources error → NotTabled names error stop
-    → Stops before now (λ files w. GatheringWith files names (next files) w) stop
+    → Stops before now (λ files w. Gathering files names (next files) w) stop
 not_tabled_stops before now names sources next (errors.Unread file why) (Refused refusal) are is not =
     refused_so before.held names sources next (errors.Unread file why) (refused_work refusal) are
     (is_refusal sources (errors.Unread file why) (λ e. cc) is)
@@ -319,14 +319,10 @@ not_tabled_reached names error (ReadFault name) not = absurd not
 not_tabled_reached names error NoMemory not = tt
 
 -- where there is no schema there is no text
-pub no_schema_stops_with : (before now : FilesState) (names : List (List ℕ)) (next : List Named → List Source → Schema → Work → Type 0) (stop : Stop)
-    → NoSchema before now names stop → Stops before now (λ files w. GatheringWith files names (next files) w) stop
-no_schema_stops_with before now names next stop (inl why) = not_all_stops before now names (tabled next) stop why
-no_schema_stops_with before now names next stop (inr why) = not_tabled_stops before now names why.sources next why.error stop why.are why.why why.not
-
 pub no_schema_stops : (before now : FilesState) (names : List (List ℕ)) (next : List Named → Schema → Work → Type 0) (stop : Stop)
     → NoSchema before now names stop → Stops before now (λ files w. Gathering files names (next files) w) stop
-no_schema_stops before now names next stop why = no_schema_stops_with before now names (λ files sources. next files) stop why
+no_schema_stops before now names next stop (inl why) = not_all_stops before now names (tabled next) stop why
+no_schema_stops before now names next stop (inr why) = not_tabled_stops before now names why.sources next why.error stop why.are why.why why.not
 
 -- and the name is one of these
 pub no_schema_reached : (before now : FilesState) (names : List (List ℕ)) (stop : Stop) → NoSchema before now names stop → IsOf (IsAmong names) stop
@@ -346,8 +342,8 @@ have_schema (Some files) names sources schema are is = record { sources = source
 
 -- their schema leads on
 pub tables_lead : (files : List Named) (names : List (List ℕ)) (sources : List Source) (schema : Schema)
-    (next : List Named → List Source → Schema → Work → Type 0) (work : Work) → AreFetched files names sources → IsSchemaOfFiles sources schema
-    → next files sources schema work → GatheringWith files names (next files) work
+    (next : List Named → Schema → Work → Type 0) (work : Work) → AreFetched files names sources → IsSchemaOfFiles sources schema
+    → next files schema work → Gathering files names (next files) work
 tables_lead files names sources schema next work are is asked =
     asked_of_all (Some files) names sources (tabled next) work are (inl (schema, is, asked))
 
@@ -356,7 +352,7 @@ pub schema_leads : (held : Option (List Named)) (names : List (List ℕ)) (schem
     → Passes held (λ files w. next files schema w) (λ files w. Gathering files names (next files) w)
 schema_leads None names schema next have = tt
 schema_leads (Some files) names schema next have =
-    λ work asked. tables_lead files names have.sources schema (λ files sources. next files) work have.are have.schema_of asked
+    λ work asked. tables_lead files names have.sources schema next work have.are have.schema_of asked
 
 -- the text of the tables
 pub tables_text : (held : Option (List Named)) (names : List (List ℕ)) (schema : Schema) (text : List ℕ) → HaveSchemaOver held names schema

@@ -25,13 +25,11 @@ use Rattle.wire_encoder.specs.Prepared.{verdict}
 use Rattle.value_text.specs.Spelling.{spell}
 use Rattle.mojo_tool.specs.Targets.{side_of, message_named, expected_of}
 use Rattle.mojo_tool.specs.Work.{Work, Refuses, RefusesLine, Prints, BadText, Decodes, Leads, Parsing, Reading, Scripting, FetchingAll, Tabling}
-use Rattle.mojo_tool.specs.Work.{GatheringWith, Supporting, Looking}
+use Rattle.mojo_tool.specs.Work.{Gathering}
 use Rattle.mojo_tool.specs.Work.{Listing, Valuing, Sealing, Preparing, Writing, Finding, Encoding, Unhexing, IsShown, Judged, Judging, Showing, Decoding}
 use Rattle.mojo_tool.specs.Work.{parameters_kind, without_line_end, unchecked, IsWork}
 use Rattle.mojo_tool.proofs.OneValue.{one_value}
-use Rattle.mojom_compile.specs.declared.responses.InterfacePlace.{InterfacePlace}
 use Rattle.mojom_compile.proofs.OneSchemaOfFiles.{one_schema as one_schema_of_files}
-use Rattle.mojom_compile.proofs.OneFirstAnswered.{one_first_answered}
 
 leads : (name : List ℕ) (next : List ℕ → Work → Type 0) (found : Option (List ℕ)) (w v : Work) → ((bytes : List ℕ) → next bytes w → next bytes v → w ≡ v)
     → Leads name next found w → Leads name next found v → w ≡ v
@@ -58,17 +56,6 @@ reading s bytes w v (inr a) (inr b) =
 scripting : (files : List Named) (name : List ℕ) (s : Schema) (w v : Work) → Scripting files name s w → Scripting files name s v → w ≡ v
 scripting files name s w v = leads name (Reading s) (find_file files name) w v (λ bytes. reading s bytes w v)
 
-supporting : (sources : List Source) (next : Work → Type 0) (found : Option InterfacePlace) (w v : Work) → (next w → next v → w ≡ v)
-    → Supporting sources next found w → Supporting sources next found v → w ≡ v
-supporting sources next None w v one a b = one a b
-supporting sources next (Some place) w v one a b = a ∙ sym b
-
-looking : (next : Schema → Work → Type 0) (sources : List Source) (s : Schema) (w v : Work) → (next s w → next s v → w ≡ v)
-    → Looking next sources s w → Looking next sources s v → w ≡ v
-looking next sources s w v one a b =
-    supporting sources (next s) a.0 w v one a.2
-    (subst (λ (o : Option InterfacePlace). Supporting sources (next s) o v) (one_first_answered sources b.0 a.0 b.1 a.1) b.2)
-
 tabling : (next : Schema → Work → Type 0) (sources : List Source) (w v : Work) → ((schema : Schema) → next schema w → next schema v → w ≡ v)
     → Tabling next sources w → Tabling next sources v → w ≡ v
 tabling next sources w v one (inl a) (inl b) =
@@ -87,12 +74,10 @@ fetching_all files (name ∷ names) fetched next w v one a b =
     (find_file files name) w v
     (λ bytes. fetching_all files names (fetched ++ record { name = name; bytes = bytes } ∷ []) next w v one) a b
 
-gathering : (files : List Named) (names : List (List ℕ)) (next : List Source → Schema → Work → Type 0) (w v : Work)
-    → ((sources : List Source) (schema : Schema) → next sources schema w → next sources schema v → w ≡ v)
-    → GatheringWith files names next w → GatheringWith files names next v → w ≡ v
+gathering : (files : List Named) (names : List (List ℕ)) (next : Schema → Work → Type 0) (w v : Work)
+    → ((schema : Schema) → next schema w → next schema v → w ≡ v) → Gathering files names next w → Gathering files names next v → w ≡ v
 gathering files names next w v one a b =
-    fetching_all files names [] (λ sources u. Tabling (next sources) sources u) w v
-    (λ sources. tabling (next sources) sources w v (one sources)) a b
+    fetching_all files names [] (λ sources u. Tabling next sources u) w v (λ sources. tabling next sources w v one) a b
 
 -- what a look-up found is one thing
 finding : {A : Type 0} (word : List ℕ) (next : A → Work → Type 0) (found : Option A) (w v : Work) → ((x : A) → next x w → next x v → w ≡ v)
@@ -173,11 +158,10 @@ decoding files words schema w v =
 pub one_work : (command : Option Command) (files : List Named) (w v : Work) → IsWork command files w → IsWork command files v → w ≡ v
 one_work None files w v a b = a ∙ sym b
 one_work (Some (Run words)) files w v a b =
-    gathering files words.files (Looking (Scripting files words.script)) w v
-    (λ sources schema. looking (Scripting files words.script) sources schema w v (scripting files words.script schema w v)) a b
+    gathering files words.files (Scripting files words.script) w v (λ schema. scripting files words.script schema w v) a b
 one_work (Some (Print file)) files w v a b = leads file (Parsing file) (find_file files file) w v (λ bytes. parsing file bytes w v) a b
-one_work (Some (Check names)) files w v a b = gathering files names (λ sources. Listing) w v (λ sources schema x y. x ∙ sym y) a b
+one_work (Some (Check names)) files w v a b = gathering files names Listing w v (λ schema x y. x ∙ sym y) a b
 one_work (Some (Encode words)) files w v a b =
-    gathering files words.files (λ sources. Encoding files words) w v (λ sources schema. encoding files words schema w v) a b
+    gathering files words.files (Encoding files words) w v (λ schema. encoding files words schema w v) a b
 one_work (Some (Decode words)) files w v a b =
-    gathering files words.files (λ sources. Decoding files words) w v (λ sources schema. decoding files words schema w v) a b
+    gathering files words.files (Decoding files words) w v (λ schema. decoding files words schema w v) a b

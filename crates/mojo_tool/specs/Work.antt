@@ -11,14 +11,11 @@ use Rattle.mj_schema.specs.Lookups.{interface_named}
 use Rattle.mj_schema.specs.declared.rows.MethodRow.{MethodRow}
 use Rattle.mj_schema.specs.declared.schema.Schema.{Schema}
 use Rattle.mojom_ast.specs.declared.file.File.{File}
-use Rattle.mojom_compile.specs.declared.error.Cause.TheVariants.{Unsupported}
 use Rattle.mojom_compile.specs.declared.error.FileRefusal.{FileRefusal}
-use Rattle.mojom_compile.specs.declared.responses.InterfacePlace.{InterfacePlace}
 use Rattle.mojom_compile.specs.declared.schema_error.SchemaError.{SchemaError}
 use Rattle.mojom_compile.specs.declared.schema_error.SchemaError.TheVariants as schema
 use Rattle.mojom_compile.specs.declared.source.Source.{Source}
 use Rattle.mojom_compile.specs.Compiled.{IsParsed, IsUnread}
-use Rattle.mojom_compile.specs.Responses.{IsFirstAnswered}
 use Rattle.mojom_compile.specs.Schemas.{IsSchemaOfFiles, IsRefusalOf}
 use Rattle.mojom_files.specs.declared.cause.Cause.{Cause}
 use Rattle.call_script.specs.declared.script.Script.{Script}
@@ -66,17 +63,10 @@ pub record HaveSchema (files : List Named) (names : List (List ℕ)) (schema : S
   pub are : AreFetched files names sources
   pub schema_of : IsSchemaOfFiles sources schema
 
--- the files of these names are there, none too long, and have this schema, of whose methods none has a response
-pub record HaveRunnable (files : List Named) (names : List (List ℕ)) (schema : Schema) : Type 0 where
-  pub sources : List Source
-  pub are : AreFetched files names sources
-  pub schema_of : IsSchemaOfFiles sources schema
-  pub unanswered : IsFirstAnswered sources None
-
--- over files that say what they hold, those of these names can be run
-abbrev pub CanRunAt : Option (List Named) → List (List ℕ) → Type 0
-CanRunAt None names = Unit {0}
-CanRunAt (Some files) names = (schema : Schema) × HaveRunnable files names schema
+-- over files that say what they hold, those of these names have a schema
+abbrev pub HasSchemaAt : Option (List Named) → List (List ℕ) → Type 0
+HasSchemaAt None names = Unit {0}
+HasSchemaAt (Some files) names = (schema : Schema) × HaveSchema files names schema
 
 -- over files that say what they hold, those of the words have a schema with the message that is to be encoded
 abbrev pub HasMessageAt : Option (List Named) → EncodeWords → Type 0
@@ -90,11 +80,11 @@ HasInterfaceAt None words = Unit {0}
 HasInterfaceAt (Some files) words =
     (schema : Schema) × HaveSchema files words.files schema × IsSome (interface_named schema.interfaces words.interface)
 
--- the words name this file, and a call comes to it: to a script only where the Mojom files can be run, to a value only where they have
--- a schema with the method, and to a message only where they have one with the interface
+-- the words name this file, and a call comes to it: to a script only where the Mojom files have a schema, to a value only where they have
+-- one with the method, and to a message only where they have one with the interface
 abbrev pub ComesTo : Option Command → Option (List Named) → List ℕ → Type 0
 ComesTo None held name = ⊥
-ComesTo (Some (Run words)) held name = IsAmong words.files name ⊎ ((name ≡ words.script) × CanRunAt held words.files)
+ComesTo (Some (Run words)) held name = IsAmong words.files name ⊎ ((name ≡ words.script) × HasSchemaAt held words.files)
 ComesTo (Some (Print file)) held name = name ≡ file
 ComesTo (Some (Check files)) held name = IsAmong files name
 ComesTo (Some (Encode words)) held name = IsAmong words.files name ⊎ ((name ≡ words.value) × HasMessageAt held words)
@@ -108,7 +98,7 @@ pub data Work : Type 0 where
   Missing : (name : List ℕ) → Work
   -- a file to be fetched has more than MAX_FILE_BYTES bytes
   TooLong : (name : List ℕ) → Work
-  -- a Mojom file is refused at a place: it has no tree, or is to be run and has an interface of which a method has a response
+  -- a Mojom file is refused at a place: it has no tree
   Refuses : (name : List ℕ) → (refusal : FileRefusal) → Work
   -- a name, a constant or a kind of a Mojom file is refused at a place
   Rejects : (name : List ℕ) → (at : ℕ) → (cause : Cause) → Work
@@ -186,26 +176,13 @@ FetchingAll files [] fetched next work = next fetched work
 FetchingAll files (name ∷ names) fetched next work =
     Fetching files name (λ (bytes : List ℕ). FetchingAll files names (fetched ++ record { name = name; bytes = bytes } ∷ []) next) work
 
--- all Mojom files come first, in the order of the words, and they and what they mean lead on
-abbrev pub GatheringWith : List Named → List (List ℕ) → (List Source → Schema → Work → Type 0) → Work → Type 0
-GatheringWith files names next work = FetchingAll files names [] (λ sources w. Tabling (next sources) sources w) work
-
--- what they mean leads on alone
+-- all Mojom files come first, in the order of the words, and what they mean leads on
 abbrev pub Gathering : List Named → List (List ℕ) → (Schema → Work → Type 0) → Work → Type 0
-Gathering files names next work = GatheringWith files names (λ sources. next) work
-
--- the first interface of which a method has a response is refused, and where there is none the files lead on
-abbrev pub Supporting : List Source → (Work → Type 0) → Option InterfacePlace → Work → Type 0
-Supporting sources next None work = next work
-Supporting sources next (Some place) work = work ≡ Refuses (name_at sources place.file) (record { at = place.at; cause = Unsupported })
-
--- files that have a schema are looked through for such an interface
-abbrev pub Looking : (Schema → Work → Type 0) → List Source → Schema → Work → Type 0
-Looking next sources schema work = (found : Option InterfacePlace) × IsFirstAnswered sources found × Supporting sources (next schema) found work
+Gathering files names next work = FetchingAll files names [] (λ sources w. Tabling next sources w) work
 
 -- all Mojom files come before the script
 abbrev pub Running : List Named → RunWords → Work → Type 0
-Running files words work = GatheringWith files words.files (Looking (Scripting files words.script)) work
+Running files words work = Gathering files words.files (Scripting files words.script) work
 
 -- a schema's tables are printed
 abbrev pub Listing : Schema → Work → Type 0

@@ -32,7 +32,7 @@ fn source<'a>(alloc: Global, name: &'a str, bytes: Vec<u8>) -> Result<Source, St
 }
 
 /// The files of these names, in their order.
-pub fn fetch_all<'a, F: Files>(
+fn fetch_all<'a, F: Files>(
     alloc: Global,
     names: &[&'a str],
     files: &mut F,
@@ -53,7 +53,7 @@ pub fn fetch_all<'a, F: Files>(
 }
 
 /// The refusal of the file that is refused, by its name.
-pub fn refused<'a>(names: &[&'a str], error: SchemaError) -> Stop<'a>
+fn refused<'a>(names: &[&'a str], error: SchemaError) -> Stop<'a>
     ensures { NotTabled (map (λ name. name.now) names.now) error result }
 {
     match error {

@@ -19,8 +19,7 @@ pub enum ToolRefusal<'a> {
     RefusedLine(u32, LineRefusal),
     /// The file has more than `MAX_FILE_BYTES` bytes.
     FileTooLong(&'a str),
-    /// The Mojom file is refused at a place: it has no tree, or is to be run and has an interface of
-    /// which a method has a response.
+    /// The Mojom file is refused at a place: it has no tree.
     Refused(&'a str, FileRefusal),
     /// A name, a constant or a kind of the Mojom file is refused at a place, in bytes from 0.
     Rejected {

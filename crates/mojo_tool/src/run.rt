@@ -6,59 +6,19 @@ ghost use Rattle.mj_io.specs.Outside.{FilesGoOn};
 ghost use Rattle.call_script.specs.Script.{IsScriptOf};
 ghost use Rattle.call_script.specs.Sound.{IsScript};
 ghost use Rattle.command_line.specs.Asked.{Run, run_words};
-ghost use Rattle.mojo_tool.specs.Work.{ComesTo, IsAmong, Scripting, Running};
+ghost use Rattle.mojo_tool.specs.Work.{ComesTo, Scripting, Running};
 ghost use Rattle.mojo_tool.specs.Answers.{IsTextOf, IsRunText};
 ghost use Rattle.mojo_tool.specs.steps.Stops.{Stops, IsOf, NoScript};
-ghost use Rattle.mojo_tool.specs.steps.Fetches.{HaveRunnableOver, NotSupported, NotRunnable};
 
-use crate::check::{fetch_all, refused};
+use crate::check::fetch_schema;
 use crate::decide::{Stop, fetch};
 use crate::refusal::ToolRefusal;
 use call_script::{Script, ScriptError};
 use mj_base::Items;
 use mj_io::Files;
 use mj_schema::Schema;
-use mojom_compile::{Cause, FileRefusal, InterfacePlace};
 use std::alloc::Global;
 use std::sync::Arc;
-
-/// The refusal of an interface of which a method has a response, by the name of its file.
-fn unsupported<'a>(names: &[&'a str], place: InterfacePlace) -> Stop<'a>
-    ensures { NotSupported (map (λ name. name.now) names.now) place result }
-{
-    match names.get(place.file as usize).copied() {
-        Some(name) => Stop::Refused(ToolRefusal::Refused(
-            name,
-            FileRefusal {
-                at: place.at,
-                cause: Cause::Unsupported,
-            },
-        )),
-        // Not reached: the file is one of those that were given.
-        None => Stop::NoMemory,
-    }
-}
-
-/// The schema of the files of these names, of whose methods none has a response.
-fn fetch_runnable<'a, F: Files>(
-    alloc: Global,
-    names: &[&'a str],
-    files: &mut F,
-) -> Result<Schema, Stop<'a>>
-    ensures on { FilesGoOn (F.state files.old) (F.state files.new) }
-    ensures schema { IfOk result (HaveRunnableOver (F.state files.old).held (map (λ name. name.now) names.now)) }
-    ensures stop { IfErr result (NotRunnable (F.state files.old) (F.state files.new) (map (λ name. name.now) names.now)) }
-    ensures among { IfErr result (IsOf (IsAmong (map (λ name. name.now) names.now))) }
-{
-    match fetch_all(alloc, names, files) {
-        Err(stop) => Err(stop),
-        Ok(fetched) => match mojom_compile::compile_with_responses(alloc, fetched.as_slice()) {
-            Ok((schema, None)) => Ok(schema),
-            Ok((_, Some(place))) => Err(unsupported(names, place)),
-            Err(error) => Err(refused(names, error)),
-        },
-    }
-}
 
 /// The script that the bytes are.
 fn read_script<'a>(alloc: Global, schema: &Schema, bytes: &[u8]) -> Result<Script, Stop<'a>>
@@ -133,7 +93,7 @@ pub fn decide_run<'a, F: Files>(
         (λ files work. Running files (run_words script.now (map (λ name. name.now) names.now)) work)) }
     ensures reached { IfErr result (IsOf (ComesTo (Some (Run (run_words script.now (map (λ name. name.now) names.now)))) (F.state files.old).held)) }
 {
-    match fetch_runnable(alloc, names, files) {
+    match fetch_schema(alloc, names, files) {
         Err(stop) => Err(stop),
         Ok(schema) => decide_script(alloc, script, schema, files),
     }

@@ -53,9 +53,6 @@ left e0.3
 done 8
 ";
 
-/// A file that has an interface of which a method has a response.
-const ANSWERED: &str = "module a; interface A { Add(int32 a) => (int32 b); };";
-
 /// Two files that are checked, and their tables.
 const IMPORTING: &str = "module a.b; import \"b.mojom\"; struct S { T t; a.T u; U v; };";
 
@@ -200,18 +197,6 @@ fn the_refused_line_is_numbered(rt: HostRuntime) -> Result<(), Fail> {
         assert!(rt; out.is_empty());
         assert_eq!(rt; err.as_slice(), line.as_bytes());
     }
-    Ok(())
-}
-
-#[test]
-fn an_interface_with_a_response_is_not_run(rt: HostRuntime) -> Result<(), Fail> {
-    let Answer { status, out, err } = answer_to(rt.alloc(), SCRIPT, ANSWERED)?;
-    assert_eq!(rt; status, Some(1));
-    assert!(rt; out.is_empty());
-    assert_eq!(rt;
-        err.as_slice(),
-        "error: o.mojom:20: Unsupported\n".as_bytes()
-    );
     Ok(())
 }
 

@@ -3,4 +3,3 @@ pub mod SameStructs
 pub mod Trees
 pub mod SomeSchema
 pub mod OneSchemaOfFiles
-pub mod OneFirstAnswered

@@ -1,7 +1,7 @@
 -- How a refusal's cause stands in a line.
 use Rattle.std.specs.Prelude.{ℕ, decimal, ◌++◌, List, codes}
 use Rattle.mojom_compile.specs.declared.error.Cause.{Cause}
-use Rattle.mojom_compile.specs.declared.error.Cause.TheVariants.{BadUtf8, BadChar, OpenComment, OpenString, LeadingZero, NumberTooLong, Unexpected, TooNested, Unsupported}
+use Rattle.mojom_compile.specs.declared.error.Cause.TheVariants.{BadUtf8, BadChar, OpenComment, OpenString, LeadingZero, NumberTooLong, Unexpected, TooNested}
 
 -- its name, and then its number where it has one
 abbrev pub cause_text : Cause → List ℕ
@@ -13,4 +13,3 @@ cause_text (LeadingZero at) = codes "LeadingZero " ++ decimal at
 cause_text (NumberTooLong at) = codes "NumberTooLong " ++ decimal at
 cause_text (Unexpected at) = codes "Unexpected " ++ decimal at
 cause_text (TooNested at) = codes "TooNested " ++ decimal at
-cause_text Unsupported = codes "Unsupported"

@@ -2,5 +2,4 @@ pub mod Causes
 pub mod Compiled
 pub mod Errors
 pub mod Schemas
-pub mod Responses
 pub mod steps

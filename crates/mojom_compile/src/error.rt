@@ -27,8 +27,6 @@ pub enum Cause {
     Unexpected(u64),
     /// The first token of a type that stands inside 32 others.
     TooNested(u64),
-    /// The first interface of which a method has a response: such files can't be run yet.
-    Unsupported,
 }
 
 impl fmt::Display for Cause {
@@ -47,7 +45,6 @@ impl fmt::Display for Cause {
             Cause::NumberTooLong(at) => write!(f, "NumberTooLong {at}"),
             Cause::Unexpected(at) => write!(f, "Unexpected {at}"),
             Cause::TooNested(at) => write!(f, "TooNested {at}"),
-            Cause::Unsupported => write!(f, "Unsupported"),
         }
     }
 }

@@ -3,7 +3,6 @@
 
 mod compiler;
 mod error;
-mod responses;
 mod schema_error;
 mod schemas;
 mod source;
@@ -11,7 +10,6 @@ mod tables;
 
 pub use compiler::{one_tree, read};
 pub use error::{Cause, CompileError, FileRefusal};
-pub use responses::{InterfacePlace, one_first_answered};
 pub use schema_error::SchemaError;
-pub use schemas::{compile, compile_with_responses, one_schema};
+pub use schemas::{compile, one_schema};
 pub use source::Source;

@@ -3,12 +3,10 @@
 ghost use Rattle.std.specs.Prelude.{◌≡◌, ◌<◌, ◌^◌, List, length, IfOk, IfErr};
 ghost use Rattle.mojom_compile.specs.declared.source.Source.{Source};
 ghost use Rattle.mojom_compile.specs.Schemas.{IsTreeOf, AreTreesOf, AreTablesOf, IsSchemaOfFiles, IsWhy, OneSchemaOfFiles};
-ghost use Rattle.mojom_compile.specs.Responses.{IsFirstIn, IsFirstAnswered};
 ghost use Rattle.mojom_compile.specs.steps.Stages.{IsOfStages, IsUnreadFile};
 
 use crate::compiler::read;
 use crate::error::CompileError;
-use crate::responses::{InterfacePlace, first_answered};
 use crate::schema_error::SchemaError;
 use crate::source::Source;
 use crate::tables::schema_of;
@@ -52,15 +50,11 @@ fn read_all(alloc: Global, sources: &[Source]) -> Result<Vec<NamedFile>, SchemaE
     Ok(files)
 }
 
-/// The tables of files by their trees, and the first interface of which a method has a response; or the
-/// first refusal: of their order, then of their names, their constants, and their kinds.
-fn tables_of(
-    alloc: Global,
-    files: &[NamedFile],
-) -> Result<(Draft, Option<InterfacePlace>), SchemaError>
+/// The tables of files by their trees; or the first refusal: of their order, then of their names, their
+/// constants, and their kinds.
+fn tables_of(alloc: Global, files: &[NamedFile]) -> Result<Draft, SchemaError>
     requires { length files.now < 2 ^ 32 }
-    ensures tables { IfOk result (λ found. AreTablesOf files.now found.0) }
-    ensures answered { IfOk result (λ found. IsFirstIn files.now found.1) }
+    ensures tables { IfOk result (AreTablesOf files.now) }
     ensures refused { IfErr result (IsOfStages files.now) }
 {
     let order = order(alloc, files)?;
@@ -68,25 +62,7 @@ fn tables_of(
     let names = resolve(alloc, files, order)?;
     let consts = evaluate(alloc, files, order, &names)?;
     let draft = check_kinds(alloc, files, order, &names, &consts)?;
-    Ok((draft, first_answered(files, order)))
-}
-
-/// The schema of files as `compile` gives it, and the first interface of which a method has a response:
-/// the files in their resolved order, each from its beginning.
-pub fn compile_with_responses(
-    alloc: Global,
-    sources: &[Source],
-) -> Result<(Schema, Option<InterfacePlace>), SchemaError>
-    ensures schema { IfOk result (λ found. IsSchemaOfFiles sources.now found.0) }
-    ensures answered { IfOk result (λ found. IsFirstAnswered sources.now found.1) }
-    ensures refused { IfErr result (IsWhy sources.now) }
-{
-    if u32::try_from(sources.len()).is_err() {
-        return Err(SchemaError::Memory);
-    }
-    let files = read_all(alloc, sources)?;
-    let (tables, answered) = tables_of(alloc, files.as_slice())?;
-    Ok((schema_of(alloc, tables)?, answered))
+    Ok(draft)
 }
 
 /// The schema of files, which are given with their names, or their first refusal: a file without a
@@ -96,8 +72,12 @@ pub fn compile(alloc: Global, sources: &[Source]) -> Result<Schema, SchemaError>
     ensures schema { IfOk result (IsSchemaOfFiles sources.now) }
     ensures refused { IfErr result (IsWhy sources.now) }
 {
-    let (schema, _) = compile_with_responses(alloc, sources)?;
-    Ok(schema)
+    if u32::try_from(sources.len()).is_err() {
+        return Err(SchemaError::Memory);
+    }
+    let files = read_all(alloc, sources)?;
+    let tables = tables_of(alloc, files.as_slice())?;
+    Ok(schema_of(alloc, tables)?)
 }
 
 /// Files have one schema or one refusal, and never both: this is a law and does nothing.

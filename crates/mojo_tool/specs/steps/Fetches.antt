@@ -2,14 +2,11 @@
 use Rattle.std.specs.Prelude.{ℕ, ◌≡◌, ◌⊎◌, List, ◌∷◌, ◌++◌, slice_get, Option, Some, None}
 use Rattle.mj_io.specs.Outside.{Named, FilesState}
 use Rattle.mj_schema.specs.declared.schema.Schema.{Schema}
-use Rattle.mojom_compile.specs.Responses.{IsFirstAnswered}
-use Rattle.mojom_compile.specs.Schemas.{IsSchemaOfFiles, IsWhy}
-use Rattle.mojom_compile.specs.declared.error.Cause.TheVariants.{Unsupported}
-use Rattle.mojom_compile.specs.declared.responses.InterfacePlace.{InterfacePlace}
+use Rattle.mojom_compile.specs.Schemas.{IsWhy}
 use Rattle.mojom_compile.specs.declared.schema_error.SchemaError.{SchemaError}
 use Rattle.mojom_compile.specs.declared.schema_error.SchemaError.TheVariants as schema
 use Rattle.mojom_compile.specs.declared.source.Source.{Source}
-use Rattle.mojo_tool.specs.Work.{Refuses, Rejects, AreFetched, HaveSchema, HaveRunnable}
+use Rattle.mojo_tool.specs.Work.{Refuses, Rejects, AreFetched, HaveSchema}
 use Rattle.mojo_tool.specs.Answers.{refused_work}
 use Rattle.mojo_tool.specs.declared.decide.Stop.{Stop}
 use Rattle.mojo_tool.specs.declared.decide.Stop.TheVariants.{Refused, ReadFault, NoMemory}
@@ -62,29 +59,3 @@ pub record IsRefusedSet (held : Option (List Named)) (names : List (List ℕ)) (
 -- there is no schema of these files
 abbrev pub NoSchema : FilesState → FilesState → List (List ℕ) → Stop → Type 0
 NoSchema before now names stop = NotAllFetched before now names stop ⊎ IsRefusedSet before.held names stop
-
--- the files of these names can be run and have this schema, over files that say what they hold
-abbrev pub HaveRunnableOver : Option (List Named) → List (List ℕ) → Schema → Type 0
-HaveRunnableOver None names schema = Unit {0}
-HaveRunnableOver (Some files) names schema = HaveRunnable files names schema
-
--- of an interface at this place a method has a response: the refusal names its file, which is one of these
-abbrev pub NotSupported : List (List ℕ) → InterfacePlace → Stop → Type 0
-NotSupported names place (Refused refusal) = (name : List ℕ) × (slice_get names place.file ≡ Some name)
-    × (refused_work refusal ≡ Refuses name (record { at = place.at; cause = Unsupported }))
-NotSupported names place (ReadFault name) = ⊥
-NotSupported names place NoMemory = Unit {0}
-
--- all were fetched and have a schema, and such an interface
-pub record IsUnsupportedSet (held : Option (List Named)) (names : List (List ℕ)) (stop : Stop) : Type 0 where
-  pub sources : List Source
-  pub schema : Schema
-  pub place : InterfacePlace
-  pub are : AreBytes held names sources
-  pub schema_of : IsSchemaOfFiles sources schema
-  pub first : IsFirstAnswered sources (Some place)
-  pub not : NotSupported names place stop
-
--- these files can't be run
-abbrev pub NotRunnable : FilesState → FilesState → List (List ℕ) → Stop → Type 0
-NotRunnable before now names stop = NoSchema before now names stop ⊎ IsUnsupportedSet before.held names stop

@@ -2,7 +2,7 @@ use Rattle.std.proofs.Common.{List, ℕ, Bor}
 use Rattle.std.specs.Prelude.{map}
 use Rattle.command_line.specs.Asked.{RunWords, run_words}
 use Rattle.mojo_tool.proofs.Asking.{ok_goes, err_goes}
-use Rattle.mojo_tool.proofs.Running.{not_runnable_stops, comes_to_file, run_stops, right_text, comes_to_script}
+use Rattle.mojo_tool.proofs.Running.{no_files, comes_to_file, run_stops, right_text, comes_to_script}
 use Rattle.mojo_tool.proofs.run.decide_run.Goals as goal
 
 -- the words of a run
@@ -10,7 +10,7 @@ abbrev words_of : List ℕ → List (Bor (List ℕ)) → RunWords
 words_of script names = run_words script (map (λ (name : Bor (List ℕ)). name.now) names)
 
 pub returns-in-Err-clause-stop : goal.returns-in-Err-clause-stop
-returns-in-Err-clause-stop g c = not_runnable_stops (words_of c.args.script.now c.args.names.now) _ _ c.in-Err.stop c.in-Err.ensures.stop
+returns-in-Err-clause-stop g c = no_files (words_of c.args.script.now c.args.names.now) _ _ c.in-Err.stop c.in-Err.ensures.stop
 
 pub returns-in-Err-clause-reached : goal.returns-in-Err-clause-reached
 returns-in-Err-clause-reached g c = comes_to_file (words_of c.args.script.now c.args.names.now) _ c.in-Err.stop c.in-Err.ensures.among
