@@ -24,16 +24,16 @@ fn are_distinct(things: &[Thing]) -> bool {
     true
 }
 
-/// Whether all that goes with a call is with callers. No endpoint is.
-fn is_owned(past: &[Event], outgoing: &Outgoing) -> bool {
+/// Whether all that goes with a call or an answer is with callers. No endpoint is.
+pub fn is_owned(past: &[Event], outgoing: &Outgoing) -> bool {
     let handles = outgoing.handles.as_slice();
     handles.iter().all(|thing| is_out(past, *thing))
         && are_distinct(handles)
         && outgoing.pendings.len() == 0
 }
 
-/// Whether a call carries as many handles as its parameters name, and no endpoints.
-fn has_tokens(alloc: Global, outgoing: &Outgoing) -> Result<bool, AllocError> {
+/// Whether it carries as many handles as its parameters name, and no endpoints.
+pub fn has_tokens(alloc: Global, outgoing: &Outgoing) -> Result<bool, AllocError> {
     let named = named_by(alloc, outgoing.parameters.value())?;
     Ok(named.handles.len() == outgoing.handles.len() && named.ids.is_empty())
 }

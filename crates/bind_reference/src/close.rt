@@ -3,9 +3,11 @@
 use crate::mail::{endpoint_at, goes};
 use crate::past::{is_gone, is_out};
 use crate::replies::{elsewhere, first_of, unbound, unless};
+use crate::responders::is_responder_out;
 use bind_model::{Closing, Event, State, Told, Why};
 use handle_table::Thing;
 use mj_base::{EndId, Items, SeqId};
+use mj_schema::Schema;
 use std::alloc::{AllocError, Global};
 
 /// What is told where a thing is closed: all that goes with it.
@@ -41,6 +43,7 @@ fn closed_at(
 /// The reply to a closing; none where scripts don't ask it.
 pub fn closed(
     alloc: Global,
+    schema: &Schema,
     past: &[Event],
     seq: SeqId,
     closing: Closing,
@@ -51,6 +54,10 @@ pub fn closed(
         }
         Closing::Handle(_) => Ok(Some(Told::No(Why::NoName))),
         Closing::Endpoint(end, id) => Ok(Some(closed_at(alloc, past, seq, end, id)?)),
-        Closing::Pending(_) | Closing::Responder(_) => Ok(None),
+        Closing::Responder(responder) if is_responder_out(alloc, schema, past, responder)? => {
+            Ok(Some(Told::Closed(Items::new(alloc))))
+        }
+        Closing::Responder(_) => Ok(Some(Told::No(Why::NoName))),
+        Closing::Pending(_) => Ok(None),
     }
 }

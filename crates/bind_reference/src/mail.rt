@@ -1,7 +1,7 @@
 //! Endpoints, messages, and what goes with what is closed.
 
 use crate::past::{consumed, is_gone, made, peer};
-use bind_model::{Asked, Closing, Endpoint, Event, State, Told};
+use bind_model::{Asked, Closing, Endpoint, Event, Outgoing, State, Told};
 use handle_table::Thing;
 use mj_base::EndId;
 use std::alloc::{AllocError, Global};
@@ -43,16 +43,23 @@ pub fn endpoint_at(past: &[Event], x: EndId, id: u32) -> Option<Endpoint> {
     endpoint
 }
 
+/// The message of these bytes.
+fn letter_of<'a>(bytes: &'a [u8], outgoing: &'a Outgoing) -> Letter<'a> {
+    Letter {
+        bytes,
+        handles: outgoing.handles.as_slice(),
+    }
+}
+
 /// What an event wrote, and the end that it was written at.
 fn sent_by(event: &Event) -> Option<(EndId, Letter<'_>)> {
     match (&event.told, &event.asked) {
-        (Told::Sent(_, bytes), Asked::Call(end, _, outgoing)) => Some((
-            *end,
-            Letter {
-                bytes: bytes.as_slice(),
-                handles: outgoing.handles.as_slice(),
-            },
-        )),
+        (Told::Sent(_, bytes), Asked::Call(end, _, outgoing)) => {
+            Some((*end, letter_of(bytes.as_slice(), outgoing)))
+        }
+        (Told::Sent(_, bytes), Asked::Answer(responder, outgoing)) => {
+            Some((responder.end, letter_of(bytes.as_slice(), outgoing)))
+        }
         _ => None,
     }
 }

@@ -1,16 +1,26 @@
 //! What the names of a script stand for, and what is held under them.
 
 use crate::past::{handed, is_out};
-use bind_model::Event;
-use call_script::{Command, Line, NameId};
+use crate::replying::reply_to;
+use crate::responders::{handed as handed_responder, is_responder_out};
+use bind_model::{Event, ResponderId};
+use call_script::{AutoReply, Command, Line, NameId, Script};
 use handle_table::Thing;
 use mj_base::EndId;
+use mj_schema::Schema;
 use std::alloc::{AllocError, Global};
 
-/// A thing that was handed out, and the name that it came under, where its line had one for it.
+/// What is held under a name: the handle of a thing, or a responder.
+#[derive(Clone, Copy, PartialEq, Eq)]
+pub enum Held {
+    Thing(Thing),
+    Responder(ResponderId),
+}
+
+/// What was handed out, and the name that it came under, where its line had one for it.
 #[derive(Clone, Copy)]
 struct Label {
-    thing: Thing,
+    held: Held,
     name: Option<NameId>,
 }
 
@@ -33,73 +43,142 @@ fn set_by(alloc: Global, line: Option<&Line>) -> Result<Vec<NameId>, AllocError>
     }
 }
 
-/// What names stand for behind some events, each of which is that of its line.
+/// What an event hands to its line: the handles, and then the responder, unless that is answered
+/// automatically.
+fn handed_to_line(
+    alloc: Global,
+    schema: &Schema,
+    autos: &[AutoReply],
+    event: &Event,
+) -> Result<Vec<Held>, AllocError> {
+    let mut all = Vec::new(alloc);
+    for thing in handed(&event.told) {
+        all.push(Held::Thing(*thing))?;
+    }
+    if reply_to(autos, event).is_none() {
+        if let Some(responder) = handed_responder(schema, event) {
+            all.push(Held::Responder(responder))?;
+        }
+    }
+    Ok(all)
+}
+
+/// Whether an event of a past is an automatic reply: the one before it has one.
+fn is_automatic(autos: &[AutoReply], past: &[Event], place: usize) -> bool {
+    match place.checked_sub(1).map(|before| past.get(before)) {
+        Some(Some(event)) => reply_to(autos, event).is_some(),
+        Some(None) | None => false,
+    }
+}
+
+/// What names stand for behind some events: those that are no automatic replies are those of the lines, in
+/// order.
 #[derive(Drop)]
 pub struct Names<'a> {
+    schema: &'a Schema,
     past: &'a [Event],
     labels: Vec<Label>,
 }
 
 impl<'a> Names<'a> {
-    /// The names behind these events. The labels of the newest event are the first.
-    pub fn new(alloc: Global, lines: &[Line], past: &'a [Event]) -> Result<Names<'a>, AllocError> {
+    /// The names behind these events.
+    pub fn new(
+        alloc: Global,
+        schema: &'a Schema,
+        script: &Script,
+        past: &'a [Event],
+    ) -> Result<Names<'a>, AllocError> {
+        let autos = script.autos.as_slice();
         let mut labels = Vec::new(alloc);
-        for k in (0..past.len()).rev() {
-            if let Some(event) = past.get(k) {
-                let names = set_by(alloc, lines.get(k))?;
-                add_labels(&names, handed(&event.told), &mut labels)?;
+        let mut lines = 0;
+        for (place, event) in past.iter().enumerate() {
+            if is_automatic(autos, past, place) {
+                continue;
             }
+            let names = set_by(alloc, script.lines.as_slice().get(lines))?;
+            let handed = handed_to_line(alloc, schema, autos, event)?;
+            add_labels(&names, &handed, &mut labels)?;
+            lines = lines.saturating_add(1);
         }
-        Ok(Names { past, labels })
+        Ok(Names {
+            schema,
+            past,
+            labels,
+        })
     }
 
-    /// What a name stands for: the thing that came under it last.
-    fn thing(&self, name: NameId) -> Option<Thing> {
-        for label in &self.labels {
-            if label.name == Some(name) {
-                return Some(label.thing);
-            }
-        }
-        None
+    /// What a name stands for: what came under it last.
+    fn meant(&self, name: NameId) -> Option<Held> {
+        let label = self
+            .labels
+            .iter()
+            .rev()
+            .find(|label| label.name == Some(name))?;
+        Some(label.held)
     }
 
     /// The end that a name stands for.
     pub fn end(&self, name: NameId) -> Option<EndId> {
-        match self.thing(name) {
-            Some(Thing::End(end)) => Some(end),
-            Some(Thing::Token(_)) | None => None,
+        match self.meant(name) {
+            Some(Held::Thing(Thing::End(end))) => Some(end),
+            Some(Held::Thing(Thing::Token(_)) | Held::Responder(_)) | None => None,
         }
     }
 
-    /// The name that a thing came under last.
-    fn name_of(&self, thing: Thing) -> Option<NameId> {
-        for label in &self.labels {
-            if label.thing == thing {
-                return label.name;
-            }
+    /// The name that something came under last.
+    fn name_of(&self, held: Held) -> Option<NameId> {
+        let label = self.labels.iter().rev().find(|label| label.held == held)?;
+        label.name
+    }
+
+    /// Whether it is with a caller.
+    fn is_out(&self, alloc: Global, held: Held) -> Result<bool, AllocError> {
+        match held {
+            Held::Thing(thing) => Ok(is_out(self.past, thing)),
+            Held::Responder(name) => is_responder_out(alloc, self.schema, self.past, name),
         }
-        None
     }
 
     /// What is held under a name: what it stands for, where that is out and came under no other name since.
-    pub fn held(&self, name: NameId) -> Option<Thing> {
-        let thing = self.thing(name)?;
-        if is_out(self.past, thing) && self.name_of(thing) == Some(name) {
-            Some(thing)
-        } else {
-            None
+    pub fn held(&self, alloc: Global, name: NameId) -> Result<Option<Held>, AllocError> {
+        match self.meant(name) {
+            Some(held) if self.is_out(alloc, held)? && self.name_of(held) == Some(name) => {
+                Ok(Some(held))
+            }
+            Some(_) | None => Ok(None),
         }
     }
 
-    /// What is held under these names, in order; none where one of them holds nothing or stands twice.
-    pub fn all_held(
+    /// The thing whose handle is held under a name.
+    pub fn handle(&self, alloc: Global, name: NameId) -> Result<Option<Thing>, AllocError> {
+        match self.held(alloc, name)? {
+            Some(Held::Thing(thing)) => Ok(Some(thing)),
+            Some(Held::Responder(_)) | None => Ok(None),
+        }
+    }
+
+    /// The responder that is held under a name.
+    pub fn responder(
+        &self,
+        alloc: Global,
+        name: NameId,
+    ) -> Result<Option<ResponderId>, AllocError> {
+        match self.held(alloc, name)? {
+            Some(Held::Responder(responder)) => Ok(Some(responder)),
+            Some(Held::Thing(_)) | None => Ok(None),
+        }
+    }
+
+    /// The things whose handles are held under these names, in order; none where one of them holds none or
+    /// stands twice.
+    pub fn all_handles(
         &self,
         alloc: Global,
         names: &[NameId],
     ) -> Result<Option<Vec<Thing>>, AllocError> {
         let mut things = Vec::new(alloc);
         for (k, name) in names.iter().enumerate() {
-            match self.held(*name) {
+            match self.handle(alloc, *name)? {
                 Some(thing) if !names[..k].contains(name) => things.push(thing)?,
                 Some(_) | None => return Ok(None),
             }
@@ -108,15 +187,15 @@ impl<'a> Names<'a> {
     }
 }
 
-/// Adds a label for each thing, with the names in order; those left over have no name.
+/// Adds a label for each, with the names in order; those left over have no name.
 fn add_labels(
     names: &[NameId],
-    things: &[Thing],
+    handed: &[Held],
     labels: &mut Vec<Label>,
 ) -> Result<(), AllocError> {
-    for (k, thing) in things.iter().enumerate() {
+    for (k, held) in handed.iter().enumerate() {
         labels.push(Label {
-            thing: *thing,
+            held: *held,
             name: names.get(k).copied(),
         })?;
     }

@@ -4,6 +4,7 @@ use bind_model::{Asked, Closing, Event, Told};
 use handle_table::Thing;
 use mj_base::EndId;
 use std::alloc::{AllocError, Global};
+use wire_model::MessageSide;
 
 /// The things that a reply made.
 fn made_by(told: &Told) -> &[Thing] {
@@ -66,7 +67,7 @@ pub fn is_gone(past: &[Event], thing: Thing) -> bool {
 fn is_given(event: &Event, thing: Thing) -> bool {
     match (&event.told, &event.asked) {
         (Told::Bound(_), Asked::Bind(end, _, _)) => *end == thing,
-        (Told::Sent(_, _), Asked::Call(_, _, outgoing)) => {
+        (Told::Sent(_, _), Asked::Call(_, _, outgoing) | Asked::Answer(_, outgoing)) => {
             outgoing.handles.as_slice().contains(&thing)
         }
         (Told::Closed(_), Asked::Close(Closing::Handle(closed))) => *closed == thing,
@@ -123,6 +124,37 @@ fn draws(event: &Event, x: EndId, id: u32) -> bool {
 /// How many requests were sent from an endpoint, with responses to come.
 pub fn drawn(past: &[Event], x: EndId, id: u32) -> usize {
     past.iter().filter(|event| draws(event, x, id)).count()
+}
+
+/// Whether an event sent this request, with this method.
+fn asks(event: &Event, x: EndId, id: u32, request: u64, method: u32) -> bool {
+    match (&event.told, &event.asked) {
+        (Told::Sent(number, _), Asked::Call(_, _, outgoing)) => {
+            draws(event, x, id) && *number == request && outgoing.target.method == method
+        }
+        _ => false,
+    }
+}
+
+/// Whether an event got the response to this request.
+fn gets_response(event: &Event, x: EndId, id: u32, request: u64) -> bool {
+    match (&event.told, &event.asked) {
+        (Told::Taken(got), Asked::Take(end)) => {
+            *end == x
+                && got.id == id
+                && got.request == request
+                && got.target.side == MessageSide::Response
+        }
+        _ => false,
+    }
+}
+
+/// Whether a request of this number and method was sent from an endpoint, and no response to it was got.
+pub fn is_asked(past: &[Event], x: EndId, id: u32, request: u64, method: u32) -> bool {
+    past.iter().any(|event| asks(event, x, id, request, method))
+        && !past
+            .iter()
+            .any(|event| gets_response(event, x, id, request))
 }
 
 /// How many ends a sequence made.

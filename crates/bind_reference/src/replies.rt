@@ -1,5 +1,6 @@
 //! The one reply to a command, by the events before it.
 
+use crate::answering::answered;
 use crate::call::called;
 use crate::close::closed;
 use crate::past::{ends_made, is_out, tokens_made};
@@ -96,11 +97,11 @@ pub fn answer(
             Ok(Some(called(alloc, schema, past, seq, *end, *id, outgoing)?))
         }
         Asked::Take(end) => Ok(Some(took(alloc, schema, past, seq, *end)?)),
-        Asked::Close(closing) => closed(alloc, past, seq, *closing),
+        Asked::Answer(responder, outgoing) => Ok(Some(answered(
+            alloc, schema, past, seq, *responder, outgoing,
+        )?)),
+        Asked::Close(closing) => closed(alloc, schema, past, seq, *closing),
         Asked::Skip(_) => Ok(Some(Told::Skipped)),
-        Asked::Associate(_, _, _)
-        | Asked::Attach(_, _)
-        | Asked::Answer(_, _)
-        | Asked::Raw(_, _, _) => Ok(None),
+        Asked::Associate(_, _, _) | Asked::Attach(_, _) | Asked::Raw(_, _, _) => Ok(None),
     }
 }

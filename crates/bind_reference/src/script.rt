@@ -1,36 +1,67 @@
 //! The events of a script: one for each of its lines, in order, and then a take wherever a message is ready,
-//! until none is.
+//! until none is; and directly behind each take of a request that has an automatic reply, that reply.
 
-use crate::names::Names;
+use crate::names::{Held, Names};
 use crate::replies::answer;
+use crate::replying::reply_to;
+use crate::responders::handed;
 use crate::turns::ready;
 use crate::values::copied;
 use bind_model::{Asked, Closing, Event, Outgoing, Parameters, Told};
-use call_script::{Command, Line, NameId, SEQUENCES, Script};
-use mj_base::{EndId, Items, SeqId};
+use call_script::{Command, Line, SEQUENCES, Script};
+use handle_table::Thing;
+use mj_base::{Items, SeqId};
 use mj_schema::Schema;
 use std::alloc::{AllocError, Global};
 use wire_encoder::Prepared;
 
-/// What a call asks, from an end where that is one, with what is held under names.
-fn call_asks(
+/// What is sent, with these handles.
+fn outgoing(
     alloc: Global,
-    names: &Names<'_>,
-    end: Option<EndId>,
-    id: u32,
     prepared: &Prepared,
-    handles: &[NameId],
-) -> Result<Option<Asked>, AllocError> {
-    let (Some(end), Some(handles)) = (end, names.all_held(alloc, handles)?) else {
-        return Ok(None);
-    };
-    let outgoing = Outgoing {
+    handles: Vec<Thing>,
+) -> Result<Outgoing, AllocError> {
+    Ok(Outgoing {
         target: prepared.target,
         parameters: Parameters::new(copied(alloc, &prepared.value)?),
         handles: Items::from_vec(handles),
         pendings: Items::new(alloc),
-    };
-    Ok(Some(Asked::Call(end, id, outgoing)))
+    })
+}
+
+/// What a call or an answer asks, where all that it needs is there.
+fn sending_asks(
+    alloc: Global,
+    names: &Names<'_>,
+    command: &Command,
+) -> Result<Option<Asked>, AllocError> {
+    match command {
+        Command::Call(name, id, prepared, tokens) => {
+            let handles = names.all_handles(alloc, tokens.as_slice())?;
+            let (Some(end), Some(handles)) = (names.end(*name), handles) else {
+                return Ok(None);
+            };
+            let outgoing = outgoing(alloc, prepared, handles)?;
+            Ok(Some(Asked::Call(end, *id, outgoing)))
+        }
+        Command::Answer(name, prepared, tokens) => {
+            let handles = names.all_handles(alloc, tokens.as_slice())?;
+            let (Some(responder), Some(handles)) = (names.responder(alloc, *name)?, handles) else {
+                return Ok(None);
+            };
+            let outgoing = outgoing(alloc, prepared, handles)?;
+            Ok(Some(Asked::Answer(responder, outgoing)))
+        }
+        _ => Ok(None),
+    }
+}
+
+/// How what is held is closed.
+fn closing(held: Held) -> Closing {
+    match held {
+        Held::Thing(thing) => Closing::Handle(thing),
+        Held::Responder(responder) => Closing::Responder(responder),
+    }
 }
 
 /// What a command asks, where all that it needs is there.
@@ -45,20 +76,17 @@ fn command_asks(
         Command::Mint(sort, _) => Ok(Some(Asked::Mint(*sort))),
         Command::Bind(name, side, interface) => Ok(
             names
-                .held(*name)
+                .handle(alloc, *name)?
                 .map(|thing| Asked::Bind(thing, *side, *interface)),
         ),
-        Command::Call(name, id, prepared, handles) => {
-            let end = names.end(*name);
-            call_asks(alloc, names, end, *id, prepared, handles.as_slice())
+        Command::Call(_, _, _, _) | Command::Answer(_, _, _) => {
+            sending_asks(alloc, names, command)
         }
         Command::Take(name, _) => Ok(names.end(*name).map(|end| Asked::Take(end))),
-        // No request that it knows has a response, so there are no responders.
-        Command::Answer(_, _, _) => Ok(None),
         Command::CloseToken(name) => Ok(
             names
-                .held(*name)
-                .map(|thing| Asked::Close(Closing::Handle(thing))),
+                .held(alloc, *name)?
+                .map(|held| Asked::Close(closing(held))),
         ),
         Command::CloseEndpoint(name, id) => Ok(
             names
@@ -68,15 +96,15 @@ fn command_asks(
     }
 }
 
-/// What a line asks behind these events, each of which is that of a line before it: to skip its number where
-/// something that it needs isn't there.
+/// What a line asks behind these events: to skip its number where something that it needs isn't there.
 fn line_asks(
     alloc: Global,
-    lines: &[Line],
+    schema: &Schema,
+    script: &Script,
     past: &[Event],
     line: &Line,
 ) -> Result<Asked, AllocError> {
-    let names = Names::new(alloc, lines, past)?;
+    let names = Names::new(alloc, schema, script, past)?;
     match command_asks(alloc, &names, &line.command)? {
         Some(asked) => Ok(asked),
         None => Ok(Asked::Skip(line.number)),
@@ -101,14 +129,55 @@ fn ask(
     Ok(())
 }
 
-/// Adds takes until no end is ready. Each takes a message, or closes its end with all that lies there: so
-/// there are fewer than events.
-fn drain(alloc: Global, schema: &Schema, events: &mut Vec<Event>) -> Result<(), AllocError> {
-    for _ in 0..events.len() {
+/// The automatic reply to what the newest event got, and the sequence that gives it.
+fn automatic(
+    alloc: Global,
+    schema: &Schema,
+    script: &Script,
+    past: &[Event],
+) -> Result<Option<(SeqId, Asked)>, AllocError> {
+    let Some(event) = past.last() else {
+        return Ok(None);
+    };
+    let (Some(reply), Some(responder)) = (
+        reply_to(script.autos.as_slice(), event),
+        handed(schema, event),
+    ) else {
+        return Ok(None);
+    };
+    let outgoing = outgoing(alloc, &reply.prepared, Vec::new(alloc))?;
+    Ok(Some((event.seq, Asked::Answer(responder, outgoing))))
+}
+
+/// Adds the event of a command, and that of an automatic reply to what it got.
+fn ask_on(
+    alloc: Global,
+    schema: &Schema,
+    script: &Script,
+    events: &mut Vec<Event>,
+    seq: SeqId,
+    asked: Asked,
+) -> Result<(), AllocError> {
+    ask(alloc, schema, events, seq, asked)?;
+    match automatic(alloc, schema, script, events)? {
+        Some((seq, reply)) => ask(alloc, schema, events, seq, reply),
+        None => Ok(()),
+    }
+}
+
+/// Adds takes until no end is ready. Each takes a message, or closes its end with all that lies there: a
+/// message that an event before wrote, or the automatic reply to one. So there are fewer than twice the events.
+fn drain(
+    alloc: Global,
+    schema: &Schema,
+    script: &Script,
+    events: &mut Vec<Event>,
+) -> Result<(), AllocError> {
+    for _ in 0..events.len().saturating_mul(2) {
         let Some((seq, end)) = ready(alloc, schema, events)? else {
             return Ok(());
         };
-        ask(alloc, schema, events, seq, Asked::Take(end))?;
+        ask_on(alloc, schema, script, events, seq, Asked::Take(end))?;
     }
     Ok(())
 }
@@ -119,12 +188,11 @@ pub fn events_of(
     schema: &Schema,
     script: &Script,
 ) -> Result<Vec<Event>, AllocError> {
-    let lines = script.lines.as_slice();
     let mut events = Vec::new(alloc);
-    for line in lines {
-        let asked = line_asks(alloc, lines, &events, line)?;
-        ask(alloc, schema, &mut events, line.seq, asked)?;
+    for line in script.lines.as_slice() {
+        let asked = line_asks(alloc, schema, script, &events, line)?;
+        ask_on(alloc, schema, script, &mut events, line.seq, asked)?;
     }
-    drain(alloc, schema, &mut events)?;
+    drain(alloc, schema, script, &mut events)?;
     Ok(events)
 }

@@ -1,7 +1,7 @@
 //! The reply to a take.
 
 use crate::mail::{Letter, endpoint_at, goes, unread};
-use crate::past::{is_gone, peer};
+use crate::past::{is_asked, is_gone, peer};
 use crate::values::named_by;
 use crate::wire::{Content, stands};
 use bind_model::{BadWhy, Endpoint, Event, Got, Parameters, State, Told, Why};
@@ -10,6 +10,7 @@ use message_header::read_header;
 use mj_base::{EndId, Items, SeqId};
 use mj_schema::Schema;
 use std::alloc::{AllocError, Global};
+use wire_model::MessageSide;
 
 /// What is told of a bad message: all that goes with its end.
 fn bad(alloc: Global, past: &[Event], end: EndId, why: BadWhy) -> Result<Told, AllocError> {
@@ -77,6 +78,12 @@ fn accept(
     }))
 }
 
+/// Whether it is a response that nobody waits for.
+fn is_unasked(past: &[Event], end: EndId, id: u32, content: &Content) -> bool {
+    content.target.side == MessageSide::Response
+        && !is_asked(past, end, id, content.request, content.target.method)
+}
+
 /// What is told of a message for an endpoint that is bound on the sequence which takes.
 fn judged(
     alloc: Global,
@@ -88,6 +95,9 @@ fn judged(
     letter: Letter<'_>,
 ) -> Result<Told, AllocError> {
     match stands(alloc, schema, endpoint, letter)? {
+        Ok(content) if is_unasked(past, end, id, &content) => {
+            bad(alloc, past, end, BadWhy::Unasked(content.request))
+        }
         Ok(content) => accept(alloc, past, end, id, letter, content),
         Err(fault) => bad(alloc, past, end, BadWhy::Message(fault)),
     }

@@ -61,16 +61,18 @@ pub fn responds(schema: &Schema, target: Target) -> bool {
     }
 }
 
-/// The request of a target's method, where there is one.
-fn request_of(schema: &Schema, target: Target) -> Option<Target>
+/// A target, where there is such a method, and a response of it if it is one.
+fn known(schema: &Schema, target: Target) -> Option<Target>
     ensures { IfSome result (HasTarget schema.now) }
 {
-    let _method = schema.method(target.interface, target.method)?;
-    Some(Target {
-        interface: target.interface,
-        method: target.method,
-        side: MessageSide::Request,
-    })
+    let method = schema.method(target.interface, target.method)?;
+    match target.side {
+        MessageSide::Request => Some(target),
+        MessageSide::Response => match method.response {
+            Some(_) => Some(target),
+            None => None,
+        },
+    }
 }
 
 /// The bytes of what was prepared, for the endpoint of an id; none where it carries ids.
@@ -91,7 +93,7 @@ fn sealed_plain(
     seal(alloc, prepared, &head)
 }
 
-/// The bytes of a request for the endpoint of an id; none where what is sent isn't one.
+/// The bytes of a request or a response for the endpoint of an id; none where what is sent is neither.
 pub fn sealed(
     alloc: Global,
     schema: &Schema,
@@ -99,7 +101,7 @@ pub fn sealed(
     request: u64,
     outgoing: &Outgoing,
 ) -> Result<Vec<u8>, AllocError> {
-    let Some(target) = request_of(schema, outgoing.target) else {
+    let Some(target) = known(schema, outgoing.target) else {
         return Ok(Vec::new(alloc));
     };
     let value = copied(alloc, outgoing.parameters.value())?;

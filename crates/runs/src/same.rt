@@ -4,7 +4,7 @@ use bind_model::{Asked, Event, Got, Outgoing, Told};
 use std::alloc::{AllocError, Global};
 use wire_reference::are_same;
 
-/// Whether two calls send the same.
+/// Whether two calls or answers send the same.
 fn are_same_outgoing(alloc: Global, one: &Outgoing, two: &Outgoing) -> Result<bool, AllocError> {
     let values = are_same(alloc, one.parameters.value(), two.parameters.value())?;
     Ok(
@@ -20,6 +20,9 @@ fn are_same_asked(alloc: Global, one: &Asked, two: &Asked) -> Result<bool, Alloc
     match (one, two) {
         (Asked::Call(x, id, one), Asked::Call(y, other, two)) => {
             Ok(x == y && id == other && are_same_outgoing(alloc, one, two)?)
+        }
+        (Asked::Answer(name, one), Asked::Answer(other, two)) => {
+            Ok(name == other && are_same_outgoing(alloc, one, two)?)
         }
         (Asked::Bind(x, side, number), Asked::Bind(y, other, another)) => {
             Ok(x == y && side == other && number == another)

@@ -2,6 +2,7 @@
 
 use bind_model::{Event, Told, Why};
 use std::alloc::{AllocError, Global};
+use wire_model::MessageSide;
 
 /// A reply, and how often it was told.
 #[derive(Clone, Copy)]
@@ -47,7 +48,10 @@ fn word(told: &Told) -> &'static str {
         Told::Made(_) => "made",
         Told::Bound(_) => "bound",
         Told::Sent(_, _) => "sent",
-        Told::Taken(_) => "got",
+        Told::Taken(got) => match got.target.side {
+            MessageSide::Request => "got",
+            MessageSide::Response => "got response",
+        },
         Told::Dropped(_, _) => "dropped",
         Told::Bad(_, _) => "bad",
         Told::Closed(_) => "closed",
