@@ -36,6 +36,3 @@ pub use history::History;
 pub use machine::Core;
 pub use responder::Responder;
 pub use stepper::{Alone, Stepper};
-
-#[cfg(test)]
-mod tests;

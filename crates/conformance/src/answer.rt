@@ -1,13 +1,14 @@
 //! What a call answers, and how two answers differ.
 
-use mj_io::{MemorySink, NamedFile, OpenGate, SteadyFiles};
+use crate::case::Failing;
+use mj_io::{MemoryFiles, MemorySink, NamedFile, OpenGate};
 use std::alloc::{AllocError, Global};
 use std::io;
 use std::io::Print;
 use std::sync::Wait;
 use std::thread::Threads;
 
-/// The status that says that the words are faulty. What is said of them is free.
+/// The status that says that the words are faulty. What is said of them is free where none is wanted.
 const WRONG_USE: u8 = 2;
 
 /// The most bytes that a sink takes at once, so that a long text goes in several writes.
@@ -21,16 +22,17 @@ pub struct Answer {
     pub err: Vec<u8>,
 }
 
-/// Runs the product over files and sinks in memory.
+/// Runs the product over files and sinks in memory, of which some calls fail.
 pub fn run<R: Wait + Threads + Sync>(
     rt: &R,
     alloc: Global,
     words: &[String],
     files: Vec<NamedFile>,
+    failing: Failing,
 ) -> Result<Answer, AllocError> {
-    let mut files = SteadyFiles::new(files);
-    let mut out = MemorySink::new(alloc, MOST_AT_ONCE, Vec::new(alloc));
-    let mut err = MemorySink::new(alloc, MOST_AT_ONCE, Vec::new(alloc));
+    let mut files = MemoryFiles::new(files, failing.fetches);
+    let mut out = MemorySink::new(alloc, MOST_AT_ONCE, failing.out);
+    let mut err = MemorySink::new(alloc, MOST_AT_ONCE, failing.err);
     let status = mojo_tool::mojo_main(rt, alloc, words, &mut files, &mut out, &mut err, &OpenGate);
     Ok(Answer {
         status,
@@ -42,7 +44,7 @@ pub fn run<R: Wait + Threads + Sync>(
 impl Answer {
     /// Whether the text on `err` is settled.
     fn has_settled_err(&self) -> bool {
-        self.status != WRONG_USE
+        self.status != WRONG_USE || !self.err.is_empty()
     }
 
     /// Whether the answer is the one that is wanted.

@@ -13,16 +13,31 @@ pub struct Case {
     /// The words of the command line, the program's name first.
     pub words: Vec<String>,
     pub files: Vec<NamedFile>,
+    pub failing: Failing,
     pub wanted: Answer,
 }
 
+/// The numbers, from 0, of the calls that are to fail: fetches, and writes to standard output and to
+/// standard error.
+#[derive(Drop)]
+pub struct Failing {
+    pub fetches: Vec<u64>,
+    pub out: Vec<u64>,
+    pub err: Vec<u64>,
+}
+
 impl Case {
-    /// A case that wants status 0 and no text.
+    /// A case in which nothing fails, and that wants status 0 and no text.
     pub fn new(alloc: Global, name: &str) -> Result<Case, AllocError> {
         Ok(Case {
             name: String::from_str(alloc, name)?,
             words: Vec::new(alloc),
             files: Vec::new(alloc),
+            failing: Failing {
+                fetches: Vec::new(alloc),
+                out: Vec::new(alloc),
+                err: Vec::new(alloc),
+            },
             wanted: Answer {
                 status: 0,
                 out: Vec::new(alloc),

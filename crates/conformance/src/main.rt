@@ -66,9 +66,10 @@ fn run_case<R: Print + AllocGlobal + Wait + Threads + Sync>(
         name,
         words,
         files,
+        failing,
         wanted,
     } = case;
-    let answer = answer::run(rt, rt.alloc(), words.as_slice(), files)?;
+    let answer = answer::run(rt, rt.alloc(), words.as_slice(), files, failing)?;
     if answer.is_wanted(&wanted) {
         return Ok(true);
     }

@@ -1,6 +1,6 @@
 //! Reads files of cases, line by line.
 
-use crate::case::{Case, CaseError};
+use crate::case::{Case, CaseError, Failing};
 use crate::lines::{LineError, append_line};
 use mj_io::NamedFile;
 use std::alloc::Global;
@@ -88,6 +88,10 @@ fn read_keyword(
             case.wanted.status = rest.parse::<u8>().ok().ok_or(LineError::BadForm)?;
             Ok(Place::Nowhere)
         }
+        "fails" => {
+            read_failing(rest, &mut case.failing)?;
+            Ok(Place::Nowhere)
+        }
         "file" => {
             case.files.push(NamedFile {
                 name: String::from_str(alloc, rest)?,
@@ -105,6 +109,19 @@ fn read_keyword(
 fn read_words(alloc: Global, line: &str, words: &mut Vec<String>) -> Result<(), LineError> {
     for word in line.split(' ') {
         words.push(String::from_str(alloc, word)?)?;
+    }
+    Ok(())
+}
+
+/// Appends the number of a call that is to fail, behind the word that says of what.
+fn read_failing(line: &str, failing: &mut Failing) -> Result<(), LineError> {
+    let (which, number) = line.split_once(' ').ok_or(LineError::BadForm)?;
+    let number = number.parse::<u64>().ok().ok_or(LineError::BadForm)?;
+    match which {
+        "fetch" => failing.fetches.push(number)?,
+        "out" => failing.out.push(number)?,
+        "err" => failing.err.push(number)?,
+        _ => return Err(LineError::BadForm),
     }
     Ok(())
 }

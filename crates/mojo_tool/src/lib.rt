@@ -11,8 +11,6 @@ mod lookup;
 mod refusal;
 mod run;
 mod status;
-#[cfg(test)]
-mod tests;
 mod top;
 
 pub use refusal::ToolRefusal;

@@ -1,5 +1,5 @@
 //! What names, constants and enumerators mean in small sets of files, computed literally: plain, slow, and
-//! apart from the code that is proved of the definitions. The tests of `names_tests` compare the two.
+//! apart from the code that is proved of the definitions. The program `names` compares the two.
 #![tactic(auto)]
 
 mod file_order;

@@ -1,0 +1,205 @@
+//! The texts of events that no script leads to yet.
+
+ghost use Rattle.std.specs.Prelude.{◌≡◌, [], ◌∷◌, codes, None, IfOk};
+ghost use Rattle.mj_schema.specs.Layout.{IsLaidOut};
+
+use bind_model::{Asked, BadWhy, Closing, Event, Got, Outgoing, Parameters, PendingId, Told, Why};
+use handle_table::{Thing, TokenId};
+use history_text::render;
+use mj_base::{EndId, Items, SeqId, Text};
+use mj_schema::{InterfaceRow, MethodRow, Schema, StructRow, VersionRow};
+use std::alloc::{AllocError, Global};
+use std::test::Fail;
+use wire_encoder::EndpointSide;
+use wire_model::{MessageSide, Target, Value};
+
+/// Two ends of one pipe, an endpoint of the second, and a token.
+const X: EndId = EndId { seq: 0, serial: 0 };
+
+const Y: EndId = EndId { seq: 0, serial: 1 };
+
+const Q: PendingId = PendingId {
+    end: Y,
+    id: 2147483649,
+};
+
+const T: Thing = Thing::Token(TokenId { seq: 0, serial: 0 });
+
+/// The request of a ping.
+const PING: Target = Target {
+    interface: 0,
+    method: 0,
+    side: MessageSide::Request,
+};
+
+/// What comes of an endpoint, and takes that get nothing.
+const ENDPOINT: &str = "0 0 associate e0.0 remote t.P -> associated pe0.1#2147483649
+1 1 attach pe0.1#2147483649 2 -> attached 2147483649
+2 1 take e0.1 -> no unbound 2147483649
+3 1 take e0.1 -> no elsewhere 2
+4 1 take e0.1 -> dropped 2147483649 [t0.0]
+5 0 take e0.0 -> control 2147483649
+6 0 take e0.0 -> bad unasked 1 [e0.0]
+7 2 close e0.1#2147483649 -> closed []
+left t0.0
+done 8
+";
+
+/// Messages that carry an endpoint, and bytes that are written as they are.
+const CARRIED: &str =
+    "0 0 call e0.0#2147483649 t.P.Ping () [e0.1,t0.0,pe0.1#2147483649] -> no self-send
+1 2 take e0.0 -> got request 2147483649 t.P.Ping () 0 [e0.1,t0.0] [pe0.1#2147483649] [t0.0]
+2 0 raw e0.0 0aff [t0.0] -> wrote e0.0
+3 0 raw e0.0 - [] -> no full
+left t0.0
+done 4
+";
+
+/// A struct without fields.
+fn empty_struct(alloc: Global) -> Result<StructRow, AllocError>
+    ensures name { IfOk result (λ row. row.name ≡ codes "t.P.Ping.request") }
+    ensures empty { IfOk result (λ row. row.fields ≡ []) }
+    ensures laid_out { IfOk result IsLaidOut }
+{
+    let version = VersionRow {
+        version: 0,
+        fields: 0,
+        bytes: 8,
+    };
+    Ok(StructRow {
+        name: Text::from_str(alloc, "t.P.Ping.request")?,
+        fields: Items::new(alloc),
+        versions: Items::from_vec(vec![in alloc; version]?),
+    })
+}
+
+/// An interface of a method without parameters.
+fn one_method(alloc: Global) -> Result<InterfaceRow, AllocError>
+    ensures name { IfOk result (λ row. row.name ≡ codes "t.P") }
+    ensures method { IfOk result (λ row. row.methods ≡ record { name = codes "Ping"; ordinal = 0; request = 0; response = None } ∷ []) }
+{
+    let method = MethodRow {
+        name: Text::from_str(alloc, "Ping")?,
+        ordinal: 0,
+        request: 0,
+        response: None,
+    };
+    Ok(InterfaceRow {
+        name: Text::from_str(alloc, "t.P")?,
+        methods: Items::from_vec(vec![in alloc; method]?),
+    })
+}
+
+/// The schema of `module t; interface P { Ping(); };`.
+fn schema_of(alloc: Global) -> Result<Schema, AllocError> {
+    Ok(Schema {
+        structs: Items::from_vec(vec![in alloc; empty_struct(alloc)?]?),
+        unions: Items::new(alloc),
+        enums: Items::new(alloc),
+        interfaces: Items::from_vec(vec![in alloc; one_method(alloc)?]?),
+        consts: Items::new(alloc),
+        order: Items::new(alloc),
+    })
+}
+
+fn things(alloc: Global, of: &[Thing]) -> Result<Items<Thing>, AllocError> {
+    Ok(Items::from_vec(Vec::from_slice(alloc, of)?))
+}
+
+fn pendings(alloc: Global) -> Result<Items<PendingId>, AllocError> {
+    Ok(Items::from_vec(vec![in alloc; Q]?))
+}
+
+/// An event of a sequence.
+fn event(seq: u32, asked: Asked, told: Told) -> Event {
+    Event {
+        seq: SeqId(seq),
+        asked,
+        told,
+    }
+}
+
+/// The events of `ENDPOINT`.
+fn endpoint_events(alloc: Global) -> Result<Vec<Event>, AllocError> {
+    let token = things(alloc, &[T])?;
+    let end = things(alloc, &[Thing::End(X)])?;
+    let none = Items::new(alloc);
+    Ok(vec![in alloc;
+        event(
+            0,
+            Asked::Associate(X, EndpointSide::Remote, 0),
+            Told::Associated(Q)
+        ),
+        event(1, Asked::Attach(Q, SeqId(2)), Told::Attached(Q.id)),
+        event(1, Asked::Take(Y), Told::No(Why::Unbound(Q.id))),
+        event(1, Asked::Take(Y), Told::No(Why::Elsewhere(SeqId(2)))),
+        event(1, Asked::Take(Y), Told::Dropped(Q.id, token)),
+        event(0, Asked::Take(X), Told::Control(Q.id)),
+        event(0, Asked::Take(X), Told::Bad(BadWhy::Unasked(1), end)),
+        event(
+            2,
+            Asked::Close(Closing::Endpoint(Y, Q.id)),
+            Told::Closed(none)
+        ),
+    ]?)
+}
+
+/// A ping that carries an end, a token and an endpoint.
+fn carried(alloc: Global) -> Result<Asked, AllocError> {
+    let handles = things(alloc, &[Thing::End(Y), T])?;
+    let pendings = pendings(alloc)?;
+    Ok(Asked::Call(
+        X,
+        Q.id,
+        Outgoing {
+            target: PING,
+            parameters: Parameters::new(Value::Struct(Vec::new(alloc))),
+            handles,
+            pendings,
+        },
+    ))
+}
+
+/// What a take got of it, and a token that went.
+fn got_carried(alloc: Global) -> Result<Told, AllocError> {
+    let handles = things(alloc, &[Thing::End(Y), T])?;
+    let gone = things(alloc, &[T])?;
+    let pendings = pendings(alloc)?;
+    Ok(Told::Taken(Got {
+        id: Q.id,
+        target: PING,
+        parameters: Parameters::new(Value::Struct(Vec::new(alloc))),
+        request: 0,
+        handles,
+        pendings,
+        gone,
+    }))
+}
+
+/// The events of `CARRIED`.
+fn carried_events(alloc: Global) -> Result<Vec<Event>, AllocError> {
+    let call = carried(alloc)?;
+    let got = got_carried(alloc)?;
+    let bytes = Items::from_vec(vec![in alloc; 0x0a, 0xff]?);
+    let token = things(alloc, &[T])?;
+    let nothing = Asked::Raw(Thing::End(X), Items::new(alloc), Items::new(alloc));
+    Ok(vec![in alloc;
+        event(0, call, Told::No(Why::SelfSend)),
+        event(2, Asked::Take(X), got),
+        event(0, Asked::Raw(Thing::End(X), bytes, token), Told::Wrote(X)),
+        event(0, nothing, Told::No(Why::Full)),
+    ]?)
+}
+
+#[test]
+fn each_event_has_its_text(rt: HostRuntime) -> Result<(), Fail> {
+    let alloc = rt.alloc();
+    let schema = schema_of(alloc)?;
+    let history = endpoint_events(alloc)?;
+    let text = render(alloc, &schema, history.as_slice(), &[T])?;
+    assert_eq!(rt; text.as_slice(), ENDPOINT.as_bytes());
+    let history = carried_events(alloc)?;
+    let text = render(alloc, &schema, history.as_slice(), &[T])?;
+    assert_eq!(rt; text.as_slice(), CARRIED.as_bytes());
+    Ok(())
+}

@@ -1,0 +1,106 @@
+//! What the stages answer, as a text.
+
+use crate::stages::Stages;
+use mj_base::Text;
+use mojom_files::{Basic, Cause, NamedFile, Refusal};
+use std::alloc::{AllocError, Global};
+use std::str;
+
+/// A circle of imports, with the names of its files.
+fn circle_text(alloc: Global, names: &[Text]) -> Result<String, AllocError> {
+    let mut text = String::from_str(alloc, "CircularImport")?;
+    for name in names {
+        text.push_str(" ")?;
+        text.push_str(name.as_str())?;
+    }
+    Ok(text)
+}
+
+/// A number that isn't one of its kind.
+fn range_text(alloc: Global, kind: Basic, value: i128) -> Result<String, AllocError> {
+    let kind = kind.name();
+    format!(in alloc; "OutOfRange {kind} {value}")
+}
+
+/// An ordinal that stands twice, or that is lacking.
+fn ordinal_text(alloc: Global, word: &str, name: &str, ordinal: u32) -> Result<String, AllocError> {
+    format!(in alloc; "{word} {name} {ordinal}")
+}
+
+/// A version that is below the one before.
+fn fall_text(alloc: Global, name: &str, before: u32, here: u32) -> Result<String, AllocError> {
+    format!(in alloc; "VersionFalls {name} {before} {here}")
+}
+
+/// The cause of a refusal, and what it says.
+fn cause_text(alloc: Global, cause: &Cause) -> Result<String, AllocError> {
+    let (word, name) = match cause {
+        Cause::CircularImport(names) => return circle_text(alloc, names.as_slice()),
+        Cause::OutOfRange { kind, value } => return range_text(alloc, *kind, *value),
+        Cause::OrdinalDouble { name, ordinal } => {
+            return ordinal_text(alloc, "OrdinalDouble", name.as_str(), *ordinal);
+        }
+        Cause::OrdinalGap { name, ordinal } => {
+            return ordinal_text(alloc, "OrdinalGap", name.as_str(), *ordinal);
+        }
+        Cause::VersionFalls { name, before, here } => {
+            return fall_text(alloc, name.as_str(), *before, *here);
+        }
+        Cause::NoFile(path) => ("NoFile", str::from_utf8(path.as_slice()).unwrap_or("?")),
+        Cause::DuplicateName(name) => ("DuplicateName", name.as_str()),
+        Cause::UnknownName(name) => ("UnknownName", name.as_str()),
+        Cause::WrongSort(name) => ("WrongSort", name.as_str()),
+        Cause::CircularConst(name) => ("CircularConst", name.as_str()),
+        Cause::WrongLiteral(name) => ("WrongLiteral", name.as_str()),
+        Cause::TooManyFields(name) => ("TooManyFields", name.as_str()),
+        Cause::EmptyEnum(name) => ("EmptyEnum", name.as_str()),
+        Cause::DoubleDefault(name) => ("DoubleDefault", name.as_str()),
+        Cause::FloatField(name) => ("FloatField", name.as_str()),
+        Cause::BadMapKey(name) => ("BadMapKey", name.as_str()),
+        Cause::NullableKey(name) => ("NullableKey", name.as_str()),
+        Cause::BadNullable(name) => ("BadNullable", name.as_str()),
+        Cause::ZeroLengthArray(name) => ("ZeroLengthArray", name.as_str()),
+        Cause::LateNotNullable(name) => ("LateNotNullable", name.as_str()),
+    };
+    format!(in alloc; "{word} {name}")
+}
+
+/// What is said of a place, a byte of the file of this number: `FILE:AT: WHAT`.
+pub fn placed(
+    alloc: Global,
+    files: &[NamedFile],
+    file: usize,
+    at: u64,
+    what: &str,
+) -> Result<String, AllocError> {
+    let name = match files.get(file) {
+        Some(file) => file.name.as_str(),
+        None => "?",
+    };
+    format!(in alloc; "{name}:{at}: {what}")
+}
+
+/// Numbers with a blank between two.
+fn numbers_text(alloc: Global, numbers: &[u32]) -> Result<String, AllocError> {
+    let mut text = String::new(alloc);
+    for (place, number) in numbers.iter().enumerate() {
+        if place > 0 {
+            text.push_str(" ")?;
+        }
+        text.push_str(format!(in alloc; "{number}")?.as_str())?;
+    }
+    Ok(text)
+}
+
+/// The first refusal, with its file, its place there in bytes and its cause; or the numbers of the files in
+/// resolved order, where nothing is refused.
+pub fn text(alloc: Global, files: &[NamedFile], stages: &Stages) -> Result<String, AllocError> {
+    if let Some(Refusal { file, at, cause }) = &stages.refusal {
+        let cause = cause_text(alloc, cause)?;
+        return placed(alloc, files, *file as usize, *at, cause.as_str());
+    }
+    match &stages.order {
+        Some(numbers) => numbers_text(alloc, numbers.as_slice()),
+        None => Ok(String::new(alloc)),
+    }
+}
