@@ -9,7 +9,7 @@ use Rattle.handle_table.specs.declared.thing.Thing.{Thing}
 use Rattle.mj_schema.specs.declared.schema.Schema.{Schema}
 use Rattle.bind_model.specs.declared.event.Event.{Event}
 use Rattle.bind_model.specs.declared.endpoint.PendingId.{PendingId}
-use Rattle.history_text.specs.History.{event_lines, event_line, left_line, pending_text, pendings_text, tokens_text}
+use Rattle.history_text.specs.History.{event_lines, event_line, pending_text, pendings_text, tokens_text}
 
 lines_snoc : (schema : Schema) (k n : ℕ) (xs : List Event) (e : Event) → n ≡ k + length xs
     → event_lines schema k (xs ++ e ∷ []) ≡ event_lines schema k xs ++ event_line schema n e
@@ -58,11 +58,10 @@ joined_both f g (x ∷ xs) ys d end h =
     (sym (append_assoc (f x) (flat_map (λ x. 44 ∷ f x) xs ++ flat_map (λ y. 44 ∷ g y) ys) end
     ∙ ap (λ t. f x ++ t) (append_assoc (flat_map (λ x. 44 ∷ f x) xs) (flat_map (λ y. 44 ∷ g y) ys) end)))
 
--- the line of one thing more
-pub left_more : (things : List Thing) (k : ℕ) (d : Thing) → k < length things
-    → flat_map left_line (take (k + 1) things) ≡ flat_map left_line (take k things) ++ left_line (get_or things k d)
-left_more things k d h =
-    rw (take_more things k d h, flat_map-append left_line (take k things) (get_or things k d ∷ []), append-nil (left_line (get_or things k d))) refl
+-- the line of one more
+line_more : {X : Type 0} (line : X → List ℕ) (xs : List X) (k : ℕ) (d : X) → k < length xs
+    → flat_map line (take (k + 1) xs) ≡ flat_map line (take k xs) ++ line (get_or xs k d)
+line_more line xs k d h = rw (take_more xs k d h, flat_map-append line (take k xs) (get_or xs k d ∷ []), append-nil (line (get_or xs k d))) refl
 
 -- no handles, and the pendings
 pub tokens_none : (handles : List Thing) (pendings : List PendingId) → length handles ≡ 0 → pendings_text pendings ≡ tokens_text handles pendings
@@ -70,13 +69,12 @@ tokens_none [] pendings h = ap (λ t. 91 ∷ (t ++ 93 ∷ [])) (sym (joined_map 
 tokens_none (x ∷ handles) pendings h = absurd (omega (arith, h))
 
 -- the lines so far and one more
-pub left_next : (old now new : List ℕ) (things : List Thing) (k : ℕ) (d : Thing) → k < length things
-    → now ≡ old ++ flat_map left_line (take k things) → new ≡ now ++ left_line (get_or things k d)
-    → new ≡ old ++ flat_map left_line (take (k + 1) things)
-left_next old now new things k d h so_far more =
+pub line_next : {X : Type 0} (line : X → List ℕ) (old now new : List ℕ) (xs : List X) (k : ℕ) (d : X) → k < length xs
+    → now ≡ old ++ flat_map line (take k xs) → new ≡ now ++ line (get_or xs k d) → new ≡ old ++ flat_map line (take (k + 1) xs)
+line_next line old now new xs k d h so_far more =
     more
-    ∙ (ap (λ t. t ++ left_line (get_or things k d)) so_far
-    ∙ (append_assoc old (flat_map left_line (take k things)) (left_line (get_or things k d)) ∙ ap (λ t. old ++ t) (sym (left_more things k d h))))
+    ∙ (ap (λ t. t ++ line (get_or xs k d)) so_far
+    ∙ (append_assoc old (flat_map line (take k xs)) (line (get_or xs k d)) ∙ ap (λ t. old ++ t) (sym (line_more line xs k d h))))
 
 -- the text of an end and what is behind it
 pub end_then : (a b : List ℕ) (end : List ℕ) → (a ++ 46 ∷ b) ++ end ≡ a ++ 46 ∷ (b ++ end)

@@ -1,4 +1,4 @@
--- The text of a history: a line for each event, a line for each thing that is left, and how many events there were.
+-- The text of a history: a line for each event, then one for each callback, then one for each thing that is left, and last how many events there were.
 use Rattle.std.specs.Prelude.{ℕ, suc, decimal, ◌++◌, List, [], ◌∷◌, length, map, codes}
 use Rattle.std.specs.List.{flat_map, join_by}
 use Rattle.hex.specs.Hex.{encode_lower}
@@ -28,7 +28,8 @@ use Rattle.bind_model.specs.declared.told.Told.TheVariants.{Made, Bound, Associa
 use Rattle.bind_model.specs.declared.told.Told.TheVariants.{Closed, Skipped, No}
 use Rattle.bind_model.specs.declared.event.Event.{Event}
 use Rattle.history_text.specs.Names.{interface_name, method_text}
-use Rattle.history_text.specs.Words.{side_word, sort_word, message_word, fault_word}
+use Rattle.history_text.specs.Words.{side_word, sort_word, message_word, fate_word, fault_word}
+use Rattle.history_text.specs.declared.notes.Note.{Note}
 
 -- bytes in hexadecimal, and `-` for no bytes
 abbrev pub hex_text : List ℕ → List ℕ
@@ -169,6 +170,12 @@ abbrev pub event_lines : Schema → ℕ → List Event → List ℕ
 event_lines schema k [] = []
 event_lines schema k (event ∷ events) = event_line schema k event ++ event_lines schema (suc k) events
 
+-- the line of a callback, as `callback 0 e0.1#5 7 ran`: the sequence that called, the endpoint, the request's id, and what became of the callback
+abbrev pub note_line : Note → List ℕ
+note_line note =
+    codes "callback " ++ (decimal note.seq.0 ++ (codes " " ++ (endpoint_text note.end note.id
+    ++ (codes " " ++ (decimal note.request ++ (codes " " ++ (fate_word note.fate ++ codes "\n")))))))
+
 -- the line of a thing that is left
 abbrev pub left_line : Thing → List ℕ
 left_line x = codes "left " ++ (thing_text x ++ codes "\n")
@@ -177,6 +184,7 @@ left_line x = codes "left " ++ (thing_text x ++ codes "\n")
 abbrev pub done_line : ℕ → List ℕ
 done_line count = codes "done " ++ (decimal count ++ codes "\n")
 
--- the whole text: the events from number 0 on, the oldest first, and what is left in this order
-abbrev pub history_text : Schema → List Event → List Thing → List ℕ
-history_text schema history left = event_lines schema 0 history ++ (flat_map left_line left ++ done_line (length history))
+-- the whole text: the events from number 0 on, the oldest first, then the callbacks and then what is left, both in the order given
+abbrev pub history_text : Schema → List Event → List Note → List Thing → List ℕ
+history_text schema history notes left =
+    event_lines schema 0 history ++ (flat_map note_line notes ++ (flat_map left_line left ++ done_line (length history)))

@@ -1,4 +1,4 @@
--- The words for sides, sorts and causes.
+-- The words for sides, sorts, fates of callbacks, and causes.
 use Rattle.std.specs.Prelude.{ℕ, List, codes}
 use Rattle.handle_table.specs.declared.thing.TokenSort.{TokenSort}
 use Rattle.handle_table.specs.declared.thing.TokenSort.TheVariants.{SharedBuffer, Platform}
@@ -8,6 +8,8 @@ use Rattle.wire_encoder.specs.declared.endpoint.EndpointSide.{EndpointSide}
 use Rattle.wire_encoder.specs.declared.endpoint.EndpointSide.TheVariants.{Remote, Receiver}
 use Rattle.wire_model.specs.declared.target.MessageSide.{MessageSide}
 use Rattle.wire_model.specs.declared.target.MessageSide.TheVariants.{Request, Response}
+use Rattle.history_text.specs.declared.notes.Fate.{Fate}
+use Rattle.history_text.specs.declared.notes.Fate.TheVariants.{Ran, Dropped}
 
 -- the word for a side of an endpoint
 abbrev pub side_word : EndpointSide → List ℕ
@@ -23,6 +25,11 @@ sort_word Platform = codes "platform"
 abbrev pub message_word : MessageSide → List ℕ
 message_word Request = codes "request"
 message_word Response = codes "response"
+
+-- the word for what became of a callback
+abbrev pub fate_word : Fate → List ℕ
+fate_word Ran = codes "ran"
+fate_word Dropped = codes "dropped"
 
 -- the word for a fault, as Chromium has it where it has one
 abbrev pub fault_word : FaultKind → List ℕ

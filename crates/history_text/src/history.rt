@@ -2,12 +2,14 @@
 
 ghost use Rattle.std.specs.Prelude.{◌≡◌, ◌++◌, IfOk, OnOk};
 ghost use Rattle.std.specs.List.{flat_map};
-ghost use Rattle.history_text.specs.History.{event_line, event_lines, left_line, history_text};
+ghost use Rattle.history_text.specs.History.{event_line, event_lines, note_line, left_line, history_text};
 
 use crate::asked_text::push_asked;
 use crate::message_text::push_text;
-use crate::shown::ShownThing;
+use crate::notes::Note;
+use crate::shown::{ShownEndpoint, ShownThing};
 use crate::told_text::push_told;
+use crate::words::fate_word;
 use bind_model::Event;
 use handle_table::Thing;
 use mj_schema::Schema;
@@ -44,6 +46,30 @@ fn event_lines(alloc: Global, schema: &Schema, events: &[Event]) -> Result<Vec<u
     Ok(text)
 }
 
+/// Adds the line of a callback.
+fn push_note(alloc: Global, out: &mut Vec<u8>, note: Note) -> Result<(), AllocError>
+    ensures { OnOk result (out.new.items ≡ out.old.items ++ note_line note) }
+{
+    let seq = note.seq.0;
+    let endpoint = ShownEndpoint(note.end, note.id);
+    let request = note.request;
+    let fate = fate_word(note.fate);
+    push_text(
+        out,
+        format!(in alloc; "callback {seq} {endpoint} {request} {fate}\n")?.as_str(),
+    )
+}
+
+/// Adds the lines of callbacks.
+fn push_notes(alloc: Global, out: &mut Vec<u8>, notes: &[Note]) -> Result<(), AllocError>
+    ensures { OnOk result (out.new.items ≡ out.old.items ++ flat_map note_line notes.now) }
+{
+    for note in notes {
+        push_note(alloc, out, *note)?;
+    }
+    Ok(())
+}
+
 /// Adds the line of a thing that is left.
 fn push_left_line(alloc: Global, out: &mut Vec<u8>, thing: Thing) -> Result<(), AllocError>
     ensures { OnOk result (out.new.items ≡ out.old.items ++ left_line thing) }
@@ -64,19 +90,22 @@ fn push_left(alloc: Global, out: &mut Vec<u8>, left: &[Thing]) -> Result<(), All
     Ok(())
 }
 
-/// The text of a history: a line for each event, the oldest first; a line for each thing that is
-/// left, in the order given; and how many events there were. An interface or a method that the schema
-/// lacks has an empty name, and its parameters are written as the schema's first struct. Takes time in
-/// proportion to the text and, for each message, to the methods of its interface.
+/// The text of a history: a line for each event, the oldest first; then a line for each callback and
+/// then one for each thing that is left, both in the order given; and last how many events there were.
+/// An interface or a method that the schema lacks has an empty name, and its parameters are written as
+/// the schema's first struct. Takes time in proportion to the text and, for each message, to the methods
+/// of its interface. The error is want of memory.
 pub fn render(
     alloc: Global,
     schema: &Schema,
     history: &[Event],
+    notes: &[Note],
     left: &[Thing],
 ) -> Result<Vec<u8>, AllocError>
-    ensures { IfOk result (λ text. text.items ≡ history_text schema.now history.now left.now) }
+    ensures { IfOk result (λ text. text.items ≡ history_text schema.now history.now notes.now left.now) }
 {
     let mut text = event_lines(alloc, schema, history)?;
+    push_notes(alloc, &mut text, notes)?;
     push_left(alloc, &mut text, left)?;
     let count = history.len();
     push_text(&mut text, format!(in alloc; "done {count}\n")?.as_str())?;

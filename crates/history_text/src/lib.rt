@@ -5,9 +5,11 @@ mod asked_text;
 mod history;
 mod message_text;
 mod names;
+mod notes;
 mod shown;
 mod shown_lists;
 mod told_text;
 mod words;
 
 pub use history::render;
+pub use notes::{Fate, Note};

@@ -1,8 +1,9 @@
-//! The words for sides, sorts and causes.
+//! The words for sides, sorts, fates of callbacks, and causes.
 
 ghost use Rattle.std.specs.Prelude.{◌≡◌};
-ghost use Rattle.history_text.specs.Words.{side_word, sort_word, message_word, fault_word};
+ghost use Rattle.history_text.specs.Words.{side_word, sort_word, message_word, fate_word, fault_word};
 
+use crate::notes::Fate;
 use handle_table::TokenSort;
 use mj_base::FaultKind;
 use wire_encoder::EndpointSide;
@@ -35,6 +36,16 @@ pub(crate) fn message_word(side: MessageSide) -> &'static str
     match side {
         MessageSide::Request => "request",
         MessageSide::Response => "response",
+    }
+}
+
+/// The word for what became of a callback.
+pub(crate) fn fate_word(fate: Fate) -> &'static str
+    ensures { result.now ≡ fate_word fate }
+{
+    match fate {
+        Fate::Ran => "ran",
+        Fate::Dropped => "dropped",
     }
 }
 

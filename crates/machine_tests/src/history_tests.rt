@@ -1,11 +1,11 @@
-//! The texts of events that no script leads to yet.
+//! The texts of events and callbacks that no script leads to yet.
 
 ghost use Rattle.std.specs.Prelude.{◌≡◌, [], ◌∷◌, codes, None, IfOk};
 ghost use Rattle.mj_schema.specs.Layout.{IsLaidOut};
 
 use bind_model::{Asked, BadWhy, Closing, Event, Got, Outgoing, Parameters, PendingId, Told, Why};
 use handle_table::{Thing, TokenId};
-use history_text::render;
+use history_text::{Fate, Note, render};
 use mj_base::{EndId, Items, SeqId, Text};
 use mj_schema::{InterfaceRow, MethodRow, Schema, StructRow, VersionRow};
 use std::alloc::{AllocError, Global};
@@ -53,6 +53,17 @@ const CARRIED: &str =
 3 0 raw e0.0 - [] -> no full
 left t0.0
 done 4
+";
+
+/// Callbacks of two sequences, some of them at ends that the other one made, and an end and a token.
+const CALLBACKS: &str = "callback 0 e1.0#0 1 ran
+callback 0 e1.0#0 2 dropped
+callback 0 e1.0#2147483649 1 dropped
+callback 1 e1.3#0 1 ran
+callback 1 e0.13#0 1 dropped
+left e0.0
+left t0.0
+done 0
 ";
 
 /// A struct without fields.
@@ -191,15 +202,47 @@ fn carried_events(alloc: Global) -> Result<Vec<Event>, AllocError> {
     ]?)
 }
 
+/// The end of a number of a sequence.
+fn end(seq: u32, serial: u32) -> EndId {
+    EndId { seq, serial }
+}
+
+/// What became of the callback of a request from the endpoint of an id at an end.
+fn note(seq: u32, end: EndId, id: u32, request: u64, fate: Fate) -> Note {
+    Note {
+        seq: SeqId(seq),
+        end,
+        id,
+        request,
+        fate,
+    }
+}
+
 #[test]
 fn each_event_has_its_text(rt: HostRuntime) -> Result<(), Fail> {
     let alloc = rt.alloc();
     let schema = schema_of(alloc)?;
     let history = endpoint_events(alloc)?;
-    let text = render(alloc, &schema, history.as_slice(), &[T])?;
+    let text = render(alloc, &schema, history.as_slice(), &[], &[T])?;
     assert_eq!(rt; text.as_slice(), ENDPOINT.as_bytes());
     let history = carried_events(alloc)?;
-    let text = render(alloc, &schema, history.as_slice(), &[T])?;
+    let text = render(alloc, &schema, history.as_slice(), &[], &[T])?;
     assert_eq!(rt; text.as_slice(), CARRIED.as_bytes());
+    Ok(())
+}
+
+#[test]
+fn each_callback_has_its_line(rt: HostRuntime) -> Result<(), Fail> {
+    let alloc = rt.alloc();
+    let schema = schema_of(alloc)?;
+    let notes = [
+        note(0, end(1, 0), 0, 1, Fate::Ran),
+        note(0, end(1, 0), 0, 2, Fate::Dropped),
+        note(0, end(1, 0), 2147483649, 1, Fate::Dropped),
+        note(1, end(1, 3), 0, 1, Fate::Ran),
+        note(1, end(0, 13), 0, 1, Fate::Dropped),
+    ];
+    let text = render(alloc, &schema, &[], &notes, &[Thing::End(X), T])?;
+    assert_eq!(rt; text.as_slice(), CALLBACKS.as_bytes());
     Ok(())
 }

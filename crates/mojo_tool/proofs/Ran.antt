@@ -1,5 +1,5 @@
 -- What a run leaves is the text of its script.
-use Rattle.std.proofs.Common.{◌≡◌, ℕ, List, reverse, ap, ◌∙◌}
+use Rattle.std.proofs.Common.{◌≡◌, ℕ, List, [], reverse, ap, ◌∙◌}
 use Rattle.mj_schema.specs.declared.schema.Schema.{Schema}
 use Rattle.handle_table.specs.declared.thing.Thing.{Thing}
 use Rattle.bind_model.specs.declared.event.Event.{Event}
@@ -31,11 +31,11 @@ keeps_laws wire seqs past is = record {
 -- the text of a legal history that is the script's
 pub run_text : (schema : Schema) (script : Script) (history : List Event) (things : List Thing) (text : List ℕ)
     → Legal (wire_of schema) SEQUENCES history → OfScript schema script history → things ≡ left SEQUENCES (reverse history)
-    → text ≡ history_text schema history things → IsTextOf schema script text
+    → text ≡ history_text schema history [] things → IsTextOf schema script text
 run_text schema script history things text lawful events is whole = record {
   history = history;
   legal = lawful;
   events = events;
   laws = keeps_laws (wire_of schema) SEQUENCES (reverse history) lawful;
-  whole = whole ∙ ap (λ (l : List Thing). history_text schema history l) is;
+  whole = whole ∙ ap (λ (l : List Thing). history_text schema history [] l) is;
 }

@@ -1,5 +1,5 @@
 -- What each status says of the words, the files and the sinks, before the call and after it.
-use Rattle.std.specs.Prelude.{ℕ, ◌≡◌, List, reverse, Option, Some, None, IfSome, ◌⊎◌}
+use Rattle.std.specs.Prelude.{ℕ, ◌≡◌, List, [], reverse, Option, Some, None, IfSome, ◌⊎◌}
 use Rattle.mj_io.specs.Outside.{Named, FilesState, SinkState, Rose, Wrote, WroteSome}
 use Rattle.command_line.specs.Asked.{Command, Run, Print, Check, Encode, Decode, command_of}
 use Rattle.mj_schema.specs.declared.schema.Schema.{Schema}
@@ -71,7 +71,7 @@ pub record IsTextOf (schema : Schema) (script : Script) (text : List ℕ) : Type
   pub legal : Legal (wire_of schema) SEQUENCES history
   pub events : OfScript schema script history
   pub laws : KeepsLaws (wire_of schema) SEQUENCES (reverse history)
-  pub whole : text ≡ history_text schema history (left SEQUENCES (reverse history))
+  pub whole : text ≡ history_text schema history [] (left SEQUENCES (reverse history))
 
 -- the text is that of a run that is asked for, of the script that the bytes are
 pub record IsRunText (held : Option (List Named)) (ask : List Named → Work → Type 0) (text : List ℕ) : Type 0 where

@@ -64,8 +64,8 @@ impl Played {
     /// Prints both histories.
     pub fn print<R: Print + AllocGlobal>(&self, rt: &R, schema: &Schema) -> io::Result<()> {
         let events = self.ran.history.as_slice();
-        let run = render(rt.alloc(), schema, events, self.ran.left.as_slice())?;
-        let wanted = render(rt.alloc(), schema, &self.events, &self.left)?;
+        let run = render(rt.alloc(), schema, events, &[], self.ran.left.as_slice())?;
+        let wanted = render(rt.alloc(), schema, &self.events, &[], &self.left)?;
         println!(rt; "the run:\n{}", str::from_utf8(&run).unwrap_or(""))?;
         println!(rt; "wanted:\n{}", str::from_utf8(&wanted).unwrap_or(""))
     }
