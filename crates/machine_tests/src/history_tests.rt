@@ -33,7 +33,7 @@ const PING: Target = Target {
 };
 
 /// What comes of an endpoint, and takes that get nothing.
-const ENDPOINT: &str = "0 0 associate e0.0 remote t.P -> associated pe0.1#2147483649
+pub(crate) const ENDPOINT: &str = "0 0 associate e0.0 remote t.P -> associated pe0.1#2147483649
 1 1 attach pe0.1#2147483649 2 -> attached 2147483649
 2 1 take e0.1 -> no unbound 2147483649
 3 1 take e0.1 -> no elsewhere 2
@@ -46,7 +46,7 @@ done 8
 ";
 
 /// Messages that carry an endpoint, and bytes that are written as they are.
-const CARRIED: &str =
+pub(crate) const CARRIED: &str =
     "0 0 call e0.0#2147483649 t.P.Ping () [e0.1,t0.0,pe0.1#2147483649] -> no self-send
 1 2 take e0.0 -> got request 2147483649 t.P.Ping () 0 [e0.1,t0.0] [pe0.1#2147483649] [t0.0]
 2 0 raw e0.0 0aff [t0.0] -> wrote e0.0
@@ -56,7 +56,7 @@ done 4
 ";
 
 /// Callbacks of two sequences, some of them at ends that the other one made, and an end and a token.
-const CALLBACKS: &str = "callback 0 e1.0#0 1 ran
+pub(crate) const CALLBACKS: &str = "callback 0 e1.0#0 1 ran
 callback 0 e1.0#0 2 dropped
 callback 0 e1.0#2147483649 1 dropped
 callback 1 e1.3#0 1 ran
@@ -102,7 +102,7 @@ fn one_method(alloc: Global) -> Result<InterfaceRow, AllocError>
 }
 
 /// The schema of `module t; interface P { Ping(); };`.
-fn schema_of(alloc: Global) -> Result<Schema, AllocError> {
+pub(crate) fn schema_of(alloc: Global) -> Result<Schema, AllocError> {
     Ok(Schema {
         structs: Items::from_vec(vec![in alloc; empty_struct(alloc)?]?),
         unions: Items::new(alloc),

@@ -1,0 +1,15 @@
+pub mod Signs
+pub mod Keywords
+pub mod Series
+pub mod Names
+pub mod Ids
+pub mod Lists
+pub mod Messages
+pub mod Commands
+pub mod Replies
+pub mod Notes
+pub mod Whole
+pub mod Said
+pub mod Texts
+pub mod Printable
+pub mod steps

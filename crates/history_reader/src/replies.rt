@@ -1,0 +1,269 @@
+//! Replies, up to the line's end.
+
+ghost use Rattle.byte_rules.specs.Reading.{Gives};
+ghost use Rattle.history_reader.specs.Keywords.{keyword};
+ghost use Rattle.history_reader.specs.Replies.{reply_words, message_side, got_lists, got, made, bound, associated, attached, sent, wrote, dropped};
+ghost use Rattle.history_reader.specs.Replies.{control, bad_reply, gone_reply, told_after, told};
+
+use crate::hexadecimal::hexadecimal;
+use crate::ids::{end, pending};
+use crate::keywords::keyword;
+use crate::lists::{pendings, things};
+use crate::messages::message;
+use crate::names::Names;
+use crate::numbers::{index, wide};
+use crate::reasons::{bad, ends, refusal};
+use bind_model::{Got, Parameters, Told};
+use byte_rules::{Stop, expect};
+use mj_schema::Schema;
+use std::alloc::Global;
+use wire_model::{MessageSide, Target};
+
+/// The word that a reply begins with.
+#[derive(Clone, Copy)]
+pub(crate) enum ReplyWord {
+    Made,
+    Bound,
+    Associated,
+    Attached,
+    Sent,
+    Wrote,
+    Got,
+    Dropped,
+    Control,
+    Bad,
+    Closed,
+    Skipped,
+    No,
+}
+
+/// The ends of a new pipe, or a new token.
+#[tactic(auto, unfolding(crate::specs::Replies::made))]
+fn made(alloc: Global, bytes: &[u8]) -> Result<(Told, &[u8]), Stop>
+    ensures { Gives (λ x. (x.0, x.1.now)) result (made.read bytes.now) }
+{
+    let rest = expect(bytes, b' ')?;
+    let (items, rest) = things(alloc, rest)?;
+    ends(Told::Made(items), rest)
+}
+
+/// The end that is bound.
+#[tactic(auto, unfolding(crate::specs::Replies::bound))]
+fn bound(bytes: &[u8]) -> Result<(Told, &[u8]), Stop>
+    ensures { Gives (λ x. (x.0, x.1.now)) result (bound.read bytes.now) }
+{
+    let rest = expect(bytes, b' ')?;
+    let (end, rest) = end(rest)?;
+    ends(Told::Bound(end), rest)
+}
+
+/// The other half of a new endpoint.
+#[tactic(auto, unfolding(crate::specs::Replies::associated))]
+fn associated(bytes: &[u8]) -> Result<(Told, &[u8]), Stop>
+    ensures { Gives (λ x. (x.0, x.1.now)) result (associated.read bytes.now) }
+{
+    let rest = expect(bytes, b' ')?;
+    let (pending, rest) = pending(rest)?;
+    ends(Told::Associated(pending), rest)
+}
+
+/// The id of an endpoint that is bound.
+#[tactic(auto, unfolding(crate::specs::Replies::attached))]
+fn attached(bytes: &[u8]) -> Result<(Told, &[u8]), Stop>
+    ensures { Gives (λ x. (x.0, x.1.now)) result (attached.read bytes.now) }
+{
+    let rest = expect(bytes, b' ')?;
+    let (id, rest) = index(rest)?;
+    ends(Told::Attached(id), rest)
+}
+
+/// A request id, and the bytes that were sent.
+#[tactic(auto, unfolding(crate::specs::Replies::sent))]
+fn sent(alloc: Global, bytes: &[u8]) -> Result<(Told, &[u8]), Stop>
+    ensures { Gives (λ x. (x.0, x.1.now)) result (sent.read bytes.now) }
+{
+    let rest = expect(bytes, b' ')?;
+    let (request, rest) = wide(rest)?;
+    let rest = expect(rest, b' ')?;
+    let (message, rest) = hexadecimal(alloc, b'\n', rest)?;
+    Ok((Told::Sent(request, message), rest))
+}
+
+/// The end that was written to.
+#[tactic(auto, unfolding(crate::specs::Replies::wrote))]
+fn wrote(bytes: &[u8]) -> Result<(Told, &[u8]), Stop>
+    ensures { Gives (λ x. (x.0, x.1.now)) result (wrote.read bytes.now) }
+{
+    let rest = expect(bytes, b' ')?;
+    let (end, rest) = end(rest)?;
+    ends(Told::Wrote(end), rest)
+}
+
+/// The endpoint of a message that nobody got, and what went with it.
+#[tactic(auto, unfolding(crate::specs::Replies::dropped))]
+fn dropped(alloc: Global, bytes: &[u8]) -> Result<(Told, &[u8]), Stop>
+    ensures { Gives (λ x. (x.0, x.1.now)) result (dropped.read bytes.now) }
+{
+    let rest = expect(bytes, b' ')?;
+    let (id, rest) = index(rest)?;
+    let rest = expect(rest, b' ')?;
+    let (gone, rest) = things(alloc, rest)?;
+    ends(Told::Dropped(id, gone), rest)
+}
+
+/// The endpoint whose peer is closed.
+#[tactic(auto, unfolding(crate::specs::Replies::control))]
+fn control(bytes: &[u8]) -> Result<(Told, &[u8]), Stop>
+    ensures { Gives (λ x. (x.0, x.1.now)) result (control.read bytes.now) }
+{
+    let rest = expect(bytes, b' ')?;
+    let (id, rest) = index(rest)?;
+    ends(Told::Control(id), rest)
+}
+
+/// Why a message is bad, and what went.
+#[tactic(auto, unfolding(crate::specs::Replies::bad_reply))]
+fn bad_reply(alloc: Global, bytes: &[u8]) -> Result<(Told, &[u8]), Stop>
+    ensures { Gives (λ x. (x.0, x.1.now)) result (bad_reply.read bytes.now) }
+{
+    let rest = expect(bytes, b' ')?;
+    let (why, rest) = bad(rest)?;
+    let rest = expect(rest, b' ')?;
+    let (gone, rest) = things(alloc, rest)?;
+    ends(Told::Bad(why, gone), rest)
+}
+
+/// What went.
+#[tactic(auto, unfolding(crate::specs::Replies::gone_reply))]
+fn gone_reply(alloc: Global, bytes: &[u8]) -> Result<(Told, &[u8]), Stop>
+    ensures { Gives (λ x. (x.0, x.1.now)) result (gone_reply.read bytes.now) }
+{
+    let rest = expect(bytes, b' ')?;
+    let (gone, rest) = things(alloc, rest)?;
+    ends(Told::Closed(gone), rest)
+}
+
+/// A side of a method, and the bytes after it.
+#[tactic(auto, unfolding(crate::specs::Replies::message_side))]
+fn message_side(bytes: &[u8]) -> Result<(MessageSide, &[u8]), Stop>
+    ensures { Gives (λ x. (x.0, x.1.now)) result (message_side.read bytes.now) }
+{
+    let sides = [
+        (MessageSide::Request, "request"),
+        (MessageSide::Response, "response"),
+    ];
+    keyword(&sides, bytes)
+}
+
+/// The lists of what a take got, with what stood before them, and the bytes after the line's end.
+#[tactic(auto, unfolding(crate::specs::Replies::got_lists))]
+fn got_lists<'a>(
+    alloc: Global,
+    id: u32,
+    target: Target,
+    parameters: Parameters,
+    request: u64,
+    bytes: &'a [u8],
+) -> Result<(Told, &'a [u8]), Stop>
+    ensures { Gives (λ x. (x.0, x.1.now)) result ((got_lists id (target, parameters) request).read bytes.now) }
+{
+    let (handles, rest) = things(alloc, bytes)?;
+    let rest = expect(rest, b' ')?;
+    let (pendings, rest) = pendings(alloc, rest)?;
+    let rest = expect(rest, b' ')?;
+    let (gone, rest) = things(alloc, rest)?;
+    let got = Got {
+        id,
+        target,
+        parameters,
+        request,
+        handles,
+        pendings,
+        gone,
+    };
+    ends(Told::Taken(got), rest)
+}
+
+/// What a take got, and the bytes after the line's end.
+#[tactic(auto, unfolding(crate::specs::Replies::got))]
+fn got<'a>(
+    alloc: Global,
+    schema: &Schema,
+    names: &Names,
+    bytes: &'a [u8],
+) -> Result<(Told, &'a [u8]), Stop>
+    ensures { Gives (λ x. (x.0, x.1.now)) result ((got schema.now names.now).read bytes.now) }
+{
+    let rest = expect(bytes, b' ')?;
+    let (side, rest) = message_side(rest)?;
+    let rest = expect(rest, b' ')?;
+    let (id, rest) = index(rest)?;
+    let rest = expect(rest, b' ')?;
+    let (target, parameters, rest) = message(alloc, schema, names, side, rest)?;
+    let (request, rest) = wide(rest)?;
+    let rest = expect(rest, b' ')?;
+    got_lists(alloc, id, target, parameters, request, rest)
+}
+
+/// What stands behind the word of a reply, and the bytes after the line's end.
+fn told_after<'a>(
+    alloc: Global,
+    schema: &Schema,
+    names: &Names,
+    word: ReplyWord,
+    bytes: &'a [u8],
+) -> Result<(Told, &'a [u8]), Stop>
+    ensures { Gives (λ x. (x.0, x.1.now)) result ((told_after schema.now names.now word).read bytes.now) }
+{
+    match word {
+        ReplyWord::Made => made(alloc, bytes),
+        ReplyWord::Bound => bound(bytes),
+        ReplyWord::Associated => associated(bytes),
+        ReplyWord::Attached => attached(bytes),
+        ReplyWord::Sent => sent(alloc, bytes),
+        ReplyWord::Wrote => wrote(bytes),
+        ReplyWord::Got => got(alloc, schema, names, bytes),
+        ReplyWord::Dropped => dropped(alloc, bytes),
+        ReplyWord::Control => control(bytes),
+        ReplyWord::Bad => bad_reply(alloc, bytes),
+        ReplyWord::Closed => gone_reply(alloc, bytes),
+        ReplyWord::Skipped => ends(Told::Skipped, bytes),
+        ReplyWord::No => refusal(bytes),
+    }
+}
+
+/// The word of a reply, and the bytes after it.
+fn reply_word(bytes: &[u8]) -> Result<(ReplyWord, &[u8]), Stop>
+    ensures { Gives (λ x. (x.0, x.1.now)) result ((keyword reply_words).read bytes.now) }
+{
+    let words = [
+        (ReplyWord::Made, "made"),
+        (ReplyWord::Bound, "bound"),
+        (ReplyWord::Associated, "associated"),
+        (ReplyWord::Attached, "attached"),
+        (ReplyWord::Sent, "sent"),
+        (ReplyWord::Wrote, "wrote"),
+        (ReplyWord::Got, "got"),
+        (ReplyWord::Dropped, "dropped"),
+        (ReplyWord::Control, "control"),
+        (ReplyWord::Bad, "bad"),
+        (ReplyWord::Closed, "closed"),
+        (ReplyWord::Skipped, "skipped"),
+        (ReplyWord::No, "no"),
+    ];
+    keyword(&words, bytes)
+}
+
+/// A reply, and the bytes after the line's end.
+#[tactic(auto, unfolding(crate::specs::Replies::told))]
+pub(crate) fn told<'a>(
+    alloc: Global,
+    schema: &Schema,
+    names: &Names,
+    bytes: &'a [u8],
+) -> Result<(Told, &'a [u8]), Stop>
+    ensures { Gives (λ x. (x.0, x.1.now)) result ((told schema.now names.now).read bytes.now) }
+{
+    let (word, rest) = reply_word(bytes)?;
+    told_after(alloc, schema, names, word, rest)
+}
