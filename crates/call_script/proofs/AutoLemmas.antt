@@ -81,11 +81,13 @@ module _ (schema : Schema) (side : MessageSide) where
   pub message_side : (word : List ℕ) (target : Target) (number : ℕ) → message_named schema side word ≡ Some (target, number) → target.side ≡ side
   message_side word target number found = go (target_named schema side word) (named_side word) found
     where
-      inner : (t : Target) (o : Option ℕ) → t.side ≡ side → option_map {U = Target × ℕ} (λ (number : ℕ). (t, number)) o ≡ Some (target, number) → target.side ≡ side
+      inner : (t : Target) (o : Option ℕ) → t.side ≡ side → option_map {U = Target × ℕ} (λ (number : ℕ). (t, number)) o ≡ Some (target, number)
+          → target.side ≡ side
       inner t None is e = absurd cc
       inner t (Some n) is e = let same = one_found t target n number e in ap (λ (t : Target). t.side) (sym same.0) ∙ is
 
-      go : (o : Option Target) → OfSide side o → option_and_then (λ (t : Target). option_map {U = Target × ℕ} (λ (number : ℕ). (t, number)) (parameters_of schema t)) o
-          ≡ Some (target, number) → target.side ≡ side
+      go : (o : Option Target) → OfSide side o
+          → option_and_then (λ (t : Target). option_map {U = Target × ℕ} (λ (number : ℕ). (t, number)) (parameters_of schema t)) o ≡ Some (target, number)
+          → target.side ≡ side
       go None is e = absurd cc
       go (Some t) is e = inner t (parameters_of schema t) is e

@@ -1,7 +1,7 @@
 -- The texts that a rule has for its values, both ways: what is followed whole is such a text, and such a text is followed.
 use Rattle.std.proofs.Common.{◌≡◌, ℕ, zero, suc, List, [], ◌∷◌, ◌++◌, ◌⊎◌, inl, inr, Bool, true, refl, sym, ap, ◌∙◌, subst, append_assoc}
 use Rattle.std.specs.List.{flat_map}
-use Rattle.byte_rules.specs.Lang.{Lang, Whole, byte_in, as_value, closed, choice, ◌then◌, ◌▸◌, Words, words, until, many, listed}
+use Rattle.byte_rules.specs.Lang.{Lang, Whole, byte_in, as_value, closed, choice, ◌then◌, ◌▸◌, Words, words, until, many}
 use Rattle.byte_rules.proofs.Parts.{Parts, AllOf, parts_byte, parts_value, parts_choice, parts_words, parts_closed, parts_before, parts_many, parts_wider}
 use Rattle.byte_rules.proofs.Shown.{Shown, shown_value, shown_then, shown_before, shown_first, shown_second, shown_words, shown_closed, shown_none}
 use Rattle.byte_rules.proofs.Shown.{shown_more, shown_many}

@@ -1,5 +1,5 @@
 -- The laws of how commands stand in a line.
-use Rattle.std.proofs.Common.{◌≡◌, ℕ, ◌==◌, List, [], ◌∷◌, Bool, true, false, refl, arith}
+use Rattle.std.proofs.Common.{ℕ, ◌==◌, [], ◌∷◌, Bool, refl, arith}
 use Rattle.std.specs.Prelude.{codes}
 use Rattle.std.proofs.lemmas.Bool.Decides.{nat_tests}
 use Rattle.mj_base.specs.declared.ids.EndId.{EndId}
@@ -14,9 +14,8 @@ use Rattle.byte_rules.proofs.Good.{Good, Apart, nothing, with_starts, good_value
 use Rattle.value_text.specs.Numbers.{is_digit}
 use Rattle.value_text.proofs.ListedNumbers.{good_index}
 use Rattle.history_reader.specs.Signs.{blank, dash, hash, letter_e, letter_p, letter_r, letter_t}
-use Rattle.history_reader.specs.Names.{interface}
 use Rattle.history_reader.specs.Commands.{command_words, sort, side, arrow, asks, join, mint, role, bind, associate, attach, call, answer, raw, take, skip}
-use Rattle.history_reader.specs.Commands.{closing_at, closing, close, asked_after, asked}
+use Rattle.history_reader.specs.Commands.{closing_at, close, asked_after, asked}
 use Rattle.history_reader.specs.declared.commands.CommandWord.{CommandWord}
 use Rattle.history_reader.specs.declared.commands.CommandWord.TheVariants as commands
 use Rattle.history_reader.specs.declared.names.Names.{Names}

@@ -1,12 +1,10 @@
 -- The texts of commands, both ways.
-use Rattle.std.proofs.Common.{◌≡◌, ℕ, ◌++◌, ◌∷◌, [], ◌⊎◌, inl, inr, List, ◌==◌, refl, sym, ap, ◌∙◌, subst, append_assoc}
+use Rattle.std.proofs.Common.{◌≡◌, ℕ, ◌++◌, ◌∷◌, [], ◌⊎◌, inl, inr, List, refl, sym, ap, ◌∙◌, subst, append_assoc}
 use Rattle.std.specs.Prelude.{codes, decimal}
 use Rattle.mj_base.specs.declared.ids.EndId.{EndId}
-use Rattle.mj_base.specs.declared.ids.SeqId.{SeqId}
 use Rattle.mj_schema.specs.declared.schema.Schema.{Schema}
 use Rattle.handle_table.specs.declared.thing.Thing.{Thing}
 use Rattle.handle_table.specs.declared.thing.Thing.TheVariants.{End, Token}
-use Rattle.handle_table.specs.declared.thing.TokenId.{TokenId}
 use Rattle.handle_table.specs.declared.thing.TokenSort.{TokenSort}
 use Rattle.handle_table.specs.declared.thing.TokenSort.TheVariants.{SharedBuffer, Platform}
 use Rattle.wire_encoder.specs.declared.endpoint.EndpointSide.{EndpointSide}
@@ -16,9 +14,6 @@ use Rattle.bind_model.specs.declared.asked.Asked.{Asked}
 use Rattle.bind_model.specs.declared.asked.Asked.TheVariants as askeds
 use Rattle.bind_model.specs.declared.asked.Closing.{Closing}
 use Rattle.bind_model.specs.declared.asked.Closing.TheVariants as closings
-use Rattle.bind_model.specs.declared.asked.Outgoing.{Outgoing}
-use Rattle.bind_model.specs.declared.endpoint.PendingId.{PendingId}
-use Rattle.bind_model.specs.declared.endpoint.ResponderId.{ResponderId}
 use Rattle.byte_rules.specs.Lang.{Lang, as_value, ◌then◌, ◌▸◌}
 use Rattle.byte_rules.specs.Among.{IsAmong}
 use Rattle.history_text.specs.History.{end_text, thing_text, endpoint_text, pending_text, responder_text, things_text, hex_text, closing_text, outgoing_text}
@@ -31,7 +26,7 @@ use Rattle.history_reader.specs.Lists.{things, hex}
 use Rattle.history_reader.specs.Names.{interface}
 use Rattle.history_reader.specs.Commands.{command_words, sort, side, arrow, asks, join, mint, role, bind, associate, attach, call, answer, raw, take, skip}
 use Rattle.history_reader.specs.Commands.{closing_at, closing, close, asked_after, asked}
-use Rattle.history_reader.specs.Printable.{IsSmall, IsSequence, IsEnd, IsToken, IsThing, IsPending, IsResponder, AreAll, AreBytes, IsInterface, IsOutgoing}
+use Rattle.history_reader.specs.Printable.{IsSmall, IsEnd, IsToken, IsThing, IsPending, IsResponder, AreAll, AreBytes, IsInterface}
 use Rattle.history_reader.specs.Printable.{IsClosing}
 use Rattle.history_reader.specs.Printable.{IsAsked}
 use Rattle.history_reader.specs.declared.commands.CommandWord.{CommandWord}
@@ -39,7 +34,7 @@ use Rattle.history_reader.specs.declared.commands.CommandWord.TheVariants as com
 use Rattle.history_reader.proofs.BothWays.{HasTexts, Is, texts_as, texts_closed, texts_before, texts_behind, texts_value, texts_then, texts_chain}
 use Rattle.history_reader.proofs.BothWays.{texts_follow, texts_either, texts_fine}
 use Rattle.history_reader.proofs.KeywordTexts.{among_at, texts_keyword}
-use Rattle.history_reader.proofs.IdTexts.{texts_index, texts_sequence, texts_end, texts_token, texts_thing, IsEndpoint, texts_endpoint, texts_pending}
+use Rattle.history_reader.proofs.IdTexts.{texts_index, texts_sequence, texts_end, texts_token, texts_thing, texts_endpoint, texts_pending}
 use Rattle.history_reader.proofs.IdTexts.{texts_responder}
 use Rattle.history_reader.proofs.ListTexts.{texts_things}
 use Rattle.history_reader.proofs.HexTexts.{texts_hex}

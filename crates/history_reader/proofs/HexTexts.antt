@@ -1,18 +1,18 @@
 -- The texts of bytes in hexadecimal, both ways.
-use Rattle.std.proofs.Common.{◌≡◌, ℕ, zero, suc, ◌+◌, ◌*◌, ◌/◌, ◌%◌, ◌<◌, ◌≤◌, ◌==◌, ◌&&◌, ◌||◌, ◌++◌, ◌∷◌, [], ◌⊎◌, inl, inr, List, Bool, true, false}
+use Rattle.std.proofs.Common.{◌≡◌, ℕ, zero, suc, ◌+◌, ◌*◌, ◌/◌, ◌%◌, ◌<◌, ◌==◌, ◌&&◌, ◌||◌, ◌++◌, ◌∷◌, [], ◌⊎◌, inl, inr, List, Bool, true, false}
 use Rattle.std.proofs.Common.{refl, sym, ap, ◌∙◌, subst, append_assoc, arith}
-use Rattle.std.specs.Prelude.{codes, not, nat_lt, slice_index}
+use Rattle.std.specs.Prelude.{not, nat_lt, slice_index}
 use Rattle.std.specs.List.{flat_map}
 use Rattle.std.proofs.lemmas.Bool.{eqb-true}
 use Rattle.std.proofs.lemmas.Bool.Decides.{nat_tests}
 use Rattle.hex.specs.Hex.{lower_digits, encode_with, encode_lower}
-use Rattle.byte_rules.specs.Lang.{Lang, as_value, byte_in, closed, choice, ◌then◌, ◌▸◌, many}
+use Rattle.byte_rules.specs.Lang.{as_value, byte_in, closed, ◌then◌, ◌▸◌, many}
 use Rattle.value_text.specs.Characters.{is_hex, hex_value}
 use Rattle.value_text.proofs.NumberLaws.{both_left, both_right}
 use Rattle.history_text.specs.History.{hex_text}
 use Rattle.history_reader.specs.Signs.{dash}
 use Rattle.history_reader.specs.Lists.{pair, hex}
-use Rattle.history_reader.specs.Printable.{AreAll, AreBytes}
+use Rattle.history_reader.specs.Printable.{AreBytes}
 use Rattle.history_reader.proofs.BothWays.{HasTexts, Is, texts_as, texts_byte, texts_closed, texts_before, texts_value, texts_follow, texts_choice, texts_fine}
 use Rattle.history_reader.proofs.BothWays.{texts_many}
 

@@ -1,5 +1,5 @@
 -- The laws of how things and endpoints stand in a line.
-use Rattle.std.proofs.Common.{◌≡◌, ℕ, ◌-◌, ◌^◌, ◌==◌, Bool, true, false, arith}
+use Rattle.std.proofs.Common.{ℕ, ◌-◌, ◌^◌, ◌==◌, Bool, arith}
 use Rattle.std.proofs.lemmas.Bool.Decides.{nat_tests}
 use Rattle.handle_table.specs.declared.thing.Thing.TheVariants.{End, Token}
 use Rattle.byte_rules.proofs.Good.{Good, Apart, with_starts, good_value, good_then, good_before, good_choice}

@@ -1,12 +1,10 @@
 -- The texts of things and endpoints, both ways.
-use Rattle.std.proofs.Common.{◌≡◌, ℕ, ◌-◌, ◌^◌, ◌<◌, ◌≤◌, ◌++◌, ◌∷◌, ◌⊎◌, inl, inr, List, refl, sym, ap, ◌∙◌, arith, append_assoc}
-use Rattle.std.specs.Prelude.{decimal, codes}
+use Rattle.std.proofs.Common.{◌≡◌, ℕ, ◌-◌, ◌^◌, ◌++◌, ◌∷◌, ◌⊎◌, inl, inr, refl, sym, ap, ◌∙◌, arith}
+use Rattle.std.specs.Prelude.{decimal}
 use Rattle.mj_base.specs.declared.ids.EndId.{EndId}
-use Rattle.mj_base.specs.declared.ids.SeqId.{SeqId}
 use Rattle.handle_table.specs.declared.thing.Thing.{Thing}
 use Rattle.handle_table.specs.declared.thing.Thing.TheVariants.{End, Token}
 use Rattle.handle_table.specs.declared.thing.TokenId.{TokenId}
-use Rattle.bind_model.specs.declared.endpoint.PendingId.{PendingId}
 use Rattle.bind_model.specs.declared.endpoint.ResponderId.{ResponderId}
 use Rattle.byte_rules.specs.Lang.{as_value, ◌then◌, ◌▸◌}
 use Rattle.value_text.specs.Numbers.{numbers, index}
@@ -14,7 +12,7 @@ use Rattle.history_text.specs.History.{end_text, thing_text, endpoint_text, pend
 use Rattle.history_reader.specs.Signs.{dot, hash, at_sign, letter_e, letter_p, letter_r, letter_t}
 use Rattle.history_reader.specs.Ids.{wide, sequence, end_of, end, token_of, token, thing, endpoint, pending_of, pending, responder_of, responder}
 use Rattle.history_reader.specs.Printable.{IsSmall, IsWide, IsSequence, IsEnd, IsToken, IsThing, IsPending, IsResponder}
-use Rattle.history_reader.proofs.BothWays.{HasTexts, Is, texts_as, texts_words, texts_before, texts_value, texts_then, texts_choice, texts_fine}
+use Rattle.history_reader.proofs.BothWays.{HasTexts, Is, texts_words, texts_before, texts_value, texts_then, texts_choice, texts_fine}
 
 pub texts_index : HasTexts (Is IsSmall decimal) index
 texts_index = texts_fine (λ n h. omega (arith, h.1)) (λ n h. (omega arith, omega (arith, h))) (λ n h. refl) (texts_words (numbers 0 (2 ^ 32 - 1)))

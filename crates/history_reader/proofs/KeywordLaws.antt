@@ -5,7 +5,7 @@ use Rattle.std.specs.List.{list_all}
 use Rattle.std.proofs.lemmas.Bool.{false≢true}
 use Rattle.std.proofs.lemmas.Bool.Decides.{nat_tests}
 use Rattle.byte_rules.specs.Among.{IsAmong}
-use Rattle.byte_rules.proofs.Among.{AreApart, good_among}
+use Rattle.byte_rules.proofs.Among.{good_among}
 use Rattle.byte_rules.proofs.Good.{Good, Apart, good_value}
 use Rattle.value_text.proofs.NumberLaws.{both_left, both_right}
 use Rattle.history_reader.specs.Signs.{line_end, blank}

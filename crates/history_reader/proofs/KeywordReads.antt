@@ -3,11 +3,10 @@ use Rattle.std.proofs.Common.{◌≡◌, ℕ, zero, suc, ◌-◌, ◌+◌, ◌<�
 use Rattle.std.proofs.Common.{Bool, true, false, cond, ◌==◌, refl, sym, ap, ◌∙◌, subst, arith, add-one, drop-cons}
 use Rattle.std.specs.Prelude.{nat_lt}
 use Rattle.std.specs.Option.{option_map}
-use Rattle.std.proofs.lemmas.Bool.{eqb-true}
 use Rattle.std.proofs.lemmas.List.{take_rest}
 use Rattle.byte_rules.specs.Lang.{◌>>=◌}
-use Rattle.byte_rules.specs.Among.{common, Near, nearer, nearest, found, among}
-use Rattle.byte_rules.proofs.Fronts.{among_read, nearer_within}
+use Rattle.byte_rules.specs.Among.{common, Near, nearer, nearest, found}
+use Rattle.byte_rules.proofs.Fronts.{nearer_within}
 use Rattle.history_reader.specs.Keywords.{keyword}
 use Rattle.history_reader.specs.steps.Reading.{nearest_in}
 

@@ -1,5 +1,5 @@
 -- The texts of words that are known beforehand, both ways.
-use Rattle.std.proofs.Common.{◌≡◌, ℕ, zero, suc, ◌∷◌, [], List, Option, Some, None, inl, inr, refl, sym, ap, ◌∙◌, subst}
+use Rattle.std.proofs.Common.{◌≡◌, ℕ, zero, suc, ◌∷◌, [], List, Some, inl, inr, refl, sym, ap, ◌∙◌, subst}
 use Rattle.std.specs.Prelude.{slice_get}
 use Rattle.byte_rules.specs.Among.{IsAmong, among_words}
 use Rattle.history_reader.specs.Keywords.{keyword, word}

@@ -1,14 +1,12 @@
 -- The laws of how lists, and bytes in hexadecimal, stand in a line.
 use Rattle.std.proofs.Common.{◌≡◌, ℕ, List, [], ◌∷◌, ◌+◌, ◌*◌, ◌==◌, Bool, true, false, refl, arith}
 use Rattle.std.proofs.lemmas.Bool.Decides.{nat_tests}
-use Rattle.byte_rules.specs.Lang.{closed}
 use Rattle.byte_rules.proofs.Good.{Good, Apart, nothing, with_starts, good_byte, good_value, good_closed, good_then, good_before, good_choice, good_many}
 use Rattle.byte_rules.proofs.Good.{good_listed, good_wider}
 use Rattle.value_text.specs.Numbers.{is_digit}
 use Rattle.value_text.specs.Characters.{is_hex, hex_value}
 use Rattle.history_reader.specs.Signs.{line_end, blank, comma, dash, opens, closes, letter_p}
-use Rattle.history_reader.specs.Ids.{thing, pending}
-use Rattle.history_reader.specs.Lists.{things, pendings, is_pending, item, parted, more_items, tokens, pair, hex}
+use Rattle.history_reader.specs.Lists.{things, pendings, is_pending, item, more_items, tokens, pair, hex}
 use Rattle.history_reader.specs.declared.items.Item.{Item}
 use Rattle.history_reader.specs.declared.items.Item.TheVariants.{Handle, Pending}
 use Rattle.history_reader.proofs.IdLaws.{thing_starts, good_thing, good_pending}

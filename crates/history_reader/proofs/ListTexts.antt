@@ -1,11 +1,9 @@
 -- The texts of lists, both ways.
-use Rattle.std.proofs.Common.{◌≡◌, ℕ, zero, suc, ◌++◌, ◌∷◌, [], ◌⊎◌, inl, inr, List, refl, sym, ap, ◌∙◌, subst, append_assoc}
-use Rattle.std.specs.Prelude.{codes}
-use Rattle.std.specs.List.{flat_map, join_by}
-use Rattle.byte_rules.specs.Lang.{Lang, as_value, closed, choice, ◌then◌, ◌▸◌, many, listed}
-use Rattle.history_text.specs.History.{thing_text, things_text, pending_text, pendings_text, list_text}
-use Rattle.history_reader.specs.Signs.{comma, opens, closes}
-use Rattle.history_reader.specs.Ids.{thing, pending}
+use Rattle.std.proofs.Common.{◌≡◌, ℕ, ◌++◌, ◌∷◌, [], ◌⊎◌, inl, inr, List, refl, sym, ap, ◌∙◌, subst, append_assoc}
+use Rattle.std.specs.List.{flat_map}
+use Rattle.byte_rules.specs.Lang.{Lang, as_value, closed, ◌then◌, ◌▸◌, many, listed}
+use Rattle.history_text.specs.History.{things_text, pendings_text, list_text}
+use Rattle.history_reader.specs.Signs.{opens, closes}
 use Rattle.history_reader.specs.Lists.{things, pendings}
 use Rattle.history_reader.specs.Printable.{IsThing, IsPending, AreAll}
 use Rattle.history_reader.proofs.BothWays.{HasTexts, Is, texts_as, texts_closed, texts_before, texts_value, texts_follow, texts_choice, texts_fine, texts_many}

@@ -1,6 +1,5 @@
 -- The laws of how messages stand in a line.
-use Rattle.std.proofs.Common.{◌≡◌, ℕ, ◌==◌, Option, Some, None, Bool, true, false, refl, arith}
-use Rattle.std.proofs.lemmas.Bool.Decides.{nat_tests}
+use Rattle.std.proofs.Common.{◌==◌, Option, Some, None, false, refl}
 use Rattle.mj_schema.specs.KindTrees.{KindTree, StructKind}
 use Rattle.mj_schema.specs.declared.schema.Schema.{Schema}
 use Rattle.wire_model.specs.Trees as values
@@ -10,8 +9,8 @@ use Rattle.wire_model.specs.declared.target.Target.{Target}
 use Rattle.byte_rules.proofs.Good.{Good, nothing, good_value, good_closed, good_never, good_then, good_before, good_wider}
 use Rattle.value_text.proofs.KindLaws.{value_starts, good_kind}
 use Rattle.history_reader.specs.Signs.{blank}
-use Rattle.history_reader.specs.Names.{named, messages_of}
-use Rattle.history_reader.specs.Messages.{value_and_blank, parameters_of, parameters, no_target, message, outgoing_of, outgoing}
+use Rattle.history_reader.specs.Names.{messages_of}
+use Rattle.history_reader.specs.Messages.{value_and_blank, parameters, no_target, message, outgoing_of, outgoing}
 use Rattle.history_reader.specs.declared.names.Message.{Message}
 use Rattle.history_reader.specs.declared.names.Names.{Names}
 use Rattle.history_reader.proofs.IdLaws.{blank_no_digit}

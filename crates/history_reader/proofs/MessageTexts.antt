@@ -1,9 +1,7 @@
 -- The texts of messages, both ways.
-use Rattle.std.proofs.Common.{◌≡◌, ℕ, ◌++◌, ◌∷◌, [], List, Option, Some, None, false, ◌==◌, Ok, Err, inl, inr, refl, sym, ap, ◌∙◌, subst, append_assoc, arith}
-use Rattle.std.specs.Prelude.{codes}
+use Rattle.std.proofs.Common.{◌≡◌, ℕ, ◌++◌, ◌∷◌, [], List, Option, Some, None, false, Ok, Err, inl, inr, refl, sym, ap, ◌∙◌, subst, append_assoc}
 use Rattle.std.proofs.lemmas.List.{append-nil}
 use Rattle.std.proofs.lemmas.Bool.{eqb-true}
-use Rattle.handle_table.specs.declared.thing.Thing.{Thing}
 use Rattle.mj_schema.specs.KindTrees.{KindTree, StructKind}
 use Rattle.mj_schema.specs.declared.schema.Schema.{Schema}
 use Rattle.wire_model.specs.Trees.{Tree}
@@ -11,14 +9,12 @@ use Rattle.wire_model.specs.declared.target.MessageSide.{MessageSide}
 use Rattle.wire_model.specs.declared.target.Target.{Target}
 use Rattle.wire_encoder.specs.Prepared.{parameters_of, kind_for}
 use Rattle.bind_model.specs.declared.asked.Outgoing.{Outgoing}
-use Rattle.bind_model.specs.declared.endpoint.PendingId.{PendingId}
-use Rattle.byte_rules.specs.Lang.{Lang, Read, Whole, as_value, closed, never, ◌then◌, ◌▸◌}
+use Rattle.byte_rules.specs.Lang.{Lang, Read, Whole, as_value, closed}
 use Rattle.byte_rules.specs.Judged.{Spells}
 use Rattle.byte_rules.proofs.Tells.{Told}
 use Rattle.byte_rules.proofs.Finds.{Free, Outcome}
-use Rattle.byte_rules.proofs.Good.{Good}
 use Rattle.byte_rules.proofs.Judging.{reads}
-use Rattle.byte_rules.proofs.Parts.{Parts, parts_never}
+use Rattle.byte_rules.proofs.Parts.{Parts}
 use Rattle.byte_rules.proofs.Shown.{Shown, shown_then, shown_closed}
 use Rattle.value_text.specs.Numbers.{is_digit}
 use Rattle.value_text.specs.Rules.{value}
@@ -37,7 +33,7 @@ use Rattle.history_reader.specs.declared.names.Entry.{Entry}
 use Rattle.history_reader.specs.declared.names.Message.{Message}
 use Rattle.history_reader.proofs.BothWays.{HasTexts, Is, texts_as, texts_before, texts_value, texts_then, texts_link, texts_fine}
 use Rattle.history_reader.proofs.IdLaws.{blank_no_digit}
-use Rattle.history_reader.proofs.NameTexts.{IsNamed, message_named, MeansBy, means_by, texts_meaning}
+use Rattle.history_reader.proofs.NameTexts.{message_named, means_by, texts_meaning}
 use Rattle.history_reader.proofs.TokenTexts.{texts_tokens}
 
 module _ (schema : Schema) (kind : KindTree) where

@@ -1,13 +1,12 @@
 -- The laws of the words of a schema: a blank stands behind them.
-use Rattle.std.proofs.Common.{◌≡◌, ℕ, List, [], ◌∷◌, map, Option, Bool, true, false, cond, ◌==◌, ◌&&◌, inl, inr, refl, sym, ap, ◌∙◌, subst, arith}
-use Rattle.std.specs.Prelude.{not, filter, unwrap_or}
+use Rattle.std.proofs.Common.{◌≡◌, ℕ, List, [], ◌∷◌, map, Option, Bool, true, false, cond, ◌==◌, refl, ap, ◌∙◌, arith}
+use Rattle.std.specs.Prelude.{not, unwrap_or}
 use Rattle.std.specs.List.{list_all}
 use Rattle.std.proofs.lemmas.Bool.{false≢true}
 use Rattle.std.proofs.lemmas.Bool.Decides.{nat_tests}
 use Rattle.mj_schema.specs.declared.schema.Schema.{Schema}
 use Rattle.wire_model.specs.declared.target.MessageSide.{MessageSide}
 use Rattle.wire_model.specs.declared.target.MessageSide.TheVariants.{Request, Response}
-use Rattle.byte_rules.specs.Among.{IsAmong}
 use Rattle.byte_rules.proofs.Among.{good_among}
 use Rattle.byte_rules.proofs.Good.{Good, Apart, good_value}
 use Rattle.value_text.proofs.NumberLaws.{both_left, both_right}

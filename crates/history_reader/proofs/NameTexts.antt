@@ -1,12 +1,12 @@
 -- The words of a schema are the texts of its interfaces and methods, both ways.
-use Rattle.std.proofs.Common.{◌≡◌, ℕ, zero, suc, ◌+◌, ◌++◌, ◌∷◌, [], ◌⊎◌, inl, inr, List, Option, Some, None, Bool, true, false, cond, ◌==◌, ◌&&◌, ◌||◌, map}
+use Rattle.std.proofs.Common.{◌≡◌, ℕ, zero, suc, ◌++◌, ◌∷◌, [], ◌⊎◌, inl, inr, List, Option, Some, None, Bool, true, false, cond, ◌==◌, ◌||◌, map}
 use Rattle.std.proofs.Common.{drop, length}
 use Rattle.std.proofs.Common.{refl, sym, ap, ◌∙◌, subst, arith}
 use Rattle.std.specs.Prelude.{codes, not, find, slice_get, unwrap_or, option_and_then}
 use Rattle.std.specs.Option.{option_map}
 use Rattle.std.specs.List.{flat_map, list_all, list_any}
 use Rattle.std.specs.Str.{bytes_eq}
-use Rattle.std.proofs.lemmas.Bool.{false≢true, eqb-true}
+use Rattle.std.proofs.lemmas.Bool.{false≢true}
 use Rattle.std.proofs.lemmas.Bool.Decides.{nat_tests}
 use Rattle.std.proofs.lemmas.Slice.Eq.{bytes_eq-Decides}
 use Rattle.mj_schema.specs.Lookups.{method_in}
@@ -18,9 +18,7 @@ use Rattle.mj_schema.specs.declared.schema.Schema.{Schema}
 use Rattle.wire_model.specs.Expected.{struct_of}
 use Rattle.wire_model.specs.declared.target.MessageSide.{MessageSide}
 use Rattle.wire_model.specs.declared.target.MessageSide.TheVariants.{Request, Response}
-use Rattle.wire_model.specs.declared.target.Target.{Target}
 use Rattle.wire_encoder.specs.Prepared.{parameters_of}
-use Rattle.byte_rules.specs.Lang.{Lang, as_value, never, words}
 use Rattle.byte_rules.specs.Among.{IsAmong, among_words, among}
 use Rattle.byte_rules.proofs.Parts.{parts_never}
 use Rattle.value_text.proofs.NumberLaws.{both_left, both_right}

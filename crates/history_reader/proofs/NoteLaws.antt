@@ -1,5 +1,5 @@
 -- The laws of the lines of callbacks.
-use Rattle.std.proofs.Common.{◌≡◌, ℕ, ◌==◌, [], ◌∷◌, true, false, refl, arith}
+use Rattle.std.proofs.Common.{◌==◌, [], ◌∷◌, refl, arith}
 use Rattle.std.specs.Prelude.{codes}
 use Rattle.std.proofs.lemmas.Bool.Decides.{nat_tests}
 use Rattle.history_text.specs.declared.notes.Fate.TheVariants.{Ran, Dropped}

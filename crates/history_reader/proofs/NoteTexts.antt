@@ -1,5 +1,5 @@
 -- The texts of callbacks, both ways.
-use Rattle.std.proofs.Common.{◌≡◌, ℕ, ◌++◌, ◌∷◌, [], inl, inr, List, refl, sym, ap, ◌∙◌}
+use Rattle.std.proofs.Common.{◌≡◌, ℕ, ◌++◌, ◌∷◌, [], inl, inr, List, refl, ap, ◌∙◌}
 use Rattle.std.specs.Prelude.{codes, decimal}
 use Rattle.mj_base.specs.declared.ids.EndId.{EndId}
 use Rattle.mj_base.specs.declared.ids.SeqId.{SeqId}
@@ -14,7 +14,7 @@ use Rattle.history_reader.specs.Signs.{blank, line_end}
 use Rattle.history_reader.specs.Ids.{wide, sequence, endpoint}
 use Rattle.history_reader.specs.Notes as notes
 use Rattle.history_reader.specs.Notes.{fate, note_of}
-use Rattle.history_reader.specs.Printable.{IsWide, IsSequence, IsNote}
+use Rattle.history_reader.specs.Printable.{IsWide, IsNote}
 use Rattle.history_reader.proofs.BothWays.{HasTexts, Is, texts_closed, texts_before, texts_then, texts_fine}
 use Rattle.history_reader.proofs.KeywordTexts.{texts_keyword, texts_word}
 use Rattle.history_reader.proofs.IdTexts.{IsEndpoint, texts_wide, texts_sequence, texts_endpoint}

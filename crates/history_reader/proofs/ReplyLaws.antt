@@ -1,17 +1,16 @@
 -- The laws of how replies stand in a line.
-use Rattle.std.proofs.Common.{◌≡◌, ℕ, ◌==◌, ◌||◌, List, [], ◌∷◌, Bool, true, false, refl, arith}
+use Rattle.std.proofs.Common.{◌≡◌, ℕ, ◌==◌, [], ◌∷◌, Bool, true, refl, arith}
 use Rattle.std.specs.Prelude.{codes}
 use Rattle.std.proofs.lemmas.Bool.Decides.{nat_tests}
 use Rattle.mj_schema.specs.declared.schema.Schema.{Schema}
 use Rattle.wire_model.specs.Trees.{Tree}
 use Rattle.wire_model.specs.declared.target.MessageSide.TheVariants.{Request, Response}
 use Rattle.wire_model.specs.declared.target.Target.{Target}
-use Rattle.bind_model.specs.declared.told.BadWhy.{BadWhy}
 use Rattle.bind_model.specs.declared.told.BadWhy.TheVariants as bads
 use Rattle.bind_model.specs.declared.told.Told.{Told}
 use Rattle.bind_model.specs.declared.told.Told.TheVariants as tells
 use Rattle.byte_rules.specs.Lang.{Lang, closed}
-use Rattle.byte_rules.proofs.Good.{Good, Apart, nothing, good_value, good_closed, good_then, good_before, good_wider}
+use Rattle.byte_rules.proofs.Good.{Good, nothing, good_value, good_closed, good_then, good_before, good_wider}
 use Rattle.value_text.specs.Numbers.{is_digit}
 use Rattle.value_text.proofs.ListedNumbers.{good_index}
 use Rattle.history_reader.specs.Signs.{blank, line_end, opens}

@@ -17,7 +17,7 @@ use Rattle.history_text.specs.History.{end_text, pending_text, things_text, pend
 use Rattle.history_text.specs.Words.{message_word}
 use Rattle.history_reader.specs.Signs.{blank, line_end}
 use Rattle.history_reader.specs.Names.{names_of}
-use Rattle.history_reader.specs.Replies.{reply_words, refusal, bad, message_side, got_of, got_lists}
+use Rattle.history_reader.specs.Replies.{reply_words, refusal, message_side, got_of, got_lists}
 use Rattle.history_reader.specs.Replies.{got, made, bound, associated, attached, sent, wrote, dropped, control, bad_reply, gone_reply, told_after, told}
 use Rattle.history_reader.specs.Printable.{IsSmall, IsWide, IsThing, IsPending, AreAll, AreBytes, IsMessage, IsTold}
 use Rattle.history_reader.specs.declared.replies.ReplyWord.{ReplyWord}

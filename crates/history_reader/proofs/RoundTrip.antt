@@ -96,6 +96,10 @@ printed_in : Printed → Read Printed → Printed
 printed_in other (Ok x) = x.0
 printed_in other (Err n) = other
 
+-- what bytes say has them for its text
+pub own_text : (schema : Schema) (p : Printed) (bytes : List ℕ) → Spells (history schema) p bytes → IsPrintable schema p × (bytes ≡ printed_text schema p)
+own_text schema = its_text schema
+
 -- two texts that say the same are the same
 pub same_text : (schema : Schema) (p : Printed) (one other : List ℕ) → Spells (history schema) p one → Spells (history schema) p other → one ≡ other
 same_text schema p one other h g = (its_text schema p one h).1 ∙ sym (its_text schema p other g).1

@@ -1,9 +1,9 @@
 -- The laws of a rule again and again, each time by what came before, and then another rule.
-use Rattle.std.proofs.Common.{◌≡◌, ℕ, zero, suc, ◌≤◌, List, [], ◌∷◌, ◌++◌, length, Ok, Err, Bool, true, false, cond, inl, inr, refl, subst, ap, arith}
+use Rattle.std.proofs.Common.{◌≡◌, ℕ, zero, suc, ◌≤◌, List, [], ◌∷◌, ◌++◌, length, Ok, Err, Bool, true, false, inl, inr, refl, subst, ap, arith}
 use Rattle.std.proofs.Common.{length-append}
-use Rattle.byte_rules.specs.Lang.{Lang, Mode, Whole, Begun, Cut, Read, ◌>>=◌, as_value, ◌then◌, choice}
+use Rattle.byte_rules.specs.Lang.{Lang, Mode, Whole, Begun, Read, ◌>>=◌, as_value, ◌then◌}
 use Rattle.byte_rules.proofs.Tells.{Told, Tells, tells_value, tells_then, tells_choice}
-use Rattle.byte_rules.proofs.Finds.{Opens, Finds, Free, Fits, Passes, Outcome, beyond, cut, finds_value}
+use Rattle.byte_rules.proofs.Finds.{Opens, Free, Fits, Passes, Outcome, beyond, cut, finds_value}
 use Rattle.byte_rules.proofs.Good.{Good, Shortens, Apart, with_starts}
 use Rattle.history_reader.specs.Series.{in_front, at_most, series}
 

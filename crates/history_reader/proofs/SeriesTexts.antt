@@ -1,6 +1,6 @@
 -- The texts of a rule again and again, and then another rule, both ways.
 use Rattle.std.proofs.Common.{◌≡◌, ℕ, zero, suc, ◌++◌, ◌∷◌, [], inl, inr, List, Bool, refl, sym, ap, ◌∙◌, subst, append_assoc}
-use Rattle.byte_rules.specs.Lang.{Lang, Mode, Whole, as_value, choice, ◌then◌}
+use Rattle.byte_rules.specs.Lang.{Lang, Whole, as_value}
 use Rattle.byte_rules.proofs.Parts.{Parts}
 use Rattle.byte_rules.proofs.Shown.{Shown}
 use Rattle.history_reader.specs.Series.{in_front, at_most, series}

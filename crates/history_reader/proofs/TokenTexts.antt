@@ -3,7 +3,7 @@ use Rattle.std.proofs.Common.{◌≡◌, ℕ, ◌++◌, ◌∷◌, [], ◌⊎◌
 use Rattle.std.specs.List.{flat_map, join_by}
 use Rattle.handle_table.specs.declared.thing.Thing.{Thing}
 use Rattle.bind_model.specs.declared.endpoint.PendingId.{PendingId}
-use Rattle.byte_rules.specs.Lang.{Lang, as_value, closed, choice, ◌then◌, ◌▸◌}
+use Rattle.byte_rules.specs.Lang.{Lang, as_value, closed, ◌then◌, ◌▸◌}
 use Rattle.history_text.specs.History.{thing_text, pending_text, tokens_text}
 use Rattle.history_text.proofs.Lists.{joined_map}
 use Rattle.history_reader.specs.Signs.{comma, opens, closes}

@@ -1,12 +1,11 @@
 -- How far the text of a value goes is told by reading it to the end; a blank stands there, and the value is read by itself.
-use Rattle.std.proofs.Common.{◌≡◌, ℕ, zero, suc, ◌-◌, ◌+◌, ◌≤◌, List, [], ◌∷◌, ◌++◌, length, take, drop, Ok, Err, Bool, true, false, cond, ◌==◌}
+use Rattle.std.proofs.Common.{◌≡◌, ℕ, zero, suc, ◌-◌, ◌≤◌, List, [], ◌∷◌, ◌++◌, length, take, drop, Ok, Err, Bool, true, false, cond, ◌==◌}
 use Rattle.std.proofs.Common.{inl, inr, refl, sym, ap, ◌∙◌, subst, arith, length-append}
 use Rattle.std.proofs.lemmas.List.{append-nil}
 use Rattle.std.proofs.lemmas.Bool.{eqb-true}
-use Rattle.std.proofs.lemmas.Bool.Decides.{nat_tests}
 use Rattle.byte_rules.specs.declared.stop.Stop.{Stop}
 use Rattle.byte_rules.specs.declared.stop.Stop.TheVariants as stops
-use Rattle.byte_rules.specs.Lang.{Lang, Read, Whole, ◌>>=◌, front_is, byte, closed, ◌then◌}
+use Rattle.byte_rules.specs.Lang.{Lang, Read, Whole, ◌>>=◌, byte, closed, ◌then◌}
 use Rattle.byte_rules.specs.Judged.{Spells, IsBad}
 use Rattle.byte_rules.specs.Reading.{Fails}
 use Rattle.byte_rules.specs.steps.Reading.{Judges, verdict}

@@ -1,5 +1,5 @@
 -- The laws of the whole text.
-use Rattle.std.proofs.Common.{◌≡◌, ℕ, ◌+◌, ◌^◌, ◌<◌, ◌==◌, ◌||◌, List, [], ◌∷◌, Bool, true, false, inl, inr, refl, sym, ap, ◌∙◌, arith}
+use Rattle.std.proofs.Common.{◌≡◌, ℕ, ◌+◌, ◌^◌, ◌<◌, ◌==◌, List, [], ◌∷◌, Bool, true, false, inl, inr, refl, sym, ap, ◌∙◌, arith}
 use Rattle.std.specs.Prelude.{codes, decimal, nat_lt}
 use Rattle.std.specs.List.{list_all}
 use Rattle.std.proofs.lemmas.Bool.Decides.{nat_tests}
@@ -10,7 +10,7 @@ use Rattle.byte_rules.specs.Among.{IsAmong}
 use Rattle.byte_rules.proofs.Among.{good_among}
 use Rattle.byte_rules.proofs.Good.{Good, Apart, nothing, with_starts, good_value, good_closed, good_never, good_then, good_before, good_many, good_wider}
 use Rattle.value_text.specs.Numbers.{is_digit}
-use Rattle.value_text.proofs.NumberLaws.{Numeral, numeral}
+use Rattle.value_text.proofs.NumberLaws.{numeral}
 use Rattle.history_text.specs.declared.notes.Note.{Note}
 use Rattle.history_reader.specs.Signs.{blank, line_end, letter_c, letter_d, letter_l}
 use Rattle.history_reader.specs.Keywords.{word}

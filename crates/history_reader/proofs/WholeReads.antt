@@ -7,7 +7,7 @@ use Rattle.handle_table.specs.declared.thing.Thing.{Thing}
 use Rattle.bind_model.specs.declared.event.Event.{Event}
 use Rattle.byte_rules.specs.declared.stop.Stop.{Stop}
 use Rattle.byte_rules.specs.declared.stop.Stop.TheVariants as stops
-use Rattle.byte_rules.specs.Lang.{Lang, Read, ◌>>=◌, front_is}
+use Rattle.byte_rules.specs.Lang.{Read, ◌>>=◌, front_is}
 use Rattle.byte_rules.specs.Reading.{Fails}
 use Rattle.history_text.specs.declared.notes.Note.{Note}
 use Rattle.history_reader.specs.Keywords.{word}

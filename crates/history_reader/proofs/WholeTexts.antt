@@ -1,7 +1,7 @@
 -- The texts of histories, both ways.
-use Rattle.std.proofs.Common.{◌≡◌, ℕ, suc, ◌+◌, ◌^◌, ◌<◌, ◌++◌, ◌∷◌, [], List, Bool, true, false, inl, inr, refl, sym, ap, ◌∙◌, subst, append_assoc, arith}
+use Rattle.std.proofs.Common.{◌≡◌, ℕ, ◌+◌, ◌^◌, ◌++◌, ◌∷◌, [], List, Bool, true, false, refl, sym, ap, ◌∙◌, subst, append_assoc, arith}
 use Rattle.std.proofs.Common.{add-one}
-use Rattle.std.specs.Prelude.{codes, decimal, nat_lt, length}
+use Rattle.std.specs.Prelude.{codes, decimal, nat_lt}
 use Rattle.std.specs.List.{flat_map}
 use Rattle.std.proofs.lemmas.List.{append-nil}
 use Rattle.std.proofs.lemmas.Bool.{false≢true}
@@ -11,24 +11,23 @@ use Rattle.mj_schema.specs.declared.schema.Schema.{Schema}
 use Rattle.handle_table.specs.declared.thing.Thing.{Thing}
 use Rattle.bind_model.specs.declared.asked.Asked.{Asked}
 use Rattle.bind_model.specs.declared.event.Event.{Event}
-use Rattle.byte_rules.specs.Lang.{Lang, Whole, as_value, closed, many, never, ◌then◌, ◌▸◌}
+use Rattle.byte_rules.specs.Lang.{Lang, Whole, as_value, ◌then◌, ◌▸◌}
 use Rattle.byte_rules.specs.Judged.{Spells}
 use Rattle.byte_rules.proofs.Parts.{parts_never}
-use Rattle.history_text.specs.History.{asked_text, told_text, thing_text, event_line, event_lines, note_line, left_line, done_line, history_text}
+use Rattle.history_text.specs.History.{asked_text, told_text, event_line, event_lines, note_line, left_line, done_line}
 use Rattle.history_text.specs.declared.notes.Note.{Note}
 use Rattle.history_reader.specs.Signs.{blank, line_end, letter_d}
-use Rattle.history_reader.specs.Keywords.{word}
 use Rattle.history_reader.specs.Names.{names_of}
 use Rattle.history_reader.specs.Commands.{asked}
 use Rattle.history_reader.specs.Replies.{told}
-use Rattle.history_reader.specs.Ids.{wide, sequence, thing}
+use Rattle.history_reader.specs.Ids.{sequence}
 use Rattle.history_reader.specs.Whole as whole
 use Rattle.history_reader.specs.Whole.{event_of, number_if, event_number, done_after, tail, begins_tail, behind, begins_behind, printed_of, history_with}
 use Rattle.history_reader.specs.Whole.{history}
 use Rattle.history_reader.specs.Notes as notes
-use Rattle.history_reader.specs.Printable.{IsWide, IsSequence, IsThing, IsNote, AreAll, IsAsked, IsTold, IsEvent, AreEvents, IsPrintable, printed_text}
+use Rattle.history_reader.specs.Printable.{IsWide, IsThing, IsNote, AreAll, IsAsked, IsTold, IsEvent, AreEvents, IsPrintable, printed_text}
 use Rattle.history_reader.specs.declared.printed.Printed.{Printed}
-use Rattle.history_reader.proofs.BothWays.{HasTexts, Is, texts_as, texts_closed, texts_before, texts_value, texts_then, texts_fine, texts_many}
+use Rattle.history_reader.proofs.BothWays.{HasTexts, Is, texts_closed, texts_before, texts_value, texts_then, texts_fine, texts_many}
 use Rattle.history_reader.proofs.KeywordTexts.{texts_word}
 use Rattle.history_reader.proofs.IdTexts.{texts_wide, texts_sequence, texts_thing}
 use Rattle.history_reader.proofs.CommandTexts.{texts_asked}

@@ -1,7 +1,6 @@
 -- How commands stand in a line, up to the arrow and with it.
 use Rattle.std.specs.Prelude.{ℕ, ◌==◌, List, [], ◌∷◌, codes}
 use Rattle.mj_base.specs.declared.ids.EndId.{EndId}
-use Rattle.mj_base.specs.declared.ids.SeqId.{SeqId}
 use Rattle.mj_schema.specs.declared.schema.Schema.{Schema}
 use Rattle.handle_table.specs.declared.thing.Thing.TheVariants.{End, Token}
 use Rattle.handle_table.specs.declared.thing.TokenSort.{TokenSort}
@@ -11,7 +10,6 @@ use Rattle.wire_encoder.specs.declared.endpoint.EndpointSide.TheVariants.{Remote
 use Rattle.wire_model.specs.declared.target.MessageSide.TheVariants.{Request, Response}
 use Rattle.bind_model.specs.declared.asked.Asked.{Asked}
 use Rattle.bind_model.specs.declared.asked.Asked.TheVariants as askeds
-use Rattle.bind_model.specs.declared.asked.Closing.{Closing}
 use Rattle.bind_model.specs.declared.asked.Closing.TheVariants as closings
 use Rattle.byte_rules.specs.Lang.{Lang, as_value, choice, ◌then◌, ◌▸◌}
 use Rattle.value_text.specs.Numbers.{index}

@@ -1,5 +1,5 @@
 -- How things and endpoints stand in a line. Their numbers are 32 bits wide, those of requests 64.
-use Rattle.std.specs.Prelude.{ℕ, ◌-◌, ◌^◌, ◌==◌, ◌∷◌, [], codes}
+use Rattle.std.specs.Prelude.{ℕ, ◌-◌, ◌^◌, ◌==◌}
 use Rattle.mj_base.specs.declared.ids.EndId.{EndId}
 use Rattle.mj_base.specs.declared.ids.SeqId.{SeqId}
 use Rattle.handle_table.specs.declared.thing.Thing.{Thing}

@@ -1,5 +1,5 @@
 -- How the callbacks of calls stand in lines of their own, behind those of events.
-use Rattle.std.specs.Prelude.{ℕ, List, [], ◌∷◌, codes}
+use Rattle.std.specs.Prelude.{ℕ, [], ◌∷◌, codes}
 use Rattle.mj_base.specs.declared.ids.EndId.{EndId}
 use Rattle.mj_base.specs.declared.ids.SeqId.{SeqId}
 use Rattle.byte_rules.specs.Lang.{Lang, closed, ◌then◌, ◌▸◌}

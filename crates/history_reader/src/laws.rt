@@ -16,7 +16,7 @@ ghost use Rattle.history_text.specs.declared.notes.Note.{Note};
 ghost use Rattle.history_text.specs.History.{history_text};
 ghost use Rattle.history_text.specs.Names.{method_text};
 ghost use Rattle.history_reader.specs.Names.{names_of, messages_of, meaning};
-ghost use Rattle.history_reader.specs.Printable.{IsMessage, IsPrintable};
+ghost use Rattle.history_reader.specs.Printable.{IsMessage, IsPrintable, printed_text};
 ghost use Rattle.history_reader.specs.Said.{said};
 ghost use Rattle.history_reader.specs.Texts.{Tells, ReadsBack};
 ghost use Rattle.history_reader.specs.Whole.{history};
@@ -27,6 +27,13 @@ ghost use Rattle.history_reader.specs.declared.printed.Printed.{Printed};
 pub fn one_text()
     ensures { (schema : Schema) (printed : Printed) (one other : List ℕ) → Spells (history schema) printed one
         → Spells (history schema) printed other → one ≡ other }
+{}
+
+/// A law: what bytes say is something that a text can say, and the bytes are its text. It does nothing.
+#[tactic(auto, using(crate::proofs::RoundTrip::own_text))]
+pub fn what_is_read_has_that_text()
+    ensures { (schema : Schema) (printed : Printed) (bytes : List ℕ) → Spells (history schema) printed bytes
+        → IsPrintable schema printed × (bytes ≡ printed_text schema printed) }
 {}
 
 /// A law: two histories with one text are the same, but for the interfaces of responders' endpoints,

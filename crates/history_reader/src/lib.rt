@@ -19,5 +19,8 @@ mod reasons;
 mod replies;
 
 pub use history::read_history;
-pub use laws::{fitting_messages_are_said, one_history, one_text, texts_are_read_back};
+pub use laws::{
+    fitting_messages_are_said, one_history, one_text, texts_are_read_back,
+    what_is_read_has_that_text,
+};
 pub use printed::Printed;

@@ -23,7 +23,7 @@ use Rattle.script_run.specs.Names.{labels, labelled, set_by, responder_held, res
 use Rattle.script_run.specs.OfScript.{AsksNext, next_line, outgoing}
 use Rattle.script_run.specs.declared.run.Run.{Run}
 use Rattle.script_run.specs.steps.Responders.{Rights, responder_at, EndsWith}
-use Rattle.script_run.specs.steps.Going.{past_in, wire_in, told_next, Went, HasNames, todo, asks_in, reply_of, DidLine, DidReply, IsBetween}
+use Rattle.script_run.specs.steps.Going.{past_in, wire_in, told_next, Went, HasNames, most_events, asks_in, reply_of, DidLine, DidReply, IsBetween}
 use Rattle.script_run.proofs.Handed.{out_then}
 use Rattle.script_run.proofs.Holding.{agrees_same}
 use Rattle.script_run.proofs.ResponderLemmas.{last_one}
@@ -178,7 +178,7 @@ module _ (autos : List AutoReply) (lines : List Line) (names : ℕ) (before mid 
       → lines_done (wire_in mid.core) autos (past_in mid.core) ≡ lines_done (wire_in before.core) autos (past_in before.core) + 1
   alone_count did = count_more autos lines names before mid line None between here did
 
-  pub alone_few : DidLine autos line None before mid → todo mid.core ≤ todo before.core + 4
+  pub alone_few : DidLine autos line None before mid → most_events mid.core ≤ most_events before.core + 4
   alone_few did = line_more before.core mid.core between.going line.seq (asks_in before line) did.went
 
   -- with one
@@ -203,7 +203,7 @@ module _ (autos : List AutoReply) (lines : List Line) (names : ℕ) (before mid 
         count_same autos mid after reply found.0 found.1 (did.last (found.0, reply) found.1) replied
         ∙ count_more autos lines names before mid line (Some reply) between here did
 
-    pub replied_few : reply.prepared.target.side ≡ Response → reply.seq.0 < SEQUENCES → todo after.core ≤ todo before.core + 4
+    pub replied_few : reply.prepared.target.side ≡ Response → reply.seq.0 < SEQUENCES → most_events after.core ≤ most_events before.core + 4
     replied_few side within =
         let handed = due_handed before.core mid.core between.going line.seq (asks_in before line) did.went autos (found.0, reply) found.1 in
         let took = take_more before.core mid.core between.going line.seq (asks_in before line) did.went handed.0 handed.1 handed.2 in

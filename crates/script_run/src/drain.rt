@@ -7,7 +7,7 @@ ghost use Rattle.bind_model.specs.declared.endpoint.ResponderId.{ResponderId as 
 ghost use Rattle.call_script.specs.Sound.{IsScript, IsReply};
 ghost use Rattle.script_run.specs.Autos.{due};
 ghost use Rattle.script_run.specs.OfScript.{PastOfScript, next_take};
-ghost use Rattle.script_run.specs.steps.Going.{past_in, wire_in, todo, IsGoing, IsUnnamed, IsNamed, DidLines, DidPart, DidReply, DidTake};
+ghost use Rattle.script_run.specs.steps.Going.{past_in, wire_in, most_events, IsGoing, IsUnnamed, IsNamed, DidLines, DidPart, DidReply, DidTake};
 ghost use Rattle.script_run.specs.steps.Replies.{comes_with, responder_with};
 ghost use Rattle.script_run.specs.steps.Responders.{EndsWith};
 
@@ -80,7 +80,7 @@ impl Run {
         requires names { IsNamed script.now.names self.old }
         requires script { IsScript self.old.core.schema script.now }
         ensures did { OnOk result (DidLines script.now.autos script.now.lines self.old.core self.new.core) }
-        ensures few { OnOk result (todo self.new.core ≤ 4 * MAX_SCRIPT_LINES) }
+        ensures few { OnOk result (most_events self.new.core ≤ 4 * MAX_SCRIPT_LINES) }
     {
         let autos = script.autos.as_slice();
         for line in script.lines.as_slice() {
@@ -116,7 +116,7 @@ impl Run {
         requires going { IsGoing self.old.core }
         requires autos { AllByRecursion (IsReply self.old.core.schema) autos.now }
         requires none { due (wire_in self.old.core) autos.now (past_in self.old.core) ≡ None }
-        requires few { todo self.old.core ≤ 4 * MAX_SCRIPT_LINES }
+        requires few { most_events self.old.core ≤ 4 * MAX_SCRIPT_LINES }
         ensures did { OnOk result (DidPart (next_take (wire_in self.old.core) autos.now (past_in self.old.core)) self.old.core self.new.core) }
         ensures few { OnOk result (length self.new.core.events ≤ 4 * MAX_SCRIPT_LINES) }
     {

@@ -73,9 +73,9 @@ reply_of found = option_map (λ (d : Due). d.1) found
 abbrev pub wire_in : Play → Wire
 wire_in core = wire_of core.schema
 
--- the events, and what is to be done about unread messages
-abbrev pub todo : Play → ℕ
-todo core = length (past_in core) + pending (wire_in core) (past_in core)
+-- how many events there can be: those so far, and those that unread messages can still bring
+abbrev pub most_events : Play → ℕ
+most_events core = length (past_in core) + pending (wire_in core) (past_in core)
 
 -- so many names that stand for nothing
 pub record IsUnnamed (names : ℕ) (run : Run) : Type 0 where

@@ -15,8 +15,12 @@ returns-in-Join c =
       seq = record { 0 = c.in-Join.seq };
       command = commands.Join (record { 0 = c.in-Join.other }) (record { 0 = c.args.count }) (record { 0 = c.args.count + 1 });
     }))))
-    (sym c.in-Join.is)
-    (refl, refl, asks_join c.args.indexed.now.schema.now c.args.table.now c.args.count c.in-Join.seq c.in-Join.other c.in-Join.field-2.now c.in-Join.field-3.now)
+    (sym c.in-Join.is) (
+      refl,
+      refl,
+      asks_join c.args.indexed.now.schema.now c.args.table.now c.args.count c.in-Join.seq c.in-Join.other c.in-Join.field-2.now
+          c.in-Join.field-3.now,
+    )
 
 pub returns-in_err-reply-in-Auto : goal.returns-in_err-reply-in-Auto
 returns-in_err-reply-in-Auto c =

@@ -1,4 +1,4 @@
-use Rattle.std.proofs.Common.{◌≡◌, ◌<◌, ◌≤◌, ℕ, List, ◌++◌, length, get_or, ap, ◌∙◌, subst}
+use Rattle.std.proofs.Common.{◌<◌, ◌≤◌, ℕ, List, ◌++◌, length, get_or, ap, ◌∙◌, subst}
 use Rattle.std.specs.List.{flat_map}
 use Rattle.mj_schema.specs.declared.rows.MethodRow.{MethodRow}
 use Rattle.history_reader.specs.Names.{that_are_words}

@@ -12,7 +12,7 @@ use Rattle.call_script.specs.declared.script.Script.{Script}
 use Rattle.call_script.specs.Sound.{IsReply, IsScript}
 use Rattle.script_run.specs.Autos.{due, lines_done}
 use Rattle.script_run.specs.declared.run.Run.{Run}
-use Rattle.script_run.specs.steps.Going.{past_in, wire_in, todo, DidLine, DidReply, IsBetween}
+use Rattle.script_run.specs.steps.Going.{past_in, wire_in, most_events, DidLine, DidReply, IsBetween}
 use Rattle.script_run.proofs.Draining.{due_in}
 use Rattle.script_run.proofs.Holding.{agrees_sound}
 use Rattle.script_run.proofs.Opening.{between_none}
@@ -28,7 +28,7 @@ State script schema index run = record {
   between : IsBetween script.autos script.lines script.names run;
   schema : run.core.schema ≡ schema;
   count : lines_done (wire_in run.core) script.autos (past_in run.core) ≡ index;
-  few : todo run.core ≤ 4 * index;
+  few : most_events run.core ≤ 4 * index;
 }
 
 module _ (script : Script) (schema : Schema) (is_script : IsScript schema script) (index : ℕ) (line : Line) (here : slice_get script.lines index ≡ Some line)
