@@ -1,0 +1,5 @@
+pub mod Drawing
+pub mod Following
+pub mod Later
+pub mod Noting
+pub mod Requests

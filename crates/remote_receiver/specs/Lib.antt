@@ -1,0 +1,6 @@
+pub mod Calls
+pub mod Held
+pub mod Notes
+pub mod Stepped
+pub mod Waits
+pub mod steps

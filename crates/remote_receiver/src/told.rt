@@ -1,0 +1,120 @@
+//! What replies say to the jobs that wait.
+
+ghost use Rattle.std.specs.Prelude.{◌≡◌};
+ghost use Rattle.bind_core.specs.Plain.{told_of};
+ghost use Rattle.bind_model.specs.Replies.{is_response};
+ghost use Rattle.bind_core.specs.declared.commands.Reply.TheVariants.{Got};
+ghost use Rattle.remote_receiver.specs.Held.{kept_of};
+ghost use Rattle.remote_receiver.specs.Waits.{IsPartOf};
+ghost use Rattle.remote_receiver.specs.steps.Doing.{AfterClose, AfterEnd, AfterGot, AfterTake, HeardIf, closed_endpoint};
+
+use crate::job::{Answered, Job};
+use crate::jobs::Jobs;
+use bind_core::{Command, Received, Reply, ToClose};
+use bind_model::Why;
+use mj_base::EndId;
+use wire_model::MessageSide;
+
+/// Runs the job that waits for a message, if it is a response and there is one.
+fn hear_response<C: Job>(jobs: &mut Jobs<C>, side: MessageSide, got: &Answered)
+    ensures heard { HeardIf C.promises (is_response side) got.now (kept_of jobs.old) (kept_of jobs.new) }
+    ensures part { IsPartOf jobs.old.waiting.callbacks jobs.new.waiting.callbacks }
+{
+    if let MessageSide::Response = side {
+        jobs.hear(got);
+    }
+}
+
+/// Runs the job whose response a take got, if there is one. What was got stays as it is.
+fn hear_got<C: Job>(jobs: &mut Jobs<C>, end: EndId, received: Received) -> Received
+    ensures same { result ≡ received }
+    ensures heard { AfterGot C.promises end (told_of (Got received)) (kept_of jobs.old) (kept_of jobs.new) }
+    ensures part { IsPartOf jobs.old.waiting.callbacks jobs.new.waiting.callbacks }
+{
+    let Received {
+        id,
+        target,
+        parameters,
+        request,
+        handles,
+        responder,
+        gone,
+    } = received;
+    let got = Answered {
+        end,
+        id,
+        request,
+        method: target.method,
+        value: parameters,
+    };
+    hear_response(jobs, target.side, &got);
+    let Answered {
+        end: _,
+        id: _,
+        request: _,
+        method: _,
+        value: parameters,
+    } = got;
+    Received {
+        id,
+        target,
+        parameters,
+        request,
+        handles,
+        responder,
+        gone,
+    }
+}
+
+/// Drops the jobs whose endpoint a take at an end was told to be over.
+fn drop_over<C: Job>(jobs: &mut Jobs<C>, end: EndId, reply: &Reply)
+    ensures kept { AfterEnd end (told_of reply.now) (kept_of jobs.old) (kept_of jobs.new) }
+    ensures part { IsPartOf jobs.old.waiting.callbacks jobs.new.waiting.callbacks }
+{
+    match reply {
+        Reply::Control(id) => jobs.drop_endpoint(end, *id),
+        Reply::Bad(_, _) | Reply::No(Why::PeerClosed, _) => jobs.drop_end(end),
+        _ => {}
+    }
+}
+
+/// Tells the jobs what a take at an end was told.
+pub(crate) fn tell_taken<C: Job>(jobs: &mut Jobs<C>, end: EndId, reply: Reply) -> Reply
+    ensures same { result ≡ reply }
+    ensures kept { AfterTake C.promises end (told_of reply) (kept_of jobs.old) (kept_of jobs.new) }
+    ensures part { IsPartOf jobs.old.waiting.callbacks jobs.new.waiting.callbacks }
+{
+    match reply {
+        Reply::Got(received) => Reply::Got(hear_got(jobs, end, received)),
+        other => {
+            drop_over(jobs, end, &other);
+            other
+        }
+    }
+}
+
+/// The endpoint that a command would close.
+pub(crate) fn closed_endpoint(command: &Command) -> Option<(EndId, u32)>
+    ensures { result ≡ closed_endpoint command.now }
+{
+    match command {
+        Command::Close(ToClose::Endpoint(end, id)) => Some((*end, *id)),
+        _ => None,
+    }
+}
+
+/// Tells the jobs what a command that isn't a call or a take was told, by the endpoint that it would
+/// close; with id 0 the end has gone.
+pub(crate) fn tell_closed<C: Job>(jobs: &mut Jobs<C>, closed: Option<(EndId, u32)>, reply: &Reply)
+    ensures kept { AfterClose closed (told_of reply.now) (kept_of jobs.old) (kept_of jobs.new) }
+    ensures part { IsPartOf jobs.old.waiting.callbacks jobs.new.waiting.callbacks }
+{
+    let (Some((end, id)), Reply::Closed(_)) = (closed, reply) else {
+        return;
+    };
+    if id == 0 {
+        jobs.drop_end(end);
+    } else {
+        jobs.drop_endpoint(end, id);
+    }
+}
