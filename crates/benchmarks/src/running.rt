@@ -88,7 +88,7 @@ fn time_render<R: AllocGlobal + CpuClock>(
             rt.alloc(),
             schema,
             ran.history.as_slice(),
-            &[],
+            ran.notes.as_slice(),
             ran.left.as_slice(),
         )?;
         best = least(best, start, now(rt)?);

@@ -12,9 +12,11 @@ use Rattle.bind_model.proofs.OriginLemmas.{have_writers}
 use Rattle.call_script.specs.declared.script.Script.{Script}
 use Rattle.call_script.specs.declared.script.TheConstants.{SEQUENCES}
 use Rattle.bind_core.specs.Left.{left}
+use Rattle.callback_laws.specs.Callbacks.{callbacks}
 use Rattle.history_laws.proofs.Owners.{one_owner}
 use Rattle.script_run.specs.OfScript.{OfScript}
 use Rattle.history_text.specs.History.{history_text}
+use Rattle.history_text.specs.declared.notes.Note.{Note}
 use Rattle.mojo_tool.specs.Answers.{KeepsLaws, IsTextOf}
 
 -- what a legal history keeps
@@ -29,13 +31,14 @@ keeps_laws wire seqs past is = record {
 }
 
 -- the text of a legal history that is the script's
-pub run_text : (schema : Schema) (script : Script) (history : List Event) (things : List Thing) (text : List ℕ)
-    → Legal (wire_of schema) SEQUENCES history → OfScript schema script history → things ≡ left SEQUENCES (reverse history)
-    → text ≡ history_text schema history [] things → IsTextOf schema script text
-run_text schema script history things text lawful events is whole = record {
+pub run_text : (schema : Schema) (script : Script) (history : List Event) (notes : List Note) (things : List Thing) (text : List ℕ)
+    → Legal (wire_of schema) SEQUENCES history → OfScript schema script history → notes ≡ callbacks SEQUENCES history
+    → things ≡ left SEQUENCES (reverse history) → text ≡ history_text schema history notes things → IsTextOf schema script text
+run_text schema script history notes things text lawful events told is whole = record {
   history = history;
   legal = lawful;
   events = events;
   laws = keeps_laws (wire_of schema) SEQUENCES (reverse history) lawful;
-  whole = whole ∙ ap (λ (l : List Thing). history_text schema history [] l) is;
+  whole = whole ∙ ap (λ (n : List Note). history_text schema history n things) told
+      ∙ ap (λ (l : List Thing). history_text schema history (callbacks SEQUENCES history) l) is;
 }

@@ -10,6 +10,7 @@ use Rattle.bind_model.specs.Replies.{Legal}
 use Rattle.bind_model.specs.Laws.{InOrder, AllStand, OwnResponses, OnePlace}
 use Rattle.bind_model.specs.Origins.{HaveWriters}
 use Rattle.bind_core.specs.Left.{left}
+use Rattle.callback_laws.specs.Callbacks.{callbacks}
 use Rattle.history_laws.specs.Owners.{OneOwner}
 use Rattle.mojom_ast.specs.declared.file.File.{File}
 use Rattle.mojom_print.specs.FileText.{file_text}
@@ -65,13 +66,14 @@ pub record KeepsLaws (wire : Wire) (seqs : ℕ) (past : List Event) : Type 0 whe
   -- each is left at the end or has gone, once, and nothing is made twice
   pub one_owner : OneOwner seqs past
 
--- the text is that of one history, which is legal for the schema, is of the script's events, and keeps the laws, and of what is left
+-- the text is that of one history, which is legal for the schema, is of the script's events, and keeps the laws, of what became of each
+-- callback, and of what is left
 pub record IsTextOf (schema : Schema) (script : Script) (text : List ℕ) : Type 0 where
   pub history : List Event
   pub legal : Legal (wire_of schema) SEQUENCES history
   pub events : OfScript schema script history
   pub laws : KeepsLaws (wire_of schema) SEQUENCES (reverse history)
-  pub whole : text ≡ history_text schema history [] (left SEQUENCES (reverse history))
+  pub whole : text ≡ history_text schema history (callbacks SEQUENCES history) (left SEQUENCES (reverse history))
 
 -- the text is that of a run that is asked for, of the script that the bytes are
 pub record IsRunText (held : Option (List Named)) (ask : List Named → Work → Type 0) (text : List ℕ) : Type 0 where

@@ -52,8 +52,9 @@ fn run<'a>(alloc: Global, schema: Schema, script: &Script) -> Result<Items<u8>, 
     let Ok(ran) = script_run::run_alone(alloc, shared, script) else {
         return Err(Stop::NoMemory);
     };
-    let (events, left) = (ran.history.as_slice(), ran.left.as_slice());
-    match history_text::render(alloc, &schema, events, &[], left) {
+    let events = ran.history.as_slice();
+    let (notes, left) = (ran.notes.as_slice(), ran.left.as_slice());
+    match history_text::render(alloc, &schema, events, notes, left) {
         Ok(text) => Ok(Items::from_vec(text)),
         Err(_) => Err(Stop::NoMemory),
     }

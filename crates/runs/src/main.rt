@@ -2,6 +2,7 @@
 //! few lines.
 #![tactic(auto)]
 
+mod callbacks;
 mod played;
 mod same;
 mod tally;

@@ -1,14 +1,15 @@
-//! A script that was run, and the events that it literally has.
+//! A script that was run, and the events and callbacks that it literally has.
 
 ghost use Rattle.std.specs.Arc.{arc_value};
 ghost use Rattle.call_script.specs.Sound.{IsScript};
 
+use crate::callbacks::callbacks;
 use crate::same::are_same_events;
 use bind_model::Event;
 use bind_reference::{events_of, left};
 use call_script::{SEQUENCES, Script, ScriptError, read_script};
 use handle_table::Thing;
-use history_text::render;
+use history_text::{Note, render};
 use mj_schema::Schema;
 use script_run::{NoMemory, Ran, run_alone};
 use std::alloc::{AllocError, Global};
@@ -16,11 +17,13 @@ use std::io;
 use std::io::Print;
 use std::sync::Arc;
 
-/// What comes of a script: what its run left, and all events and what isn't closed by the definition.
+/// What comes of a script: what its run left, and all events, what became of callbacks and what isn't closed by
+/// the definition.
 #[derive(Drop)]
 pub struct Played {
     ran: Ran,
     pub events: Vec<Event>,
+    notes: Vec<Note>,
     left: Vec<Thing>,
 }
 
@@ -51,21 +54,29 @@ impl Played {
         };
         let ran = run(alloc, schema, &script)?;
         let events = events_of(alloc, schema, &script)?;
+        let notes = callbacks(alloc, SEQUENCES, &events)?;
         let left = left(alloc, SEQUENCES, &events)?;
-        Ok(Some(Played { ran, events, left }))
+        Ok(Some(Played {
+            ran,
+            events,
+            notes,
+            left,
+        }))
     }
 
     /// Whether the run is the one that the definition gives.
     pub fn is_right(&self, alloc: Global) -> Result<bool, AllocError> {
         let is_history = are_same_events(alloc, self.ran.history.as_slice(), &self.events)?;
-        Ok(is_history && self.ran.left.as_slice() == self.left.as_slice())
+        let are_notes = self.ran.notes.as_slice() == self.notes.as_slice();
+        Ok(is_history && are_notes && self.ran.left.as_slice() == self.left.as_slice())
     }
 
     /// Prints both histories.
     pub fn print<R: Print + AllocGlobal>(&self, rt: &R, schema: &Schema) -> io::Result<()> {
         let events = self.ran.history.as_slice();
-        let run = render(rt.alloc(), schema, events, &[], self.ran.left.as_slice())?;
-        let wanted = render(rt.alloc(), schema, &self.events, &[], &self.left)?;
+        let (notes, left) = (self.ran.notes.as_slice(), self.ran.left.as_slice());
+        let run = render(rt.alloc(), schema, events, notes, left)?;
+        let wanted = render(rt.alloc(), schema, &self.events, &self.notes, &self.left)?;
         println!(rt; "the run:\n{}", str::from_utf8(&run).unwrap_or(""))?;
         println!(rt; "wanted:\n{}", str::from_utf8(&wanted).unwrap_or(""))
     }

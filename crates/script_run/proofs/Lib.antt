@@ -14,3 +14,6 @@ pub mod Parts
 pub mod Draining
 pub mod ReplyDone
 pub mod Opening
+pub mod Sole
+pub mod Seating
+pub mod CallbackLemmas

@@ -5,3 +5,4 @@ pub mod Responders
 pub mod Lines
 pub mod Replies
 pub mod Going
+pub mod Seated

@@ -2,9 +2,11 @@
 #![tactic(auto)]
 
 mod autos;
+mod callbacks;
 mod drain;
 mod held;
 mod lines;
+mod machine;
 mod replies;
 mod responders;
 mod run;

@@ -8,6 +8,7 @@ ghost use Rattle.bind_model.specs.WireOf.{wire_of};
 ghost use Rattle.bind_core.specs.Left.{left};
 ghost use Rattle.bind_core.specs.Plain.{asked_of, told_of, HandsBack, HandsResponders, IsOf};
 ghost use Rattle.call_script.specs.Sound.{IsLine, sets};
+ghost use Rattle.callback_laws.specs.Callbacks.{callbacks};
 ghost use Rattle.script_run.specs.steps.Slots.{IsSound, given};
 ghost use Rattle.script_run.specs.steps.Lines.{things_in};
 ghost use Rattle.script_run.specs.steps.Responders.{EndsWith};
@@ -15,14 +16,17 @@ ghost use Rattle.script_run.specs.steps.Replies.{comes_with, count_back, settled
 ghost use Rattle.script_run.specs.steps.Going.{past_in, IsGoing, told_next, Went, IsUnnamed, DidLine};
 
 use crate::autos::due_after;
+use crate::callbacks::all_shown;
 use crate::held::Held;
 use crate::lines::{command_of, responder_needed};
+use crate::machine::Machine;
 use crate::replies::{Comes, comes_with, count_of};
 use crate::responders::Responders;
 use crate::runner::NoMemory;
-use bind_core::{Command, Core, History, Refused, Reply};
+use bind_core::{Command, History, Refused, Reply};
 use call_script::{AutoReply, Command as Asked, Line, NameId, SEQUENCES};
 use handle_table::{Handles, Thing};
+use history_text::Note;
 use mj_base::limits::MAX_EVENTS;
 use mj_base::{Items, SeqId};
 use mj_schema::Schema;
@@ -47,9 +51,9 @@ fn name_behind(line: &Asked, count: usize) -> Option<NameId>
     }
 }
 
-/// A run so far: the core, the handles, the responders, and what came back for want of memory.
+/// A run so far: the core with its desk, the handles, the responders, and what came back for want of memory.
 pub struct Run {
-    pub core: Core,
+    pub core: Machine,
     pub held: Held,
     pub responders: Responders,
     pub kept: Vec<Handles>,
@@ -62,9 +66,12 @@ impl Run {
         ensures core { IfOk result (λ run. run.core ≡ record { schema = arc_value schema; seqs = SEQUENCES; events = [] }) }
         ensures names { IfOk result (IsUnnamed names) }
     {
+        let Ok(shared) = Arc::try_clone(&schema) else {
+            return Err(NoMemory);
+        };
         let held = Held::new(alloc, names)?;
         Ok(Run {
-            core: Core::new(alloc, schema, SEQUENCES),
+            core: Machine::new(alloc, schema, shared),
             held,
             responders: Responders::new(alloc),
             kept: Vec::new(alloc),
@@ -195,10 +202,19 @@ impl Run {
         Ok(found)
     }
 
-    /// Ends the run, with what isn't closed: what is still held may be let go.
-    pub fn end(self, alloc: Global) -> (History, Result<Items<Thing>, NoMemory>)
+    /// Ends the run, with what isn't closed and what became of each callback: what is still held may be let
+    /// go.
+    pub fn end(
+        self,
+        alloc: Global,
+    ) -> (
+        History,
+        Result<Items<Thing>, NoMemory>,
+        Result<Items<Note>, NoMemory>,
+    )
         ensures events { result.0.events ≡ self.core.events }
         ensures left { IfOk result.1 (λ things. things ≡ left self.core.seqs (past_in self.core)) }
+        ensures notes { IfOk result.2 (λ notes. notes ≡ callbacks SEQUENCES self.core.events) }
     {
         let Run {
             core,
@@ -211,7 +227,11 @@ impl Run {
             Ok(left) => Ok(Items::from_vec(left)),
             Err(_) => Err(NoMemory),
         };
-        let (history, over) = core.end();
+        let (history, over, notes) = core.end();
+        let notes = match all_shown(alloc, SeqId(0), notes.as_slice()) {
+            Ok(notes) => Ok(Items::from_vec(notes)),
+            Err(_) => Err(NoMemory),
+        };
         held.retire(&over);
         responders.retire(&over);
         while let Some(handles) = kept.pop() {
@@ -222,6 +242,6 @@ impl Run {
             command.retire(&over);
         }
         refused.destroy_empty();
-        (history, left)
+        (history, left, notes)
     }
 }

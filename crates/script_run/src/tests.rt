@@ -12,6 +12,7 @@ use crate::{Ran, run_alone};
 use bind_model::{Asked, Told};
 use call_script::{AutoReply, Command, Line, NameId, Script};
 use handle_table::{Thing, TokenId, TokenSort};
+use history_text::{Fate, Note};
 use mj_base::{EndId, Items, SeqId, Text};
 use mj_schema::{InterfaceRow, MethodRow, Schema, StructRow, VersionRow};
 use std::alloc::{AllocError, Global};
@@ -151,13 +152,69 @@ fn script_of(alloc: Global, call: Prepared, reply: AutoReply) -> Result<Script, 
     })
 }
 
+/// A pipe whose ends are bound, a call whose response is taken, and one whose end is closed before.
+fn calls_of(
+    alloc: Global,
+    first: Prepared,
+    second: Prepared,
+    reply: AutoReply,
+) -> Result<Script, AllocError>
+    ensures { IfOk result (λ script. (of : schema) → IsPrepared of first → IsPrepared of second → IsReply of reply → IsScript of script) }
+{
+    let (none, nothing) = (Items::new(alloc), Items::new(alloc));
+    let (unnamed, nameless) = (Items::new(alloc), Items::new(alloc));
+    let lines = vec![in alloc;
+        line(2, Command::Pipe(FIRST, SECOND)),
+        line(3, Command::Bind(FIRST, EndpointSide::Remote, 0)),
+        line(4, Command::Bind(SECOND, EndpointSide::Receiver, 0)),
+        line(5, Command::Call(FIRST, 0, first, none)),
+        line(6, Command::Take(SECOND, unnamed)),
+        line(7, Command::Take(FIRST, nameless)),
+        line(8, Command::Call(FIRST, 0, second, nothing)),
+        line(9, Command::CloseEndpoint(FIRST, 0)),
+    ]?;
+    Ok(Script {
+        names: 2,
+        autos: Items::from_vec(vec![in alloc; reply]?),
+        lines: Items::from_vec(lines),
+    })
+}
+
+#[test]
+fn a_callback_runs_and_another_is_dropped(rt: HostRuntime) -> Result<(), Fail> {
+    let alloc = rt.alloc();
+    let schema = Arc::new(alloc, schema_of(alloc)?)?;
+    let first = message(&rt, alloc, &schema, MessageSide::Request);
+    let second = message(&rt, alloc, &schema, MessageSide::Request);
+    let script = calls_of(alloc, first, second, reply(&rt, alloc, &schema))?;
+    let Ran {
+        history: _,
+        left: _,
+        notes,
+    } = run_alone(alloc, schema, &script)?;
+    let note = |request: u64, fate: Fate| Note {
+        seq: SeqId(0),
+        end: EndId { seq: 0, serial: 0 },
+        id: 0,
+        request,
+        fate,
+    };
+    let want = [note(1, Fate::Ran), note(2, Fate::Dropped)];
+    assert_eq!(rt; notes.as_slice(), want.as_slice());
+    Ok(())
+}
+
 #[test]
 fn a_script_is_run_to_its_end(rt: HostRuntime) -> Result<(), Fail> {
     let alloc = rt.alloc();
     let schema = Arc::new(alloc, schema_of(alloc)?)?;
     let call = message(&rt, alloc, &schema, MessageSide::Request);
     let script = script_of(alloc, call, reply(&rt, alloc, &schema))?;
-    let Ran { history, left } = run_alone(alloc, schema, &script)?;
+    let Ran {
+        history,
+        left,
+        notes: _,
+    } = run_alone(alloc, schema, &script)?;
     let first = EndId { seq: 0, serial: 0 };
     let second = EndId { seq: 0, serial: 1 };
     let token = TokenId { seq: 0, serial: 0 };
