@@ -6,6 +6,7 @@ mod again;
 mod answer;
 mod case;
 mod lines;
+mod read_back;
 mod reader;
 
 use crate::case::{Case, CaseError};
@@ -29,6 +30,8 @@ struct Tally {
     failed: u64,
     /// How many printed texts were printed again.
     again: u64,
+    /// How many printed histories were read back.
+    read_back: u64,
 }
 
 /// The cases of a file.
@@ -78,6 +81,23 @@ fn run_case<R: Print + AllocGlobal + Wait + Threads + Sync>(
     Ok(false)
 }
 
+/// Reads back the history that a case wants to be printed; whether it is that history again.
+fn read_history_back<R: Print + AllocGlobal>(
+    rt: &R,
+    case: &Case,
+    tally: &mut Tally,
+) -> io::Result<bool> {
+    let Some(is_read_back) = read_back::is_read_back(rt.alloc(), case)? else {
+        return Ok(true);
+    };
+    if is_read_back {
+        tally.read_back = tally.read_back.saturating_add(1);
+    } else {
+        println!(rt; "{}: the text isn't read back", case.name)?;
+    }
+    Ok(is_read_back)
+}
+
 /// Runs the cases, and prints how those that fail differ. Each has a name of its own.
 fn run_cases<R: Print + AllocGlobal + Wait + Threads + Sync>(
     rt: &R,
@@ -88,6 +108,7 @@ fn run_cases<R: Print + AllocGlobal + Wait + Threads + Sync>(
     let alloc = rt.alloc();
     for case in cases {
         let mut passed = note_name(rt, names, case.name.as_str())?;
+        passed = read_history_back(rt, &case, tally)? && passed;
         if let Some(again) = again::printed_again(alloc, &case)? {
             tally.again = tally.again.saturating_add(1);
             passed = run_case(rt, again)? && passed;
@@ -124,6 +145,7 @@ fn run_files<R: std::rt::Files + Env + Print + AllocGlobal + Wait + Threads + Sy
 fn main(rt: HostRuntime) -> io::Result<ExitCode> {
     let tally = run_files(&rt)?;
     println!(rt; "{} printed texts printed again", tally.again)?;
+    println!(rt; "{} printed histories read back", tally.read_back)?;
     println!(rt; "{} passed, {} failed", tally.passed, tally.failed)?;
     if tally.failed > 0 {
         return Ok(ExitCode::FAILURE);
