@@ -1,0 +1,13 @@
+mod Heads
+mod Reading
+mod PeerLemmas
+mod Past
+mod Ids
+mod Pendings
+mod Sends
+mod Values
+mod Bounds
+pub mod Own
+mod Twice
+mod Numbered
+pub mod Once
