@@ -1,44 +1,66 @@
 -- What a run leaves is the text of its script.
-use Rattle.std.proofs.Common.{◌≡◌, ℕ, List, [], reverse, ap, ◌∙◌}
+use Rattle.std.proofs.Common.{◌≡◌, ◌≤◌, ◌*◌, ℕ, List, length, reverse, Ok, sym, ap, ◌∙◌, subst, arith}
+use Rattle.std.proofs.lemmas.List.{length-reverse}
+use Rattle.mj_base.specs.declared.limits.TheConstants.{MAX_EVENTS, MAX_SCRIPT_LINES}
 use Rattle.mj_schema.specs.declared.schema.Schema.{Schema}
 use Rattle.handle_table.specs.declared.thing.Thing.{Thing}
 use Rattle.bind_model.specs.declared.event.Event.{Event}
-use Rattle.bind_model.specs.Wire.{Wire}
 use Rattle.bind_model.specs.WireOf.{wire_of}
 use Rattle.bind_model.specs.Replies.{legal, Legal}
 use Rattle.bind_model.proofs.Fresh.{one_place}
 use Rattle.bind_model.proofs.Responses.{own_responses, in_order, all_stand}
 use Rattle.bind_model.proofs.OriginLemmas.{have_writers}
+use Rattle.bind_core.specs.Left.{left}
+use Rattle.mojom_compile.specs.Schemas.{IsSchemaOfFiles}
+use Rattle.mojom_compile.specs.declared.source.Source.{Source}
+use Rattle.call_script.specs.Script.{IsScriptOf}
 use Rattle.call_script.specs.declared.script.Script.{Script}
 use Rattle.call_script.specs.declared.script.TheConstants.{SEQUENCES}
-use Rattle.bind_core.specs.Left.{left}
 use Rattle.callback_laws.specs.Callbacks.{callbacks}
 use Rattle.history_laws.proofs.Owners.{one_owner}
+use Rattle.reply_laws.proofs.Once.{all_first}
+use Rattle.reply_laws.proofs.Own.{all_own}
 use Rattle.script_run.specs.OfScript.{OfScript}
 use Rattle.history_text.specs.History.{history_text}
 use Rattle.history_text.specs.declared.notes.Note.{Note}
+use Rattle.history_reader.specs.Texts.{Tells}
+use Rattle.history_reader.specs.Whole as texts
+use Rattle.printed_laws.specs.Runs.{run_said, run_text}
+use Rattle.printed_laws.proofs.Runs.{run_read_back}
+use Rattle.printed_laws.proofs.ValueSent.{PassedIsEncodable}
 use Rattle.mojo_tool.specs.Answers.{KeepsLaws, IsTextOf}
 
--- what a legal history keeps
-keeps_laws : (wire : Wire) (seqs : ℕ) (past : List Event) → legal wire seqs past → KeepsLaws wire seqs past
-keeps_laws wire seqs past is = record {
-  in_order = in_order wire seqs past is;
-  writers = have_writers wire seqs past is;
-  stands = all_stand wire seqs past is;
-  responses = own_responses wire seqs past is;
-  one_place = one_place wire seqs past is;
-  one_owner = one_owner wire seqs past is;
+-- what a legal history keeps that has no more events than a core's
+keeps_laws : PassedIsEncodable → (schema : Schema) (seqs : ℕ) (past : List Event) → legal (wire_of schema) seqs past → length past ≤ MAX_EVENTS
+    → KeepsLaws schema seqs past
+keeps_laws law schema seqs past is few = record {
+  in_order = in_order (wire_of schema) seqs past is;
+  writers = have_writers (wire_of schema) seqs past is;
+  stands = all_stand (wire_of schema) seqs past is;
+  responses = own_responses (wire_of schema) seqs past is;
+  own = all_own law schema seqs past is few;
+  first = all_first law schema seqs past is few;
+  one_place = one_place (wire_of schema) seqs past is;
+  one_owner = one_owner (wire_of schema) seqs past is;
 }
 
--- the text of a legal history that is the script's
-pub run_text : (schema : Schema) (script : Script) (history : List Event) (notes : List Note) (things : List Thing) (text : List ℕ)
-    → Legal (wire_of schema) SEQUENCES history → OfScript schema script history → notes ≡ callbacks SEQUENCES history
-    → things ≡ left SEQUENCES (reverse history) → text ≡ history_text schema history notes things → IsTextOf schema script text
-run_text schema script history notes things text lawful events told is whole = record {
-  history = history;
-  legal = lawful;
-  events = events;
-  laws = keeps_laws (wire_of schema) SEQUENCES (reverse history) lawful;
-  whole = whole ∙ ap (λ (n : List Note). history_text schema history n things) told
-      ∙ ap (λ (l : List Thing). history_text schema history (callbacks SEQUENCES history) l) is;
-}
+-- the text of a legal history that is the script's, over the schema of files
+pub text_of_run : PassedIsEncodable → (schema : Schema) (script : Script) (history : List Event) (notes : List Note) (things : List Thing)
+    (text : List ℕ) → ((sources : List Source) × IsSchemaOfFiles sources schema) → ((bytes : List ℕ) × IsScriptOf schema bytes script)
+    → Legal (wire_of schema) SEQUENCES history → OfScript schema script history → length history ≤ 4 * MAX_SCRIPT_LINES
+    → notes ≡ callbacks SEQUENCES history → things ≡ left SEQUENCES (reverse history) → text ≡ history_text schema history notes things
+    → IsTextOf schema script text
+text_of_run law schema script history notes things text compiled read lawful events few told is whole =
+    let same : text ≡ run_text schema history = whole
+    ∙ ap (λ (n : List Note). history_text schema history n things) told
+    ∙ ap (λ (l : List Thing). history_text schema history (callbacks SEQUENCES history) l) is in
+    let short : length history ≤ 262144 = few in
+    record {
+      history = history;
+      legal = lawful;
+      events = events;
+      laws = keeps_laws law schema SEQUENCES (reverse history) lawful (omega (arith, short, length-reverse history));
+      whole = same;
+      one = subst (λ (t : List ℕ). Tells (texts.history schema) t (Ok (run_said history))) (sym same)
+          (run_read_back law compiled.0 schema read.0 script history compiled.1 read.1 lawful events few);
+    }

@@ -1,17 +1,16 @@
 -- What each status says of the words, the files and the sinks, before the call and after it.
-use Rattle.std.specs.Prelude.{ℕ, ◌≡◌, List, [], reverse, Option, Some, None, IfSome, ◌⊎◌}
+use Rattle.std.specs.Prelude.{ℕ, ◌≡◌, List, reverse, Option, Some, None, Ok, IfSome, ◌⊎◌}
 use Rattle.mj_io.specs.Outside.{Named, FilesState, SinkState, Rose, Wrote, WroteSome}
 use Rattle.command_line.specs.Asked.{Command, Run, Print, Check, Encode, Decode, command_of}
 use Rattle.mj_schema.specs.declared.schema.Schema.{Schema}
 use Rattle.bind_model.specs.declared.event.Event.{Event}
-use Rattle.bind_model.specs.Wire.{Wire}
 use Rattle.bind_model.specs.WireOf.{wire_of}
 use Rattle.bind_model.specs.Replies.{Legal}
 use Rattle.bind_model.specs.Laws.{InOrder, AllStand, OwnResponses, OnePlace}
 use Rattle.bind_model.specs.Origins.{HaveWriters}
-use Rattle.bind_core.specs.Left.{left}
-use Rattle.callback_laws.specs.Callbacks.{callbacks}
 use Rattle.history_laws.specs.Owners.{OneOwner}
+use Rattle.reply_laws.specs.Once.{AllFirst}
+use Rattle.reply_laws.specs.Own.{AllOwn}
 use Rattle.mojom_ast.specs.declared.file.File.{File}
 use Rattle.mojom_print.specs.FileText.{file_text}
 use Rattle.schema_text.specs.Listing.{listing}
@@ -19,7 +18,9 @@ use Rattle.call_script.specs.declared.script.Script.{Script}
 use Rattle.call_script.specs.declared.script.TheConstants.{SEQUENCES}
 use Rattle.call_script.specs.Script.{IsScriptOf}
 use Rattle.script_run.specs.OfScript.{OfScript}
-use Rattle.history_text.specs.History.{history_text}
+use Rattle.history_reader.specs.Texts.{Tells}
+use Rattle.history_reader.specs.Whole as texts
+use Rattle.printed_laws.specs.Runs.{run_said, run_text}
 use Rattle.mojo_tool.specs.Work.{Work, Missing, TooLong, Refuses, Rejects, RefusesLine, UnknownName, BadText, Unfit, BadHex, Faulty}
 use Rattle.mojo_tool.specs.Work.{Runs, Prints, Checks, Encodes, Decodes, ComesTo, IsWork, AskedFor}
 use Rattle.mojo_tool.specs.Lines.{refusal_text, error_line, read_text, hex_line, shown_line}
@@ -52,17 +53,20 @@ abbrev pub asked_by : Seen → List Named → Work → Type 0
 asked_by s files work = IsWork (command_of s.words) files work
 
 -- what a history of so many sequences keeps, said of its events, the newest first
-pub record KeepsLaws (wire : Wire) (seqs : ℕ) (past : List Event) : Type 0 where
+pub record KeepsLaws (schema : Schema) (seqs : ℕ) (past : List Event) : Type 0 where
   -- at each end the messages are consumed in the order in which they were written, each once
-  pub in_order : InOrder wire past
+  pub in_order : InOrder (wire_of schema) past
   -- each is the one that its writer says: the tight bytes of a call
-  pub writers : HaveWriters wire past
+  pub writers : HaveWriters (wire_of schema) past
   -- what is got is what its message stands for
-  pub stands : AllStand wire past
+  pub stands : AllStand (wire_of schema) past
   -- requests are numbered, and each is answered once at most
   pub responses : OwnResponses past
+  -- it is what the peer sent: a response what the responder of its own request answered, and that is the only answer to it
+  pub own : AllOwn schema past
+  pub first : AllFirst past
   -- each thing that was made has one place: with a caller, in an unread message, bound, or gone
-  pub one_place : OnePlace wire past
+  pub one_place : OnePlace (wire_of schema) past
   -- each is left at the end or has gone, once, and nothing is made twice
   pub one_owner : OneOwner seqs past
 
@@ -72,8 +76,10 @@ pub record IsTextOf (schema : Schema) (script : Script) (text : List ℕ) : Type
   pub history : List Event
   pub legal : Legal (wire_of schema) SEQUENCES history
   pub events : OfScript schema script history
-  pub laws : KeepsLaws (wire_of schema) SEQUENCES (reverse history)
-  pub whole : text ≡ history_text schema history (callbacks SEQUENCES history) (left SEQUENCES (reverse history))
+  pub laws : KeepsLaws schema SEQUENCES (reverse history)
+  pub whole : text ≡ run_text schema history
+  -- it says this history, what became of its callbacks and what is left, and nothing else
+  pub one : Tells (texts.history schema) text (Ok (run_said history))
 
 -- the text is that of a run that is asked for, of the script that the bytes are
 pub record IsRunText (held : Option (List Named)) (ask : List Named → Work → Type 0) (text : List ℕ) : Type 0 where

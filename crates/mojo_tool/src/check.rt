@@ -1,7 +1,9 @@
 //! From the names and the files to their schema and the text of its tables, or to why there is none.
 
-ghost use Rattle.std.specs.Prelude.{◌≡◌, Some, map, IfOk, IfErr};
+ghost use Rattle.std.specs.Prelude.{◌≡◌, List, Some, map, IfOk, IfErr};
 ghost use Rattle.mj_io.specs.Outside.{FilesGoOn};
+ghost use Rattle.mojom_compile.specs.Schemas.{IsSchemaOfFiles};
+ghost use Rattle.mojom_compile.specs.declared.source.Source.{Source as compiled_source};
 ghost use Rattle.schema_text.specs.Listing.{listing};
 ghost use Rattle.command_line.specs.Asked.{Check};
 ghost use Rattle.mojo_tool.specs.Work.{ComesTo, Checking, IsAmong};
@@ -82,6 +84,7 @@ pub fn fetch_schema<'a, F: Files>(
 ) -> Result<Schema, Stop<'a>>
     ensures on { FilesGoOn (F.state files.old) (F.state files.new) }
     ensures schema { IfOk result (HaveSchemaOver (F.state files.old).held (map (λ name. name.now) names.now)) }
+    ensures compiled { IfOk result (λ schema. (sources : List compiled_source) × IsSchemaOfFiles sources schema) }
     ensures stop { IfErr result (NoSchema (F.state files.old) (F.state files.new) (map (λ name. name.now) names.now)) }
     ensures among { IfErr result (IsOf (IsAmong (map (λ name. name.now) names.now))) }
 {

@@ -1,11 +1,13 @@
 //! From a script and the files to the text of its history, or to why there is none.
 
-ghost use Rattle.std.specs.Prelude.{◌≡◌, Some, map, IfOk, IfErr};
+ghost use Rattle.std.specs.Prelude.{ℕ, ◌≡◌, List, Some, map, IfOk, IfErr};
 ghost use Rattle.std.specs.Arc.{arc_value};
 ghost use Rattle.mj_io.specs.Outside.{FilesGoOn};
 ghost use Rattle.call_script.specs.Script.{IsScriptOf};
 ghost use Rattle.call_script.specs.Sound.{IsScript};
 ghost use Rattle.command_line.specs.Asked.{Run, run_words};
+ghost use Rattle.mojom_compile.specs.Schemas.{IsSchemaOfFiles};
+ghost use Rattle.mojom_compile.specs.declared.source.Source.{Source as source};
 ghost use Rattle.mojo_tool.specs.Work.{ComesTo, Scripting, Running};
 ghost use Rattle.mojo_tool.specs.Answers.{IsTextOf, IsRunText};
 ghost use Rattle.mojo_tool.specs.steps.Stops.{Stops, IsOf, NoScript};
@@ -19,6 +21,7 @@ use mj_io::Files;
 use mj_schema::Schema;
 use std::alloc::Global;
 use std::sync::Arc;
+use wire_encoder::laws::passed_is_encodable;
 
 /// The script that the bytes are.
 fn read_script<'a>(alloc: Global, schema: &Schema, bytes: &[u8]) -> Result<Script, Stop<'a>>
@@ -37,12 +40,16 @@ fn read_script<'a>(alloc: Global, schema: &Schema, bytes: &[u8]) -> Result<Scrip
 }
 
 /// The text of the script's history. The error is want of memory.
-#[tactic(auto, using(crate::proofs::Ran::run_text))]
+#[tactic(auto, using(crate::proofs::Ran::text_of_run))]
 fn run<'a>(alloc: Global, schema: Schema, script: &Script) -> Result<Items<u8>, Stop<'a>>
-    requires { IsScript schema script.now }
+    requires sound { IsScript schema script.now }
+    requires read { (bytes : List ℕ) × IsScriptOf schema bytes script.now }
+    requires compiled { (sources : List source) × IsSchemaOfFiles sources schema }
     ensures text { IfOk result (IsTextOf schema script.now) }
     ensures memory { IfErr result (λ stop. stop ≡ Stop.NoMemory) }
 {
+    // A law, on which those of texts and replies rest: it does nothing.
+    passed_is_encodable();
     let Ok(schema) = Arc::new(alloc, schema) else {
         return Err(Stop::NoMemory);
     };
@@ -67,6 +74,7 @@ fn decide_script<'a, F: Files>(
     schema: Schema,
     files: &mut F,
 ) -> Result<Items<u8>, Stop<'a>>
+    requires compiled { (sources : List source) × IsSchemaOfFiles sources schema }
     ensures on { FilesGoOn (F.state files.old) (F.state files.new) }
     ensures text { IfOk result (IsRunText (F.state files.old).held (λ files work. Scripting files name.now schema work)) }
     ensures stop { IfErr result (Stops (F.state files.old) (F.state files.new) (λ files work. Scripting files name.now schema work)) }

@@ -22,3 +22,6 @@ returns-clause-among g c =
     no_schema_reached (g.F.Files.state c.args.files.now) (g.F.Files.state c.args.files.now) _ c.refused.result
     (inr (refused_set _ _ c.in-Ok.fetched.items c.in-Err-compile.error c.refused.result c.in-Ok.ensures.sources
     (rw c.as_slice.ensures.value at c.in-Err-compile.ensures.refused) c.refused.ensures))
+
+pub returns-in-Ok-compile-clause-compiled : goal.returns-in-Ok-compile-clause-compiled
+returns-in-Ok-compile-clause-compiled g c = (c.in-Ok.fetched.items, rw c.as_slice.ensures.value at c.in-Ok-compile.ensures.schema)

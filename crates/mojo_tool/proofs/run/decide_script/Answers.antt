@@ -11,6 +11,9 @@ returns-in-Err-read_script-clause-stop g c =
 pub returns-in-Err-read_script-clause-named : goal.returns-in-Err-read_script-clause-named
 returns-in-Err-read_script-clause-named g c = of_none _ c.in-Err-read_script.stop c.in-Err-read_script.ensures.named
 
+pub run-requires-clause-read : goal.run-requires-clause-read
+run-requires-clause-read g c = (c.in-Ok.bytes.items, rw c.as_slice.ensures.value at c.in-Ok-read_script.ensures.script)
+
 pub returns-clause-text : goal.returns-clause-text
 returns-clause-text g c =
     ok_goes _ _ _

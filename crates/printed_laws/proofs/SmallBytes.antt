@@ -1,0 +1,217 @@
+-- What was prepared becomes bytes: a value that passes its checks has texts in UTF-8.
+use Rattle.std.proofs.Common.{◌≡◌, ◌<◌, ℕ, zero, suc, ◌+◌, ◌-◌, Bool, true, false, List, [], ◌∷◌, ◌++◌, length, map, replicate, refl, sym, ap, subst, ◌≤◌, ◌^◌, arith}
+use Rattle.std.specs.Prelude.{Option, Some, None, Result, Ok, Err}
+use Rattle.std.proofs.lemmas.Bool.{eqb-true}
+use Rattle.mj_base.specs.Bytes.{rounded8}
+use Rattle.mj_schema.specs.KindTrees as kinds
+use Rattle.mj_schema.specs.KindTrees.{KindTree}
+use Rattle.mj_schema.specs.Layout.{kind_of}
+use Rattle.mj_schema.specs.Sizes.{size_of}
+use Rattle.mj_schema.specs.declared.rows.FieldRow.{FieldRow}
+use Rattle.mj_schema.specs.declared.rows.StructRow.{StructRow}
+use Rattle.mj_schema.specs.declared.schema.Schema.{Schema}
+use Rattle.wire_encoder.specs.Alone.{takes_text}
+use Rattle.wire_encoder.specs.Checks.{Check, Test, HandleAt, EndpointAt, all_under, checks, list_checks, struct_checks, member_checks}
+use Rattle.wire_encoder.specs.FirstFailed.{Met, Refusal, counted, first_failed, next, nothing, step}
+use Rattle.wire_encoder.specs.Prepared.{IsPrepared, kind_for, parameters_of}
+use Rattle.wire_encoder.specs.declared.prepared.Prepared.{Prepared}
+use Rattle.wire_model.specs.Bytes.{bytes32}
+use Rattle.wire_model.specs.Cells.{UNION_BYTES, put, put_cell, zeros}
+use Rattle.wire_model.specs.Depth.{deeper}
+use Rattle.wire_model.specs.Emit.{object, text_object, struct_object, member_object, emit, body_of, behind}
+use Rattle.wire_model.specs.Rows.{member_kind, row_of}
+use Rattle.wire_model.specs.Slots.{Slot, element_slots, map_slots, element_bytes, field_slot, found_fields, found_size, found_version}
+use Rattle.wire_model.specs.Texts.{valid_len}
+use Rattle.wire_model.specs.Trees as values
+use Rattle.wire_model.specs.Trees.{Tree, Trees, none, more, count, view}
+use Rattle.history_reader.specs.Printable.{AreAll, AreBytes}
+use Rattle.printed_laws.proofs.SmallCells.{zeros_fine, put_cell_fine, put_fine}
+use Rattle.printed_laws.proofs.SmallLists.{all_both}
+use Rattle.printed_laws.proofs.SmallTexts.{text_bytes}
+use Rattle.printed_laws.proofs.SmallWire.{BecomeBytes, IsByte, before}
+
+-- ## Tests that hold
+
+abbrev Holds : Check → Type 0
+Holds (Test holds flaw path) = holds ≡ true
+Holds (HandleAt index path) = Unit {0}
+Holds (EndpointAt index wanted path) = Unit {0}
+
+abbrev AllHold : List Check → Type 0
+AllHold cs = AreAll Holds cs
+
+-- where all went on, one step did
+onward : (cs : List Check) (after : Met) (r : Result Met Refusal) → ((m : Met) → first_failed m cs ≡ Ok after → AllHold cs)
+    → next r (λ m. first_failed m cs) ≡ Ok after → AllHold cs
+onward cs after (Ok m) h ok = h m ok
+onward cs after (Err wrong) h ok = absurd cc
+
+passed : (cs : List Check) (m after : Met) → first_failed m cs ≡ Ok after → AllHold cs
+unfolding first_failed step
+passed [] m after ok = tt
+passed (Test true flaw path ∷ cs) m after ok = (refl, passed cs m after ok)
+passed (Test false flaw path ∷ cs) m after ok = absurd cc
+passed (HandleAt index path ∷ cs) m after ok = (
+  tt,
+  onward cs after (counted index m.handles path (record { handles = m.handles + 1; endpoints = m.endpoints }))
+      (λ n e. passed cs n after e) ok,
+)
+passed (EndpointAt index wanted path ∷ cs) m after ok = (
+  tt,
+  onward cs after (counted index (length m.endpoints) path (record { handles = m.handles; endpoints = m.endpoints ++ wanted ∷ [] }))
+      (λ n e. passed cs n after e) ok,
+)
+
+fronts : (xs ys : List Check) → AllHold (xs ++ ys) → AllHold xs
+fronts [] ys a = tt
+fronts (x ∷ xs) ys a = (a.0, fronts xs ys a.1)
+
+rests : (xs ys : List Check) → AllHold (xs ++ ys) → AllHold ys
+rests [] ys a = a
+rests (x ∷ xs) ys a = rests xs ys a.1
+
+inside : (n : ℕ) (cs : List Check) → AllHold (all_under n cs) → AllHold cs
+unfolding all_under
+inside n [] a = tt
+inside n (Test holds flaw path ∷ cs) a = (a.0, inside n cs a.1)
+inside n (HandleAt index path ∷ cs) a = (tt, inside n cs a.1)
+inside n (EndpointAt index wanted path ∷ cs) a = (tt, inside n cs a.1)
+
+-- ## Objects
+
+object_fine : (first second : ℕ) (body rest : List ℕ) → AreBytes body → AreBytes rest → AreBytes (object first second body rest)
+object_fine first second body rest a b =
+    before first (bytes32 second ++ (body ++ rest)) (before second (body ++ rest) (all_both IsByte body rest a b))
+
+text_fine : (k : KindTree) (bs : List ℕ) → takes_text k bs ≡ true → AreBytes (text_object k bs)
+unfolding takes_text
+text_fine (kinds.TextKind nullable) bs e = object_fine (8 + length bs) (length bs) bs (zeros (rounded8 (length bs) - length bs))
+    (text_bytes bs (eqb-true (valid_len bs) (length bs) e)) (zeros_fine (rounded8 (length bs) - length bs))
+text_fine k bs e = tt
+
+body_fine : (schema : Schema) (ts : Trees) (ss : List Slot) (body : List ℕ) (at : ℕ) → AreBytes body → AreBytes (body_of schema ss ts body at)
+unfolding body_of
+body_fine schema none ss body at a = a
+body_fine schema (more t ts) [] body at a = a
+body_fine schema (more t ts) (s ∷ ss) body at a =
+    body_fine schema ts ss (put schema s.place s.kind t body at) (at + length (emit schema true s.kind t)) (put_fine schema s.place s.kind t body at a)
+
+-- ## Kinds of slots
+
+abbrev slot_kind : Slot → KindTree
+slot_kind s = s.kind
+
+element_kinds : (k : KindTree) (place n : ℕ) → map slot_kind (element_slots k place n) ≡ replicate n k
+element_kinds k place zero = refl
+element_kinds k place (suc n) = ap (λ ks. k ∷ ks) (element_kinds k (place + size_of k) n)
+
+field_kinds : (fs : List FieldRow) → map slot_kind (map field_slot fs) ≡ map kind_of fs
+field_kinds [] = refl
+field_kinds (f ∷ fs) = ap (λ ks. f.kind ∷ ks) (field_kinds fs)
+
+-- a value that passes becomes bytes, and so do values
+abbrev ValueFine : Tree → Type 0
+ValueFine t = (schema : Schema) (above : ℕ) (inline : Bool) (k : KindTree) → AllHold (checks schema above inline k t) → AreBytes (emit schema inline k t)
+
+abbrev AllFine : Trees → Type 0
+AllFine ts = (schema : Schema) (above number : ℕ) (ss : List Slot) → AllHold (list_checks schema above number (map slot_kind ss) ts)
+    → AreBytes (behind schema ss ts)
+
+-- ## Values
+
+-- so many elements of one kind
+elements_fine : (ts : Trees) → AllFine ts → (schema : Schema) (above : ℕ) (e : KindTree) → AllHold (list_checks schema above 0 (replicate (count ts) e) ts)
+    → AreBytes (behind schema (element_slots e 0 (count ts)) ts)
+elements_fine ts f schema above e a = f schema above 0 (element_slots e 0 (count ts))
+    (subst (λ (ks : List KindTree). AllHold (list_checks schema above 0 ks ts)) (sym (element_kinds e 0 (count ts))) a)
+
+array_fine : (ts : Trees) (schema : Schema) (inline : Bool) (e : KindTree) (c : Option ℕ) (nullable : Bool)
+    → AreBytes (behind schema (element_slots e 0 (count ts)) ts) → AreBytes (emit schema inline (kinds.ArrayKind e c nullable) (values.Items ts))
+unfolding emit
+array_fine ts schema inline e c nullable a = object_fine (8 + element_bytes e (count ts)) (count ts)
+    (body_of schema (element_slots e 0 (count ts)) ts (zeros (rounded8 (element_bytes e (count ts)))) (rounded8 (element_bytes e (count ts))))
+    (behind schema (element_slots e 0 (count ts)) ts)
+    (body_fine schema ts (element_slots e 0 (count ts)) (zeros (rounded8 (element_bytes e (count ts)))) (rounded8 (element_bytes e (count ts)))
+    (zeros_fine (rounded8 (element_bytes e (count ts))))) a
+
+items_fine : (ts : Trees) → AllFine ts → ValueFine (values.Items ts)
+unfolding checks emit
+items_fine ts f schema above inline (kinds.ArrayKind e c nullable) a =
+    array_fine ts schema inline e c nullable (elements_fine ts f schema (above + 1) e a.1.1)
+items_fine ts f schema above inline k a = tt
+
+-- a map of these keys and values
+abbrev map_of : Trees → Trees → Trees
+map_of ks vs = more (values.Items ks) (more (values.Items vs) none)
+
+pairs_fine : (ks vs : Trees) → AllFine ks → AllFine vs → ValueFine (values.Pairs (map_of ks vs))
+unfolding checks emit behind
+pairs_fine ks vs f g schema above inline (kinds.MapKind key value nullable) a =
+    let first = list_checks schema (above + 2) 0 (replicate (count ks) key) ks in
+    let second = list_checks schema (above + 2) 0 (replicate (count vs) value) vs in
+    let keys = array_fine ks schema true key None false (elements_fine ks f schema (above + 2) key
+    (inside 0 first (fronts (all_under 0 first) (all_under 1 second) a.1.1))) in
+    let items = array_fine vs schema true value None false (elements_fine vs g schema (above + 2) value
+    (inside 1 second (rests (all_under 0 first) (all_under 1 second) a.1.1))) in
+    object_fine 24 0 (body_of schema (map_slots key value) (map_of ks vs) (zeros 16) 16) (behind schema (map_slots key value) (map_of ks vs))
+    (body_fine schema (map_of ks vs) (map_slots key value) (zeros 16) 16 (zeros_fine 16))
+    (all_both IsByte (emit schema true (kinds.ArrayKind key None false) (values.Items ks))
+    (emit schema true (kinds.ArrayKind value None false) (values.Items vs) ++ []) keys
+    (all_both IsByte (emit schema true (kinds.ArrayKind value None false) (values.Items vs)) [] items tt))
+pairs_fine ks vs f g schema above inline k a = tt
+
+struct_fine : (ts : Trees) → AllFine ts → (schema : Schema) (above : ℕ) (o : Option StructRow)
+    → AllHold (struct_checks o (count ts) above (λ ks. list_checks schema (above + 1) 0 ks ts))
+    → AreBytes (struct_object o (λ ss size. body_of schema ss ts (zeros size) size) (λ ss. behind schema ss ts))
+struct_fine ts f schema above None a = tt
+struct_fine ts f schema above (Some row) a = object_fine (found_size (Some row)) (found_version (Some row))
+    (body_of schema (found_fields (Some row)) ts (zeros (found_size (Some row) - 8)) (found_size (Some row) - 8))
+    (behind schema (found_fields (Some row)) ts)
+    (body_fine schema ts (found_fields (Some row)) (zeros (found_size (Some row) - 8)) (found_size (Some row) - 8) (zeros_fine (found_size (Some row) - 8)))
+    (f schema (above + 1) 0 (map field_slot row.fields)
+    (subst (λ (ks : List KindTree). AllHold (list_checks schema (above + 1) 0 ks ts)) (sym (field_kinds row.fields)) a.1.1))
+
+member_fine : (t : Tree) → ValueFine t → (schema : Schema) (above : ℕ) (inline : Bool) (tag : ℕ) (o : Option KindTree)
+    → AllHold (member_checks o inline tag above (λ m. checks schema (deeper inline above) false m t))
+    → AreBytes (member_object o inline tag t (λ m. emit schema false m t))
+member_fine t f schema above inline tag None a = tt
+member_fine t f schema above true tag (Some m) a = f schema (deeper true above) false m (inside tag (checks schema (deeper true above) false m t) a.1)
+member_fine t f schema above false tag (Some m) a = object_fine UNION_BYTES tag (put_cell 0 m t (zeros 8) 8) (emit schema false m t)
+    (put_cell_fine 0 m t (zeros 8) 8 (zeros_fine 8))
+    (f schema (deeper false above) false m (inside tag (checks schema (deeper false above) false m t) a.1.1))
+
+-- a value of which no test holds is none
+no_value : {A : Type 0} → ◌≡◌ {A = Bool} false true → A
+no_value e = absurd cc
+
+mutual
+  unfolding checks list_checks emit behind
+
+  value_fine : (t : Tree) → ValueFine t
+  value_fine (values.Text bs) schema above inline k a = text_fine k bs a.0
+  value_fine (values.Items ts) schema above inline k a = items_fine ts (all_fine ts) schema above inline k a
+  value_fine (values.Pairs (more (values.Items ks) (more (values.Items vs) none))) schema above inline k a =
+      pairs_fine ks vs (all_fine ks) (all_fine vs) schema above inline k a
+  value_fine (values.Pairs ts) schema above inline k a = no_value a.0
+  value_fine (values.Fields ts) schema above inline k a = struct_fine ts (all_fine ts) schema above (row_of schema k) a
+  value_fine (values.Member tag t) schema above inline k a = member_fine t (value_fine t) schema above inline tag (member_kind schema k tag) a
+  value_fine t schema above inline k a = tt
+
+  all_fine : (ts : Trees) → AllFine ts
+  all_fine none schema above number ss a = tt
+  all_fine (more t ts) schema above number [] a = tt
+  all_fine (more t ts) schema above number (s ∷ ss) a =
+      let first = checks schema above true s.kind t in
+      let rest = list_checks schema above (number + 1) (map slot_kind ss) ts in
+      all_both IsByte (emit schema true s.kind t) (behind schema ss ts)
+      (value_fine t schema above true s.kind (inside number first (fronts (all_under number first) rest a)))
+      (all_fine ts schema above (number + 1) ss (rests (all_under number first) rest a))
+
+pub prepared_bytes : (schema : Schema) (prepared : Prepared) → IsPrepared schema prepared → BecomeBytes schema prepared.target (view prepared.value)
+prepared_bytes schema prepared is =
+    let k = kind_for (parameters_of schema prepared.target) in
+    let few : length prepared.payload.items ≤ 16777216 = prepared.short in (
+      value_fine (view prepared.value) schema 0 false k (passed (checks schema 0 false k (view prepared.value)) nothing
+          (record { handles = prepared.handles; endpoints = prepared.endpoints.items }) is.passes),
+      subst (λ (bytes : List ℕ). length bytes < 2 ^ 61) is.payload (omega (arith, few)),
+    )

@@ -1,0 +1,292 @@
+-- The reply to what a script asks has numbers of their widths, where all before has.
+use Rattle.std.proofs.Common.{◌≡◌, ◌<◌, ℕ, ◌+◌, ◌^◌, Bool, true, false, List, [], ◌∷◌, length, refl, sym, ap, subst, arith}
+use Rattle.std.specs.Prelude.{Option, Some, None, Result, Ok, Err, if◌then◌else◌, not, ◌&&◌, ◌||◌, ◌==◌, nat_lt, is_some}
+use Rattle.std.specs.List.{list_any}
+use Rattle.mj_base.specs.declared.ids.EndId.{EndId}
+use Rattle.mj_base.specs.declared.ids.SeqId.{SeqId}
+use Rattle.mj_base.specs.declared.fault.Fault.{Fault}
+use Rattle.mj_base.specs.declared.fault.FaultKind.TheVariants.{IllegalHandle}
+use Rattle.handle_table.specs.declared.thing.Thing.{Thing}
+use Rattle.handle_table.specs.declared.thing.Thing.TheVariants.{End, Token}
+use Rattle.handle_table.specs.Things.{has}
+use Rattle.message_pipe.specs.declared.message.Message.{Message}
+use Rattle.wire_model.specs.HeaderMarks.{CONTROL_ID}
+use Rattle.wire_model.specs.Trees.{Tree}
+use Rattle.wire_model.specs.declared.target.MessageSide.TheVariants.{Response}
+use Rattle.wire_model.specs.declared.target.Target.{Target}
+use Rattle.bind_model.specs.declared.asked.Asked.{Asked}
+use Rattle.bind_model.specs.declared.asked.Asked.TheVariants.{Pipe, Join, Mint, Bind, Associate, Attach, Call, Answer, Raw, Take, Close, Skip}
+use Rattle.bind_model.specs.declared.asked.Closing.{Closing}
+use Rattle.bind_model.specs.declared.asked.Closing.TheVariants as closings
+use Rattle.bind_model.specs.declared.asked.Outgoing.{Outgoing}
+use Rattle.bind_model.specs.declared.endpoint.Endpoint.{Endpoint}
+use Rattle.bind_model.specs.declared.endpoint.PendingId.{PendingId}
+use Rattle.bind_model.specs.declared.endpoint.ResponderId.{ResponderId}
+use Rattle.bind_model.specs.declared.endpoint.State.{State}
+use Rattle.bind_model.specs.declared.endpoint.State.TheVariants as states
+use Rattle.bind_model.specs.declared.event.Event.{Event}
+use Rattle.bind_model.specs.declared.told.BadWhy.TheVariants as bads
+use Rattle.bind_model.specs.declared.told.Told.{Told}
+use Rattle.bind_model.specs.declared.told.Told.TheVariants.{Closed, Control, No}
+use Rattle.bind_model.specs.declared.told.Why.{Why}
+use Rattle.bind_model.specs.declared.told.Why.TheVariants.{NoName, Disconnected, Unbound, Elsewhere, WrongSide, WrongMethod, WrongTokens, SelfSend, Full, Empty, PeerClosed}
+use Rattle.bind_model.specs.Machine.{peer, is_gone, out, endpoint_at, unread, is_closed, first_strange, goes_with}
+use Rattle.bind_model.specs.Replies.{is_response, is_asked, drawn, serials, tokens, same_responder, responders_out, first_of, unless, all_out, all_pending, unbound, elsewhere, is_receiver, tokens_right, wrong_tokens, wrong_pipe, cannot_write, is_full, same_target, joined, bound_as, request_of, ids_of, sent, called, answered_with, bad, got_known, got_asked, judged, at_state, at_endpoint, is_none, controlled, headed, took_front, closed_at, closed, answer}
+use Rattle.bind_model.specs.Wire.{Wire, Header, Content}
+use Rattle.history_reader.specs.Printable.{IsSmall, IsSequence, IsThing, IsWide, AreAll, IsWhy}
+use Rattle.printed_laws.proofs.SmallSaid.{IsSmallAsked, IsSmallClosing, IsSmallOut, IsSmallTold, IsSmallResponder, IsFineMessage, IsSmallWire}
+
+-- the reason of a test that fails
+abbrev pub IsSmallTest : Option Why → Type 0
+IsSmallTest None = Unit {0}
+IsSmallTest (Some why) = IsWhy why
+
+-- an endpoint, where there is one, is bound on a sequence of its width
+abbrev pub IsWithin : Option Endpoint → Type 0
+IsWithin o = (r : Endpoint) (t : SeqId) → o ≡ Some r → r.state ≡ states.Bound t → IsSequence t
+
+unless_small : (b : Bool) (why : Why) → IsWhy why → IsSmallTest (unless b why)
+unless_small true why i = tt
+unless_small false why i = i
+
+first_small : (tests : List (Option Why)) (done : Told) → AreAll IsSmallTest tests → IsSmallTold done → IsSmallTold (first_of tests done)
+first_small [] done a d = d
+first_small (None ∷ ts) done a d = first_small ts done a.1 d
+first_small (Some why ∷ ts) done a d = a.0
+
+unbound_small : (id : ℕ) (r : Endpoint) → IsSmall id → IsSmallTest (unbound id r)
+unbound_small id r i = go r.state
+  where
+    go : (s : State) → IsSmallTest (elim s [ states.Pending ↦ Some (Unbound id) | states.Bound t ↦ None | states.Closed ↦ None ])
+    go states.Pending = i
+    go (states.Bound t) = tt
+    go states.Closed = tt
+
+elsewhere_small : (seq : SeqId) (r : Endpoint) → IsWithin (Some r) → IsSmallTest (elsewhere seq r)
+elsewhere_small seq r w = go r.state refl
+  where
+    go : (s : State) → r.state ≡ s
+        → IsSmallTest (elim s [ states.Bound t ↦ unless (t.0 == seq.0) (Elsewhere t) | states.Pending ↦ None | states.Closed ↦ None ])
+    go states.Pending e = tt
+    go (states.Bound t) e = unless_small (t.0 == seq.0) (Elsewhere t) (w r t refl e)
+    go states.Closed e = tt
+
+pipe_small : (past : List Event) (y : EndId) (ps : List PendingId) → ps ≡ [] → IsSmallTest (wrong_pipe past y ps)
+pipe_small past y ps none = subst (λ (qs : List PendingId). IsSmallTest (wrong_pipe past y qs)) (sym none) tt
+
+-- what is known of the events so far
+pub record IsSmallPast (wire : Wire) (past : List Event) : Type 0 where
+  pub mail : (y : EndId) → AreAll IsFineMessage (unread wire past y)
+  pub within : (y : EndId) (id : ℕ) → IsWithin (endpoint_at wire past y id)
+  pub serials : (seq : ℕ) → serials past seq + 1 < 2 ^ 32
+  pub tokens : (seq : ℕ) → tokens past seq < 2 ^ 32
+  pub drawn : (y : EndId) (id : ℕ) → length (drawn past y id) + 1 < 2 ^ 64
+
+module _ (F : Target → Tree → Type 0) (wire : Wire) (w : IsSmallWire F wire) (past : List Event) (k : IsSmallPast wire past) (seq : SeqId) where
+  joined_small : (s t : ℕ) → IsSmall s → IsSmall t → IsSmallTold (joined past s t)
+  joined_small s t i j = (((i, let n = k.serials s in omega (arith, n)), ((j, two (t == s)), tt)), omega arith)
+    where
+      two : (b : Bool) → serials past t + (if b then 1 else 0) < 2 ^ 32
+      two true = k.serials t
+      two false = let n = k.serials t in omega (arith, n)
+
+  bound_small : (x : Thing) → IsThing x → IsSmallTold (bound_as x)
+  bound_small (End x) i = i
+  bound_small (Token t) i = tt
+
+  -- ## Calls and answers
+
+  write_small : (y : EndId) (peer_closed : Bool) (handles : List Thing) → AreAll IsSmallTest (cannot_write wire past y peer_closed handles)
+  write_small y peer_closed handles = (
+    unless_small (not (has handles (End (peer past y)))) SelfSend tt,
+    (
+      unless_small (not (is_gone past (peer past y) || peer_closed)) Disconnected tt,
+      (unless_small (not (is_full wire past (peer past y))) Full tt, tt),
+    ),
+  )
+
+  sent_small : (id : ℕ) (s : Outgoing) (request : ℕ) → IsSmallOut F s → IsWide request → IsSmallTold (sent wire id s request)
+  sent_small id s request o i = (i, w.sealed s.target s.parameters (record { id = id; request = request; ids = ids_of s.pendings }) o.2 (ap ids_of o.1))
+
+  request_wide : (y : EndId) (id : ℕ) (target : Target) → IsWide (request_of wire past y id target)
+  request_wide y id target = go (wire.responds target.interface target.method)
+    where
+      go : (b : Bool) → IsWide (if b then length (drawn past y id) + 1 else 0)
+      go true = k.drawn y id
+      go false = omega arith
+
+  called_small : (y : EndId) (id : ℕ) (s : Outgoing) (o : Option Endpoint) → IsWithin o → IsSmall id → IsSmallOut F s
+      → IsSmallTold (called wire past seq y id s o)
+  called_small y id s None v i o = tt
+  called_small y id s (Some r) v i o = first_small (
+      unless (all_out past s.handles && all_pending past s.pendings) NoName
+      ∷ unless (not (is_gone past y || is_closed r)) Disconnected
+      ∷ unbound id r
+      ∷ elsewhere seq r
+      ∷ unless (not (is_receiver r.side)) WrongSide
+      ∷ unless ((s.target.interface == r.interface) && not (is_response s.target.side)) WrongMethod
+      ∷ wrong_tokens wire past s
+      ∷ wrong_pipe past y s.pendings
+      ∷ cannot_write wire past y r.peer_closed s.handles)
+      (sent wire id s (request_of wire past y id s.target)) (
+        unless_small (all_out past s.handles && all_pending past s.pendings) NoName tt,
+        (
+          unless_small (not (is_gone past y || is_closed r)) Disconnected tt,
+          (
+            unbound_small id r i,
+            (
+              elsewhere_small seq r v,
+              (
+                unless_small (not (is_receiver r.side)) WrongSide tt,
+                (
+                  unless_small ((s.target.interface == r.interface) && not (is_response s.target.side)) WrongMethod tt,
+                  (
+                    unless_small (tokens_right wire past s) WrongTokens tt,
+                    (
+                      pipe_small past y s.pendings o.1,
+                      write_small y r.peer_closed s.handles,
+                    ),
+                  ),
+                ),
+              ),
+            ),
+          ),
+        ),
+      )
+      (sent_small id s (request_of wire past y id s.target) o (request_wide y id s.target))
+
+  answered_small : (r : ResponderId) (s : Outgoing) (o : Option Endpoint) → IsWithin o → IsSmallResponder r → IsSmallOut F s
+      → IsSmallTold (answered_with wire past seq r s o)
+  answered_small r s None v i o = tt
+  answered_small r s (Some e) v i o = first_small (
+      unless (list_any (λ q. same_responder q r) (responders_out wire past) && all_out past s.handles && all_pending past s.pendings) NoName
+      ∷ unless (not (is_gone past r.end || is_closed e)) Disconnected
+      ∷ elsewhere seq e
+      ∷ unless (same_target s.target (record { interface = r.interface; method = r.method; side = Response })) WrongMethod
+      ∷ wrong_tokens wire past s
+      ∷ wrong_pipe past r.end s.pendings
+      ∷ cannot_write wire past r.end e.peer_closed s.handles)
+      (sent wire r.id s r.request) (
+        unless_small (list_any (λ q. same_responder q r) (responders_out wire past) && all_out past s.handles && all_pending past s.pendings) NoName tt,
+        (
+          unless_small (not (is_gone past r.end || is_closed e)) Disconnected tt,
+          (
+            elsewhere_small seq e v,
+            (
+              unless_small (same_target s.target (record { interface = r.interface; method = r.method; side = Response })) WrongMethod tt,
+              (
+                unless_small (tokens_right wire past s) WrongTokens tt,
+                (
+                  pipe_small past r.end s.pendings o.1,
+                  write_small r.end e.peer_closed s.handles,
+                ),
+              ),
+            ),
+          ),
+        ),
+      )
+      (sent_small r.id s r.request o i.2)
+
+  -- ## Takes
+
+  module _ (y : EndId) (m : Message) (fine : IsFineMessage m) where
+    known_small : (h : Header) (c : Content) → IsSmall h.id → h.ids ≡ [] → IsSmall c.target.method → IsWide c.request
+        → IsSmallTold (got_known wire past y m h c (first_strange (endpoint_at wire past y) [] h.ids))
+    known_small h c i none method request = subst
+        (λ (ids : List ℕ). IsSmallTold (got_known wire past y m (record { id = h.id; ids = ids }) c (first_strange (endpoint_at wire past y) [] ids)))
+        (sym none) (i, method, request, refl)
+
+    asked_small : (h : Header) (r : Endpoint) (c : Content) → IsSmall h.id → h.ids ≡ [] → IsSmall c.target.method → IsWide c.request
+        → IsSmallTold (got_asked wire past y m h r c)
+    asked_small h r c i none method request = go (is_response c.target.side && (r.peer_closed || not (is_asked past y h.id c.request c.target.method)))
+      where
+        go : (b : Bool) → IsSmallTold (if b then bad wire past y (bads.Unasked c.request)
+            else got_known wire past y m h c (first_strange (endpoint_at wire past y) [] h.ids))
+        go true = request
+        go false = known_small h c i none method request
+
+    judged_small : (h : Header) (r : Endpoint) → IsSmall h.id → h.ids ≡ [] → (o : Result Content Fault)
+        → wire.stands r.side r.interface m.bytes (length m.handles) ≡ o → IsSmallTold (judged wire past y m h r o)
+    judged_small h r i none (Err fault) e = w.stands_fault r.side r.interface m.bytes (length m.handles) fault fine e
+    judged_small h r i none (Ok c) e =
+        let read = w.stands r.side r.interface m.bytes (length m.handles) c fine e in
+        asked_small h r c i none read.0 read.1
+
+    state_small : (h : Header) (r : Endpoint) → IsWithin (Some r) → IsSmall h.id → h.ids ≡ [] → (s : State) → r.state ≡ s
+        → IsSmallTold (at_state wire past seq y m h r s)
+    state_small h r v i none states.Closed e = i
+    state_small h r v i none states.Pending e = i
+    state_small h r v i none (states.Bound t) e = go (t.0 == seq.0)
+      where
+        go : (b : Bool)
+            → IsSmallTold (if b then judged wire past y m h r (wire.stands r.side r.interface m.bytes (length m.handles)) else No (Elsewhere t))
+        go true = judged_small h r i none (wire.stands r.side r.interface m.bytes (length m.handles)) refl
+        go false = v r t refl e
+
+    endpoint_small : (h : Header) (o : Option Endpoint) → IsWithin o → IsSmall h.id → h.ids ≡ [] → IsSmallTold (at_endpoint wire past seq y m h o)
+    endpoint_small h None v i none = i
+    endpoint_small h (Some r) v i none = state_small h r v i none r.state refl
+
+    controlled_small : (o : Result ℕ Fault) → wire.closed_id m.bytes ≡ o → IsSmallTold (controlled wire past y m o)
+    controlled_small (Err fault) e = w.closed_fault m.bytes fault fine e
+    controlled_small (Ok id) e = go (is_none m.handles)
+      where
+        go : (b : Bool) → IsSmallTold (if b then Control id else bad wire past y (bads.Message (record { kind = IllegalHandle; at = 0 })))
+        go true = w.closed_id m.bytes id fine e
+        go false = omega arith
+
+    headed_small : (o : Result Header Fault) → wire.header m.bytes ≡ o → IsSmallTold (headed wire past seq y m o)
+    headed_small (Err fault) e = w.header_fault m.bytes fault fine e
+    headed_small (Ok h) e = go (h.id == CONTROL_ID)
+      where
+        go : (b : Bool) → IsSmallTold (if b then controlled wire past y m (wire.closed_id m.bytes)
+            else at_endpoint wire past seq y m h (endpoint_at wire past y h.id))
+        go true = controlled_small (wire.closed_id m.bytes) refl
+        go false =
+            let read = w.header m.bytes h fine e in
+            endpoint_small h (endpoint_at wire past y h.id) (k.within y h.id) read.0 read.1
+
+  front_small : (y : EndId) (ms : List Message) → AreAll IsFineMessage ms → IsSmallTold (took_front wire past seq y ms)
+  front_small y [] a = go (is_gone past (peer past y))
+    where
+      go : (b : Bool) → IsSmallTold (if b then No PeerClosed else No Empty)
+      go true = tt
+      go false = tt
+  front_small y (m ∷ ms) a = headed_small y m a.0 (wire.header m.bytes) refl
+
+  -- ## Closings, and all replies
+
+  closed_at_small : (y : EndId) (id : ℕ) (o : Option Endpoint) → IsWithin o → IsSmall id → IsSmallTold (closed_at wire past seq y id o)
+  closed_at_small y id None v i = tt
+  closed_at_small y id (Some r) v i = first_small
+      (unless (not (is_gone past y || is_closed r)) Disconnected ∷ unbound id r ∷ elsewhere seq r ∷ [])
+      (Closed (if id == 0 then goes_with wire past (End y ∷ []) else []))
+      (unless_small (not (is_gone past y || is_closed r)) Disconnected tt, (unbound_small id r i, (elsewhere_small seq r v, tt))) tt
+
+  closed_small : (closing : Closing) → IsSmallClosing closing → IsSmallTold (closed wire past seq closing)
+  closed_small (closings.Handle x) i = first_small (unless (has (out past) x) NoName ∷ []) (Closed (goes_with wire past (x ∷ [])))
+      (unless_small (has (out past) x) NoName tt, tt) tt
+  closed_small (closings.Pending p) i = absurd i
+  closed_small (closings.Responder r) i = first_small (unless (list_any (λ q. same_responder q r) (responders_out wire past)) NoName ∷ []) (Closed [])
+      (unless_small (list_any (λ q. same_responder q r) (responders_out wire past)) NoName tt, tt) tt
+  closed_small (closings.Endpoint y id) i = closed_at_small y id (endpoint_at wire past y id) (k.within y id) i.1
+
+  pub small_answer : (seqs : ℕ) (asked : Asked) → IsSequence seq → IsSmallAsked F asked → IsSmallTold (answer wire seqs past seq asked)
+  small_answer seqs Pipe s i = joined_small seq.0 seq.0 s s
+  small_answer seqs (Join t) s i = first_small (unless (nat_lt t.0 seqs) NoName ∷ []) (joined past seq.0 t.0)
+      (unless_small (nat_lt t.0 seqs) NoName tt, tt) (joined_small seq.0 t.0 s i)
+  small_answer seqs (Mint sort) s i = (((s, k.tokens seq.0), tt), omega arith)
+  small_answer seqs (Bind x side interface) s i = first_small (unless (has (out past) x && nat_lt interface wire.interfaces) NoName ∷ []) (bound_as x)
+      (unless_small (has (out past) x && nat_lt interface wire.interfaces) NoName tt, tt) (bound_small x i)
+  small_answer seqs (Associate y side interface) s i = absurd i
+  small_answer seqs (Attach p t) s i = absurd i
+  small_answer seqs (Call y id o) s i = called_small y id o (endpoint_at wire past y id) (k.within y id) i.1 i.2
+  small_answer seqs (Answer r o) s i = answered_small r o (endpoint_at wire past r.end r.id) (k.within r.end r.id) i.0 i.1
+  small_answer seqs (Raw x bytes handles) s i = absurd i
+  small_answer seqs (Take y) s i = first_small
+      (unless (is_some (endpoint_at wire past y 0)) NoName ∷ unless (not (is_gone past y)) Disconnected ∷ [])
+      (took_front wire past seq y (unread wire past y))
+      (unless_small (is_some (endpoint_at wire past y 0)) NoName tt, (unless_small (not (is_gone past y)) Disconnected tt, tt))
+      (front_small y (unread wire past y) (k.mail y))
+  small_answer seqs (Close closing) s i = closed_small closing i
+  small_answer seqs (Skip line) s i = tt

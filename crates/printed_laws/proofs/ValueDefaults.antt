@@ -1,0 +1,399 @@
+-- Fields of which nothing is refused: a late one that has no default may be null or is a number, and a default is of its field's kind.
+use Rattle.std.proofs.Common.{◌≡◌, ◌<◌, ℕ, suc, ℤ, pos, negsuc, Bool, true, false, List, [], ◌∷◌, refl, sym, ap, subst, ◌∙◌, arith}
+use Rattle.std.specs.Prelude.{◌&&◌, ◌+ℤ◌, int_le, not, cond, nat_le, nat_lt, Option, Some, None, option_and_then, FitsSigned}
+use Rattle.std.specs.Int.{int_max, w32}
+use Rattle.std.specs.List.{AllByRecursion}
+use Rattle.std.specs.Option.{option_map, option_map_or, option_or}
+use Rattle.std.proofs.lemmas.Bool.{and_parts, lt-ltb}
+use Rattle.std.proofs.lemmas.Bool.Decides.{nat_tests}
+use Rattle.mojom_ast.specs.TypeTrees.{BaseTree, Named, ArrayOf, MapOf, HandleOf, PendingOf, TypeTree}
+use Rattle.mojom_ast.specs.declared.definitions.Enumerator.{Enumerator}
+use Rattle.mojom_ast.specs.declared.definitions.Field.{Field}
+use Rattle.mojom_ast.specs.declared.names.Identifier.{Identifier}
+use Rattle.mojom_ast.specs.declared.names.Value.{Value}
+use Rattle.mojom_ast.specs.declared.types.PendingSort.{PendingSort}
+use Rattle.mojom_ast.specs.declared.types.PendingSort.TheVariants as pending
+use Rattle.mojom_files.specs.Names.{dotted}
+use Rattle.mojom_files.specs.Refusals.{where_true}
+use Rattle.mojom_files.specs.declared.basic.Basic.{Basic}
+use Rattle.mojom_files.specs.declared.basic.Basic.TheVariants as basics
+use Rattle.mojom_files.specs.declared.refusal.Refusal.{Refusal}
+use Rattle.module_resolver.specs.LookUp.{look_up, sort_of}
+use Rattle.module_resolver.specs.declared.target.DefinitionSort.{DefinitionSort}
+use Rattle.module_resolver.specs.declared.target.DefinitionSort.TheVariants as sorts
+use Rattle.module_resolver.specs.declared.target.Target.{Target}
+use Rattle.const_eval.specs.Kinds.{basic_of_base, basic_of_parts, is_within, refused_value, signed_bits, unsigned_bits, wrong_literal}
+use Rattle.const_eval.specs.Known.{Known, TextValue, BoolValue, NumberValue, FloatValue}
+use Rattle.const_eval.specs.declared.kinds.Range.{Range}
+use Rattle.const_eval.specs.Refused.{Site, is_enumerator_of, meant_by_base, meant_by_value, of_known, place_of_value, refused_default}
+use Rattle.const_eval.specs.Refused.{refused_default_as, refused_default_of, refused_enum_default}
+use Rattle.const_eval.specs.declared.file_things.FileThings.{FileThings}
+use Rattle.mj_schema.specs.KindTrees as kinds
+use Rattle.mj_schema.specs.KindTrees.{KindTree}
+use Rattle.mj_schema.specs.declared.kind.Width.{Width}
+use Rattle.mj_schema.specs.declared.kind.Width.TheVariants.{Bits8, Bits16, Bits32, Bits64}
+use Rattle.mj_schema.specs.declared.rows.DraftField.{DraftField}
+use Rattle.mj_schema.specs.declared.rows.Literal.{Literal}
+use Rattle.mj_schema.specs.declared.rows.Literal.TheVariants as literals
+use Rattle.wire_model.specs.Kinded.{IsInRange, is_nullable}
+use Rattle.kind_check.specs.Kinds.{kind_of_base, basic_kind, handle_sort, meant_kind, row_kind, rows_before_target, sort_kind, pending_kind, with_value}
+use Rattle.kind_check.specs.Kinds.{count_of}
+use Rattle.kind_check.specs.Members.{Member, Numbered}
+use Rattle.kind_check.specs.OrdinalRefusals.{is_behind, known_in, needs_null, refused_late, version_of}
+use Rattle.kind_check.specs.Rows.{Valued, field_row, field_with, held_signed, kind_in, literal_in, literal_of, number_at, valued_from, whole_or}
+use Rattle.kind_check.specs.Scopes.{Scope, meant_in}
+use Rattle.kind_check.specs.TypeRefusals.{is_object, is_struct_or_union}
+use Rattle.kind_check.specs.declared.counts.Counts.{Counts}
+use Rattle.kind_check.specs.declared.counts.FileRows.{FileRows}
+use Rattle.kind_check.specs.declared.meant.Meant.{Meant}
+use Rattle.kind_check.specs.declared.meant.Meant.TheVariants as meant
+use Rattle.schema_laws.proofs.Quiet.{none_where}
+
+-- a kind that reads as a number where it is absent, or that may be null
+abbrev pub absentable : KindTree → Bool
+absentable kinds.BoolKind = true
+absentable (kinds.IntKind width signed) = true
+absentable (kinds.EnumKind number) = true
+absentable k = is_nullable k
+
+-- a literal of a bool, an integer in its range, or a text, where the kind is one of these, and else what is said of other kinds
+abbrev pub Holds : (KindTree → Literal → Type 0) → KindTree → Literal → Type 0
+Holds Other kinds.BoolKind literal = (b : Bool) × (literal ≡ literals.Bool b)
+Holds Other (kinds.IntKind width signed) literal = (n : ℤ) × (literal ≡ literals.Whole n) × IsInRange width signed n
+Holds Other (kinds.TextKind nullable) literal = (bytes : List ℕ) × (literal ≡ literals.Text bytes)
+Holds Other k literal = Other k literal
+
+-- what is asked of a field
+pub record IsFine (Other : KindTree → Literal → Type 0) (field : DraftField) : Type 0 where
+  pub absent : 0 < field.min_version → absentable field.kind ≡ true
+  pub given : (literal : Literal) → field.default ≡ Some literal → Holds Other field.kind literal
+
+-- ## Kinds
+
+-- where nothing behind may be null, what stands there is null
+nulls : (nullable : Bool) → (not nullable && true) ≡ false → nullable ≡ true
+nulls true e = refl
+nulls false e = absurd cc
+
+module _ (rows : List FileRows) (scope : Scope) where
+  basic_absent : (nullable : Bool) (basic : Basic) (k : KindTree) → basic_kind nullable basic ≡ Some k
+      → (not nullable && is_object scope (Some (meant.Basic basic))) ≡ false → absentable k ≡ true
+  basic_absent nullable basics.Bool k is e = let same : kinds.BoolKind ≡ k = cc in subst (λ k. absentable k ≡ true) same refl
+  basic_absent nullable basics.Int8 k is e = let same : kinds.IntKind Bits8 true ≡ k = cc in subst (λ k. absentable k ≡ true) same refl
+  basic_absent nullable basics.Int16 k is e = let same : kinds.IntKind Bits16 true ≡ k = cc in subst (λ k. absentable k ≡ true) same refl
+  basic_absent nullable basics.Int32 k is e = let same : kinds.IntKind Bits32 true ≡ k = cc in subst (λ k. absentable k ≡ true) same refl
+  basic_absent nullable basics.Int64 k is e = let same : kinds.IntKind Bits64 true ≡ k = cc in subst (λ k. absentable k ≡ true) same refl
+  basic_absent nullable basics.Uint8 k is e = let same : kinds.IntKind Bits8 false ≡ k = cc in subst (λ k. absentable k ≡ true) same refl
+  basic_absent nullable basics.Uint16 k is e = let same : kinds.IntKind Bits16 false ≡ k = cc in subst (λ k. absentable k ≡ true) same refl
+  basic_absent nullable basics.Uint32 k is e = let same : kinds.IntKind Bits32 false ≡ k = cc in subst (λ k. absentable k ≡ true) same refl
+  basic_absent nullable basics.Uint64 k is e = let same : kinds.IntKind Bits64 false ≡ k = cc in subst (λ k. absentable k ≡ true) same refl
+  basic_absent nullable basics.Text k is e =
+      let same : kinds.TextKind nullable ≡ k = cc in subst (λ k. absentable k ≡ true) same (nulls nullable e)
+  basic_absent nullable basics.Float k is e = absurd cc
+  basic_absent nullable basics.Double k is e = absurd cc
+
+  row_absent : (nullable : Bool) (sort : DefinitionSort) (o : Option Counts) (k : KindTree) → option_and_then (row_kind nullable sort) o ≡ Some k
+      → (not nullable && is_struct_or_union (Some sort)) ≡ false → absentable k ≡ true
+  row_absent nullable sort None k is e = absurd cc
+  row_absent nullable sorts.Struct (Some c) k is e =
+      let same : kinds.StructKind c.structs nullable ≡ k = cc in subst (λ k. absentable k ≡ true) same (nulls nullable e)
+  row_absent nullable sorts.Union (Some c) k is e =
+      let same : kinds.UnionKind c.unions nullable ≡ k = cc in subst (λ k. absentable k ≡ true) same (nulls nullable e)
+  row_absent nullable sorts.Enum (Some c) k is e = let same : kinds.EnumKind c.enums ≡ k = cc in subst (λ k. absentable k ≡ true) same refl
+  row_absent nullable sorts.Interface (Some c) k is e = absurd cc
+  row_absent nullable sorts.Const (Some c) k is e = absurd cc
+
+  target_absent : (nullable : Bool) (target : Target) (s : Option DefinitionSort) (k : KindTree)
+      → option_and_then (sort_kind rows nullable target) s ≡ Some k → (not nullable && is_struct_or_union s) ≡ false → absentable k ≡ true
+  target_absent nullable target None k is e = absurd cc
+  target_absent nullable target (Some sort) k is e = row_absent nullable sort (rows_before_target rows target) k is e
+
+  named_absent : (nullable : Bool) (m : Option Meant) (k : KindTree) → option_and_then (meant_kind rows scope nullable) m ≡ Some k
+      → (not nullable && is_object scope m) ≡ false → absentable k ≡ true
+  named_absent nullable None k is e = absurd cc
+  named_absent nullable (Some (meant.Basic basic)) k is e = basic_absent nullable basic k is e
+  named_absent nullable (Some (meant.Target target)) k is e = target_absent nullable target (sort_of scope.names target) k is e
+
+  array_absent : (nullable : Bool) (count : Option ℕ) (o : Option KindTree) (k : KindTree)
+      → option_map (λ (of : KindTree). kinds.ArrayKind of count nullable) o ≡ Some k → nullable ≡ true → absentable k ≡ true
+  array_absent nullable count None k is e = absurd cc
+  array_absent nullable count (Some of) k is e =
+      let same : kinds.ArrayKind of count nullable ≡ k = cc in subst (λ k. absentable k ≡ true) same e
+
+  map_absent : (nullable : Bool) (o p : Option KindTree) (k : KindTree) → option_and_then (λ (key : KindTree). with_value nullable key p) o ≡ Some k
+      → nullable ≡ true → absentable k ≡ true
+  map_absent nullable None p k is e = absurd cc
+  map_absent nullable (Some key) None k is e = absurd cc
+  map_absent nullable (Some key) (Some one) k is e =
+      let same : kinds.MapKind key one nullable ≡ k = cc in subst (λ k. absentable k ≡ true) same e
+
+  end_absent : (sort : PendingSort) (nullable : Bool) (interface : ℕ) → nullable ≡ true → absentable (pending_kind sort nullable interface) ≡ true
+  end_absent pending.Remote nullable interface e = e
+  end_absent pending.Receiver nullable interface e = e
+  end_absent pending.AssociatedRemote nullable interface e = e
+  end_absent pending.AssociatedReceiver nullable interface e = e
+
+  pending_absent : (sort : PendingSort) (nullable : Bool) (o : Option ℕ) (k : KindTree) → option_map (pending_kind sort nullable) o ≡ Some k
+      → nullable ≡ true → absentable k ≡ true
+  pending_absent sort nullable None k is e = absurd cc
+  pending_absent sort nullable (Some interface) k is e =
+      let same : pending_kind sort nullable interface ≡ k = cc in subst (λ k. absentable k ≡ true) same (end_absent sort nullable interface e)
+
+  -- a kind that needs no null
+  kind_absent : (base : BaseTree) (nullable : Bool) (k : KindTree) → kind_of_base rows scope base nullable ≡ Some k
+      → (not nullable && is_behind scope base) ≡ false → absentable k ≡ true
+  kind_absent (Named name) nullable k is e = named_absent nullable (meant_in scope name.parts) k is e
+  kind_absent (ArrayOf of inner count) nullable k is e =
+      array_absent nullable (count_of count) (kind_of_base rows scope of inner) k is (nulls nullable e)
+  kind_absent (MapOf key of_key one of_value) nullable k is e =
+      map_absent nullable (kind_of_base rows scope key of_key) (kind_of_base rows scope one of_value) k is (nulls nullable e)
+  kind_absent (HandleOf sort) nullable k is e =
+      let same : kinds.HandleKind (handle_sort sort) nullable ≡ k = cc in subst (λ k. absentable k ≡ true) same (nulls nullable e)
+  kind_absent (PendingOf sort interface) nullable k is e = pending_absent sort nullable _ k is (nulls nullable e)
+
+  -- ## Late fields
+
+  none_needed : (v needs : Bool) → (v && needs) ≡ false → v ≡ true → needs ≡ false
+  none_needed true needs e is = e
+  none_needed false needs e is = absurd cc
+
+  late : (one : Numbered) (k : KindTree) → refused_late scope one ≡ [] → kind_in rows scope one.member.kind ≡ Some k
+      → 0 < version_of scope one.member → absentable k ≡ true
+  late one k quiet is after = of one.member.kind (none_needed (nat_lt 0 (version_of scope one.member)) (needs_null scope one.member.kind)
+      (none_where (nat_lt 0 (version_of scope one.member) && needs_null scope one.member.kind) _ quiet)
+      (lt-ltb 0 (version_of scope one.member) after)) is
+    where
+      of : (o : Option TypeTree) → needs_null scope o ≡ false → kind_in rows scope o ≡ Some k → absentable k ≡ true
+      of None e is = absurd cc
+      of (Some type) e is = kind_absent type.base type.nullable k is e
+
+-- ## Numbers
+
+pub at_most : (n m : ℕ) → nat_le n m ≡ true → n < suc m
+at_most n m e = grind (arith, nat_tests)
+
+-- both bounds of a number within a range
+pub within_parts : (r : Range) (n : ℤ) → is_within r n ≡ true → (int_le r.least n ≡ true) × (int_le n r.greatest ≡ true)
+within_parts r n e = and_parts (int_le r.least n) (int_le n r.greatest) e
+
+-- the range of an integer
+abbrev pub range : Width → Bool → Range
+range Bits8 true = signed_bits 8
+range Bits16 true = signed_bits 16
+range Bits32 true = signed_bits 32
+range Bits64 true = signed_bits 64
+range Bits8 false = unsigned_bits 8
+range Bits16 false = unsigned_bits 16
+range Bits32 false = unsigned_bits 32
+range Bits64 false = unsigned_bits 64
+
+pub in_range : (w : Width) (signed : Bool) (n : ℤ) → is_within (range w signed) n ≡ true → IsInRange w signed n
+in_range Bits8 true (pos n) e = record { sfits = at_most n 127 (within_parts (range Bits8 true) (pos n) e).1 }
+in_range Bits16 true (pos n) e = record { sfits = at_most n 32767 (within_parts (range Bits16 true) (pos n) e).1 }
+in_range Bits32 true (pos n) e = record { sfits = at_most n 2147483647 (within_parts (range Bits32 true) (pos n) e).1 }
+in_range Bits64 true (pos n) e = record { sfits = at_most n 9223372036854775807 (within_parts (range Bits64 true) (pos n) e).1 }
+in_range Bits8 true (negsuc n) e = record { sfits = at_most n 127 (within_parts (range Bits8 true) (negsuc n) e).0 }
+in_range Bits16 true (negsuc n) e = record { sfits = at_most n 32767 (within_parts (range Bits16 true) (negsuc n) e).0 }
+in_range Bits32 true (negsuc n) e = record { sfits = at_most n 2147483647 (within_parts (range Bits32 true) (negsuc n) e).0 }
+in_range Bits64 true (negsuc n) e = record { sfits = at_most n 9223372036854775807 (within_parts (range Bits64 true) (negsuc n) e).0 }
+in_range Bits8 false (pos n) e = at_most n 255 (within_parts (range Bits8 false) (pos n) e).1
+in_range Bits16 false (pos n) e = at_most n 65535 (within_parts (range Bits16 false) (pos n) e).1
+in_range Bits32 false (pos n) e = at_most n 4294967295 (within_parts (range Bits32 false) (pos n) e).1
+in_range Bits64 false (pos n) e = at_most n 18446744073709551615 (within_parts (range Bits64 false) (pos n) e).1
+in_range Bits8 false (negsuc n) e = absurd cc
+in_range Bits16 false (negsuc n) e = absurd cc
+in_range Bits32 false (negsuc n) e = absurd cc
+in_range Bits64 false (negsuc n) e = absurd cc
+
+pub true_of : (b : Bool) → not b ≡ false → b ≡ true
+true_of true e = refl
+true_of false e = absurd cc
+
+-- ## Defaults
+
+-- an integer of which nothing is refused
+whole_holds : (Other : KindTree → Literal → Type 0) (w : Width) (signed : Bool) (test : Bool) (number : ℤ) (k : KindTree) (literal : Literal)
+    (refusal : Refusal)
+    → test ≡ is_within (range w signed) number → where_true (not test) refusal ≡ []
+    → ◌≡◌ {A = Option KindTree} (Some (kinds.IntKind w signed)) (Some k) → ◌≡◌ {A = Option Literal} (Some (literals.Whole number)) (Some literal)
+    → Holds Other k literal
+whole_holds Other w signed test number k literal refusal tested e is l =
+    let same : kinds.IntKind w signed ≡ k = cc in
+    let whole : literals.Whole number ≡ literal = cc in
+    let within : is_within (range w signed) number ≡ true = sym tested ∙ true_of test (none_where (not test) refusal e) in
+    subst (λ k. Holds Other k literal) same (number, sym whole, in_range w signed number within)
+
+module _ (Other : KindTree → Literal → Type 0) (file : ℕ) (name : Identifier) (at : ℕ) (nullable : Bool) where
+  abbrev Given : Basic → Known → Type 0
+  Given basic known =
+      (k : KindTree) (literal : Literal) → refused_value file name at basic known ≡ [] → basic_kind nullable basic ≡ Some k → literal_of known ≡ Some literal
+      → Holds Other k literal
+
+  basic_holds : (basic : Basic) (known : Known) → Given basic known
+  basic_holds basics.Float known k literal e is l = absurd cc
+  basic_holds basics.Double known k literal e is l = absurd cc
+  basic_holds basics.Bool (BoolValue b) k literal e is l =
+      let same : kinds.BoolKind ≡ k = cc in let flag : literals.Bool b ≡ literal = cc in subst (λ k. Holds Other k literal) same (b, sym flag)
+  basic_holds basics.Bool (TextValue bytes) k literal e is l = absurd cc
+  basic_holds basics.Bool (NumberValue n) k literal e is l = absurd cc
+  basic_holds basics.Bool FloatValue k literal e is l = absurd cc
+  basic_holds basics.Text (TextValue bytes) k literal e is l =
+      let same : kinds.TextKind nullable ≡ k = cc in
+      let text : literals.Text bytes ≡ literal = cc in subst (λ k. Holds Other k literal) same (bytes, sym text)
+  basic_holds basics.Text (BoolValue b) k literal e is l = absurd cc
+  basic_holds basics.Text (NumberValue n) k literal e is l = absurd cc
+  basic_holds basics.Text FloatValue k literal e is l = absurd cc
+  basic_holds basics.Int8 (NumberValue n) k literal e is l = whole_holds Other Bits8 true (is_within (signed_bits 8) n) n k literal _ refl e is l
+  basic_holds basics.Int16 (NumberValue n) k literal e is l = whole_holds Other Bits16 true (is_within (signed_bits 16) n) n k literal _ refl e is l
+  basic_holds basics.Int32 (NumberValue n) k literal e is l = whole_holds Other Bits32 true (is_within (signed_bits 32) n) n k literal _ refl e is l
+  basic_holds basics.Int64 (NumberValue n) k literal e is l = whole_holds Other Bits64 true (is_within (signed_bits 64) n) n k literal _ refl e is l
+  basic_holds basics.Uint8 (NumberValue n) k literal e is l = whole_holds Other Bits8 false (is_within (unsigned_bits 8) n) n k literal _ refl e is l
+  basic_holds basics.Uint16 (NumberValue n) k literal e is l = whole_holds Other Bits16 false (is_within (unsigned_bits 16) n) n k literal _ refl e is l
+  basic_holds basics.Uint32 (NumberValue n) k literal e is l = whole_holds Other Bits32 false (is_within (unsigned_bits 32) n) n k literal _ refl e is l
+  basic_holds basics.Uint64 (NumberValue n) k literal e is l = whole_holds Other Bits64 false (is_within (unsigned_bits 64) n) n k literal _ refl e is l
+  basic_holds basics.Int8 (TextValue b) k literal e is l = absurd cc
+  basic_holds basics.Int16 (TextValue b) k literal e is l = absurd cc
+  basic_holds basics.Int32 (TextValue b) k literal e is l = absurd cc
+  basic_holds basics.Int64 (TextValue b) k literal e is l = absurd cc
+  basic_holds basics.Uint8 (TextValue b) k literal e is l = absurd cc
+  basic_holds basics.Uint16 (TextValue b) k literal e is l = absurd cc
+  basic_holds basics.Uint32 (TextValue b) k literal e is l = absurd cc
+  basic_holds basics.Uint64 (TextValue b) k literal e is l = absurd cc
+  basic_holds basics.Int8 (BoolValue b) k literal e is l = absurd cc
+  basic_holds basics.Int16 (BoolValue b) k literal e is l = absurd cc
+  basic_holds basics.Int32 (BoolValue b) k literal e is l = absurd cc
+  basic_holds basics.Int64 (BoolValue b) k literal e is l = absurd cc
+  basic_holds basics.Uint8 (BoolValue b) k literal e is l = absurd cc
+  basic_holds basics.Uint16 (BoolValue b) k literal e is l = absurd cc
+  basic_holds basics.Uint32 (BoolValue b) k literal e is l = absurd cc
+  basic_holds basics.Uint64 (BoolValue b) k literal e is l = absurd cc
+  basic_holds basics.Int8 FloatValue k literal e is l = absurd cc
+  basic_holds basics.Int16 FloatValue k literal e is l = absurd cc
+  basic_holds basics.Int32 FloatValue k literal e is l = absurd cc
+  basic_holds basics.Int64 FloatValue k literal e is l = absurd cc
+  basic_holds basics.Uint8 FloatValue k literal e is l = absurd cc
+  basic_holds basics.Uint16 FloatValue k literal e is l = absurd cc
+  basic_holds basics.Uint32 FloatValue k literal e is l = absurd cc
+  basic_holds basics.Uint64 FloatValue k literal e is l = absurd cc
+
+-- where the values of a scope are tested
+abbrev pub site_of : Scope → Site
+site_of scope = record { consts = scope.consts; names = scope.names; file = scope.file }
+
+-- what a default of a type of another name is, where that means an enum, and the default one of its enumerators
+abbrev pub NamesHold : (KindTree → Literal → Type 0) → List FileRows → Scope → Type 0
+NamesHold Other rows scope =
+    (t : Option Target) (nullable : Bool) (k : KindTree) (value : Value) (known : Known) (literal : Literal)
+    → option_and_then (meant_kind rows scope nullable) (option_map meant.Target t) ≡ Some k
+    → is_enumerator_of scope.consts.files t (meant_by_value (site_of scope) scope.enclosing value) ≡ true
+    → known_in scope value ≡ Some known → literal_of known ≡ Some literal → Holds Other k literal
+
+module _ (Other : KindTree → Literal → Type 0) (rows : List FileRows) (scope : Scope) where
+  -- a member's default is of the member's kind
+  abbrev pub HasDefault : Member → Type 0
+  HasDefault member =
+      (k : KindTree) (literal : Literal) → kind_in rows scope member.kind ≡ Some k → option_and_then (literal_in scope) member.default ≡ Some literal
+      → Holds Other k literal
+
+  -- a field's row
+  pub field_fine : (one : Numbered) (field : DraftField) → (refused_late scope one ≡ []) × HasDefault one.member → field_row rows scope one ≡ Some field
+      → IsFine Other field
+  field_fine one field quiet is = of (kind_in rows scope one.member.kind) refl is
+    where
+      of : (o : Option KindTree) → kind_in rows scope one.member.kind ≡ o → option_map (field_with scope one.member) o ≡ Some field → IsFine Other field
+      of None found is = absurd cc
+      of (Some k) found is =
+          let same : field_with scope one.member k ≡ field = cc in
+          subst (IsFine Other) same
+          (record { absent = λ after. late rows scope one k quiet.0 found after; given = λ literal e. quiet.1 k literal found e })
+
+-- what is no name means no enum
+no_enum : (things : List FileThings) (v : Option Target) (refusal : Refusal) → where_true (not (is_enumerator_of things None v)) refusal ≡ [] → ⊥
+no_enum things v refusal e = absurd cc
+
+module _ (Other : KindTree → Literal → Type 0) (rows : List FileRows) (scope : Scope) (names_hold : NamesHold Other rows scope) where
+  unnamed : (f : Field) (value : Value) (literal : Literal) (k : KindTree) → meant_by_base (site_of scope) scope.enclosing f.kind.base ≡ None
+      → refused_enum_default (site_of scope) scope.enclosing f value ≡ [] → Holds Other k literal
+  unnamed f value literal k means e =
+      let v = meant_by_value (site_of scope) scope.enclosing value in
+      let none : where_true (not (is_enumerator_of scope.consts.files None v)) (wrong_literal scope.file f.name) ≡ [] =
+      sym (ap (λ (o : Option Target). where_true (not (is_enumerator_of scope.consts.files o v)) (wrong_literal scope.file f.name)) means) ∙ e in
+      absurd (no_enum scope.consts.files v (wrong_literal scope.file f.name) none)
+
+  base_holds : (f : Field) (value : Value) (known : Known) (literal : Literal) → known_in scope value ≡ Some known → literal_of known ≡ Some literal
+      → (base : BaseTree) → (meant_by_base (site_of scope) scope.enclosing f.kind.base ≡ meant_by_base (site_of scope) scope.enclosing base)
+      → (nullable : Bool) (k : KindTree) → kind_of_base rows scope base nullable ≡ Some k
+      → refused_default_of (site_of scope) scope.enclosing f value known (basic_of_base base) ≡ [] → Holds Other k literal
+  base_holds f value known literal knows l (Named name) means nullable k is e = go (basic_of_parts name.parts) e is
+    where
+      t : Option Target
+      t = look_up scope.names scope.file scope.enclosing (dotted name.parts)
+
+      v : Option Target
+      v = meant_by_value (site_of scope) scope.enclosing value
+
+      enumerated : where_true (not (is_enumerator_of scope.consts.files (meant_by_base (site_of scope) scope.enclosing f.kind.base) v))
+          (wrong_literal scope.file f.name) ≡ [] → is_enumerator_of scope.consts.files t v ≡ true
+      enumerated e =
+          let at = ap (λ (o : Option Target). where_true (not (is_enumerator_of scope.consts.files o v)) (wrong_literal scope.file f.name)) means in
+          true_of (is_enumerator_of scope.consts.files t v) (none_where (not (is_enumerator_of scope.consts.files t v)) _ (sym at ∙ e))
+
+      go : (b : Option Basic) → refused_default_of (site_of scope) scope.enclosing f value known b ≡ []
+          → option_and_then (meant_kind rows scope nullable) (option_or (option_map meant.Basic b) (option_map meant.Target t)) ≡ Some k
+          → Holds Other k literal
+      go None e is = names_hold t nullable k value known literal is (enumerated e) knows l
+      go (Some basic) e is = basic_holds Other scope.file f.name (place_of_value value) nullable basic known k literal e is l
+  base_holds f value known literal knows l (ArrayOf of inner count) means nullable k is e = unnamed f value literal k means e
+  base_holds f value known literal knows l (MapOf key of_key one of_value) means nullable k is e = unnamed f value literal k means e
+  base_holds f value known literal knows l (HandleOf sort) means nullable k is e = unnamed f value literal k means e
+  base_holds f value known literal knows l (PendingOf sort interface) means nullable k is e = unnamed f value literal k means e
+
+  -- the default of a field of which nothing is refused is of its kind
+  pub field_default : (f : Field) (k : KindTree) (literal : Literal) → kind_of_base rows scope f.kind.base f.kind.nullable ≡ Some k
+      → refused_default (site_of scope) scope.enclosing f f.default ≡ [] → option_and_then (literal_in scope) f.default ≡ Some literal
+      → Holds Other k literal
+  field_default f k literal is e given = of f.default e given
+    where
+      known_of : (value : Value) (o : Option Known) → known_in scope value ≡ o → of_known (refused_default_as (site_of scope) scope.enclosing f value) o ≡ []
+          → option_and_then literal_of o ≡ Some literal → Holds Other k literal
+      known_of value None knows e given = absurd cc
+      known_of value (Some known) knows e given = base_holds f value known literal knows given f.kind.base refl f.kind.nullable k is e
+
+      of : (o : Option Value) → refused_default (site_of scope) scope.enclosing f o ≡ [] → option_and_then (literal_in scope) o ≡ Some literal
+          → Holds Other k literal
+      of None e given = absurd cc
+      of (Some value) e given = known_of value (known_in scope value) refl e given
+
+-- ## Enumerators
+
+-- the number of an enumerator is one of 32 bits
+held_fits : (z : ℤ) → FitsSigned w32 (held_signed z)
+held_fits (pos n) = of (nat_lt 2147483647 n) refl
+  where
+    of : (v : Bool) → nat_lt 2147483647 n ≡ v → FitsSigned w32 (int_max (negsuc 2147483647) (cond v (pos 2147483647) (pos n)))
+    of true e = record { sfits = omega arith }
+    of false e = record { sfits = grind (arith, nat_tests) }
+held_fits (negsuc n) = of (nat_lt 2147483647 n) refl
+  where
+    of : (v : Bool) → nat_lt 2147483647 n ≡ v → FitsSigned w32 (cond v (negsuc 2147483647) (negsuc n))
+    of true e = record { sfits = omega arith }
+    of false e = record { sfits = grind (arith, nat_tests) }
+
+whole_fits : (next : ℤ) (known : Known) → FitsSigned w32 next → FitsSigned w32 (whole_or next known)
+whole_fits next (NumberValue n) h = held_fits n
+whole_fits next (TextValue b) h = h
+whole_fits next (BoolValue b) h = h
+whole_fits next FloatValue h = h
+
+number_fits : (next : ℤ) (o : Option Known) → FitsSigned w32 next → FitsSigned w32 (option_map_or (whole_or next) o next)
+number_fits next None h = h
+number_fits next (Some known) h = whole_fits next known h
+
+-- so is that of each
+pub values_fit : (scope : Scope) (next : ℤ) (es : List Enumerator) → FitsSigned w32 next
+    → AllByRecursion (λ (v : Valued). FitsSigned w32 v.number) (valued_from scope next es)
+values_fit scope next [] h = tt
+values_fit scope next (e ∷ es) h = (
+  number_fits next (option_and_then (known_in scope) e.value) h,
+  values_fit scope (held_signed (number_at scope next e.value +ℤ pos 1)) es (held_fits (number_at scope next e.value +ℤ pos 1)),
+)

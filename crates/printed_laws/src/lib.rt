@@ -1,0 +1,51 @@
+//! That what a script's run makes can be printed, and that its text says its history and no other.
+#![tactic(auto)]
+
+ghost use Rattle.std.specs.Prelude.{◌≤◌, ◌*◌, List, ℕ, Ok, length};
+ghost use Rattle.mj_base.specs.declared.limits.TheConstants.{MAX_SCRIPT_LINES};
+ghost use Rattle.mj_schema.specs.declared.schema.Schema.{Schema};
+ghost use Rattle.bind_model.specs.Replies.{Legal};
+ghost use Rattle.bind_model.specs.WireOf.{wire_of};
+ghost use Rattle.bind_model.specs.declared.event.Event.{Event};
+ghost use Rattle.mojom_compile.specs.Schemas.{IsSchemaOfFiles};
+ghost use Rattle.mojom_compile.specs.declared.source.Source.{Source};
+ghost use Rattle.message_laws.specs.Filled.{IsFilledSchema};
+ghost use Rattle.call_script.specs.Script.{IsScriptOf};
+ghost use Rattle.call_script.specs.declared.script.Script.{Script};
+ghost use Rattle.call_script.specs.declared.script.TheConstants.{SEQUENCES};
+ghost use Rattle.history_reader.specs.Printable.{IsPrintable};
+ghost use Rattle.history_reader.specs.Texts.{Tells};
+ghost use Rattle.history_reader.specs.Whole.{history as history_rule};
+ghost use Rattle.printed_laws.specs.Runs.{run_said, run_text};
+ghost use Rattle.script_run.specs.OfScript.{OfScript};
+
+use wire_encoder::laws::passed_is_encodable;
+
+/// What a script's run over the schema of files makes, what became of its callbacks and what it leaves have
+/// names, values and numbers that a text can say. This is a law and does nothing: it calls the law that it
+/// rests on.
+pub fn runs_can_be_printed()
+    ensures { (sources : List Source) (schema : Schema) (bytes : List ℕ) (script : Script) (history : List Event)
+        → IsSchemaOfFiles sources schema → IsScriptOf schema bytes script → Legal (wire_of schema) SEQUENCES history
+        → OfScript schema script history → length history ≤ 4 * MAX_SCRIPT_LINES → IsPrintable schema (run_said history) }
+{
+    passed_is_encodable();
+}
+
+/// So the text of such a run says its history, what became of its callbacks and what it leaves, but for the
+/// interfaces of responders' endpoints, and says nothing else. This is a law and does nothing: it calls the
+/// law that it rests on.
+pub fn runs_are_read_back()
+    ensures { (sources : List Source) (schema : Schema) (bytes : List ℕ) (script : Script) (history : List Event)
+        → IsSchemaOfFiles sources schema → IsScriptOf schema bytes script → Legal (wire_of schema) SEQUENCES history
+        → OfScript schema script history → length history ≤ 4 * MAX_SCRIPT_LINES
+        → Tells (history_rule schema) (run_text schema history) (Ok (run_said history)) }
+{
+    passed_is_encodable();
+}
+
+/// By the schema of files, what a version of a struct lacks reads as a value of its kind: so what is decoded
+/// by it has a text that is read back. This is a law and does nothing.
+pub fn schemas_of_files_are_filled()
+    ensures { (sources : List Source) (schema : Schema) → IsSchemaOfFiles sources schema → IsFilledSchema schema }
+{}
