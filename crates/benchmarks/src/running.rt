@@ -9,8 +9,7 @@ mod scripts;
 use crate::running::scripts::{FILE, Shape};
 use crate::schemas::schema_of;
 use crate::timing::{ROUNDS, least, now};
-use call_script::{Script, read_script};
-use history_text::render;
+use call_script::{Script, read_script, render};
 use mj_base::limits::MAX_SCRIPT_LINES;
 use mj_schema::Schema;
 use script_run::{Ran, run_alone};
@@ -87,7 +86,7 @@ fn time_render<R: AllocGlobal + CpuClock>(
         let _text = render(
             rt.alloc(),
             schema,
-            ran.history.as_slice(),
+            &ran.history,
             ran.notes.as_slice(),
             ran.left.as_slice(),
         )?;

@@ -17,8 +17,8 @@ use Rattle.bind_model.proofs.Fresh.{kept}
 use Rattle.bind_core.specs.Lines.{found_at}
 use Rattle.bind_core.specs.Agreement.{past_of, schema_of, wire_in}
 use Rattle.bind_core.specs.steps.Doing.{HasRoom, Done, told_to}
-use Rattle.bind_core.specs.declared.commands.Command.TheVariants as commands
-use Rattle.bind_core.specs.declared.commands.Reply.TheVariants as replies
+use Rattle.bind_model.specs.declared.commands.Command.TheVariants as commands
+use Rattle.bind_model.specs.declared.commands.Reply.TheVariants as replies
 use Rattle.bind_core.specs.declared.state.State.{State}
 use Rattle.bind_core.proofs.Held.{finish}
 use Rattle.bind_core.proofs.Binding.{bound_agrees}
@@ -33,7 +33,7 @@ module _ (old new : State) (seq : SeqId) (able : HasRoom old seq) (schema : sche
       → ((y : EndId) (n : ℕ) → found_at new.endpoints y n
       ≡ (if same_end x y && (0 == n) then Some (bound_on seq side interface) else found_at old.endpoints y n))
       → Puts handle places.Bound old.pipes new.pipes
-      → new.history.events ≡ old.history.events ++ record { seq = seq; asked = asks.Bind (End x) side interface; told = tells.Bound x } ∷ []
+      → new.log.events ≡ old.log.events ++ record { seq = seq; asked = asks.Bind (End x) side interface; told = tells.Bound x } ∷ []
       → Done old new seq (commands.Bind handle side interface) (replies.Bound x)
   bind_done handle x side interface h o t g p events =
       let k = kept (wire_in old) old.seqs (past_of old) able.holds.legal in

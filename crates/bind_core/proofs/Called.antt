@@ -30,13 +30,13 @@ use Rattle.bind_model.proofs.Kept.{Kept, bound_made}
 use Rattle.bind_model.proofs.Outcomes.{Outcome, outcome, Writes, Open, calls}
 use Rattle.bind_core.specs.steps.Calls.{AreOf, command_with, request_id, sealed_bytes}
 use Rattle.bind_core.specs.steps.Placing.{PutsAll}
-use Rattle.bind_core.specs.Plain.{asked_of, outgoing_of}
+use Rattle.bind_model.specs.Plain.{asked_of, outgoing_of}
 use Rattle.bind_core.specs.Agreement.{Agrees, past_of, schema_of, wire_in}
 use Rattle.bind_core.specs.steps.Doing.{CanDo, Done, told_in}
 use Rattle.bind_core.specs.steps.Ways.{asks_of, suits, way_at, way_to, way_open, all_out, way}
 use Rattle.bind_core.specs.declared.call.Request.{Request}
 use Rattle.bind_core.specs.declared.writing.Writes.{Writes as Written}
-use Rattle.bind_core.specs.declared.commands.Reply.TheVariants as replies
+use Rattle.bind_model.specs.declared.commands.Reply.TheVariants as replies
 use Rattle.bind_core.specs.declared.endpoint_table.Line.{Line}
 use Rattle.bind_core.specs.declared.state.State.{State}
 use Rattle.bind_core.proofs.Calling.{way_refused, way_sends}
@@ -155,7 +155,7 @@ module _ (old : State) (seq : SeqId) (r : Request) (can : CanDo old seq (command
       pub call_done : (request : ℕ) (things : List Thing) (w : Written) (mid : Contents) → request ≡ number → things ≡ r.handles
           → AreOf r.prepared things (sealed_bytes r.id request r.prepared) w
           → Becomes x (with_message w.message) old.pipes mid → PutsAll r.handles (places.Unread x) mid new.pipes
-          → new.history.events ≡ old.history.events ++ record { seq = seq; asked = asks.Call r.end r.id w.outgoing; told = tells.Sent request w.noted } ∷ []
+          → new.log.events ≡ old.log.events ++ record { seq = seq; asked = asks.Call r.end r.id w.outgoing; told = tells.Sent request w.noted } ∷ []
           → Done old new seq (command_with r r.handles) (replies.Sent request w.told)
       call_done request things w mid n e a b p events =
           finish old new seq (command_with r r.handles) (replies.Sent request w.told) can.able schema seqs unmoved

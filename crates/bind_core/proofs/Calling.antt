@@ -36,7 +36,7 @@ use Rattle.bind_model.specs.Machine.{made, peer, is_gone, out, unread, endpoint_
 use Rattle.bind_model.specs.Replies.{answer, called, drawn, first_of, unless, is_receiver, is_response, wrong_tokens, cannot_write, tokens_right, all_suit, request_of, all_out as all_out_past, all_pending}
 use Rattle.bind_model.proofs.Kept.{Kept, bound_made}
 use Rattle.bind_core.specs.steps.Opens.{opened}
-use Rattle.bind_core.specs.Plain.{outgoing_of}
+use Rattle.bind_model.specs.Plain.{outgoing_of}
 use Rattle.bind_core.specs.steps.Ways.{asks_of, way_at, way_open, all_out, suits, way}
 use Rattle.bind_core.specs.steps.Calls.{request_id, sealed_bytes}
 use Rattle.bind_core.specs.Agreement.{Agrees, is_out}

@@ -13,7 +13,7 @@ use Rattle.bind_model.specs.declared.told.Told.TheVariants.{Sent}
 use Rattle.bind_model.specs.Replies.{Drawn, drawn, draws}
 use Rattle.bind_core.specs.Counts.{count_at, CountsRequests}
 use Rattle.bind_core.specs.steps.Counting.{IsSent, IsTaken}
-use Rattle.bind_core.specs.declared.requests.EndpointName.{EndpointName}
+use Rattle.bind_model.specs.declared.names.EndpointName.{EndpointName}
 
 -- an event draws one request at most
 draws_few : (told : Told) (asked : Asked) (x : EndId) (id : ℕ) → length (draws told asked x id) ≤ 1

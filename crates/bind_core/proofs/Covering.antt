@@ -26,14 +26,14 @@ use Rattle.bind_core.specs.Covers.{Covers, Stands}
 use Rattle.bind_core.specs.steps.Watching.{HasNear, IsWithin, KeepsTaken, end_named, is_near}
 use Rattle.bind_core.specs.EndSets.{has_end}
 use Rattle.bind_core.specs.steps.FirstTaken.{Ascends, first_taken}
-use Rattle.bind_core.specs.Plain.{asked_of}
+use Rattle.bind_model.specs.Plain.{asked_of}
 use Rattle.bind_core.specs.Agreement.{Holds, end_with, past_of, schema_of, wire_in}
 use Rattle.bind_core.specs.steps.Doing.{Done, Undone, told_in}
 use Rattle.bind_core.specs.steps.Takers.{taker_of}
-use Rattle.bind_core.specs.declared.commands.Command.{Command}
-use Rattle.bind_core.specs.declared.commands.Command.TheVariants.{Pipe, Join, Mint, Bind, Call, Answer, Take, Close, Skip}
-use Rattle.bind_core.specs.declared.commands.Refused.{Refused}
-use Rattle.bind_core.specs.declared.commands.Reply.{Reply}
+use Rattle.bind_model.specs.declared.commands.Command.{Command}
+use Rattle.bind_model.specs.declared.commands.Command.TheVariants.{Pipe, Join, Mint, Bind, Call, Answer, Take, Close, Skip}
+use Rattle.bind_model.specs.declared.commands.Refused.{Refused}
+use Rattle.bind_model.specs.declared.commands.Reply.{Reply}
 use Rattle.bind_core.specs.declared.state.State.{State}
 use Rattle.bind_core.proofs.Untouched.{about, bound_end, ready_far}
 use Rattle.bind_core.proofs.FirstReady.{first_is}
@@ -95,9 +95,9 @@ module _ (wire : Wire) (seqs : ℕ) (past : List Event) (seq : SeqId) (y : EndId
   near_named (Call x id prepared handles) told e h = h
   near_named (Answer r prepared handles) told e h = h
   near_named (Take x) told e h = h
-  near_named (Close (Rattle.bind_core.specs.declared.commands.ToClose.TheVariants.Handle x)) told e h = h
-  near_named (Close (Rattle.bind_core.specs.declared.commands.ToClose.TheVariants.Responder r)) told e h = h
-  near_named (Close (Rattle.bind_core.specs.declared.commands.ToClose.TheVariants.Endpoint x id)) told e h = h
+  near_named (Close (Rattle.bind_model.specs.declared.commands.ToClose.TheVariants.Handle x)) told e h = h
+  near_named (Close (Rattle.bind_model.specs.declared.commands.ToClose.TheVariants.Responder r)) told e h = h
+  near_named (Close (Rattle.bind_model.specs.declared.commands.ToClose.TheVariants.Endpoint x id)) told e h = h
   near_named (Skip line) told e h = h
 
 -- ## Sets that cover
@@ -131,7 +131,7 @@ module _ (old new : State) (before after : List EndId) (covers : Covers old befo
       go false e =
           more x (covers x (ready_far (wire_in old) (past_of old) x (record { seq = seq; asked = asked_of command; told = told_in old seq command }) e
           (same_ready (record { seq = seq; asked = asked_of command; told = told_in old seq command } ∷ past_of old) d.schema
-          (ap reverse d.events ∙ reverse-append old.history.events (record { seq = seq; asked = asked_of command; told = told_in old seq command } ∷ [])) x r)))
+          (ap reverse d.events ∙ reverse-append old.log.events (record { seq = seq; asked = asked_of command; told = told_in old seq command } ∷ [])) x r)))
 
 -- what stands still does after a command was done or came back
 pub stands_after : (old new : State) (seq : SeqId) (command : Command) (r : Result Reply Refused) (before mid after : List EndId) → Stands old before

@@ -22,13 +22,13 @@ use Rattle.bind_core.specs.Lines.{found_at}
 use Rattle.bind_core.specs.steps.LineChanges.{put}
 use Rattle.bind_core.specs.Agreement.{Agrees, is_out, past_of, schema_of, wire_in}
 use Rattle.bind_core.specs.steps.Doing.{HasRoom, Done, told_to}
-use Rattle.bind_core.specs.declared.commands.Command.TheVariants as commands
-use Rattle.bind_core.specs.declared.commands.ToClose.{ToClose}
-use Rattle.bind_core.specs.declared.commands.ToClose.TheVariants as close
-use Rattle.bind_core.specs.declared.commands.Reply.TheVariants as replies
+use Rattle.bind_model.specs.declared.commands.Command.TheVariants as commands
+use Rattle.bind_model.specs.declared.commands.ToClose.{ToClose}
+use Rattle.bind_model.specs.declared.commands.ToClose.TheVariants as close
+use Rattle.bind_model.specs.declared.commands.Reply.TheVariants as replies
 use Rattle.bind_core.specs.declared.endpoint_table.Line.{Line}
 use Rattle.bind_core.specs.declared.state.State.{State}
-use Rattle.bind_core.specs.Plain.{closing_of}
+use Rattle.bind_model.specs.Plain.{closing_of}
 use Rattle.bind_core.proofs.Held.{finish}
 use Rattle.bind_core.proofs.Quiet.{IsQuiet}
 use Rattle.bind_core.proofs.Closed.{handle_told, handle_closed, end_told, end_closed}
@@ -40,20 +40,20 @@ module _ (old new : State) (seq : SeqId) (able : HasRoom old seq) (schema : sche
   event_with what things = record { seq = seq; asked = asks.Close (closing_of what); told = tells.Closed things }
 
   -- a closing is done where what went is what the history says, and the rest agrees with the event
-  close_done : (what : ToClose) → IsQuiet (commands.Close what) (replies.Closed told) → new.history.events ≡ old.history.events ++ event_with what goes ∷ []
+  close_done : (what : ToClose) → IsQuiet (commands.Close what) (replies.Closed told) → new.log.events ≡ old.log.events ++ event_with what goes ∷ []
       → tells.Closed goes ≡ told_to old seq (asks.Close (closing_of what))
       → Agrees (wire_in old) (event_with what goes ∷ past_of old) new.pipes new.endpoints
       → Done old new seq (commands.Close what) (replies.Closed told)
   close_done what quiet events answered agrees =
       finish old new seq (commands.Close what) (replies.Closed told) able schema seqs unmoved quiet
-      (events ∙ ap (λ (things : List Thing). old.history.events ++ event_with what things ∷ []) (sym t))
+      (events ∙ ap (λ (things : List Thing). old.log.events ++ event_with what things ∷ []) (sym t))
       (ap (λ (things : List Thing). tells.Closed things) t ∙ answered)
       (subst (λ (things : List Thing). Agrees (wire_in old) (event_with what things ∷ past_of old) new.pipes new.endpoints) (sym t) agrees)
       tt
 
   pub handle_done : (x : Thing) (mid : Contents) → is_out (place_of old.pipes.table x) ≡ true
       → goes ≡ spread (carried_in old.pipes.ends None) old.pipes.made (x ∷ []) → new.endpoints ≡ old.endpoints
-      → new.history.events ≡ old.history.events ++ record { seq = seq; asked = asks.Close (closings.Handle x); told = tells.Closed goes } ∷ []
+      → new.log.events ≡ old.log.events ++ record { seq = seq; asked = asks.Close (closings.Handle x); told = tells.Closed goes } ∷ []
       → Puts x places.Closed old.pipes mid → Closes goes mid new.pipes
       → Done old new seq (commands.Close (close.Handle x)) (replies.Closed told)
   handle_done x mid at e same events p c =
@@ -70,7 +70,7 @@ module _ (old new : State) (seq : SeqId) (able : HasRoom old seq) (schema : sche
       → ((x : EndId) (n : ℕ)
       → found_at new.endpoints x n
       ≡ (if same_end y x && (0 == n) then option_map (put (with_state states.Closed r)) (found_at old.endpoints x n) else found_at old.endpoints x n))
-      → new.history.events ≡ old.history.events ++ record { seq = seq; asked = asks.Close (closings.Endpoint y 0); told = tells.Closed goes } ∷ []
+      → new.log.events ≡ old.log.events ++ record { seq = seq; asked = asks.Close (closings.Endpoint y 0); told = tells.Closed goes } ∷ []
       → Closes goes old.pipes new.pipes
       → Done old new seq (commands.Close (close.Endpoint y 0)) (replies.Closed told)
   end_done y r f h e g events c =

@@ -8,13 +8,13 @@ use Rattle.bind_model.specs.declared.event.Event.{Event}
 use Rattle.bind_model.specs.declared.told.Told.{Told}
 use Rattle.bind_model.specs.WireOf.{wire_of}
 use Rattle.bind_model.specs.Replies.{legal, responders_out}
-use Rattle.bind_core.specs.Plain.{asked_of, told_of, HandsBack, HandsResponders}
-use Rattle.bind_core.specs.Responders.{CountsResponders}
+use Rattle.bind_model.specs.Plain.{asked_of, told_of, HandsBack, HandsResponders}
+use Rattle.bind_model.specs.Responders.{CountsResponders}
 use Rattle.bind_core.specs.Agreement.{Agrees, past_of, schema_of, wire_in}
 use Rattle.bind_core.specs.steps.Doing.{HasRoom, Done, told_in}
-use Rattle.bind_core.specs.declared.commands.Command.{Command}
-use Rattle.bind_core.specs.declared.commands.Reply.{Reply}
-use Rattle.bind_core.specs.declared.responder.ResponderName.{ResponderName}
+use Rattle.bind_model.specs.declared.commands.Command.{Command}
+use Rattle.bind_model.specs.declared.commands.Reply.{Reply}
+use Rattle.bind_model.specs.declared.responder.ResponderName.{ResponderName}
 use Rattle.bind_core.specs.declared.state.State.{State}
 use Rattle.bind_core.proofs.Quiet.{IsQuiet, counts_still}
 
@@ -34,7 +34,7 @@ module _ (old new : State) (seq : SeqId) (command : Command) (reply : Reply) whe
   pub finish_with : HasRoom old seq
       → schema_of new ≡ schema_of old
       → new.seqs ≡ old.seqs
-      → new.history.events ≡ old.history.events ++ event_of seq command reply ∷ []
+      → new.log.events ≡ old.log.events ++ event_of seq command reply ∷ []
       → told_of reply ≡ told_in old seq command
       → Agrees (wire_in old) (event_of seq command reply ∷ past_of old) new.pipes new.endpoints
       → CountsResponders (wire_in old) (event_of seq command reply ∷ past_of old) new.responders
@@ -42,7 +42,7 @@ module _ (old new : State) (seq : SeqId) (command : Command) (reply : Reply) whe
       → HandsResponders (wire_in old) command reply
       → Done old new seq command reply
   finish_with can schema seqs events told agrees responders back hands =
-      let past : past_of new ≡ event_of seq command reply ∷ past_of old = ap reverse events ∙ reverse-snoc old.history.events (event_of seq command reply) in
+      let past : past_of new ≡ event_of seq command reply ∷ past_of old = ap reverse events ∙ reverse-snoc old.log.events (event_of seq command reply) in
       record {
         holds = record {
           legal =
@@ -55,11 +55,11 @@ module _ (old new : State) (seq : SeqId) (command : Command) (reply : Reply) whe
           responders =
               subst (λ (w : Schema). CountsResponders (wire_of w) (past_of new) new.responders) (sym schema)
               (subst (λ (p : List Event). CountsResponders (wire_in old) p new.responders) (sym past) responders);
-          few = let n = can.few in omega (arith, ap length events, length-append old.history.events (event_of seq command reply ∷ []));
+          few = let n = can.few in omega (arith, ap length events, length-append old.log.events (event_of seq command reply ∷ []));
         };
         schema = schema;
         seqs = seqs;
-        events = events ∙ ap (λ (t : Told). old.history.events ++ record { seq = seq; asked = asked_of command; told = t } ∷ []) told;
+        events = events ∙ ap (λ (t : Told). old.log.events ++ record { seq = seq; asked = asked_of command; told = t } ∷ []) told;
         told = told;
         back = back;
         responders = hands;
@@ -72,7 +72,7 @@ module _ (old new : State) (seq : SeqId) (command : Command) (reply : Reply) whe
       → new.seqs ≡ old.seqs
       → new.responders ≡ old.responders
       → IsQuiet command reply
-      → new.history.events ≡ old.history.events ++ event_of seq command reply ∷ []
+      → new.log.events ≡ old.log.events ++ event_of seq command reply ∷ []
       → told_of reply ≡ told_in old seq command
       → Agrees (wire_in old) (event_of seq command reply ∷ past_of old) new.pipes new.endpoints
       → HandsBack command reply

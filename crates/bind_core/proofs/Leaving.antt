@@ -13,7 +13,7 @@ use Rattle.handle_table.specs.declared.thing.Thing.{Thing}
 use Rattle.bind_model.specs.Laws.{up_from}
 use Rattle.bind_model.specs.Machine.{made, gone}
 use Rattle.bind_model.specs.Replies.{serials, tokens}
-use Rattle.bind_core.specs.Left.{ends_by, tokens_by, left}
+use Rattle.bind_model.specs.Left.{ends_by, tokens_by, left}
 use Rattle.bind_core.specs.Agreement.{Holds, past_of, wire_in, is_shut}
 use Rattle.bind_core.specs.steps.Numbering.{numbered, count_by, all_by, all_made, open_in}
 use Rattle.bind_core.specs.declared.left.Sort.{Sort}
@@ -104,7 +104,7 @@ module _ (s : State) (holds : Holds s) where
   few : (n : ℕ) → n ≤ length (made (past_of s)) → n < 4294967296
   few n h =
       let events = holds.few in
-      omega (arith, h, made_few (wire_in s) s.seqs (past_of s) holds.legal, length-reverse s.history.events, events)
+      omega (arith, h, made_few (wire_in s) s.seqs (past_of s) holds.legal, length-reverse s.log.events, events)
 
   pub few_by : (sort : Sort) (seq : ℕ) → count_by sort s.pipes.table seq < 4294967296
   few_by Ends seq = rw (holds.agrees.serials seq) (few (serials (past_of s) seq) (serials_few (past_of s) seq))

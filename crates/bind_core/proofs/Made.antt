@@ -15,12 +15,12 @@ use Rattle.bind_model.specs.declared.told.Told.TheVariants as tells
 use Rattle.bind_model.specs.declared.event.Event.{Event}
 use Rattle.bind_model.specs.Replies.{joined}
 use Rattle.bind_model.proofs.Fresh.{kept}
-use Rattle.bind_core.specs.Plain.{asked_of}
+use Rattle.bind_model.specs.Plain.{asked_of}
 use Rattle.bind_core.specs.Agreement.{Agrees, past_of, schema_of, wire_in}
 use Rattle.bind_core.specs.steps.Doing.{HasRoom, Done, told_in, told_to}
-use Rattle.bind_core.specs.declared.commands.Command.{Command}
-use Rattle.bind_core.specs.declared.commands.Command.TheVariants as commands
-use Rattle.bind_core.specs.declared.commands.Reply.TheVariants as replies
+use Rattle.bind_model.specs.declared.commands.Command.{Command}
+use Rattle.bind_model.specs.declared.commands.Command.TheVariants as commands
+use Rattle.bind_model.specs.declared.commands.Reply.TheVariants as replies
 use Rattle.bind_core.specs.declared.endpoint_table.Line.{Line}
 use Rattle.bind_core.specs.declared.state.State.{State}
 use Rattle.bind_core.proofs.Held.{finish}
@@ -33,7 +33,7 @@ module _ (s : State) (seq : SeqId) (able : HasRoom s seq) where
   few_made =
       let n = able.few in
       let m = able.holds.agrees.made in
-      omega (arith, n, m, made_few (wire_in s) s.seqs (past_of s) able.holds.legal, length-reverse s.history.events)
+      omega (arith, n, m, made_few (wire_in s) s.seqs (past_of s) able.holds.legal, length-reverse s.log.events)
 
   pub few_ends : (t : ℕ) → ends_made s.pipes.table t ≤ s.pipes.made
   few_ends t = rw (able.holds.agrees.serials t, able.holds.agrees.made) (serials_few (past_of s) t)
@@ -44,11 +44,11 @@ module _ (s : State) (seq : SeqId) (able : HasRoom s seq) where
 module _ (old new : State) (seq : SeqId) (able : HasRoom old seq) (schema : schema_of new ≡ schema_of old) (seqs : new.seqs ≡ old.seqs)
     (unmoved : new.responders ≡ old.responders) where
   abbrev noted : Asked → Told → List Event
-  noted asked told = old.history.events ++ record { seq = seq; asked = asked; told = told } ∷ []
+  noted asked told = old.log.events ++ record { seq = seq; asked = asked; told = told } ∷ []
 
   pub pipe_done : (other : SeqId) (asked : Asked) (command : Command) (handles things : List Thing) (x y : Thing) → asked ≡ asked_of command
       → told_to old seq asked ≡ joined (past_of old) seq.0 other.0 → new.endpoints ≡ old.endpoints
-      → new.history.events ≡ noted asked (tells.Made things) → things ≡ x ∷ y ∷ [] → handles ≡ x ∷ y ∷ []
+      → new.log.events ≡ noted asked (tells.Made things) → things ≡ x ∷ y ∷ [] → handles ≡ x ∷ y ∷ []
       → ((a : EndId) × (b : EndId) × (x ≡ End a) × (y ≡ End b) × MakesPipe seq.0 other.0 a b old.pipes new.pipes)
       → Done old new seq command (replies.Made handles)
   pipe_done other asked command handles things x y q t same events e1 e2 m =
@@ -69,7 +69,7 @@ module _ (old new : State) (seq : SeqId) (able : HasRoom old seq) (schema : sche
       tt
 
   pub token_done : (sort : TokenSort) (handles things : List Thing) (x : Thing) → new.endpoints ≡ old.endpoints
-      → new.history.events ≡ noted (asks.Mint sort) (tells.Made things) → things ≡ x ∷ [] → handles ≡ x ∷ [] → MakesToken seq.0 x old.pipes new.pipes
+      → new.log.events ≡ noted (asks.Mint sort) (tells.Made things) → things ≡ x ∷ [] → handles ≡ x ∷ [] → MakesToken seq.0 x old.pipes new.pipes
       → Done old new seq (commands.Mint sort) (replies.Made handles)
   token_done sort handles things x same events e1 e2 m =
       let k = kept (wire_in old) old.seqs (past_of old) able.holds.legal in

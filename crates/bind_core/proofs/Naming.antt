@@ -10,33 +10,11 @@ use Rattle.std.specs.declared.cmp.Ordering.TheVariants.{Less, Equal, Greater}
 use Rattle.std.proofs.lemmas.Bool.{eqb-true}
 use Rattle.mj_base.specs.declared.ids.EndId.{EndId}
 use Rattle.handle_table.specs.Things.{same_end}
-use Rattle.bind_core.specs.Counts.{count_at, is_named}
+use Rattle.bind_model.proofs.NameOrder.{apart, name_cmp, name_of, named}
+use Rattle.bind_core.specs.Counts.{count_at}
+use Rattle.bind_model.specs.Names.{is_named}
 use Rattle.bind_core.specs.steps.Counting.{is_counted}
-use Rattle.bind_core.specs.contracts.requests.EndpointNameOrd.TheImpl as name_order
-use Rattle.bind_core.specs.declared.requests.EndpointName.{EndpointName}
-
--- the order of names
-abbrev pub name_cmp : EndpointName → EndpointName → Ordering
-name_cmp = (name_order.ghosts).cmp
-
-abbrev pub name_of : EndId → ℕ → EndpointName
-name_of x id = record { end = x; id = id }
-
-all_equal : (r s t : Ordering) → is_eq (ordering_then (ordering_then r s) t) ≡ ((is_eq r && is_eq s) && is_eq t)
-all_equal Less s t = refl
-all_equal Equal Less t = refl
-all_equal Equal Equal t = refl
-all_equal Equal Greater t = refl
-all_equal Greater s t = refl
-
-pub tied : (n m : ℕ) → is_eq (nat_cmp n m) ≡ (n == m)
-tied n m = sym (unsigned_ties n m)
-
--- a name is found where it is the same
-pub named : (x : EndId) (id : ℕ) (name : EndpointName) → is_at (name_cmp (name_of x id)) name ≡ is_named x id name
-named x id name =
-    all_equal (nat_cmp x.seq name.end.seq) (nat_cmp x.serial name.end.serial) (nat_cmp id name.id)
-    ∙ (λ i. (tied x.seq name.end.seq i && tied x.serial name.end.serial i) && tied id name.id i)
+use Rattle.bind_model.specs.declared.names.EndpointName.{EndpointName}
 
 pub found : (counts : BTreeMap EndpointName ℕ) (x : EndId) (id : ℕ) → lookup (is_named x id) counts.entries ≡ get name_cmp counts (name_of x id)
 found counts x id = ap (λ (t : EndpointName → Bool). lookup t counts.entries) (λ i name. sym (named x id name) i)
@@ -45,13 +23,6 @@ found counts x id = ap (λ (t : EndpointName → Bool). lookup t counts.entries)
 same_place : (entries : List (EndpointName × ℕ)) (x y : EndId) (n m : ℕ) → x.seq ≡ y.seq → x.serial ≡ y.serial → n ≡ m
     → lookup (is_named x n) entries ≡ lookup (is_named y m) entries
 same_place entries x y n m p q r = λ i. lookup (λ name. ((p i == name.end.seq) && (q i == name.end.serial)) && (r i == name.id)) entries
-
-pub apart : (n m : ℕ) → (n ≡ m → ⊥) → (n == m) ≡ false
-apart n m f = go (n == m) refl
-  where
-    go : (b : Bool) → (n == m) ≡ b → b ≡ false
-    go true e = absurd (f (eqb-true n m e))
-    go false e = refl
 
 -- what one more at an endpoint makes of the counts
 module _ (old new : BTreeMap EndpointName ℕ) (end : EndId) (id count : ℕ) (is : Some count ≡ get name_cmp old (name_of end id))

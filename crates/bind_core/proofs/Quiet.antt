@@ -8,11 +8,11 @@ use Rattle.bind_model.specs.declared.event.Event.{Event}
 use Rattle.bind_model.specs.declared.told.Told.{Told}
 use Rattle.bind_model.specs.Replies.{responders_after, responders_handed, responders_out, same_responder}
 use Rattle.bind_model.specs.Wire.{Wire}
-use Rattle.bind_core.specs.Plain.{asked_of, told_of, responders_in}
-use Rattle.bind_core.specs.Responders.{CountsResponders}
-use Rattle.bind_core.specs.declared.commands.Command.{Command}
-use Rattle.bind_core.specs.declared.commands.Reply.{Reply}
-use Rattle.bind_core.specs.declared.responder.ResponderName.{ResponderName}
+use Rattle.bind_model.specs.Plain.{asked_of, told_of, responders_in}
+use Rattle.bind_model.specs.Responders.{CountsResponders}
+use Rattle.bind_model.specs.declared.commands.Command.{Command}
+use Rattle.bind_model.specs.declared.commands.Reply.{Reply}
+use Rattle.bind_model.specs.declared.responder.ResponderName.{ResponderName}
 
 -- a command and a reply that move no responder
 pub record IsQuiet (command : Command) (reply : Reply) : Type 0 where

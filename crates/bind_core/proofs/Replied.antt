@@ -32,17 +32,17 @@ use Rattle.bind_model.proofs.Kept.{Kept, bound_made}
 use Rattle.bind_model.proofs.Outcomes.{Outcome, outcome, Writes, Open, answers}
 use Rattle.bind_core.specs.Agreement.{Agrees, past_of, schema_of, wire_in}
 use Rattle.bind_core.specs.Lines.{found_at}
-use Rattle.bind_core.specs.Plain.{asked_of, outgoing_of}
-use Rattle.bind_core.specs.Responders.{count_of}
+use Rattle.bind_model.specs.Plain.{asked_of, outgoing_of}
+use Rattle.bind_model.specs.Responders.{count_of}
 use Rattle.bind_core.specs.steps.Answering.{answers_to, command_with, reached, way_back, way_reached}
 use Rattle.bind_core.specs.steps.Calls.{AreOf, sealed_bytes}
 use Rattle.bind_core.specs.steps.Doing.{CanDo, Done, HasRoom, told_in, told_to}
 use Rattle.bind_core.specs.steps.Placing.{PutsAll}
 use Rattle.bind_core.specs.steps.Ways.{all_out, suits}
 use Rattle.bind_core.specs.declared.answer.Response.{Response}
-use Rattle.bind_core.specs.declared.commands.Command.TheVariants as commands
-use Rattle.bind_core.specs.declared.commands.Reply.TheVariants as replies
-use Rattle.bind_core.specs.declared.commands.ToClose.TheVariants as close
+use Rattle.bind_model.specs.declared.commands.Command.TheVariants as commands
+use Rattle.bind_model.specs.declared.commands.Reply.TheVariants as replies
+use Rattle.bind_model.specs.declared.commands.ToClose.TheVariants as close
 use Rattle.bind_core.specs.declared.endpoint_table.Line.{Line}
 use Rattle.bind_core.specs.declared.writing.Writes.{Writes as Written}
 use Rattle.bind_core.specs.declared.state.State.{State}
@@ -148,7 +148,7 @@ module _ (old : State) (seq : SeqId) (r : Response) (can : CanDo old seq (comman
           → AreOf r.prepared things bytes w
           → Becomes x (with_message w.message) old.pipes mid → PutsAll r.handles (places.Unread x) mid new.pipes
           → ((q : ResponderId) → count_of new.responders q + (if same_responder r.responder q then 1 else 0) ≡ count_of old.responders q)
-          → new.history.events ≡ old.history.events
+          → new.log.events ≡ old.log.events
           ++ record { seq = seq; asked = asks.Answer r.responder w.outgoing; told = tells.Sent r.responder.request w.noted } ∷ []
           → Done old new seq (command_with r r.handles) (replies.Sent r.responder.request w.told)
       answer_done things w mid e a b p less events =
@@ -201,7 +201,7 @@ module _ (old : State) (seq : SeqId) (able : HasRoom old seq) (r : ResponderId) 
       → new.pipes ≡ old.pipes → new.endpoints ≡ old.endpoints
       → ((q : ResponderId) → count_of new.responders q + (if same_responder r q then 1 else 0) ≡ count_of old.responders q)
       → (noted told : List Thing) → noted ≡ [] → told ≡ []
-      → new.history.events ≡ old.history.events ++ record { seq = seq; asked = asks.Close (closings.Responder r); told = tells.Closed noted } ∷ []
+      → new.log.events ≡ old.log.events ++ record { seq = seq; asked = asks.Close (closings.Responder r); told = tells.Closed noted } ∷ []
       → Done old new seq (commands.Close (close.Responder r)) (replies.Closed told)
   closing_done new here schema seqs pipes endpoints less noted told n t events =
       finish_with old new seq (commands.Close (close.Responder r)) (replies.Closed told) able schema seqs

@@ -29,13 +29,13 @@ use Rattle.bind_model.specs.Machine.{made, peer, is_closed, is_gone, endpoint_at
 use Rattle.bind_model.specs.Replies.{answer, answered_with, first_of, unless, elsewhere, is_response, responders_out, same_responder, same_target, sent, wrong_tokens, cannot_write, tokens_right, all_out as all_out_past}
 use Rattle.bind_model.proofs.Kept.{Kept, bound_made}
 use Rattle.bind_core.specs.Agreement.{Agrees}
-use Rattle.bind_core.specs.Plain.{outgoing_of}
-use Rattle.bind_core.specs.Responders.{CountsResponders, count_of}
+use Rattle.bind_model.specs.Plain.{outgoing_of}
+use Rattle.bind_model.specs.Responders.{CountsResponders, count_of}
 use Rattle.bind_core.specs.steps.Answering.{answers_to, reached, reached_in, way_back, way_reached}
 use Rattle.bind_core.specs.steps.Calls.{sealed_bytes}
 use Rattle.bind_core.specs.steps.Ways.{all_out, suits, way_at}
 use Rattle.bind_core.specs.declared.endpoint_table.Line.{Line}
-use Rattle.bind_core.specs.declared.responder.ResponderName.{ResponderName}
+use Rattle.bind_model.specs.declared.responder.ResponderName.{ResponderName}
 use Rattle.bind_core.proofs.Calling.{last, outs_is, sealed_is, test_not, told_of_way, tokens_is}
 use Rattle.bind_core.proofs.Facts.{closed_is, peer_is}
 use Rattle.bind_core.proofs.Opening.{told_of_opened}

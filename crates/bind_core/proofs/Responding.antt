@@ -20,11 +20,12 @@ use Rattle.bind_model.specs.declared.told.Told.{Told}
 use Rattle.bind_model.specs.declared.told.Told.TheVariants.{Closed, Sent, Taken}
 use Rattle.bind_model.specs.Replies.{is_response, less_one, responders_after, responders_handed, responders_out, same_responder}
 use Rattle.bind_model.specs.Wire.{Wire}
+use Rattle.bind_model.proofs.ResponderCounts.{same-true}
 use Rattle.bind_core.specs.Agreement.{Holds, past_of, wire_in}
-use Rattle.bind_core.specs.Responders.{CountsResponders, count_of}
+use Rattle.bind_model.specs.Responders.{CountsResponders, count_of}
 use Rattle.bind_core.specs.steps.Doing.{HasRoom}
 use Rattle.bind_core.specs.steps.Taking.{responder_due, times_in}
-use Rattle.bind_core.specs.declared.responder.ResponderName.{ResponderName}
+use Rattle.bind_model.specs.declared.responder.ResponderName.{ResponderName}
 use Rattle.bind_core.specs.declared.state.State.{State}
 
 -- how many of this name there are
@@ -33,20 +34,6 @@ times_out r rs = count_by (λ (q : ResponderId). same_responder q r) rs
 
 times_cons : (r s : ResponderId) (rs : List ResponderId) → times_out r (s ∷ rs) ≡ (if same_responder s r then 1 else 0) + times_out r rs
 times_cons r s rs = sum_by-cons (λ (q : ResponderId). if same_responder q r then 1 else 0) s rs
-
-pub same-true : (q r : ResponderId) → same_responder q r ≡ true → q ≡ r
-same-true q r h =
-    let a = and_left (same_end q.end r.end && (q.id == r.id) && (q.request == r.request) && (q.interface == r.interface)) (q.method == r.method) h in
-    let b = and_left (same_end q.end r.end && (q.id == r.id) && (q.request == r.request)) (q.interface == r.interface) a in
-    let c = and_left (same_end q.end r.end && (q.id == r.id)) (q.request == r.request) b in
-    let end : q.end ≡ r.end = same_end-true q.end r.end (and_left (same_end q.end r.end) (q.id == r.id) c) in
-    let id : q.id ≡ r.id = eqb-true q.id r.id (and_right (same_end q.end r.end) (q.id == r.id) c) in
-    let request : q.request ≡ r.request = eqb-true q.request r.request (and_right (same_end q.end r.end && (q.id == r.id)) (q.request == r.request) b) in
-    let interface : q.interface ≡ r.interface = eqb-true q.interface r.interface
-    (and_right (same_end q.end r.end && (q.id == r.id) && (q.request == r.request)) (q.interface == r.interface) a) in
-    let method : q.method ≡ r.method = eqb-true q.method r.method
-    (and_right (same_end q.end r.end && (q.id == r.id) && (q.request == r.request) && (q.interface == r.interface)) (q.method == r.method) h) in
-    λ i. record { end = end i; id = id i; request = request i; interface = interface i; method = method i }
 
 -- ## Whether one is out
 
@@ -179,5 +166,5 @@ count_few s h r =
       few,
       out_few (wire_in s) (past_of s),
       count_by-le-length (λ (q : ResponderId). same_responder q r) (responders_out (wire_in s) (past_of s)),
-      length-reverse s.history.events,
+      length-reverse s.log.events,
     )

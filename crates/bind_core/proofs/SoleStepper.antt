@@ -6,12 +6,12 @@ use Rattle.mj_base.specs.declared.ids.SeqId.{SeqId}
 use Rattle.mj_base.specs.declared.limits.TheConstants.{MAX_EVENTS}
 use Rattle.mj_schema.specs.declared.schema.Schema.{Schema}
 use Rattle.bind_model.specs.declared.event.Event.{Event}
-use Rattle.bind_core.specs.declared.commands.Command.{Command}
-use Rattle.bind_core.specs.declared.commands.Reply.{Reply}
-use Rattle.bind_core.specs.declared.commands.Refused.{Refused}
+use Rattle.bind_model.specs.declared.commands.Command.{Command}
+use Rattle.bind_model.specs.declared.commands.Reply.{Reply}
+use Rattle.bind_model.specs.declared.commands.Refused.{Refused}
 use Rattle.bind_model.specs.WireOf.{wire_of}
-use Rattle.bind_core.specs.Plain.{asked_of, told_of, HandsBack, HandsResponders}
-use Rattle.bind_core.specs.Seen.{Continues, KeepsLegal, Saw, told_behind}
+use Rattle.bind_model.specs.Plain.{asked_of, told_of, HandsBack, HandsResponders}
+use Rattle.bind_model.specs.Seen.{Continues, KeepsLegal, Saw, told_behind}
 
 -- all that was seen continues itself
 pub nothing_between : (me : SeqId) (events : List Event) → Continues me events events

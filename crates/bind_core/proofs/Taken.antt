@@ -23,15 +23,15 @@ use Rattle.bind_model.proofs.Fresh.{kept}
 use Rattle.bind_model.proofs.Kept.{Kept}
 use Rattle.bind_core.specs.steps.Founds.{IsDropped, IsGot, carried_ids, front_at, things_in}
 use Rattle.bind_core.specs.steps.Placing.{PutsAll}
-use Rattle.bind_core.specs.Plain.{told_of, HandsBack}
+use Rattle.bind_model.specs.Plain.{told_of, HandsBack}
 use Rattle.bind_core.specs.Agreement.{Agrees, past_of, schema_of, wire_in}
 use Rattle.bind_core.specs.steps.Doing.{HasRoom, Done, told_to}
 use Rattle.bind_core.specs.steps.Taking.{IsBrought, LieThere, responder_due, times_in}
-use Rattle.bind_core.specs.Responders.{count_of}
-use Rattle.bind_core.specs.declared.commands.Command.TheVariants as commands
-use Rattle.bind_core.specs.declared.commands.Received.{Received}
-use Rattle.bind_core.specs.declared.commands.Reply.{Reply}
-use Rattle.bind_core.specs.declared.commands.Reply.TheVariants as replies
+use Rattle.bind_model.specs.Responders.{count_of}
+use Rattle.bind_model.specs.declared.commands.Command.TheVariants as commands
+use Rattle.bind_model.specs.declared.commands.Received.{Received}
+use Rattle.bind_model.specs.declared.commands.Reply.{Reply}
+use Rattle.bind_model.specs.declared.commands.Reply.TheVariants as replies
 use Rattle.bind_core.specs.declared.endpoint_table.Line.{Line}
 use Rattle.bind_core.specs.declared.reading.Arrived.{Arrived}
 use Rattle.bind_core.specs.declared.state.State.{State}
@@ -63,7 +63,7 @@ none_put pipes = record { ends = λ x. refl; places = λ z. refl; ends_made = λ
 module _ (old new : State) (seq : SeqId) (able : HasRoom old seq) (schema : schema_of new ≡ schema_of old) (seqs : new.seqs ≡ old.seqs)
     (same : new.endpoints ≡ old.endpoints) (y : EndId) where
   abbrev noted : Told → List Event
-  noted told = old.history.events ++ record { seq = seq; asked = asks.Take y; told = told } ∷ []
+  noted told = old.log.events ++ record { seq = seq; asked = asks.Take y; told = told } ∷ []
 
   -- endpoints stay, so what agrees with the old ones agrees
   tables_stay : (reply : Reply) → Agrees (wire_in old) (event_of seq (commands.Take y) reply ∷ past_of old) new.pipes old.endpoints
@@ -73,7 +73,7 @@ module _ (old new : State) (seq : SeqId) (able : HasRoom old seq) (schema : sche
       (sym same) agrees
 
   ends_done : (reply : Reply) → new.responders ≡ old.responders → IsQuiet (commands.Take y) reply
-      → new.history.events ≡ noted (told_of reply) → told_of reply ≡ told_to old seq (asks.Take y)
+      → new.log.events ≡ noted (told_of reply) → told_of reply ≡ told_to old seq (asks.Take y)
       → Agrees (wire_in old) (event_of seq (commands.Take y) reply ∷ past_of old) new.pipes old.endpoints
       → HandsBack (commands.Take y) reply → Done old new seq (commands.Take y) reply
   ends_done reply unmoved quiet events told agrees back =
@@ -90,7 +90,7 @@ module _ (old new : State) (seq : SeqId) (able : HasRoom old seq) (schema : sche
   got_done : (r : Received) (mid shut : Contents)
       → told_of (replies.Got r) ≡ told_to old seq (asks.Take y)
       → carried_ids (wire_in old) (front_at (wire_in old) (past_of old) y) ≡ []
-      → new.history.events ≡ noted (told_of (replies.Got r))
+      → new.log.events ≡ noted (told_of (replies.Got r))
       → Becomes y without_front old.pipes mid → Closes r.gone mid shut → PutsAll r.handles places.Out shut new.pipes
       → r.responder ≡ responder_due (wire_in old) y r.id r.target r.request
       → ((q : ResponderId) → count_of new.responders q ≡ count_of old.responders q + times_in r.responder q)
@@ -109,7 +109,7 @@ module _ (old new : State) (seq : SeqId) (able : HasRoom old seq) (schema : sche
       → told_of (replies.Dropped id gone) ≡ told_to old seq (asks.Take y)
       → carried_ids (wire_in old) (front_at (wire_in old) (past_of old) y) ≡ []
       → new.responders ≡ old.responders
-      → new.history.events ≡ noted (told_of (replies.Dropped id gone))
+      → new.log.events ≡ noted (told_of (replies.Dropped id gone))
       → Becomes y without_front old.pipes mid → Closes gone mid new.pipes
       → Done old new seq (commands.Take y) (replies.Dropped id gone)
   dropped_done id gone mid told none unmoved events b c =
@@ -123,7 +123,7 @@ module _ (old new : State) (seq : SeqId) (able : HasRoom old seq) (schema : sche
       → told_to old seq (asks.Take y) ≡ bad (wire_in old) (past_of old) y why
       → gone ≡ spread (carried_in old.pipes.ends None) old.pipes.made (End y ∷ [])
       → new.responders ≡ old.responders
-      → new.history.events ≡ noted (told_of (replies.Bad why gone))
+      → new.log.events ≡ noted (told_of (replies.Bad why gone))
       → Closes gone old.pipes new.pipes
       → Done old new seq (commands.Take y) (replies.Bad why gone)
   bad_noted why gone told e unmoved events c =
@@ -138,7 +138,7 @@ module _ (old new : State) (seq : SeqId) (able : HasRoom old seq) (schema : sche
       → told_to old seq (asks.Take y) ≡ bad (wire_in old) (past_of old) y why
       → gone ≡ spread (carried_in old.pipes.ends None) old.pipes.made (End y ∷ [])
       → new.responders ≡ old.responders
-      → new.history.events ≡ noted (tells.Bad why gone)
+      → new.log.events ≡ noted (tells.Bad why gone)
       → Closes gone old.pipes new.pipes
       → Done old new seq (commands.Take y) (replies.Bad why copy)
   bad_done why gone copy s told e unmoved events c =
@@ -161,7 +161,7 @@ module _ (s : State) (seq : SeqId) (able : HasRoom s seq) (y : EndId) (id : ℕ)
 
   pub drop_done : (new : State) (copy : List Thing) (mid : Contents) → schema_of new ≡ schema_of s → new.seqs ≡ s.seqs → new.endpoints ≡ s.endpoints
       → copy ≡ gone → new.responders ≡ s.responders
-      → new.history.events ≡ s.history.events ++ record { seq = seq; asked = asks.Take y; told = tells.Dropped id gone } ∷ []
+      → new.log.events ≡ s.log.events ++ record { seq = seq; asked = asks.Take y; told = tells.Dropped id gone } ∷ []
       → Becomes y without_front s.pipes mid → Closes gone mid new.pipes
       → Done s new seq (commands.Take y) (replies.Dropped id copy)
   drop_done new copy mid schema seqs same c unmoved events b f =
@@ -215,11 +215,11 @@ module _ (s : State) (seq : SeqId) (able : HasRoom s seq) (y : EndId) (a : Arriv
       → ((q : ResponderId) → count_of new.responders q ≡ count_of s.responders q + times_in responder q)
       → schema_of new ≡ schema_of s → new.seqs ≡ s.seqs
       → new.endpoints ≡ s.endpoints → handles ≡ b.things
-      → new.history.events ≡ s.history.events ++ record { seq = seq; asked = asks.Take y; told = tells.Taken b.noted } ∷ []
+      → new.log.events ≡ s.log.events ++ record { seq = seq; asked = asks.Take y; told = tells.Taken b.noted } ∷ []
       → Becomes y without_front s.pipes mid → Closes b.gone mid shut → PutsAll b.things places.Out shut new.pipes
       → Done s new seq (commands.Take y) (replies.Got (received responder handles))
   accept_done new responder handles mid shut due more schema seqs same h events f c p =
       subst (λ (hs : List Thing). Done s new seq (commands.Take y) (replies.Got (received responder hs))) (sym (h ∙ brought.things))
       (got_done s new seq able schema seqs same y (received responder a.named) mid shut got_told got.alone
-      (events ∙ ap (λ (g : Got). s.history.events ++ record { seq = seq; asked = asks.Take y; told = tells.Taken g } ∷ []) brought.noted) f c
+      (events ∙ ap (λ (g : Got). s.log.events ++ record { seq = seq; asked = asks.Take y; told = tells.Taken g } ∷ []) brought.noted) f c
       (subst (λ (things : List Thing). PutsAll things places.Out shut new.pipes) brought.things p) due more)

@@ -12,9 +12,10 @@ use Rattle.wire_model.specs.declared.target.MessageSide.{MessageSide}
 use Rattle.wire_model.specs.declared.target.MessageSide.TheVariants.{Request, Response}
 use Rattle.bind_model.specs.declared.event.Event.{Event}
 use Rattle.bind_model.specs.Replies.{Drawn, answered, answers, drawn, draws, is_asked, is_response}
-use Rattle.bind_core.specs.Waits.{KnowsAsked, is_waiting, request_name, same_request}
+use Rattle.bind_model.specs.Names.{request_name, same_request}
+use Rattle.bind_core.specs.Waits.{KnowsAsked, is_waiting}
 use Rattle.bind_core.specs.steps.Counting.{IsFresh, IsSent, IsTaken}
-use Rattle.bind_core.specs.declared.waiting.RequestName.{RequestName}
+use Rattle.bind_model.specs.declared.names.RequestName.{RequestName}
 
 -- whether a request of this number and method is among these, and no response to it among those
 abbrev asked_in : List Drawn → List ℕ → ℕ → ℕ → Bool

@@ -20,7 +20,7 @@ use Rattle.bind_model.specs.WireOf.{wire_of}
 use Rattle.bind_model.specs.Machine.{made, out, gone, peer, is_gone, unread, endpoint_at}
 use Rattle.bind_model.specs.Replies.{legal, serials, tokens}
 use Rattle.bind_core.specs.Lines.{found_at}
-use Rattle.bind_core.specs.Responders.{CountsResponders}
+use Rattle.bind_model.specs.Responders.{CountsResponders}
 use Rattle.bind_core.specs.declared.endpoint_table.Line.{Line}
 use Rattle.bind_core.specs.declared.state.State.{State}
 
@@ -55,7 +55,7 @@ pub record Agrees (wire : Wire) (past : List Event) (pipes : Contents) (tables :
 
 -- the events, the newest first
 abbrev pub past_of : State → List Event
-past_of s = reverse s.history.events
+past_of s = reverse s.log.events
 
 -- the schema, and its wire
 abbrev pub schema_of : State → Schema
@@ -69,4 +69,4 @@ pub record Holds (s : State) : Type 0 where
   pub legal : legal (wire_in s) s.seqs (past_of s)
   pub agrees : Agrees (wire_in s) (past_of s) s.pipes s.endpoints
   pub responders : CountsResponders (wire_in s) (past_of s) s.responders
-  pub few : length s.history.events ≤ MAX_EVENTS
+  pub few : length s.log.events ≤ MAX_EVENTS

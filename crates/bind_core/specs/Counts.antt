@@ -1,19 +1,11 @@
 -- How many requests were sent at endpoints, by the names of these.
-use Rattle.std.specs.Prelude.{ℕ, ◌≡◌, Bool, ◌==◌, ◌&&◌, List, length, unwrap_or}
+use Rattle.std.specs.Prelude.{ℕ, ◌≡◌, List, length, unwrap_or}
 use Rattle.std.specs.Map.{lookup}
 use Rattle.mj_base.specs.declared.ids.EndId.{EndId}
-use Rattle.handle_table.specs.Things.{same_end}
 use Rattle.bind_model.specs.declared.event.Event.{Event}
+use Rattle.bind_model.specs.Names.{is_named}
 use Rattle.bind_model.specs.Replies.{drawn}
-use Rattle.bind_core.specs.declared.requests.EndpointName.{EndpointName}
-
--- the name of the endpoint of this id at an end
-abbrev pub endpoint_name : EndId → ℕ → EndpointName
-endpoint_name x id = record { end = x; id = id }
-
--- whether it is the name of the endpoint of this id at an end
-abbrev pub is_named : EndId → ℕ → EndpointName → Bool
-is_named x id name = same_end x name.end && (id == name.id)
+use Rattle.bind_model.specs.declared.names.EndpointName.{EndpointName}
 
 -- the count at an endpoint
 abbrev pub count_at : List (EndpointName × ℕ) → EndId → ℕ → ℕ

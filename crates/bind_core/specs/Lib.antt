@@ -2,12 +2,8 @@ pub mod Agreement
 pub mod Counts
 pub mod Covers
 pub mod EndSets
-pub mod Left
 pub mod Lines
 pub mod Log
-pub mod Plain
 pub mod Play
-pub mod Responders
-pub mod Seen
 pub mod Waits
 pub mod steps

@@ -1,20 +1,12 @@
 -- Which requests wait for their responses, as a core keeps them.
-use Rattle.std.specs.Prelude.{ℕ, ◌≡◌, Bool, false, ◌==◌, ◌&&◌, List, Option, Some, None, unwrap_or}
+use Rattle.std.specs.Prelude.{ℕ, ◌≡◌, Bool, false, ◌==◌, List, Option, Some, None, unwrap_or}
 use Rattle.std.specs.Map.{lookup}
-use Rattle.mj_base.specs.declared.ids.EndId.{EndId}
 use Rattle.bind_model.specs.declared.event.Event.{Event}
 use Rattle.bind_model.specs.Replies.{is_asked}
-use Rattle.bind_core.specs.Counts.{CountsRequests, endpoint_name, is_named}
-use Rattle.bind_core.specs.declared.requests.EndpointName.{EndpointName}
-use Rattle.bind_core.specs.declared.waiting.RequestName.{RequestName}
-
--- the name of a request: the endpoint of an id at an end, and the request's number there
-abbrev pub request_name : EndId → ℕ → ℕ → RequestName
-request_name x id request = record { endpoint = endpoint_name x id; request = request }
-
--- whether two names are of one request
-abbrev pub same_request : RequestName → RequestName → Bool
-same_request a b = is_named a.endpoint.end a.endpoint.id b.endpoint && (a.request == b.request)
+use Rattle.bind_model.specs.Names.{same_request}
+use Rattle.bind_core.specs.Counts.{CountsRequests}
+use Rattle.bind_model.specs.declared.names.EndpointName.{EndpointName}
+use Rattle.bind_model.specs.declared.names.RequestName.{RequestName}
 
 -- whether a request that waits with a method, or doesn't wait, waits with this one
 abbrev pub waits_with : Option ℕ → ℕ → Bool

@@ -3,18 +3,19 @@
 ghost use Rattle.std.specs.Prelude.{◌≡◌, ◌==◌, ◌&&◌, not, Ok, IfOk, IfErr};
 ghost use Rattle.message_pipe.specs.Ends.{end_of, is_closed};
 ghost use Rattle.bind_core.specs.Lines.{found_at};
-ghost use Rattle.bind_core.specs.Plain.{asked_of};
-ghost use Rattle.bind_core.specs.Responders.{count_of};
+ghost use Rattle.bind_model.specs.Plain.{asked_of};
+ghost use Rattle.bind_model.specs.Responders.{count_of};
 ghost use Rattle.bind_core.specs.steps.Answering.{answers_to, command_with, reached, way_back};
 ghost use Rattle.bind_core.specs.steps.Ways.{all_out};
 ghost use Rattle.bind_core.specs.steps.Doing.{CanDo, Done, Undone};
 
-use crate::commands::{Command, Refused, Reply, ToClose};
-use crate::responder::Responder;
 use crate::state::{State, refuse};
 use crate::things::{all_out, put_all};
 use crate::writing::{outgoing, suits, way_to, writes_of};
-use bind_model::{Asked, Closing, Endpoint, Event, ResponderId, State as EndpointState, Told, Why};
+use bind_model::{
+    Asked, Closing, Command, Endpoint, Event, Refused, Reply, Responder, ResponderId,
+    State as EndpointState, ToClose, Told, Why,
+};
 use handle_table::{Handles, Place, Thing};
 use mj_base::{EndId, Items, SeqId};
 use std::alloc::{AllocError, Global};
@@ -187,7 +188,7 @@ fn send(
     } = response;
     put_all(&mut state.pipes, handles, Place::Unread(peer));
     state.responders.spend(responder);
-    state.history.push_reserved(Event {
+    state.log.push_reserved(Event {
         seq,
         asked: Asked::Answer(id, writes.outgoing),
         told: Told::Sent(id.request, writes.noted),
@@ -213,7 +214,7 @@ pub fn close_responder(
         return refuse(state, seq, asked, Why::NoName, command);
     }
     state.responders.spend(responder);
-    state.history.push_reserved(Event {
+    state.log.push_reserved(Event {
         seq,
         asked,
         told: Told::Closed(Items::new(alloc)),

@@ -8,10 +8,11 @@ ghost use Rattle.bind_model.specs.Machine.{out};
 ghost use Rattle.bind_core.specs.Agreement.{is_out, past_of, schema_of};
 ghost use Rattle.bind_core.specs.steps.Doing.{CanDo, Done, HasRoom, Undone};
 
-use crate::commands::{Command, Refused, Reply};
 use crate::state::{State, refuse};
 use crate::things::is_out;
-use bind_model::{Asked, Endpoint, Event, State as EndpointState, Told, Why};
+use bind_model::{
+    Asked, Command, Endpoint, Event, Refused, Reply, State as EndpointState, Told, Why,
+};
 use handle_table::{Handle, Place, Thing};
 use mj_base::{EndId, SeqId};
 use std::alloc::Global;
@@ -87,7 +88,7 @@ fn bind_end(
         return Err(Refused::Memory(Command::Bind(handle, side, interface)));
     }
     state.pipes.put(handle, Place::Bound);
-    state.history.push_reserved(Event {
+    state.log.push_reserved(Event {
         seq,
         asked: Asked::Bind(Thing::End(end), side, interface),
         told: Told::Bound(end),

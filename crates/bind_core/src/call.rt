@@ -2,18 +2,17 @@
 
 ghost use Rattle.std.specs.Prelude.{◌≡◌, Ok, IfOk, IfErr};
 ghost use Rattle.bind_model.specs.Replies as replies;
-ghost use Rattle.bind_core.specs.Plain.{asked_of};
+ghost use Rattle.bind_model.specs.Plain.{asked_of};
 ghost use Rattle.bind_core.specs.steps.Ways.{all_out, asks_of, way};
 ghost use Rattle.bind_core.specs.steps.Calls.{command_with, request_id};
 ghost use Rattle.bind_core.specs.Agreement.{past_of};
 ghost use Rattle.bind_core.specs.steps.Doing.{CanDo, Done, Undone};
 
 use crate::close::open_at;
-use crate::commands::{Command, Refused, Reply};
 use crate::state::{State, refuse};
 use crate::things::{all_out, put_all};
 use crate::writing::{outgoing, suits, way_to, writes_of};
-use bind_model::{Asked, Event, Told, Why};
+use bind_model::{Asked, Command, Event, Refused, Reply, Told, Why};
 use handle_table::{Handles, Place, Thing};
 use mj_base::{EndId, Items, SeqId};
 use std::alloc::{AllocError, Global};
@@ -144,7 +143,7 @@ fn request_id_of(state: &State, request: &Request) -> u64
     if request.prepared.flags == 0 {
         return 0;
     }
-    state.history.next_request(request.end, request.id)
+    state.log.next_request(request.end, request.id)
 }
 
 /// Writes a call that nothing refuses.
@@ -166,10 +165,7 @@ fn send(
     let Ok(writes) = writes_of(alloc, &request.prepared, request.id, request_id, things) else {
         return Err(Refused::Memory(request.into_command()));
     };
-    let Ok(()) = state
-        .history
-        .reserve_sent(request.end, request.id, request_id)
-    else {
+    let Ok(()) = state.log.reserve_sent(request.end, request.id, request_id) else {
         return Err(Refused::Memory(request.into_command()));
     };
     // The way was free, so the end isn't full.
@@ -189,6 +185,6 @@ fn send(
         told: Told::Sent(request_id, writes.noted),
     };
     let method = prepared.target.method;
-    state.history.push_sent(end, id, request_id, method, event);
+    state.log.push_sent(end, id, request_id, method, event);
     Ok(Reply::Sent(request_id, writes.told))
 }

@@ -12,10 +12,12 @@ ghost use Rattle.bind_core.specs.steps.Opens.{opened};
 ghost use Rattle.bind_core.specs.Agreement.{past_of, wire_in};
 ghost use Rattle.bind_core.specs.steps.Doing.{CanDo, Done, HasRoom, Stays, Undone, told_to};
 
-use crate::commands::{Command, Refused, Reply, ToClose};
 use crate::state::{State, refuse};
 use crate::things::is_out;
-use bind_model::{Asked, Closing, Endpoint, Event, State as EndpointState, Told, Why};
+use bind_model::{
+    Asked, Closing, Command, Endpoint, Event, Refused, Reply, State as EndpointState, ToClose,
+    Told, Why,
+};
 use handle_table::{Handle, Place, Thing};
 use message_pipe::Pipes;
 use mj_base::{EndId, Items, SeqId};
@@ -62,7 +64,7 @@ pub fn close_handle(
     };
     state.pipes.put(handle, Place::Closed);
     state.pipes.close(goes.noted.as_slice());
-    state.history.push_reserved(Event {
+    state.log.push_reserved(Event {
         seq,
         asked,
         told: Told::Closed(goes.noted),
@@ -139,7 +141,7 @@ fn close_end(
     };
     state.endpoints.put(end, 0, closed);
     state.pipes.close(goes.noted.as_slice());
-    state.history.push_reserved(Event {
+    state.log.push_reserved(Event {
         seq,
         asked: Asked::Close(Closing::Endpoint(end, 0)),
         told: Told::Closed(goes.noted),

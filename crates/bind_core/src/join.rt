@@ -2,14 +2,13 @@
 
 ghost use Rattle.std.specs.Prelude.{◌≡◌, IfOk, IfErr, OnErr};
 ghost use Rattle.bind_model.specs.Replies.{joined};
-ghost use Rattle.bind_core.specs.Plain.{asked_of};
-ghost use Rattle.bind_core.specs.declared.commands.Command.{Command as any_command};
+ghost use Rattle.bind_model.specs.Plain.{asked_of};
+ghost use Rattle.bind_model.specs.declared.commands.Command.{Command as any_command};
 ghost use Rattle.bind_core.specs.Agreement.{past_of};
 ghost use Rattle.bind_core.specs.steps.Doing.{CanDo, Done, HasRoom, Stays, Undone, told_to};
 
-use crate::commands::{Command, Refused, Reply};
 use crate::state::{State, refuse};
-use bind_model::{Asked, Event, Told, Why};
+use bind_model::{Asked, Command, Event, Refused, Reply, Told, Why};
 use handle_table::{Handle, Handles, Thing};
 use mj_base::{Items, SeqId};
 use std::alloc::{AllocError, Global};
@@ -64,7 +63,7 @@ fn make(
             things.push_reserved(two.thing());
             handles.push_reserved(one);
             handles.push_reserved(two);
-            state.history.push_reserved(Event {
+            state.log.push_reserved(Event {
                 seq,
                 asked,
                 told: Told::Made(Items::from_vec(things)),

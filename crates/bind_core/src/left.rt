@@ -1,7 +1,7 @@
 //! What isn't closed.
 
 ghost use Rattle.std.specs.Prelude.{ℕ, ◌≡◌, ◌<◌, ◌^◌, ◌++◌, IfOk, OnOk, Some};
-ghost use Rattle.bind_core.specs.Left.{left};
+ghost use Rattle.bind_model.specs.Left.{left};
 ghost use Rattle.bind_core.specs.Agreement.{Holds, is_shut, past_of};
 ghost use Rattle.bind_core.specs.steps.Numbering.{numbered, count_by, all_by, all_made, open_in};
 

@@ -7,18 +7,17 @@ ghost use Rattle.bind_model.specs.Origins.{HaveWriters};
 ghost use Rattle.bind_model.specs.Ready.{ready};
 ghost use Rattle.bind_model.specs.Replies.{Legal};
 ghost use Rattle.bind_model.specs.WireOf.{wire_of};
-ghost use Rattle.bind_core.specs.Left.{left};
-ghost use Rattle.bind_core.specs.Plain.{asked_of, told_of, HandsBack, HandsResponders, command_of, IsSpentAt, IsOf};
+ghost use Rattle.bind_model.specs.Left.{left};
+ghost use Rattle.bind_model.specs.Plain.{asked_of, told_of, HandsBack, HandsResponders, command_of, IsSpentAt, IsOf};
 ghost use Rattle.bind_core.specs.Play.{told_at};
 
-use crate::commands::{Command, Refused, Reply};
 use crate::end_set::EndSet;
 use crate::endpoints::Endpoints;
-use crate::history::History;
-use crate::responder::Responders;
+use crate::log::EventLog;
 use crate::state::State;
 use crate::watch::{end_named, unwatch, watch};
 use crate::{left, state};
+use bind_model::{Command, History, Refused, Reply, Responders};
 use handle_table::{Ended, Thing};
 use message_pipe::Pipes;
 use mj_base::limits::MAX_EVENTS;
@@ -48,7 +47,7 @@ impl Model for Core {
 
     ghost coded = { Prim.hlevel (codes, schema.the_row.coded, tree_code (Prim.hlevel codes)) };
 
-    ghost view = { λ core. record { schema = schema_of core.state; seqs = core.state.seqs; events = core.state.history.events } };
+    ghost view = { λ core. record { schema = schema_of core.state; seqs = core.state.seqs; events = core.state.log.events } };
 
     ghost invariant = { λ core. Stands core.state core.watched };
 }
@@ -56,9 +55,9 @@ impl Model for Core {
 /// Hands a command back: for want of memory, unless the history is full.
 fn hand_back(state: &State, command: Command) -> Refused
     ensures back { command_of result ≡ command }
-    ensures spent { IsSpentAt (length state.now.history.events) result }
+    ensures spent { IsSpentAt (length state.now.log.events) result }
 {
-    if state.history.len() >= MAX_EVENTS {
+    if state.log.len() >= MAX_EVENTS {
         Refused::Spent(command)
     } else {
         Refused::Memory(command)
@@ -74,7 +73,7 @@ impl Core {
             state: State {
                 schema,
                 seqs,
-                history: History::new(alloc),
+                log: EventLog::new(alloc),
                 pipes: Pipes::new(alloc),
                 endpoints: Endpoints::new(alloc),
                 responders: Responders::new(alloc),
@@ -126,7 +125,7 @@ impl Core {
         // Each message is the one that its writer says.
         ensures have_writers { HaveWriters (wire_of self.now.schema) (reverse self.now.events) }
     {
-        &self.state.history
+        self.state.log.history()
     }
 
     /// The least end where a take would consume a message or find it bad, behind the sequence that takes
@@ -154,12 +153,12 @@ impl Core {
         let State {
             schema: _,
             seqs: _,
-            history,
+            log,
             pipes,
             endpoints: _,
             responders: _,
         } = state;
         let over = pipes.end();
-        (history, over)
+        (log.into_history(), over)
     }
 }

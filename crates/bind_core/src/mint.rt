@@ -3,9 +3,8 @@
 ghost use Rattle.std.specs.Prelude.{◌≡◌, IfOk, IfErr, OnErr};
 ghost use Rattle.bind_core.specs.steps.Doing.{CanDo, Done, HasRoom, Stays, Undone};
 
-use crate::commands::{Command, Refused, Reply};
 use crate::state::State;
-use bind_model::{Asked, Event, Told};
+use bind_model::{Asked, Command, Event, Refused, Reply, Told};
 use handle_table::{Handle, Handles, Thing, TokenSort};
 use mj_base::{Items, SeqId};
 use std::alloc::{AllocError, Global};
@@ -39,7 +38,7 @@ fn make(
         Ok(handle) => {
             things.push_reserved(handle.thing());
             handles.push_reserved(handle);
-            state.history.push_reserved(Event {
+            state.log.push_reserved(Event {
                 seq,
                 asked: Asked::Mint(sort),
                 told: Told::Made(Items::from_vec(things)),

@@ -89,10 +89,7 @@ fn is_unasked(state: &State, end: EndId, id: u32, peer_closed: bool, checked: &C
     ensures { result ≡ is_unasked (past_of state.now) end id peer_closed checked.now.expected.side checked.now.request checked.now.method }
 {
     is_response(checked.expected.side)
-        && (peer_closed
-            || !state
-                .history
-                .is_asked(end, id, checked.request, checked.method))
+        && (peer_closed || !state.log.is_asked(end, id, checked.request, checked.method))
 }
 
 /// What a message that was checked, and that is no unasked response, stands for.

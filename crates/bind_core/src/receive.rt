@@ -10,20 +10,21 @@ ghost use Rattle.bind_model.specs.WireOf.{has_response, wire_of};
 ghost use Rattle.bind_model.specs.declared.asked.Asked.TheVariants as asks;
 ghost use Rattle.bind_model.specs.declared.endpoint.ResponderId.{ResponderId as responder_id};
 ghost use Rattle.bind_core.specs.Agreement.{past_of, wire_in};
-ghost use Rattle.bind_core.specs.Responders.{count_of};
+ghost use Rattle.bind_model.specs.Responders.{count_of};
 ghost use Rattle.bind_core.specs.steps.Doing.{Done, HasRoom, Undone, told_to};
 ghost use Rattle.bind_core.specs.steps.Founds.{IsGot};
-ghost use Rattle.bind_core.specs.steps.Keys.{has_count};
+ghost use Rattle.bind_model.specs.steps.Keys.{has_count};
 ghost use Rattle.bind_core.specs.steps.Placing.{PutsAll};
 ghost use Rattle.bind_core.specs.steps.Taking.{IsBrought, LieThere, responder_due, times_in};
 
-use crate::commands::{Command, Received, Refused, Reply};
 use crate::copy::copy_value;
 use crate::reading::{Arrived, is_response};
-use crate::responder::{Responder, Responders};
 use crate::state::State;
 use crate::take::goes_behind;
-use bind_model::{Asked, Event, Got, Parameters, ResponderId, Told};
+use bind_model::{
+    Asked, Command, Event, Got, Parameters, Received, Refused, Reply, Responder, ResponderId,
+    Responders, Told,
+};
 use handle_table::{Handle, Handles, Thing};
 use message_pipe::Pipes;
 use mj_base::{EndId, Items, SeqId};
@@ -209,7 +210,7 @@ fn accept(
     };
     let side = arrived.target.side;
     state
-        .history
+        .log
         .push_taken(end, arrived.id, arrived.request, side, event);
     Reply::Got(Received {
         id: arrived.id,

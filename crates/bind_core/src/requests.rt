@@ -3,29 +3,14 @@
 ghost use Rattle.std.specs.Prelude.{ℕ, ◌≡◌, ◌+◌, ◌<◌, ◌^◌, ◌==◌, ◌&&◌, ◌||◌, not, if◌then◌else◌, OnOk, IsTrue};
 ghost use Rattle.mj_base.specs.declared.ids.EndId.{EndId as end_id};
 ghost use Rattle.handle_table.specs.Things.{same_end};
-ghost use Rattle.bind_core.specs.Counts.{count_at, endpoint_name};
+ghost use Rattle.bind_core.specs.Counts.{count_at};
 ghost use Rattle.bind_core.specs.steps.Counting.{is_counted};
 
+use bind_model::EndpointName;
 use mj_base::EndId;
 use std::alloc::{AllocError, Global};
 use std::collections::BTreeMap;
 use std::marker::Model;
-
-/// The name of an endpoint: the end that it is at, and its id there.
-#[derive(Clone, Copy, PartialEq, Eq, PartialOrd, Ord)]
-pub(crate) struct EndpointName {
-    end: EndId,
-    id: u32,
-}
-
-impl EndpointName {
-    /// The endpoint of an id at an end.
-    pub(crate) fn new(end: EndId, id: u32) -> EndpointName
-        ensures { result ≡ endpoint_name end id }
-    {
-        EndpointName { end, id }
-    }
-}
 
 /// For each endpoint, how many requests with a response were sent there. Contracts see a list of names
 /// and counts.
@@ -36,7 +21,7 @@ pub(crate) struct RequestCounts {
 
 impl Model for RequestCounts {
     ghost use Rattle.std.specs.Prelude.{ℕ, List};
-    ghost use Rattle.bind_core.specs.declared.requests.EndpointName.{EndpointName as endpoint_name};
+    ghost use Rattle.bind_model.specs.declared.names.EndpointName.{EndpointName as endpoint_name};
 
     ghost Value = { List (endpoint_name × ℕ) };
 

@@ -2,18 +2,16 @@
 
 ghost use Rattle.std.specs.Prelude.{◌≡◌, ◌<◌, IfOk, IfErr};
 ghost use Rattle.bind_model.specs.declared.told.Told.{Told};
-ghost use Rattle.bind_core.specs.Plain.{asked_of, IsOf};
+ghost use Rattle.bind_model.specs.Plain.{asked_of, IsOf};
 ghost use Rattle.bind_core.specs.Agreement.{Holds, schema_of};
 ghost use Rattle.bind_core.specs.steps.Doing.{CanDo, Done, Undone, told_in};
 
 use crate::answer::{answer, close_responder};
 use crate::close::{close_endpoint, close_handle};
-use crate::commands::{Command, Refused, Reply, ToClose};
 use crate::endpoints::Endpoints;
-use crate::history::History;
-use crate::responder::Responders;
+use crate::log::EventLog;
 use crate::{bind, call, join, mint, take};
-use bind_model::{Asked, Event, Told, Why};
+use bind_model::{Asked, Command, Event, Refused, Reply, Responders, ToClose, Told, Why};
 use message_pipe::Pipes;
 use mj_base::SeqId;
 use mj_base::limits::MAX_EVENTS;
@@ -26,7 +24,7 @@ use std::sync::Arc;
 pub struct State {
     pub schema: Arc<Schema>,
     pub seqs: u32,
-    pub history: History,
+    pub log: EventLog,
     pub pipes: Pipes,
     pub endpoints: Endpoints,
     pub responders: Responders,
@@ -45,10 +43,10 @@ pub fn step(
     ensures done { IfOk result (λ reply. Done state.old state.new seq command reply) }
     ensures undone { IfErr result (λ refused. Undone state.old state.new command refused) }
 {
-    if state.history.len() >= MAX_EVENTS {
+    if state.log.len() >= MAX_EVENTS {
         return Err(Refused::Spent(command));
     }
-    if state.history.reserve().is_err() {
+    if state.log.reserve().is_err() {
         return Err(Refused::Memory(command));
     }
     dispatch(state, alloc, seq, command)
@@ -93,7 +91,7 @@ fn skip(state: &mut State, seq: SeqId, line: u32) -> Reply
     requires { CanDo state.old seq (Command.Skip line) }
     ensures { Done state.old state.new seq (Command.Skip line) result }
 {
-    state.history.push_reserved(Event {
+    state.log.push_reserved(Event {
         seq,
         asked: Asked::Skip(line),
         told: Told::Skipped,
@@ -115,7 +113,7 @@ pub fn refuse(
     ensures done { IfOk result (λ reply. Done state.old state.new seq command reply) }
     ensures undone { IfErr result (λ refused. Undone state.old state.new command refused) }
 {
-    state.history.push_reserved(Event {
+    state.log.push_reserved(Event {
         seq,
         asked,
         told: Told::No(why),

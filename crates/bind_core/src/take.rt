@@ -11,11 +11,10 @@ ghost use Rattle.bind_core.specs.steps.Doing.{CanDo, Done, HasRoom, Undone, told
 ghost use Rattle.bind_core.specs.steps.Taking.{front_found, nothing_at};
 
 use crate::close::{Goes, goes_with};
-use crate::commands::{Command, Refused, Reply};
 use crate::reading::{Found, read};
 use crate::receive::receive;
 use crate::state::{State, refuse};
-use bind_model::{Asked, BadWhy, Event, Told, Why};
+use bind_model::{Asked, BadWhy, Command, Event, Refused, Reply, Told, Why};
 use handle_table::Thing;
 use message_pipe::{Message, Pipes};
 use mj_base::{EndId, Items, SeqId};
@@ -95,7 +94,7 @@ fn spoil(
         return Err(Refused::Memory(Command::Take(end)));
     };
     state.pipes.close(goes.noted.as_slice());
-    state.history.push_reserved(Event {
+    state.log.push_reserved(Event {
         seq,
         asked: Asked::Take(end),
         told: Told::Bad(why, goes.noted),
@@ -156,7 +155,7 @@ fn discard(
     };
     let _front = state.pipes.pop_front(end);
     state.pipes.close(goes.noted.as_slice());
-    state.history.push_reserved(Event {
+    state.log.push_reserved(Event {
         seq,
         asked: Asked::Take(end),
         told: Told::Dropped(id, goes.noted),

@@ -1,34 +1,15 @@
 //! The requests that wait for their responses.
 
 ghost use Rattle.std.specs.Prelude.{ℕ, ◌≡◌, ◌==◌, ◌&&◌, ◌||◌, not, false, if◌then◌else◌, OnOk, IsTrue};
-ghost use Rattle.bind_core.specs.Waits.{is_waiting, request_name, same_request};
+ghost use Rattle.bind_model.specs.Names.{request_name, same_request};
+ghost use Rattle.bind_core.specs.Waits.{is_waiting};
 ghost use Rattle.bind_core.specs.steps.Keys.{has_place};
-ghost use Rattle.bind_core.specs.declared.waiting.RequestName.{RequestName as request};
+ghost use Rattle.bind_model.specs.declared.names.RequestName.{RequestName as request};
 
-use crate::requests::EndpointName;
-use mj_base::EndId;
+use bind_model::RequestName;
 use std::alloc::{AllocError, Global};
 use std::collections::BTreeMap;
 use std::marker::Model;
-
-/// The name of a request: the endpoint that it is sent from, or comes to, and its number there.
-#[derive(Clone, Copy, PartialEq, Eq, PartialOrd, Ord)]
-pub(crate) struct RequestName {
-    endpoint: EndpointName,
-    request: u64,
-}
-
-impl RequestName {
-    /// The request of this number, from or to the endpoint of an id at an end.
-    pub(crate) fn new(end: EndId, id: u32, request: u64) -> RequestName
-        ensures { result ≡ request_name end id request }
-    {
-        RequestName {
-            endpoint: EndpointName::new(end, id),
-            request,
-        }
-    }
-}
 
 /// The requests that wait for their responses, each with its method; without one there is only a place.
 /// Contracts see a list of names and methods.
@@ -39,7 +20,7 @@ pub(crate) struct Waiting {
 
 impl Model for Waiting {
     ghost use Rattle.std.specs.Prelude.{ℕ, List, Option};
-    ghost use Rattle.bind_core.specs.declared.waiting.RequestName.{RequestName};
+    ghost use Rattle.bind_model.specs.declared.names.RequestName.{RequestName};
 
     ghost Value = { List (RequestName × Option ℕ) };
 

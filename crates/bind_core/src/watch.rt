@@ -5,9 +5,9 @@ ghost use Rattle.bind_model.specs.Machine.{peer};
 ghost use Rattle.bind_core.specs.steps.Watching.{HasNear, IsWithin, KeepsTaken, end_named};
 ghost use Rattle.bind_core.specs.Agreement.{Holds, past_of};
 
-use crate::commands::{Command, Refused, Reply, ToClose};
 use crate::end_set::EndSet;
 use crate::state::State;
+use bind_model::{Command, Refused, Reply, ToClose};
 use handle_table::Thing;
 use mj_base::EndId;
 use std::alloc::AllocError;

@@ -2,7 +2,7 @@
 
 ghost use Rattle.std.specs.Prelude.{◌≡◌, ◌==◌, ◌&&◌, length, IfOk};
 ghost use Rattle.message_pipe.specs.Ends.{end_of, peer_of};
-ghost use Rattle.bind_core.specs.Plain.{outgoing_of};
+ghost use Rattle.bind_model.specs.Plain.{outgoing_of};
 ghost use Rattle.bind_core.specs.steps.Calls.{AreOf, sealed_bytes};
 ghost use Rattle.bind_core.specs.steps.Ways.{suits, way_at, way_to};
 

@@ -11,3 +11,5 @@ mod Worked
 pub mod OriginLemmas
 pub mod TableAfter
 pub mod GroupLemmas
+pub mod NameOrder
+pub mod ResponderCounts

@@ -7,4 +7,10 @@ pub mod Laws
 pub mod Tables
 pub mod Origins
 pub mod Groups
+pub mod Histories
+pub mod Left
+pub mod Names
+pub mod Plain
+pub mod Responders
+pub mod Seen
 pub mod steps

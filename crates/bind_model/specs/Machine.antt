@@ -1,5 +1,5 @@
 -- The machine, read off the list of its events. A past is a list of events, the newest first, so the events before one are its tail.
-use Rattle.std.specs.Prelude.{ℕ, zero, suc, Bool, true, false, ◌==◌, ◌&&◌, ◌||◌, ◌++◌, nat_le, List, [], ◌∷◌, not, length, drop, map, filter, if◌then◌else◌, is_some}
+use Rattle.std.specs.Prelude.{ℕ, suc, Bool, true, false, ◌==◌, ◌&&◌, ◌||◌, ◌++◌, nat_le, List, [], ◌∷◌, not, length, drop, map, filter, if◌then◌else◌, is_some}
 use Rattle.std.specs.Prelude.{Option, Some, None, Result, Ok, Err}
 use Rattle.std.specs.Option.{option_map}
 use Rattle.std.specs.List.{flat_map, list_any}

@@ -19,7 +19,7 @@ use Rattle.bind_model.specs.declared.event.Event.{Event}
 use Rattle.bind_model.specs.declared.told.Told.{Told}
 use Rattle.bind_model.specs.declared.told.Told.TheVariants.{Sent, Taken}
 use Rattle.bind_model.proofs.Outcomes.{Outcome, outcome, calls}
-use Rattle.bind_core.specs.Seen.{own_of}
+use Rattle.bind_model.specs.Seen.{own_of}
 use Rattle.ending_laws.specs.Callers.{IsAmong, none, known, other, EndsSilent, AllEndSilent, sends}
 use Rattle.ending_laws.proofs.Silent.{all_end_silent}
 use Rattle.history_text.specs.declared.notes.Note as text

@@ -11,7 +11,7 @@ use Rattle.bind_model.specs.declared.asked.Asked.TheVariants.{Call, Take}
 use Rattle.bind_model.specs.declared.event.Event.{Event}
 use Rattle.bind_model.specs.declared.told.Told.{Told}
 use Rattle.bind_model.specs.declared.told.Told.TheVariants.{Sent, Taken}
-use Rattle.bind_core.specs.Seen.{own_of}
+use Rattle.bind_model.specs.Seen.{own_of}
 use Rattle.history_text.specs.declared.notes.Fate.{Fate}
 use Rattle.history_text.specs.declared.notes.Fate.TheVariants.{Ran, Dropped}
 use Rattle.history_text.specs.declared.notes.Note.{Note}

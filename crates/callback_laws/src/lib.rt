@@ -9,7 +9,7 @@ ghost use Rattle.mj_schema.specs.declared.schema.Schema.{Schema};
 ghost use Rattle.bind_model.specs.declared.event.Event.{Event};
 ghost use Rattle.bind_model.specs.Replies.{Legal};
 ghost use Rattle.bind_model.specs.WireOf.{wire_of};
-ghost use Rattle.bind_core.specs.Seen.{own_of};
+ghost use Rattle.bind_model.specs.Seen.{own_of};
 ghost use Rattle.remote_receiver.specs.declared.note.Note.{Note};
 ghost use Rattle.remote_receiver.specs.Notes.{AreNotes};
 ghost use Rattle.remote_receiver.specs.Stepped.{Step};

@@ -1,8 +1,8 @@
 //! The histories that runs print, read back.
 
 use crate::case::Case;
-use history_reader::read_history;
-use history_text::render;
+use bind_model::History;
+use call_script::{read_history, render};
 use mj_base::{Items, Text};
 use mj_io::NamedFile;
 use mj_schema::Schema;
@@ -40,9 +40,11 @@ fn is_text_of_itself(alloc: Global, schema: &Schema, text: &[u8]) -> Result<bool
     let Ok(printed) = read_history(alloc, schema, text) else {
         return Ok(false);
     };
-    let (events, notes) = (printed.events.as_slice(), printed.notes.as_slice());
-    let again = render(alloc, schema, events, notes, printed.left.as_slice())?;
-    Ok(again.as_slice() == text && printed.count == events.len() as u64)
+    let is_counted = printed.count == printed.events.len() as u64;
+    let history = History::from_items(printed.events);
+    let (notes, left) = (printed.notes.as_slice(), printed.left.as_slice());
+    let again = render(alloc, schema, &history, notes, left)?;
+    Ok(again.as_slice() == text && is_counted)
 }
 
 /// Whether the text that a case wants of a run gives its history back; none for another case.

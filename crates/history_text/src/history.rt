@@ -10,7 +10,7 @@ use crate::notes::Note;
 use crate::shown::{ShownEndpoint, ShownThing};
 use crate::told_text::push_told;
 use crate::words::fate_word;
-use bind_model::Event;
+use bind_model::{Event, History};
 use handle_table::Thing;
 use mj_schema::Schema;
 use std::alloc::{AllocError, Global};
@@ -98,13 +98,13 @@ fn push_left(alloc: Global, out: &mut Vec<u8>, left: &[Thing]) -> Result<(), All
 pub fn render(
     alloc: Global,
     schema: &Schema,
-    history: &[Event],
+    history: &History,
     notes: &[Note],
     left: &[Thing],
 ) -> Result<Vec<u8>, AllocError>
-    ensures { IfOk result (λ text. text.items ≡ history_text schema.now history.now notes.now left.now) }
+    ensures { IfOk result (λ text. text.items ≡ history_text schema.now history.now.events notes.now left.now) }
 {
-    let mut text = event_lines(alloc, schema, history)?;
+    let mut text = event_lines(alloc, schema, history.as_slice())?;
     push_notes(alloc, &mut text, notes)?;
     push_left(alloc, &mut text, left)?;
     let count = history.len();

@@ -3,9 +3,11 @@
 ghost use Rattle.std.specs.Prelude.{◌≡◌, [], ◌∷◌, codes, None, IfOk};
 ghost use Rattle.mj_schema.specs.Layout.{IsLaidOut};
 
-use bind_model::{Asked, BadWhy, Closing, Event, Got, Outgoing, Parameters, PendingId, Told, Why};
+use bind_model::{
+    Asked, BadWhy, Closing, Event, Got, History, Outgoing, Parameters, PendingId, Told, Why,
+};
+use call_script::{Fate, Note, render};
 use handle_table::{Thing, TokenId};
-use history_text::{Fate, Note, render};
 use mj_base::{EndId, Items, SeqId, Text};
 use mj_schema::{InterfaceRow, MethodRow, Schema, StructRow, VersionRow};
 use std::alloc::{AllocError, Global};
@@ -222,11 +224,11 @@ fn note(seq: u32, end: EndId, id: u32, request: u64, fate: Fate) -> Note {
 fn each_event_has_its_text(rt: HostRuntime) -> Result<(), Fail> {
     let alloc = rt.alloc();
     let schema = schema_of(alloc)?;
-    let history = endpoint_events(alloc)?;
-    let text = render(alloc, &schema, history.as_slice(), &[], &[T])?;
+    let history = History::from_items(Items::from_vec(endpoint_events(alloc)?));
+    let text = render(alloc, &schema, &history, &[], &[T])?;
     assert_eq!(rt; text.as_slice(), ENDPOINT.as_bytes());
-    let history = carried_events(alloc)?;
-    let text = render(alloc, &schema, history.as_slice(), &[], &[T])?;
+    let history = History::from_items(Items::from_vec(carried_events(alloc)?));
+    let text = render(alloc, &schema, &history, &[], &[T])?;
     assert_eq!(rt; text.as_slice(), CARRIED.as_bytes());
     Ok(())
 }
@@ -242,7 +244,8 @@ fn each_callback_has_its_line(rt: HostRuntime) -> Result<(), Fail> {
         note(1, end(1, 3), 0, 1, Fate::Ran),
         note(1, end(0, 13), 0, 1, Fate::Dropped),
     ];
-    let text = render(alloc, &schema, &[], &notes, &[Thing::End(X), T])?;
+    let history = History::new(alloc);
+    let text = render(alloc, &schema, &history, &notes, &[Thing::End(X), T])?;
     assert_eq!(rt; text.as_slice(), CALLBACKS.as_bytes());
     Ok(())
 }

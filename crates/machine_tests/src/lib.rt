@@ -1,8 +1,10 @@
 //! What no script leads to yet: a core that is stepped through the one interface for all that step it,
-//! and the texts of events that no command asks for, written and read. They stand apart, since a crate
-//! with tests is proved once more with them.
+//! calls with jobs over it, and the texts of events that no command asks for, written and read. They
+//! stand apart, since a crate with tests is proved once more with them.
 #![tactic(auto)]
 
+#[cfg(test)]
+mod desk_tests;
 #[cfg(test)]
 mod history_tests;
 #[cfg(test)]

@@ -1,8 +1,8 @@
 //! The texts of events and callbacks that are read back, and texts with the place where they go wrong.
 
 use crate::history_tests::{CALLBACKS, CARRIED, ENDPOINT, schema_of};
-use history_reader::read_history;
-use history_text::render;
+use bind_model::History;
+use call_script::{read_history, render};
 use std::test::Fail;
 use value_text::TextError;
 
@@ -39,10 +39,10 @@ fn the_text_of_a_history_is_read_back(rt: HostRuntime) -> Result<(), Fail> {
         let Ok(printed) = read_history(alloc, &schema, text.as_bytes()) else {
             return Err(Fail::new("no text of a history"));
         };
-        let events = printed.events.as_slice();
-        assert_eq!(rt; printed.count, events.len() as u64);
-        let notes = printed.notes.as_slice();
-        let again = render(alloc, &schema, events, notes, printed.left.as_slice())?;
+        assert_eq!(rt; printed.count, printed.events.len() as u64);
+        let history = History::from_items(printed.events);
+        let (notes, left) = (printed.notes.as_slice(), printed.left.as_slice());
+        let again = render(alloc, &schema, &history, notes, left)?;
         assert_eq!(rt; again.as_slice(), text.as_bytes());
     }
     Ok(())

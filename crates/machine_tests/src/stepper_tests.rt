@@ -1,10 +1,10 @@
 //! A core through a stepper: a command that is done, and one that is refused and comes back.
 
 ghost use Rattle.std.specs.Prelude.{◌≡◌, ◌<◌};
-ghost use Rattle.bind_core.specs.Plain.{IsOf};
+ghost use Rattle.bind_model.specs.Plain.{IsOf};
 
-use bind_core::{Alone, Command, Core, Reply, Stepper};
-use bind_model::Why;
+use bind_core::{Alone, Core};
+use bind_model::{Command, Reply, Stepper, Why};
 use mj_base::{Items, SeqId};
 use mj_schema::Schema;
 use std::alloc::Global;

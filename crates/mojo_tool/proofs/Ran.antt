@@ -10,7 +10,7 @@ use Rattle.bind_model.specs.Replies.{legal, Legal}
 use Rattle.bind_model.proofs.Fresh.{one_place}
 use Rattle.bind_model.proofs.Responses.{own_responses, in_order, all_stand}
 use Rattle.bind_model.proofs.OriginLemmas.{have_writers}
-use Rattle.bind_core.specs.Left.{left}
+use Rattle.bind_model.specs.Left.{left}
 use Rattle.mojom_compile.specs.Schemas.{IsSchemaOfFiles}
 use Rattle.mojom_compile.specs.declared.source.Source.{Source}
 use Rattle.call_script.specs.Script.{IsScriptOf}

@@ -15,7 +15,7 @@ ghost use Rattle.mojo_tool.specs.steps.Stops.{Stops, IsOf, NoScript};
 use crate::check::fetch_schema;
 use crate::decide::{Stop, fetch};
 use crate::refusal::ToolRefusal;
-use call_script::{Script, ScriptError};
+use call_script::{Script, ScriptError, render};
 use mj_base::Items;
 use mj_io::Files;
 use mj_schema::Schema;
@@ -59,9 +59,8 @@ fn run<'a>(alloc: Global, schema: Schema, script: &Script) -> Result<Items<u8>, 
     let Ok(ran) = script_run::run_alone(alloc, shared, script) else {
         return Err(Stop::NoMemory);
     };
-    let events = ran.history.as_slice();
     let (notes, left) = (ran.notes.as_slice(), ran.left.as_slice());
-    match history_text::render(alloc, &schema, events, notes, left) {
+    match render(alloc, &schema, &ran.history, notes, left) {
         Ok(text) => Ok(Items::from_vec(text)),
         Err(_) => Err(Stop::NoMemory),
     }

@@ -16,7 +16,7 @@ use Rattle.bind_model.specs.declared.event.Event.{Event}
 use Rattle.bind_model.specs.declared.told.Told.{Told}
 use Rattle.bind_model.specs.Replies.{Legal, legal}
 use Rattle.bind_model.specs.WireOf.{wire_of}
-use Rattle.bind_core.specs.Left.{left}
+use Rattle.bind_model.specs.Left.{left}
 use Rattle.call_script.specs.Script.{IsScriptOf}
 use Rattle.call_script.specs.declared.script.Script.{Script}
 use Rattle.call_script.specs.declared.script.TheConstants.{SEQUENCES}

@@ -11,7 +11,7 @@ use Rattle.bind_model.specs.declared.asked.Asked.TheVariants as asks
 use Rattle.bind_model.specs.declared.event.Event.{Event}
 use Rattle.bind_model.specs.declared.told.Told.{Told}
 use Rattle.bind_model.specs.declared.told.Told.TheVariants as tells
-use Rattle.bind_core.specs.Left.{left}
+use Rattle.bind_model.specs.Left.{left}
 use Rattle.mojom_compile.specs.Schemas.{IsSchemaOfFiles}
 use Rattle.mojom_compile.specs.declared.source.Source.{Source}
 use Rattle.call_script.specs.Script.{IsScriptOf}

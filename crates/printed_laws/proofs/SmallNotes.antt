@@ -15,8 +15,8 @@ use Rattle.bind_model.specs.declared.asked.Asked.TheVariants.{Call}
 use Rattle.bind_model.specs.declared.event.Event.{Event}
 use Rattle.bind_model.specs.declared.told.Told.{Told}
 use Rattle.bind_model.specs.declared.told.Told.TheVariants.{Sent}
-use Rattle.bind_core.specs.Left.{ends_by, tokens_by, left}
-use Rattle.bind_core.specs.Seen.{own_of}
+use Rattle.bind_model.specs.Left.{ends_by, tokens_by, left}
+use Rattle.bind_model.specs.Seen.{own_of}
 use Rattle.callback_laws.specs.Callbacks.{callback_of, callbacks_in, callbacks, fate_of, is_answered}
 use Rattle.history_reader.specs.Printable.{IsSmall, IsSequence, IsThing, IsNote, AreAll}
 use Rattle.printed_laws.proofs.SmallLists.{all_both, all_mapped, all_filtered, all_flat, all_up}

@@ -2,7 +2,7 @@
 use Rattle.std.specs.Prelude.{ℕ, List, reverse}
 use Rattle.mj_schema.specs.declared.schema.Schema.{Schema}
 use Rattle.bind_model.specs.declared.event.Event.{Event}
-use Rattle.bind_core.specs.Left.{left}
+use Rattle.bind_model.specs.Left.{left}
 use Rattle.call_script.specs.declared.script.TheConstants.{SEQUENCES}
 use Rattle.callback_laws.specs.Callbacks.{callbacks}
 use Rattle.history_text.specs.History.{history_text}

@@ -21,13 +21,13 @@ use Rattle.bind_model.specs.Machine.{endpoint_at, is_closed, is_gone}
 use Rattle.bind_model.specs.Replies.{all_out, all_pending, called, cannot_write, drawn, draws, elsewhere, first_of, ids_of, is_receiver, is_response, request_of, unbound, unless, wrong_pipe, wrong_tokens}
 use Rattle.bind_model.specs.Wire.{Wire}
 use Rattle.bind_model.specs.WireOf.{wire_of}
-use Rattle.bind_core.specs.Seen.{Continues, Saw, Waited}
-use Rattle.bind_core.specs.Plain.{told_of, outgoing_of}
-use Rattle.bind_core.specs.declared.commands.Command.{Command}
-use Rattle.bind_core.specs.declared.commands.Command.TheVariants as commands
-use Rattle.bind_core.specs.declared.commands.Refused.{Refused}
-use Rattle.bind_core.specs.declared.commands.Reply.{Reply}
-use Rattle.bind_core.specs.declared.commands.Reply.TheVariants as replies
+use Rattle.bind_model.specs.Seen.{Continues, Saw, Waited}
+use Rattle.bind_model.specs.Plain.{told_of, outgoing_of}
+use Rattle.bind_model.specs.declared.commands.Command.{Command}
+use Rattle.bind_model.specs.declared.commands.Command.TheVariants as commands
+use Rattle.bind_model.specs.declared.commands.Refused.{Refused}
+use Rattle.bind_model.specs.declared.commands.Reply.{Reply}
+use Rattle.bind_model.specs.declared.commands.Reply.TheVariants as replies
 use Rattle.wire_encoder.specs.declared.prepared.Prepared.{Prepared}
 use Rattle.response_map.specs.Keys.{key_cmp}
 use Rattle.response_map.specs.declared.key.Key.{Key}

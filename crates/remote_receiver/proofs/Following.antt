@@ -12,12 +12,12 @@ use Rattle.bind_model.specs.declared.told.Told.TheVariants as tells
 use Rattle.bind_model.specs.declared.told.Why.TheVariants as whys
 use Rattle.handle_table.specs.declared.thing.Thing.{Thing}
 use Rattle.wire_encoder.specs.declared.prepared.Prepared.{Prepared}
-use Rattle.bind_core.specs.Plain.{asked_of, told_of}
-use Rattle.bind_core.specs.declared.commands.Command.{Command}
-use Rattle.bind_core.specs.declared.commands.Command.TheVariants as commands
-use Rattle.bind_core.specs.declared.commands.Reply.{Reply}
-use Rattle.bind_core.specs.declared.commands.Reply.TheVariants as replies
-use Rattle.bind_core.specs.declared.commands.ToClose.TheVariants as closes
+use Rattle.bind_model.specs.Plain.{asked_of, told_of}
+use Rattle.bind_model.specs.declared.commands.Command.{Command}
+use Rattle.bind_model.specs.declared.commands.Command.TheVariants as commands
+use Rattle.bind_model.specs.declared.commands.Reply.{Reply}
+use Rattle.bind_model.specs.declared.commands.Reply.TheVariants as replies
+use Rattle.bind_model.specs.declared.commands.ToClose.TheVariants as closes
 use Rattle.response_map.specs.declared.key.Key.{Key}
 use Rattle.remote_receiver.specs.declared.job.Answered.{Answered}
 use Rattle.remote_receiver.specs.declared.jobs.Waiting.{Waiting}

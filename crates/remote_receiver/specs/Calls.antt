@@ -4,10 +4,10 @@ use Rattle.mj_base.specs.declared.ids.SeqId.{SeqId}
 use Rattle.mj_base.specs.declared.limits.TheConstants.{MAX_EVENTS}
 use Rattle.mj_schema.specs.declared.schema.Schema.{Schema}
 use Rattle.bind_model.specs.declared.event.Event.{Event}
-use Rattle.bind_core.specs.Seen.{Continues, KeepsLegal, Saw}
-use Rattle.bind_core.specs.declared.commands.Command.{Command}
-use Rattle.bind_core.specs.declared.commands.Command.TheVariants.{Call, Take}
-use Rattle.bind_core.specs.declared.commands.Reply.TheVariants as replies
+use Rattle.bind_model.specs.Seen.{Continues, KeepsLegal, Saw}
+use Rattle.bind_model.specs.declared.commands.Command.{Command}
+use Rattle.bind_model.specs.declared.commands.Command.TheVariants.{Call, Take}
+use Rattle.bind_model.specs.declared.commands.Reply.TheVariants as replies
 use Rattle.remote_receiver.specs.declared.call.CallRefused.{CallRefused}
 use Rattle.remote_receiver.specs.declared.call.CallRefused.TheVariants.{No, Memory, Spent}
 

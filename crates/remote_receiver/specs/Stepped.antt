@@ -1,9 +1,9 @@
 -- What a desk did, step by step, and what it was told.
 use Rattle.std.specs.Prelude.{Bool, false, ◌==◌, ◌&&◌, Option, Some, None, if◌then◌else◌}
 use Rattle.mj_base.specs.declared.ids.EndId.{EndId}
-use Rattle.bind_core.specs.Plain.{asked_of, told_of}
-use Rattle.bind_core.specs.declared.commands.Command.{Command}
-use Rattle.bind_core.specs.declared.commands.Reply.{Reply}
+use Rattle.bind_model.specs.Plain.{asked_of, told_of}
+use Rattle.bind_model.specs.declared.commands.Command.{Command}
+use Rattle.bind_model.specs.declared.commands.Reply.{Reply}
 use Rattle.bind_model.specs.Replies.{is_response}
 use Rattle.bind_model.specs.declared.asked.Asked.{Asked}
 use Rattle.bind_model.specs.declared.asked.Asked.TheVariants.{Call, Take, Close}

@@ -1,7 +1,6 @@
 //! What a call answers.
 
-use bind_core::Command;
-use bind_model::Why;
+use bind_model::{Command, Why};
 use mj_base::Items;
 
 /// A call that was sent: the request id (0 where no response is expected), and the bytes.

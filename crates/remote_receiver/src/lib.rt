@@ -17,6 +17,3 @@ pub use desk::Desk;
 pub use job::{Answered, Job};
 pub use note::Note;
 pub use rest::Rest;
-
-#[cfg(test)]
-mod tests;

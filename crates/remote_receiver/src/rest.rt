@@ -8,7 +8,7 @@ ghost use Rattle.remote_receiver.specs.Waits.{AreDrawn};
 use crate::desk::Desk;
 use crate::job::Job;
 use crate::jobs::Jobs;
-use bind_core::Stepper;
+use bind_model::Stepper;
 use std::alloc::Global;
 
 /// The jobs that wait and the notes of a desk at rest.

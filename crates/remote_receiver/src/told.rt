@@ -1,17 +1,16 @@
 //! What replies say to the jobs that wait.
 
 ghost use Rattle.std.specs.Prelude.{◌≡◌};
-ghost use Rattle.bind_core.specs.Plain.{told_of};
+ghost use Rattle.bind_model.specs.Plain.{told_of};
 ghost use Rattle.bind_model.specs.Replies.{is_response};
-ghost use Rattle.bind_core.specs.declared.commands.Reply.TheVariants.{Got};
+ghost use Rattle.bind_model.specs.declared.commands.Reply.TheVariants.{Got};
 ghost use Rattle.remote_receiver.specs.Held.{kept_of};
 ghost use Rattle.remote_receiver.specs.Waits.{IsPartOf};
 ghost use Rattle.remote_receiver.specs.steps.Doing.{AfterClose, AfterEnd, AfterGot, AfterTake, HeardIf, closed_endpoint};
 
 use crate::job::{Answered, Job};
 use crate::jobs::Jobs;
-use bind_core::{Command, Received, Reply, ToClose};
-use bind_model::Why;
+use bind_model::{Command, Received, Reply, ToClose, Why};
 use mj_base::EndId;
 use wire_model::MessageSide;
 

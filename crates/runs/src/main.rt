@@ -39,7 +39,7 @@ fn compare<R: Print + AllocGlobal>(
         println!(rt; "the script:\n{text}")?;
         played.print(rt, schema)?;
     }
-    tally.add_script(&played.events, is_right)?;
+    tally.add_script(played.events.as_slice(), is_right)?;
     Ok(())
 }
 

@@ -5,11 +5,11 @@ ghost use Rattle.call_script.specs.Sound.{IsScript};
 
 use crate::callbacks::callbacks;
 use crate::same::are_same_events;
-use bind_model::Event;
+use bind_model::History;
 use bind_reference::{events_of, left};
-use call_script::{SEQUENCES, Script, ScriptError, read_script};
+use call_script::{Note, SEQUENCES, Script, ScriptError, read_script, render};
 use handle_table::Thing;
-use history_text::{Note, render};
+use mj_base::Items;
 use mj_schema::Schema;
 use script_run::{NoMemory, Ran, run_alone};
 use std::alloc::{AllocError, Global};
@@ -22,7 +22,7 @@ use std::sync::Arc;
 #[derive(Drop)]
 pub struct Played {
     ran: Ran,
-    pub events: Vec<Event>,
+    pub events: History,
     notes: Vec<Note>,
     left: Vec<Thing>,
 }
@@ -58,7 +58,7 @@ impl Played {
         let left = left(alloc, SEQUENCES, &events)?;
         Ok(Some(Played {
             ran,
-            events,
+            events: History::from_items(Items::from_vec(events)),
             notes,
             left,
         }))
@@ -66,16 +66,19 @@ impl Played {
 
     /// Whether the run is the one that the definition gives.
     pub fn is_right(&self, alloc: Global) -> Result<bool, AllocError> {
-        let is_history = are_same_events(alloc, self.ran.history.as_slice(), &self.events)?;
+        let is_history = are_same_events(
+            alloc,
+            self.ran.history.as_slice(),
+            self.events.as_slice(),
+        )?;
         let are_notes = self.ran.notes.as_slice() == self.notes.as_slice();
         Ok(is_history && are_notes && self.ran.left.as_slice() == self.left.as_slice())
     }
 
     /// Prints both histories.
     pub fn print<R: Print + AllocGlobal>(&self, rt: &R, schema: &Schema) -> io::Result<()> {
-        let events = self.ran.history.as_slice();
         let (notes, left) = (self.ran.notes.as_slice(), self.ran.left.as_slice());
-        let run = render(rt.alloc(), schema, events, notes, left)?;
+        let run = render(rt.alloc(), schema, &self.ran.history, notes, left)?;
         let wanted = render(rt.alloc(), schema, &self.events, &self.notes, &self.left)?;
         println!(rt; "the run:\n{}", str::from_utf8(&run).unwrap_or(""))?;
         println!(rt; "wanted:\n{}", str::from_utf8(&wanted).unwrap_or(""))

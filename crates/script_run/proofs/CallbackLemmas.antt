@@ -11,7 +11,7 @@ use Rattle.bind_model.specs.declared.event.Event.{Event}
 use Rattle.bind_model.specs.Wire.{Wire}
 use Rattle.bind_model.specs.WireOf.{wire_of}
 use Rattle.bind_core.specs.Play.{Play}
-use Rattle.bind_core.specs.Seen.{own_of}
+use Rattle.bind_model.specs.Seen.{own_of}
 use Rattle.call_script.specs.declared.script.TheConstants.{SEQUENCES}
 use Rattle.callback_laws.specs.Callbacks.{callbacks, callbacks_in}
 use Rattle.callback_laws.specs.Ran.{event_of}

@@ -17,12 +17,12 @@ use Rattle.bind_model.specs.Machine.{out, handed}
 use Rattle.bind_model.specs.Replies.{legal, responders_handed}
 use Rattle.bind_model.specs.declared.endpoint.ResponderId.{ResponderId}
 use Rattle.bind_model.specs.Wire.{Wire}
-use Rattle.bind_core.specs.Plain.{asked_of, told_of, outgoing_of, HandsBack, HandsResponders, responders_in}
-use Rattle.bind_core.specs.declared.commands.Command as core
-use Rattle.bind_core.specs.declared.commands.Command.TheVariants as commands
-use Rattle.bind_core.specs.declared.commands.ToClose.TheVariants as close
-use Rattle.bind_core.specs.declared.commands.Reply.{Reply}
-use Rattle.bind_core.specs.declared.commands.Reply.TheVariants.{Made, Bound, Sent, Got, Dropped, Control, Bad, Closed, Skipped, No}
+use Rattle.bind_model.specs.Plain.{asked_of, told_of, outgoing_of, HandsBack, HandsResponders, responders_in}
+use Rattle.bind_model.specs.declared.commands.Command as core
+use Rattle.bind_model.specs.declared.commands.Command.TheVariants as commands
+use Rattle.bind_model.specs.declared.commands.ToClose.TheVariants as close
+use Rattle.bind_model.specs.declared.commands.Reply.{Reply}
+use Rattle.bind_model.specs.declared.commands.Reply.TheVariants.{Made, Bound, Sent, Got, Dropped, Control, Bad, Closed, Skipped, No}
 use Rattle.mj_schema.specs.declared.schema.Schema.{Schema}
 use Rattle.wire_model.specs.Trees.{Tree, view}
 use Rattle.wire_model.specs.declared.target.Target.{Target}

@@ -21,12 +21,12 @@ use Rattle.bind_model.specs.Replies.{answer, answered_with, unless, sent, all_ou
 use Rattle.bind_model.specs.Replies.{same_target, wrong_tokens, wrong_pipe, cannot_write}
 use Rattle.bind_model.specs.Wire.{Wire}
 use Rattle.bind_model.proofs.Outcomes.{first_cases}
-use Rattle.bind_core.specs.Plain.{asked_of, told_of, outgoing_of, HandsBack, HandsResponders, responders_in}
-use Rattle.bind_core.specs.declared.commands.Command as core
-use Rattle.bind_core.specs.declared.commands.Command.TheVariants as commands
-use Rattle.bind_core.specs.declared.commands.ToClose.TheVariants as close
-use Rattle.bind_core.specs.declared.commands.Reply.{Reply}
-use Rattle.bind_core.specs.declared.commands.Reply.TheVariants.{Made, Bound, Sent, Got, Dropped, Control, Bad, Closed, Skipped, No}
+use Rattle.bind_model.specs.Plain.{asked_of, told_of, outgoing_of, HandsBack, HandsResponders, responders_in}
+use Rattle.bind_model.specs.declared.commands.Command as core
+use Rattle.bind_model.specs.declared.commands.Command.TheVariants as commands
+use Rattle.bind_model.specs.declared.commands.ToClose.TheVariants as close
+use Rattle.bind_model.specs.declared.commands.Reply.{Reply}
+use Rattle.bind_model.specs.declared.commands.Reply.TheVariants.{Made, Bound, Sent, Got, Dropped, Control, Bad, Closed, Skipped, No}
 use Rattle.call_script.specs.declared.script.AutoReply.{AutoReply}
 use Rattle.call_script.specs.declared.script.Command.{Command}
 use Rattle.call_script.specs.declared.script.Line.{Line}

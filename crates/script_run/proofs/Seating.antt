@@ -12,15 +12,15 @@ use Rattle.bind_model.specs.declared.event.Event.{Event}
 use Rattle.bind_model.specs.Replies.{Legal, legal}
 use Rattle.bind_model.specs.Wire.{Wire}
 use Rattle.bind_model.specs.WireOf.{wire_of}
-use Rattle.bind_core.specs.Plain.{HandsBack, HandsResponders, IsSpentAt, asked_of, command_of, told_of}
+use Rattle.bind_model.specs.Plain.{HandsBack, HandsResponders, IsSpentAt, asked_of, command_of, told_of}
 use Rattle.bind_core.specs.Play.{Play, told_at}
-use Rattle.bind_core.specs.Seen.{Saw, Waited, told_behind}
-use Rattle.bind_core.specs.declared.commands.Command.{Command}
-use Rattle.bind_core.specs.declared.commands.Command.TheVariants.{Call, Take}
-use Rattle.bind_core.specs.declared.commands.Refused.{Refused}
-use Rattle.bind_core.specs.declared.commands.Refused.TheVariants as refusals
-use Rattle.bind_core.specs.declared.commands.Reply.{Reply}
-use Rattle.bind_core.specs.declared.commands.Reply.TheVariants as replies
+use Rattle.bind_model.specs.Seen.{Saw, Waited, told_behind}
+use Rattle.bind_model.specs.declared.commands.Command.{Command}
+use Rattle.bind_model.specs.declared.commands.Command.TheVariants.{Call, Take}
+use Rattle.bind_model.specs.declared.commands.Refused.{Refused}
+use Rattle.bind_model.specs.declared.commands.Refused.TheVariants as refusals
+use Rattle.bind_model.specs.declared.commands.Reply.{Reply}
+use Rattle.bind_model.specs.declared.commands.Reply.TheVariants as replies
 use Rattle.call_script.specs.declared.script.TheConstants.{SEQUENCES}
 use Rattle.remote_receiver.specs.Calls.{IsOther, NotSent}
 use Rattle.remote_receiver.specs.Notes.{Follows, HasKept, Kept}

@@ -11,11 +11,11 @@ use Rattle.bind_model.specs.declared.event.Event.{Event}
 use Rattle.bind_model.specs.Replies.{Legal, legal}
 use Rattle.bind_model.specs.Wire.{Wire}
 use Rattle.bind_model.specs.WireOf.{wire_of}
-use Rattle.bind_core.specs.Plain.{HandsBack, HandsResponders, asked_of, told_of}
-use Rattle.bind_core.specs.Seen.{Continues, KeepsLegal, Saw, own_of, told_behind}
-use Rattle.bind_core.specs.declared.commands.Command.{Command}
-use Rattle.bind_core.specs.declared.commands.Refused.{Refused}
-use Rattle.bind_core.specs.declared.commands.Reply.{Reply}
+use Rattle.bind_model.specs.Plain.{HandsBack, HandsResponders, asked_of, told_of}
+use Rattle.bind_model.specs.Seen.{Continues, KeepsLegal, Saw, own_of, told_behind}
+use Rattle.bind_model.specs.declared.commands.Command.{Command}
+use Rattle.bind_model.specs.declared.commands.Refused.{Refused}
+use Rattle.bind_model.specs.declared.commands.Reply.{Reply}
 use Rattle.call_script.specs.declared.script.TheConstants.{SEQUENCES}
 use Rattle.script_run.specs.steps.Seated.{sole}
 

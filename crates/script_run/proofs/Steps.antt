@@ -9,11 +9,11 @@ use Rattle.bind_model.specs.declared.event.Event.{Event}
 use Rattle.bind_model.specs.declared.told.Told.{Told}
 use Rattle.bind_model.specs.Replies.{answer, legal}
 use Rattle.bind_model.specs.WireOf.{wire_of}
-use Rattle.bind_core.specs.Plain.{asked_of}
+use Rattle.bind_model.specs.Plain.{asked_of}
 use Rattle.bind_core.specs.Play.{Play, told_at}
-use Rattle.bind_core.specs.declared.commands.Command.{Command}
-use Rattle.bind_core.specs.declared.commands.Command.TheVariants.{Pipe, Join, Mint, Bind, Call, Answer, Take, Close, Skip}
-use Rattle.bind_core.specs.declared.commands.ToClose.TheVariants as close
+use Rattle.bind_model.specs.declared.commands.Command.{Command}
+use Rattle.bind_model.specs.declared.commands.Command.TheVariants.{Pipe, Join, Mint, Bind, Call, Answer, Take, Close, Skip}
+use Rattle.bind_model.specs.declared.commands.ToClose.TheVariants as close
 use Rattle.call_script.specs.declared.script.TheConstants.{SEQUENCES}
 use Rattle.script_run.specs.steps.Going.{past_in, IsPlain, IsGoing, told_next, Went}
 

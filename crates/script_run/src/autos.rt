@@ -2,12 +2,11 @@
 
 ghost use Rattle.std.specs.Prelude.{◌≡◌, find};
 ghost use Rattle.std.specs.Option.{option_copied};
-ghost use Rattle.bind_core.specs.Plain.{responders_in};
+ghost use Rattle.bind_model.specs.Plain.{responders_in};
 ghost use Rattle.script_run.specs.Autos.{replies_to, due_for};
 ghost use Rattle.script_run.specs.steps.Going.{reply_of};
 
-use bind_core::Reply;
-use bind_model::ResponderId;
+use bind_model::{Reply, ResponderId};
 use call_script::AutoReply;
 use mj_base::SeqId;
 

@@ -16,7 +16,7 @@ use crate::lines::copy;
 use crate::replies::{Comes, comes_with};
 use crate::run::Run;
 use crate::runner::NoMemory;
-use bind_core::{Command, Reply};
+use bind_model::{Command, Reply};
 use call_script::{AutoReply, SEQUENCES, Script};
 use handle_table::Handles;
 use mj_base::limits::{MAX_EVENTS, MAX_SCRIPT_LINES};

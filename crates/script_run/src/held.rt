@@ -9,7 +9,7 @@ ghost use Rattle.script_run.specs.steps.Slots.{IsSound, empty, thing_at, held_at
 
 use crate::lines::first_needed;
 use crate::runner::NoMemory;
-use bind_core::{Command, Responder, ToClose};
+use bind_model::{Command, Responder, ToClose};
 use call_script::{Command as Asked, NameId};
 use handle_table::{Ended, Handle, Handles, Thing};
 use mj_base::EndId;

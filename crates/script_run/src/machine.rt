@@ -4,15 +4,16 @@ ghost use Rattle.std.specs.Prelude.{◌≡◌, ◌<◌, ◌++◌, [], ◌∷◌,
 ghost use Rattle.std.specs.Arc.{arc_value};
 ghost use Rattle.bind_model.specs.Ready.{ready};
 ghost use Rattle.bind_model.specs.WireOf.{wire_of};
-ghost use Rattle.bind_core.specs.Left.{left};
-ghost use Rattle.bind_core.specs.Plain.{asked_of, told_of, HandsBack, HandsResponders, command_of, IsOf};
+ghost use Rattle.bind_model.specs.Left.{left};
+ghost use Rattle.bind_model.specs.Plain.{asked_of, told_of, HandsBack, HandsResponders, command_of, IsOf};
 ghost use Rattle.bind_core.specs.Play.{told_at};
 ghost use Rattle.callback_laws.specs.Callbacks.{callbacks};
 ghost use Rattle.callback_laws.specs.Shown.{shown};
 ghost use Rattle.remote_receiver.specs.Held.{kept_of};
 ghost use Rattle.script_run.specs.steps.Seated.{sole, job_of, answered_as, IsSpentOnly, Served};
 
-use bind_core::{Command, Core, History, Refused, Reply, Stepper};
+use bind_core::Core;
+use bind_model::{Command, History, Refused, Reply, Stepper};
 use call_script::SEQUENCES;
 use handle_table::{Ended, Thing};
 use mj_base::limits::MAX_EVENTS;

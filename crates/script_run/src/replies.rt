@@ -4,7 +4,7 @@ ghost use Rattle.std.specs.Prelude.{◌≡◌, length};
 ghost use Rattle.script_run.specs.steps.Lines.{things_in};
 ghost use Rattle.script_run.specs.steps.Replies.{comes_with};
 
-use bind_core::{Command, Received, Reply, Responder, ToClose};
+use bind_model::{Command, Received, Reply, Responder, ToClose};
 use handle_table::Handles;
 
 /// What comes with a reply: handles that are handed out, and maybe the right to answer a request, a

@@ -5,7 +5,7 @@ ghost use Rattle.bind_model.specs.declared.endpoint.ResponderId.{ResponderId as 
 ghost use Rattle.script_run.specs.steps.Responders.{responder_at, emptied, filled, held_under, EndsWith};
 
 use crate::runner::NoMemory;
-use bind_core::Responder;
+use bind_model::Responder;
 use call_script::NameId;
 use handle_table::Ended;
 use std::alloc::Global;

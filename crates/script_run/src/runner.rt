@@ -4,13 +4,13 @@ ghost use Rattle.std.specs.Prelude.{◌≡◌, ◌*◌, ◌≤◌, length, rever
 ghost use Rattle.std.specs.Arc.{arc_value};
 ghost use Rattle.bind_model.specs.Replies.{Legal};
 ghost use Rattle.bind_model.specs.WireOf.{wire_of};
-ghost use Rattle.bind_core.specs.Left.{left};
+ghost use Rattle.bind_model.specs.Left.{left};
 ghost use Rattle.callback_laws.specs.Callbacks.{callbacks};
 ghost use Rattle.script_run.specs.OfScript.{OfScript};
 ghost use Rattle.call_script.specs.Sound.{IsScript};
 
 use crate::run::Run;
-use bind_core::History;
+use bind_model::History;
 use call_script::{SEQUENCES, Script};
 use handle_table::Thing;
 use history_text::Note;

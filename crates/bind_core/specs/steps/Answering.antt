@@ -17,8 +17,8 @@ use Rattle.bind_model.specs.Replies.{is_response}
 use Rattle.bind_core.specs.Lines.{found_at}
 use Rattle.bind_core.specs.steps.Ways.{suits, way_to}
 use Rattle.bind_core.specs.declared.answer.Response.{Response}
-use Rattle.bind_core.specs.declared.commands.Command.{Command}
-use Rattle.bind_core.specs.declared.commands.Command.TheVariants.{Answer}
+use Rattle.bind_model.specs.declared.commands.Command.{Command}
+use Rattle.bind_model.specs.declared.commands.Command.TheVariants.{Answer}
 use Rattle.bind_core.specs.declared.endpoint_table.Line.{Line}
 
 -- the command of a response with these handles

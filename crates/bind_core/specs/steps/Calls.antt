@@ -6,11 +6,11 @@ use Rattle.wire_encoder.specs.declared.prepared.Prepared.{Prepared}
 use Rattle.wire_model.specs.Message.{message}
 use Rattle.bind_model.specs.declared.event.Event.{Event}
 use Rattle.bind_model.specs.Replies.{drawn}
-use Rattle.bind_core.specs.Plain.{outgoing_of}
+use Rattle.bind_model.specs.Plain.{outgoing_of}
 use Rattle.bind_core.specs.declared.call.Request.{Request}
 use Rattle.bind_core.specs.declared.writing.Writes.{Writes}
-use Rattle.bind_core.specs.declared.commands.Command.{Command}
-use Rattle.bind_core.specs.declared.commands.Command.TheVariants.{Call}
+use Rattle.bind_model.specs.declared.commands.Command.{Command}
+use Rattle.bind_model.specs.declared.commands.Command.TheVariants.{Call}
 
 -- the command of a request with these handles
 abbrev pub command_with : Request → List Thing → Command

@@ -10,8 +10,8 @@ use Rattle.bind_model.specs.Replies.{Drawn, answered, drawn}
 use Rattle.bind_model.specs.declared.event.Event.{Event}
 use Rattle.bind_model.specs.declared.told.Got.{Got}
 use Rattle.wire_model.specs.declared.target.MessageSide.{MessageSide}
-use Rattle.bind_core.specs.declared.requests.EndpointName.{EndpointName}
-use Rattle.bind_core.specs.Counts.{is_named}
+use Rattle.bind_model.specs.declared.names.EndpointName.{EndpointName}
+use Rattle.bind_model.specs.Names.{is_named}
 
 -- whether an endpoint has a count
 abbrev pub is_counted : List (EndpointName × ℕ) → EndId → ℕ → Bool

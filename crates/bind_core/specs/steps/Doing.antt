@@ -5,10 +5,10 @@ use Rattle.mj_base.specs.declared.ids.SeqId.{SeqId}
 use Rattle.bind_model.specs.declared.asked.Asked.{Asked}
 use Rattle.bind_model.specs.declared.told.Told.{Told}
 use Rattle.bind_model.specs.Replies.{answer}
-use Rattle.bind_core.specs.Plain.{asked_of, told_of, HandsBack, HandsResponders, IsOf, command_of, IsSpentAt}
-use Rattle.bind_core.specs.declared.commands.Command.{Command}
-use Rattle.bind_core.specs.declared.commands.Reply.{Reply}
-use Rattle.bind_core.specs.declared.commands.Refused.{Refused}
+use Rattle.bind_model.specs.Plain.{asked_of, told_of, HandsBack, HandsResponders, IsOf, command_of, IsSpentAt}
+use Rattle.bind_model.specs.declared.commands.Command.{Command}
+use Rattle.bind_model.specs.declared.commands.Reply.{Reply}
+use Rattle.bind_model.specs.declared.commands.Refused.{Refused}
 use Rattle.bind_core.specs.declared.state.State.{State}
 use Rattle.bind_core.specs.Agreement.{past_of, schema_of, wire_in, Holds}
 
@@ -16,8 +16,8 @@ use Rattle.bind_core.specs.Agreement.{past_of, schema_of, wire_in, Holds}
 pub record HasRoom (s : State) (seq : SeqId) : Type 0 where
   pub holds : Holds s
   pub within : seq.0 < s.seqs
-  pub room : 0 < s.history.room
-  pub few : length s.history.events < MAX_EVENTS
+  pub room : 0 < s.log.room
+  pub few : length s.log.events < MAX_EVENTS
 
 -- a command may be done
 pub record CanDo (s : State) (seq : SeqId) (command : Command) : Type 0 where
@@ -37,24 +37,24 @@ pub record Done (old new : State) (seq : SeqId) (command : Command) (reply : Rep
   pub holds : Holds new
   pub schema : schema_of new ≡ schema_of old
   pub seqs : new.seqs ≡ old.seqs
-  pub events : new.history.events ≡ old.history.events ++ record { seq = seq; asked = asked_of command; told = told_in old seq command } ∷ []
+  pub events : new.log.events ≡ old.log.events ++ record { seq = seq; asked = asked_of command; told = told_in old seq command } ∷ []
   pub told : told_of reply ≡ told_in old seq command
   pub back : HandsBack command reply
   pub responders : HandsResponders (wire_in old) command reply
-  pub few : length old.history.events < MAX_EVENTS
+  pub few : length old.log.events < MAX_EVENTS
 
 -- no event
 pub record Stays (old new : State) : Type 0 where
   pub holds : Holds new
   pub schema : schema_of new ≡ schema_of old
   pub seqs : new.seqs ≡ old.seqs
-  pub events : new.history.events ≡ old.history.events
+  pub events : new.log.events ≡ old.log.events
 
 -- no event, and the command comes back
 pub record Undone (old new : State) (command : Command) (refused : Refused) : Type 0 where
   pub holds : Holds new
   pub schema : schema_of new ≡ schema_of old
   pub seqs : new.seqs ≡ old.seqs
-  pub events : new.history.events ≡ old.history.events
+  pub events : new.log.events ≡ old.log.events
   pub back : command_of refused ≡ command
-  pub spent : IsSpentAt (length old.history.events) refused
+  pub spent : IsSpentAt (length old.log.events) refused

@@ -1,5 +1,5 @@
 -- Which ends a command may make ready, and which are watched no longer.
-use Rattle.bind_core.specs.declared.commands.ToClose.TheVariants as close
+use Rattle.bind_model.specs.declared.commands.ToClose.TheVariants as close
 use Rattle.std.specs.Prelude.{◌≡◌, Bool, true, false, ◌||◌, List, Option, Some, None, is_some}
 use Rattle.mj_base.specs.declared.ids.EndId.{EndId}
 use Rattle.handle_table.specs.Things.{same_end}
@@ -9,8 +9,8 @@ use Rattle.bind_model.specs.declared.event.Event.{Event}
 use Rattle.bind_core.specs.EndSets.{has_end}
 use Rattle.bind_core.specs.Agreement.{past_of}
 use Rattle.bind_core.specs.steps.Takers.{taker_of}
-use Rattle.bind_core.specs.declared.commands.Command.{Command}
-use Rattle.bind_core.specs.declared.commands.Command.TheVariants.{Bind, Call, Answer, Take, Close}
+use Rattle.bind_model.specs.declared.commands.Command.{Command}
+use Rattle.bind_model.specs.declared.commands.Command.TheVariants.{Bind, Call, Answer, Take, Close}
 use Rattle.bind_core.specs.declared.state.State.{State}
 
 -- the end that a command is about

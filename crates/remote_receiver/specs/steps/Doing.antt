@@ -2,9 +2,9 @@
 use Rattle.std.specs.Prelude.{ℕ, Bool, true, false, ◌≡◌, ◌==◌, ◌++◌, not, List, [], ◌∷◌, length, slice_set, Option, Some, None, if◌then◌else◌}
 use Rattle.std.specs.FinMap.{get, insert, remove, retain_keys}
 use Rattle.mj_base.specs.declared.ids.EndId.{EndId}
-use Rattle.bind_core.specs.declared.commands.Command.{Command}
-use Rattle.bind_core.specs.declared.commands.Command.TheVariants.{Close}
-use Rattle.bind_core.specs.declared.commands.ToClose.TheVariants.{Endpoint}
+use Rattle.bind_model.specs.declared.commands.Command.{Command}
+use Rattle.bind_model.specs.declared.commands.Command.TheVariants.{Close}
+use Rattle.bind_model.specs.declared.commands.ToClose.TheVariants.{Endpoint}
 use Rattle.bind_model.specs.Replies.{is_response}
 use Rattle.bind_model.specs.declared.told.Told.{Told}
 use Rattle.bind_model.specs.declared.told.Told.TheVariants.{Taken, Control, Bad, Closed, No}

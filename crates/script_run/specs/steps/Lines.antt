@@ -9,9 +9,9 @@ use Rattle.bind_model.specs.declared.asked.Asked.{Asked}
 use Rattle.bind_model.specs.declared.asked.Asked.TheVariants as asks
 use Rattle.bind_model.specs.declared.asked.Closing.TheVariants as closings
 use Rattle.bind_model.specs.declared.endpoint.ResponderId.{ResponderId}
-use Rattle.bind_core.specs.declared.commands.Command as core
-use Rattle.bind_core.specs.declared.commands.Command.TheVariants as commands
-use Rattle.bind_core.specs.declared.commands.ToClose.TheVariants as close
+use Rattle.bind_model.specs.declared.commands.Command as core
+use Rattle.bind_model.specs.declared.commands.Command.TheVariants as commands
+use Rattle.bind_model.specs.declared.commands.ToClose.TheVariants as close
 use Rattle.call_script.specs.declared.script.NameId.{NameId}
 use Rattle.call_script.specs.declared.script.Command.{Command}
 use Rattle.call_script.specs.declared.script.Command.TheVariants.{Bind, Call, Answer, CloseToken}

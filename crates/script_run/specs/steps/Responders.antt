@@ -1,9 +1,9 @@
 -- The responders that are held under names, as a run keeps them.
 use Rattle.std.specs.Prelude.{◌≡◌, ◌⊎◌, List, [], ◌∷◌, ◌++◌, Option, Some, None, slice_get, option_and_then, set}
 use Rattle.bind_model.specs.declared.endpoint.ResponderId.{ResponderId}
-use Rattle.bind_core.specs.declared.commands.Command as core
-use Rattle.bind_core.specs.declared.commands.Command.TheVariants as commands
-use Rattle.bind_core.specs.declared.commands.ToClose.TheVariants as close
+use Rattle.bind_model.specs.declared.commands.Command as core
+use Rattle.bind_model.specs.declared.commands.Command.TheVariants as commands
+use Rattle.bind_model.specs.declared.commands.ToClose.TheVariants as close
 use Rattle.call_script.specs.declared.script.NameId.{NameId}
 
 -- what is held under each name

@@ -9,14 +9,14 @@ use Rattle.bind_model.specs.declared.event.Event.{Event}
 use Rattle.bind_model.specs.Replies.{Legal}
 use Rattle.bind_model.specs.Wire.{Wire}
 use Rattle.bind_model.specs.WireOf.{wire_of}
-use Rattle.bind_core.specs.Plain.{command_of}
+use Rattle.bind_model.specs.Plain.{command_of}
 use Rattle.bind_core.specs.Play.{Play}
-use Rattle.bind_core.specs.Seen.{Saw}
-use Rattle.bind_core.specs.declared.commands.Command.{Command}
-use Rattle.bind_core.specs.declared.commands.Refused.{Refused}
-use Rattle.bind_core.specs.declared.commands.Refused.TheVariants as refusals
-use Rattle.bind_core.specs.declared.commands.Reply.{Reply}
-use Rattle.bind_core.specs.declared.commands.Reply.TheVariants as replies
+use Rattle.bind_model.specs.Seen.{Saw}
+use Rattle.bind_model.specs.declared.commands.Command.{Command}
+use Rattle.bind_model.specs.declared.commands.Refused.{Refused}
+use Rattle.bind_model.specs.declared.commands.Refused.TheVariants as refusals
+use Rattle.bind_model.specs.declared.commands.Reply.{Reply}
+use Rattle.bind_model.specs.declared.commands.Reply.TheVariants as replies
 use Rattle.call_script.specs.declared.script.TheConstants.{SEQUENCES}
 use Rattle.remote_receiver.specs.Calls.{Stays}
 use Rattle.remote_receiver.specs.Notes.{Follows, HasKept, Kept}

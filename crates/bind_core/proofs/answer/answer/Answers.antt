@@ -2,7 +2,7 @@ use Rattle.std.proofs.Common.{◌≡◌, Bool, List, ap, sym, ◌∙◌}
 use Rattle.std.specs.Prelude.{◌==◌, ◌&&◌, not}
 use Rattle.handle_table.specs.declared.thing.Thing.{Thing}
 use Rattle.bind_model.specs.declared.endpoint.ResponderId.{ResponderId}
-use Rattle.bind_core.specs.Responders.{count_of}
+use Rattle.bind_model.specs.Responders.{count_of}
 use Rattle.bind_core.specs.steps.Answering.{way_back}
 use Rattle.bind_core.specs.steps.Ways.{all_out}
 use Rattle.bind_core.proofs.Replied.{answer_refused}

@@ -4,7 +4,7 @@ use Rattle.bind_model.specs.declared.asked.Asked.TheVariants as asks
 use Rattle.bind_model.specs.declared.asked.Closing.TheVariants as closings
 use Rattle.bind_model.specs.declared.endpoint.ResponderId.{ResponderId}
 use Rattle.bind_model.specs.declared.told.Told.TheVariants as tells
-use Rattle.bind_core.specs.Responders.{count_of}
+use Rattle.bind_model.specs.Responders.{count_of}
 use Rattle.bind_core.proofs.Replied.{closing_done, closing_refused}
 use Rattle.bind_core.proofs.answer.close_responder.Goals as goal
 
@@ -21,6 +21,6 @@ returns-clause-done c =
     ∙ (sym c.is_out.ensures ∙ c.if-not-is_out.false))
     refl refl refl refl c.spend.ensures c.new.result c.new-2.result c.new.ensures c.new-2.ensures
     (subst
-    (λ (q : ResponderId). c.push_reserved.new.self.events ≡ c.args.state.now.history.events
+    (λ (q : ResponderId). c.push_reserved.new.self.events ≡ c.args.state.now.log.events
     ++ record { seq = c.args.seq; asked = asks.Close (closings.Responder q); told = tells.Closed c.new.result } ∷ [])
     c.id-id.ensures c.push_reserved.ensures)

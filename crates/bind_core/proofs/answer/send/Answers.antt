@@ -2,7 +2,7 @@ use Rattle.std.proofs.Common.{◌≡◌, [], ◌∷◌, ◌++◌, refl, sym, sub
 use Rattle.bind_model.specs.declared.asked.Asked.TheVariants as asks
 use Rattle.bind_model.specs.declared.endpoint.ResponderId.{ResponderId}
 use Rattle.bind_model.specs.declared.told.Told.TheVariants as tells
-use Rattle.bind_core.specs.declared.commands.Reply.TheVariants as replies
+use Rattle.bind_model.specs.declared.commands.Reply.TheVariants as replies
 use Rattle.bind_core.specs.declared.state.State.{State}
 use Rattle.bind_core.specs.steps.Answering.{command_with}
 use Rattle.bind_core.specs.steps.Calls.{AreOf, sealed_bytes}
@@ -26,7 +26,7 @@ returns-clause-done c =
     let new : State = record {
       schema = s.schema;
       seqs = s.seqs;
-      history = c.push_reserved.new.self;
+      log = c.push_reserved.new.self;
       pipes = c.put_all.new.pipes;
       endpoints = s.endpoints;
       responders = c.spend.new.self;
@@ -36,6 +36,6 @@ returns-clause-done c =
     (subst (λ (q : ResponderId). AreOf r.prepared c.args.things (sealed_bytes q.id q.request r.prepared) c.in-Ok.writes) c.id-id.ensures c.in-Ok.ensures)
     c.in-Ok-push.ensures.ok c.put_all.ensures c.spend.ensures
     (subst
-    (λ (q : ResponderId). c.push_reserved.new.self.events ≡ s.history.events
+    (λ (q : ResponderId). c.push_reserved.new.self.events ≡ s.log.events
     ++ record { seq = c.args.seq; asked = asks.Answer q c.in-Ok.writes.outgoing; told = tells.Sent q.request c.in-Ok.writes.noted } ∷ [])
     c.id-id.ensures c.push_reserved.ensures))

@@ -4,7 +4,7 @@ use Rattle.handle_table.specs.declared.places.Place.TheVariants as places
 use Rattle.handle_table.specs.declared.thing.Thing.{Thing}
 use Rattle.message_pipe.specs.Contents.{Closes}
 use Rattle.bind_model.specs.declared.endpoint.ResponderId.{ResponderId}
-use Rattle.bind_core.specs.Responders.{count_of}
+use Rattle.bind_model.specs.Responders.{count_of}
 use Rattle.bind_core.specs.steps.Placing.{PutsAll}
 use Rattle.bind_core.specs.steps.Taking.{LieThere, times_in}
 use Rattle.bind_core.proofs.Responding.{count_few}

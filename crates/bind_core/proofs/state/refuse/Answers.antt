@@ -1,7 +1,7 @@
 use Rattle.std.proofs.Common.{◌∷◌, ◌∙◌, sym, refl, ap, ◌++◌, []}
 use Rattle.bind_model.specs.declared.asked.Asked.{Asked}
 use Rattle.bind_model.specs.declared.told.Told.TheVariants.{No}
-use Rattle.bind_core.specs.Plain.{asked_of}
+use Rattle.bind_model.specs.Plain.{asked_of}
 use Rattle.bind_core.specs.Agreement.{past_of, wire_in}
 use Rattle.bind_core.proofs.Still.{refused}
 use Rattle.bind_core.proofs.Held.{finish}
@@ -12,7 +12,7 @@ returns-clause-done c =
     finish c.args.state.now _ c.args.seq c.args.command _ c.requires.can.able refl refl refl
     (record { none = refl; handed = λ wire. refl; after = λ rs. refl })
     (c.push_reserved.ensures
-    ∙ ap (λ (a : Asked). c.args.state.now.history.events ++ record { seq = c.args.seq; asked = a; told = No c.args.why } ∷ [])
+    ∙ ap (λ (a : Asked). c.args.state.now.log.events ++ record { seq = c.args.seq; asked = a; told = No c.args.why } ∷ [])
     c.requires.asked)
     (sym c.requires.why)
     (refused (wire_in c.args.state.now) (past_of c.args.state.now) c.args.seq

@@ -1,9 +1,9 @@
 use Rattle.std.proofs.Common.{◌≡◌, ℕ, refl}
 use Rattle.mj_base.specs.declared.ids.EndId.{EndId}
-use Rattle.bind_core.specs.Plain.{told_of}
-use Rattle.bind_core.specs.declared.commands.Received.{Received}
-use Rattle.bind_core.specs.declared.commands.Reply.{Reply}
-use Rattle.bind_core.specs.declared.commands.Reply.TheVariants.{Got}
+use Rattle.bind_model.specs.Plain.{told_of}
+use Rattle.bind_model.specs.declared.commands.Received.{Received}
+use Rattle.bind_model.specs.declared.commands.Reply.{Reply}
+use Rattle.bind_model.specs.declared.commands.Reply.TheVariants.{Got}
 use Rattle.remote_receiver.specs.declared.job.Answered.{Answered}
 use Rattle.remote_receiver.specs.Held.{kept_of}
 use Rattle.remote_receiver.specs.Notes.{Kept}

@@ -1,7 +1,4 @@
 use Rattle.std.proofs.Common.{ap, ◌∙◌}
-use Rattle.bind_core.specs.Play.{Play}
-use Rattle.mj_schema.specs.declared.schema.Schema.{Schema}
-use Rattle.call_script.specs.declared.script.TheConstants.{SEQUENCES}
 use Rattle.remote_receiver.specs.Held.{kept_of}
 use Rattle.script_run.specs.declared.machine.Seat.{Seat}
 use Rattle.script_run.proofs.Seating.{core_is, seated_new}

@@ -1,7 +1,7 @@
 use Rattle.std.proofs.Common.{ap, arith, subst, sym, ◌∙◌}
 use Rattle.std.specs.Arc.{arc_value}
 use Rattle.mj_schema.specs.declared.schema.Schema.{Schema}
-use Rattle.bind_core.specs.Plain.{IsOf, asked_of}
+use Rattle.bind_model.specs.Plain.{IsOf, asked_of}
 use Rattle.bind_core.specs.Play.{Play}
 use Rattle.bind_model.specs.WireOf.{wire_of}
 use Rattle.remote_receiver.specs.Held.{kept_of}

@@ -1,0 +1,31 @@
+//! The only one that steps a core.
+
+use crate::machine::Core;
+use bind_model::{Command, Refused, Reply, Stepper};
+use mj_base::SeqId;
+use std::alloc::Global;
+
+/// The only one that steps a core.
+#[derive(Drop)]
+pub struct Alone<'a> {
+    pub core: &'a mut Core,
+    pub seq: SeqId,
+}
+
+impl Stepper for Alone<'_> {
+    ghost schema = { λ a. a.core.now.schema };
+
+    ghost seqs = { λ a. a.core.now.seqs };
+
+    ghost me = { λ a. a.seq };
+
+    ghost seen = { λ a. a.core.now.events };
+
+    fn seq(&self) -> SeqId {
+        self.seq
+    }
+
+    fn step(&mut self, alloc: Global, command: Command) -> Result<Reply, Refused> {
+        self.core.step(alloc, self.seq, command)
+    }
+}

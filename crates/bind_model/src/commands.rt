@@ -1,0 +1,158 @@
+//! Commands and replies, with the handles and the rights that they take and hand out.
+
+use crate::parameters::Parameters;
+use crate::responder::Responder;
+use crate::told::{BadWhy, Why};
+use handle_table::{Ended, Handle, Handles, Thing, TokenSort};
+use mj_base::{EndId, Items, SeqId};
+use wire_encoder::{EndpointSide, Prepared};
+use wire_model::Target;
+
+/// What is closed.
+pub enum ToClose {
+    Handle(Handle),
+    /// The right to answer a request, which then isn't answered.
+    Responder(Responder),
+    /// The endpoint of this id at an end; with id 0, the end.
+    Endpoint(EndId, u32),
+}
+
+/// What a caller asks. It takes the handles and the responder with it.
+pub enum Command {
+    /// A new pipe.
+    Pipe,
+    /// A new pipe, whose second end is numbered by that sequence.
+    Join(SeqId),
+    /// A new token.
+    Mint(TokenSort),
+    /// To bind an end as a side of an interface, by its number in the schema.
+    Bind(Handle, EndpointSide, u32),
+    /// A request from the endpoint of this id at an end, with the handles that its parameters name.
+    Call(EndId, u32, Prepared, Handles),
+    /// The response to a request, with the handles that its parameters name.
+    Answer(Responder, Prepared, Handles),
+    /// The oldest unread message at an end.
+    Take(EndId),
+    Close(ToClose),
+    /// Nothing: what the line of this number of a script needs isn't there.
+    Skip(u32),
+}
+
+/// What a take got: the id of the endpoint that the message was for, its method and side, its
+/// parameters, its request id (0 where it has none), the handles that the parameters name in the order
+/// of their indexes, the right to answer it where it is a request with a response, and what went with
+/// the handles that the parameters don't name.
+pub struct Received {
+    pub id: u32,
+    pub target: Target,
+    pub parameters: Parameters,
+    pub request: u64,
+    pub handles: Handles,
+    pub responder: Option<Responder>,
+    pub gone: Items<Thing>,
+}
+
+/// What the caller is told. A refusal hands the command back.
+pub enum Reply {
+    /// The handles of the two ends of a new pipe, or of a new token.
+    Made(Handles),
+    Bound(EndId),
+    /// The request id (0 where no response is expected) and the bytes that were sent.
+    Sent(u64, Items<u8>),
+    Got(Received),
+    /// A message for the endpoint of this id, which isn't there or is closed, and what went with it.
+    Dropped(u32, Items<Thing>),
+    /// The peer of the endpoint of this id is closed.
+    Control(u32),
+    /// The oldest message is bad; the end is closed with it, and all this went.
+    Bad(BadWhy, Items<Thing>),
+    /// All that went.
+    Closed(Items<Thing>),
+    Skipped,
+    No(Why, Command),
+}
+
+/// Why there was no event. The command comes back.
+pub enum Refused {
+    /// There was no memory for it.
+    Memory(Command),
+    /// The history has 16,777,216 events.
+    Spent(Command),
+}
+
+impl ToClose {
+    /// Lets it go, once all is over.
+    pub fn retire(self, over: &Ended) {
+        match self {
+            ToClose::Handle(handle) => handle.retire(over),
+            ToClose::Responder(responder) => responder.retire(over),
+            ToClose::Endpoint(_, _) => {}
+        }
+    }
+}
+
+impl Command {
+    /// Lets it go, once all is over.
+    pub fn retire(self, over: &Ended) {
+        match self {
+            Command::Bind(handle, _, _) => handle.retire(over),
+            Command::Call(_, _, _, handles) => handles.retire(over),
+            Command::Answer(responder, _, handles) => {
+                responder.retire(over);
+                handles.retire(over);
+            }
+            Command::Close(closed) => closed.retire(over),
+            Command::Pipe
+            | Command::Join(_)
+            | Command::Mint(_)
+            | Command::Take(_)
+            | Command::Skip(_) => {}
+        }
+    }
+}
+
+impl Received {
+    /// Lets it go, once all is over.
+    pub fn retire(self, over: &Ended) {
+        let Received {
+            id: _,
+            target: _,
+            parameters: _,
+            request: _,
+            handles,
+            responder,
+            gone: _,
+        } = self;
+        handles.retire(over);
+        if let Some(responder) = responder {
+            responder.retire(over);
+        }
+    }
+}
+
+impl Reply {
+    /// Lets it go, once all is over.
+    pub fn retire(self, over: &Ended) {
+        match self {
+            Reply::Made(handles) => handles.retire(over),
+            Reply::Got(received) => received.retire(over),
+            Reply::No(_, command) => command.retire(over),
+            Reply::Bound(_)
+            | Reply::Sent(_, _)
+            | Reply::Dropped(_, _)
+            | Reply::Control(_)
+            | Reply::Bad(_, _)
+            | Reply::Closed(_)
+            | Reply::Skipped => {}
+        }
+    }
+}
+
+impl Refused {
+    /// Lets it go, once all is over.
+    pub fn retire(self, over: &Ended) {
+        match self {
+            Refused::Memory(command) | Refused::Spent(command) => command.retire(over),
+        }
+    }
+}

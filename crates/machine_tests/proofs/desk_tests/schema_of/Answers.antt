@@ -1,0 +1,22 @@
+use Rattle.std.proofs.Common.{◌∙◌, arith, refl}
+use Rattle.machine_tests.proofs.desk_tests.schema_of.Goals as goal
+
+pub invariant_of-result-clause-few : goal.invariant_of-result-clause-few
+invariant_of-result-clause-few c =
+    let structs = c.from_vec.ensures ∙ c.in_ok-vec.ensures.items in
+    let interfaces = c.from_vec-2.ensures ∙ c.in_ok-vec-2.ensures.items in
+    rw (structs, interfaces, c.new.ensures, c.new-2.ensures, c.new-3.ensures) (omega arith)
+
+pub invariant_of-result-clause-laid_out : goal.invariant_of-result-clause-laid_out
+invariant_of-result-clause-laid_out c =
+    rw (c.from_vec.ensures, c.in_ok-vec.ensures.items) (c.in_ok-ask.ensures.laid_out, (c.in_ok-asked.ensures.laid_out, tt))
+
+pub invariant_of-result-clause-well_formed : goal.invariant_of-result-clause-well_formed
+invariant_of-result-clause-well_formed c =
+    let structs = c.from_vec.ensures ∙ c.in_ok-vec.ensures.items in
+    let interfaces = c.from_vec-2.ensures ∙ c.in_ok-vec-2.ensures.items in
+    let ask = c.in_ok-ask.ensures in
+    let asked = c.in_ok-asked.ensures in
+    let calls = c.in_ok-one_method.ensures in
+    rw (structs, interfaces, c.new.ensures, c.new-2.ensures, c.new-3.ensures, c.new-4.ensures) (
+    rw (ask.name, ask.empty, asked.name, asked.empty, calls.name, calls.methods) refl)

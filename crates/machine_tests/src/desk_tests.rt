@@ -1,0 +1,386 @@
+//! Calls with jobs over a core: they run on the responses, or are dropped.
+
+ghost use Rattle.std.specs.Prelude.{◌≡◌, ◌<◌, [], ◌∷◌, codes, Some, IfOk, IfSome, true};
+ghost use Rattle.mj_schema.specs.Layout.{IsLaidOut};
+ghost use Rattle.wire_encoder.specs.Prepared.{HasTarget, IsPrepared};
+ghost use Rattle.bind_model.specs.Plain.{IsOf};
+ghost use Rattle.bind_model.specs.WireOf.{wire_of};
+ghost use Rattle.remote_receiver.specs.Calls.{IsOther};
+
+use bind_core::{Alone, Core};
+use bind_model::{Command, Received, Reply, Stepper, ToClose, Why};
+use handle_table::Handles;
+use mj_base::{EndId, Items, SeqId, Text};
+use mj_schema::{InterfaceRow, MethodRow, Schema, StructRow, VersionRow};
+use remote_receiver::{Answered, BoxedJob, Callback, Desk, Job, Note};
+use response_map::Key;
+use std::alloc::{AllocError, Global};
+use std::process::Abort;
+use std::sync::Arc;
+use std::sync::atomic::{AtomicU64, Ordering};
+use std::test::Fail;
+use wire_encoder::{EndpointSide, Prepared, prepare};
+use wire_model::{MessageSide, Target, Value};
+
+/// Answers the number of its request and what it was made with.
+#[derive(Drop)]
+struct Adds {
+    more: u32,
+}
+
+impl Job for Adds {
+    ghost promises = { λ job got note. Unit {0} };
+
+    fn run(self, got: &Answered) -> u64 {
+        let Adds { more } = self;
+        got.request.wrapping_mul(100).wrapping_add(u64::from(more))
+    }
+}
+
+/// A struct without fields.
+fn empty_struct(alloc: Global, name: &str) -> Result<StructRow, AllocError>
+    ensures name { IfOk result (λ row. row.name ≡ name.now) }
+    ensures empty { IfOk result (λ row. row.fields ≡ []) }
+    ensures laid_out { IfOk result IsLaidOut }
+{
+    let version = VersionRow {
+        version: 0,
+        fields: 0,
+        bytes: 8,
+    };
+    Ok(StructRow {
+        name: Text::from_str(alloc, name)?,
+        fields: Items::new(alloc),
+        versions: Items::from_vec(vec![in alloc; version]?),
+    })
+}
+
+/// An interface of one method without parameters, with a response.
+fn one_method(alloc: Global) -> Result<InterfaceRow, AllocError>
+    ensures name { IfOk result (λ row. row.name ≡ codes "t.P") }
+    ensures methods { IfOk result (λ row. row.methods ≡ record { name = codes "Ask"; ordinal = 0; request = 0; response = Some 1 } ∷ []) }
+{
+    let ask = MethodRow {
+        name: Text::from_str(alloc, "Ask")?,
+        ordinal: 0,
+        request: 0,
+        response: Some(1),
+    };
+    Ok(InterfaceRow {
+        name: Text::from_str(alloc, "t.P")?,
+        methods: Items::from_vec(vec![in alloc; ask]?),
+    })
+}
+
+/// The schema of `module t; interface P { Ask() => (); };`.
+fn schema_of(alloc: Global) -> Result<Schema, AllocError> {
+    let ask = empty_struct(alloc, "t.P.Ask.request")?;
+    let asked = empty_struct(alloc, "t.P.Ask.response")?;
+    Ok(Schema {
+        structs: Items::from_vec(vec![in alloc; ask, asked]?),
+        unions: Items::new(alloc),
+        enums: Items::new(alloc),
+        interfaces: Items::from_vec(vec![in alloc; one_method(alloc)?]?),
+        consts: Items::new(alloc),
+        order: Items::new(alloc),
+    })
+}
+
+/// A message of the first interface's first method, which has a response.
+#[tactic(auto, unfolding(bind_model::specs::WireOf::wire_of))]
+fn target_of(schema: &Schema, side: MessageSide) -> Option<Target>
+    ensures there { IfSome result (HasTarget schema.now) }
+    ensures responds { IfSome result (λ target. (wire_of schema.now).responds target.interface target.method ≡ true) }
+{
+    let method = schema.method(0, 0)?;
+    let response = method.response?;
+    let _number = match side {
+        MessageSide::Request => method.request,
+        MessageSide::Response => response,
+    };
+    Some(Target {
+        interface: 0,
+        method: 0,
+        side,
+    })
+}
+
+/// Such a message, without parameters.
+fn message(rt: &impl Abort, alloc: Global, schema: &Schema, side: MessageSide) -> Prepared
+    ensures prepared { IsPrepared schema.now result }
+    ensures responds { (wire_of schema.now).responds result.target.interface result.target.method ≡ true }
+{
+    let Some(target) = target_of(schema, side) else {
+        panic!(rt; "no response")
+    };
+    match prepare(alloc, schema, target, Value::Struct(Vec::new(alloc))) {
+        Ok(prepared) => prepared,
+        Err(_error) => panic!(rt; "not prepared"),
+    }
+}
+
+/// No handles.
+fn no_handles(alloc: Global) -> Handles {
+    Handles::from_vec(Vec::new(alloc))
+}
+
+/// Does a command that is neither a call nor a take.
+fn done<C: Job, P: Stepper>(
+    rt: &impl Abort,
+    desk: &mut Desk<C, P>,
+    alloc: Global,
+    command: Command,
+) -> Reply
+    requires seq { (P.me desk.old.stepper).0 < P.seqs desk.old.stepper }
+    requires prepared { IsOf (P.schema desk.old.stepper) command }
+    requires other { IsOther command }
+    ensures same { (P.schema desk.new.stepper ≡ P.schema desk.old.stepper) × (P.seqs desk.new.stepper ≡ P.seqs desk.old.stepper)
+        × (P.me desk.new.stepper ≡ P.me desk.old.stepper) }
+{
+    match desk.step(alloc, command) {
+        Ok(reply) => reply,
+        Err(_refused) => panic!(rt; "refused"),
+    }
+}
+
+/// The ends of a new pipe, bound as the sides of interface 0.
+fn bound<C: Job, P: Stepper>(
+    rt: &impl Abort,
+    desk: &mut Desk<C, P>,
+    alloc: Global,
+) -> (EndId, EndId)
+    requires seq { (P.me desk.old.stepper).0 < P.seqs desk.old.stepper }
+    ensures same { (P.schema desk.new.stepper ≡ P.schema desk.old.stepper) × (P.seqs desk.new.stepper ≡ P.seqs desk.old.stepper)
+        × (P.me desk.new.stepper ≡ P.me desk.old.stepper) }
+{
+    let mut items = match done(rt, desk, alloc, Command::Pipe) {
+        Reply::Made(handles) => handles.into_vec(),
+        _other => panic!(rt; "no pipe"),
+    };
+    if items.len() != 2 {
+        panic!(rt; "not two ends");
+    }
+    let first = items.remove(0);
+    let second = items.remove(0);
+    items.destroy_empty();
+    let from = match done(
+        rt,
+        desk,
+        alloc,
+        Command::Bind(first, EndpointSide::Remote, 0),
+    ) {
+        Reply::Bound(end) => end,
+        _other => panic!(rt; "not bound"),
+    };
+    let to = match done(
+        rt,
+        desk,
+        alloc,
+        Command::Bind(second, EndpointSide::Receiver, 0),
+    ) {
+        Reply::Bound(end) => end,
+        _other => panic!(rt; "not bound"),
+    };
+    (from, to)
+}
+
+/// Calls with a job: the number of the request.
+fn called<C: Job, P: Stepper>(
+    rt: &impl Abort,
+    desk: &mut Desk<C, P>,
+    alloc: Global,
+    from: EndId,
+    call: Prepared,
+    job: C,
+) -> u64
+    requires seq { (P.me desk.old.stepper).0 < P.seqs desk.old.stepper }
+    requires prepared { IsPrepared (P.schema desk.old.stepper) call }
+    requires responds { (wire_of (P.schema desk.old.stepper)).responds call.target.interface call.target.method ≡ true }
+    ensures same { (P.schema desk.new.stepper ≡ P.schema desk.old.stepper) × (P.seqs desk.new.stepper ≡ P.seqs desk.old.stepper)
+        × (P.me desk.new.stepper ≡ P.me desk.old.stepper) }
+{
+    match desk.call(alloc, from, 0, call, no_handles(alloc), Some(job)) {
+        Ok(sent) => sent.request,
+        Err(_refused) => panic!(rt; "not sent"),
+    }
+}
+
+/// What a take got.
+fn taken<C: Job, P: Stepper>(
+    rt: &impl Abort,
+    desk: &mut Desk<C, P>,
+    alloc: Global,
+    end: EndId,
+) -> Received
+    requires seq { (P.me desk.old.stepper).0 < P.seqs desk.old.stepper }
+    ensures same { (P.schema desk.new.stepper ≡ P.schema desk.old.stepper) × (P.seqs desk.new.stepper ≡ P.seqs desk.old.stepper)
+        × (P.me desk.new.stepper ≡ P.me desk.old.stepper) }
+{
+    match desk.take(alloc, end) {
+        Ok(Reply::Got(received)) => received,
+        _other => panic!(rt; "nothing got"),
+    }
+}
+
+/// Takes a request, and answers it.
+fn answered<C: Job, P: Stepper>(
+    rt: &impl Abort,
+    desk: &mut Desk<C, P>,
+    alloc: Global,
+    to: EndId,
+    response: Prepared,
+)
+    requires seq { (P.me desk.old.stepper).0 < P.seqs desk.old.stepper }
+    requires prepared { IsPrepared (P.schema desk.old.stepper) response }
+    ensures same { (P.schema desk.new.stepper ≡ P.schema desk.old.stepper) × (P.seqs desk.new.stepper ≡ P.seqs desk.old.stepper)
+        × (P.me desk.new.stepper ≡ P.me desk.old.stepper) }
+{
+    let Received {
+        id: _,
+        target: _,
+        parameters: _,
+        request: _,
+        handles,
+        responder,
+        gone: _,
+    } = taken(rt, desk, alloc, to);
+    let items = handles.into_vec();
+    if !items.is_empty() {
+        panic!(rt; "handles came out");
+    }
+    items.destroy_empty();
+    let Some(responder) = responder else {
+        panic!(rt; "no responder")
+    };
+    match desk.reply(alloc, responder, response, no_handles(alloc)) {
+        Ok(Reply::Sent(_, _)) => {}
+        _other => panic!(rt; "not answered"),
+    }
+}
+
+#[test]
+fn jobs_run_on_their_responses_in_any_order(rt: HostRuntime) -> Result<(), Fail> {
+    let alloc = rt.alloc();
+    let schema = Arc::new(alloc, schema_of(alloc)?)?;
+    let Ok(shared) = Arc::try_clone(&schema) else {
+        return Err(AllocError.into());
+    };
+    let first = message(&rt, alloc, &schema, MessageSide::Request);
+    let second = message(&rt, alloc, &schema, MessageSide::Request);
+    let third = message(&rt, alloc, &schema, MessageSide::Request);
+    let one = message(&rt, alloc, &schema, MessageSide::Response);
+    let two = message(&rt, alloc, &schema, MessageSide::Response);
+    let mut core = Core::new(alloc, shared, 1);
+    let stepper = Alone {
+        core: &mut core,
+        seq: SeqId(0),
+    };
+    let mut desk: Desk<Adds, Alone> = Desk::new(alloc, stepper);
+    let (from, to) = bound(&rt, &mut desk, alloc);
+    let request = called(&rt, &mut desk, alloc, from, first, Adds { more: 7 });
+    called(&rt, &mut desk, alloc, from, second, Adds { more: 8 });
+    answered(&rt, &mut desk, alloc, to, one);
+    answered(&rt, &mut desk, alloc, to, two);
+    let got = taken(&rt, &mut desk, alloc, from);
+    let (stepper, rest) = desk.rest();
+    let mut desk = rest.wake(stepper);
+    let again = taken(&rt, &mut desk, alloc, from);
+    called(&rt, &mut desk, alloc, from, third, Adds { more: 9 });
+    let closing = Command::Close(ToClose::Endpoint(from, 0));
+    match done(&rt, &mut desk, alloc, closing) {
+        Reply::Closed(_) => {}
+        _other => panic!(&rt; "not closed"),
+    }
+    let (_stepper, notes) = desk.finish();
+    let (_history, over) = core.end();
+    got.retire(&over);
+    again.retire(&over);
+    let note = |request: u64, ran: bool, note: u64| Note {
+        key: Key {
+            end: from,
+            id: 0,
+            request,
+        },
+        ran,
+        note,
+    };
+    assert_eq!(rt; request, 1);
+    let want = [note(1, true, 107), note(2, true, 208), note(3, false, 0)];
+    assert_eq!(rt; notes.as_slice(), want.as_slice());
+    Ok(())
+}
+
+#[test]
+fn a_boxed_job_that_counts_its_runs_is_dropped_unrun_at_a_disconnect(
+    rt: HostRuntime,
+) -> Result<(), Fail> {
+    let alloc = rt.alloc();
+    let schema = Arc::new(alloc, schema_of(alloc)?)?;
+    let Ok(shared) = Arc::try_clone(&schema) else {
+        return Err(AllocError.into());
+    };
+    let first = message(&rt, alloc, &schema, MessageSide::Request);
+    let second = message(&rt, alloc, &schema, MessageSide::Request);
+    let response = message(&rt, alloc, &schema, MessageSide::Response);
+    let runs = Arc::new(alloc, AtomicU64::new(0))?;
+    let (ran, unrun) = (Arc::try_clone(&runs)?, Arc::try_clone(&runs)?);
+    let runs_once: Callback = Box::new(
+        alloc,
+        move |_got: &Answered| ran.fetch_add(1, Ordering::SeqCst),
+    )?;
+    let never_runs: Callback = Box::new(
+        alloc,
+        move |_got: &Answered| unrun.fetch_add(1, Ordering::SeqCst),
+    )?;
+    let mut core = Core::new(alloc, shared, 1);
+    let stepper = Alone {
+        core: &mut core,
+        seq: SeqId(0),
+    };
+    let mut desk: Desk<BoxedJob, Alone> = Desk::new(alloc, stepper);
+    let (from, to) = bound(&rt, &mut desk, alloc);
+    called(
+        &rt,
+        &mut desk,
+        alloc,
+        from,
+        first,
+        BoxedJob { run: runs_once },
+    );
+    called(
+        &rt,
+        &mut desk,
+        alloc,
+        from,
+        second,
+        BoxedJob { run: never_runs },
+    );
+    answered(&rt, &mut desk, alloc, to, response);
+    let got = taken(&rt, &mut desk, alloc, from);
+    let closing = Command::Close(ToClose::Endpoint(to, 0));
+    match done(&rt, &mut desk, alloc, closing) {
+        Reply::Closed(_) => {}
+        _other => panic!(&rt; "not closed"),
+    }
+    match desk.take(alloc, from) {
+        Ok(Reply::No(Why::PeerClosed, Command::Take(_))) => {}
+        _other => panic!(&rt; "not peer-closed"),
+    }
+    let key = |request: u64| Key {
+        end: from,
+        id: 0,
+        request,
+    };
+    let (_stepper, notes) = desk.finish();
+    let (_history, over) = core.end();
+    got.retire(&over);
+    let note = |request: u64, ran: bool| Note {
+        key: key(request),
+        ran,
+        note: 0,
+    };
+    let want = [note(1, true), note(2, false)];
+    assert_eq!(rt; runs.load(Ordering::SeqCst), 1);
+    assert_eq!(rt; notes.as_slice(), want.as_slice());
+    Ok(())
+}
