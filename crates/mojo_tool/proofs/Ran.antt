@@ -25,21 +25,24 @@ use Rattle.history_text.specs.History.{history_text}
 use Rattle.history_text.specs.declared.notes.Note.{Note}
 use Rattle.history_reader.specs.Texts.{Tells}
 use Rattle.history_reader.specs.Whole as texts
+use Rattle.printed_laws.specs.Fitting.{AllFit}
 use Rattle.printed_laws.specs.Runs.{run_said, run_text}
+use Rattle.printed_laws.proofs.Fitting.{run_fits}
 use Rattle.printed_laws.proofs.Runs.{run_read_back}
 use Rattle.printed_laws.proofs.ValueSent.{PassedIsEncodable}
 use Rattle.mojo_tool.specs.Answers.{KeepsLaws, IsTextOf}
 
--- what a legal history keeps that has no more events than a core's
+-- what a legal history keeps that has no more events than a core's, and sends what fits
 keeps_laws : PassedIsEncodable → (schema : Schema) (seqs : ℕ) (past : List Event) → legal (wire_of schema) seqs past → length past ≤ MAX_EVENTS
-    → KeepsLaws schema seqs past
-keeps_laws law schema seqs past is few = record {
+    → AllFit schema past → KeepsLaws schema seqs past
+keeps_laws law schema seqs past is few fit = record {
   in_order = in_order (wire_of schema) seqs past is;
   writers = have_writers (wire_of schema) seqs past is;
   stands = all_stand (wire_of schema) seqs past is;
   responses = own_responses (wire_of schema) seqs past is;
   own = all_own law schema seqs past is few;
   first = all_first law schema seqs past is few;
+  fits = fit;
   one_place = one_place (wire_of schema) seqs past is;
   one_owner = one_owner (wire_of schema) seqs past is;
 }
@@ -59,7 +62,8 @@ text_of_run law schema script history notes things text compiled read lawful eve
       history = history;
       legal = lawful;
       events = events;
-      laws = keeps_laws law schema SEQUENCES (reverse history) lawful (omega (arith, short, length-reverse history));
+      laws = keeps_laws law schema SEQUENCES (reverse history) lawful (omega (arith, short, length-reverse history))
+          (run_fits law compiled.0 schema read.0 script history compiled.1 read.1 events);
       whole = same;
       one = subst (λ (t : List ℕ). Tells (texts.history schema) t (Ok (run_said history))) (sym same)
           (run_read_back law compiled.0 schema read.0 script history compiled.1 read.1 lawful events few);

@@ -20,6 +20,7 @@ use Rattle.call_script.specs.Script.{IsScriptOf}
 use Rattle.script_run.specs.OfScript.{OfScript}
 use Rattle.history_reader.specs.Texts.{Tells}
 use Rattle.history_reader.specs.Whole as texts
+use Rattle.printed_laws.specs.Fitting.{AllFit}
 use Rattle.printed_laws.specs.Runs.{run_said, run_text}
 use Rattle.mojo_tool.specs.Work.{Work, Missing, TooLong, Refuses, Rejects, RefusesLine, UnknownName, BadText, Unfit, BadHex, Faulty}
 use Rattle.mojo_tool.specs.Work.{Runs, Prints, Checks, Encodes, Decodes, ComesTo, IsWork, AskedFor}
@@ -65,6 +66,8 @@ pub record KeepsLaws (schema : Schema) (seqs : ℕ) (past : List Event) : Type 0
   -- it is what the peer sent: a response what the responder of its own request answered, and that is the only answer to it
   pub own : AllOwn schema past
   pub first : AllFirst past
+  -- what each call and each answer is to send fits its method, as `own` asks before it says that the value is the one sent
+  pub fits : AllFit schema past
   -- each thing that was made has one place: with a caller, in an unread message, bound, or gone
   pub one_place : OnePlace (wire_of schema) past
   -- each is left at the end or has gone, once, and nothing is made twice

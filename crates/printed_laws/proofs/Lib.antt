@@ -39,3 +39,4 @@ pub mod ValueTexts
 pub mod ValueFiles
 pub mod ReadBack
 pub mod Runs
+pub mod Fitting

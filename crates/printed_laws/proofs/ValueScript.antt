@@ -1,5 +1,5 @@
 -- What the events of a script call and answer is a value of its method's struct, and all that they send is bytes.
-use Rattle.std.proofs.Common.{◌≡◌, ℕ, zero, suc, Bool, true, false, List, [], ◌∷◌, ◌++◌, Option, Some, None, refl, sym, ap, subst}
+use Rattle.std.proofs.Common.{◌≡◌, ◌≤◌, ℕ, zero, suc, Bool, true, false, List, [], ◌∷◌, ◌++◌, length, Option, Some, None, Ok, refl, sym, ap, subst}
 use Rattle.std.specs.Prelude.{reverse, slice_get, is_some, if◌then◌else◌, option_and_then}
 use Rattle.std.specs.List.{AllByRecursion}
 use Rattle.std.specs.Option.{option_map}
@@ -10,11 +10,13 @@ use Rattle.mj_schema.specs.KindTrees.{StructKind}
 use Rattle.mj_schema.specs.Lookups.{interface_named}
 use Rattle.mj_schema.specs.declared.schema.Schema.{Schema}
 use Rattle.wire_model.specs.Emit.{emit}
+use Rattle.wire_model.specs.Tight.{MAX_PAYLOAD_BYTES}
 use Rattle.wire_model.specs.Trees.{Tree, view}
 use Rattle.wire_model.specs.declared.target.MessageSide.{MessageSide}
 use Rattle.wire_model.specs.declared.target.MessageSide.TheVariants.{Request, Response}
 use Rattle.wire_model.specs.declared.target.Target.{Target}
-use Rattle.wire_encoder.specs.Prepared.{flags_for, kind_for, method_of, parameters_of, payload_for}
+use Rattle.wire_encoder.specs.FirstFailed.{Met}
+use Rattle.wire_encoder.specs.Prepared.{flags_for, kind_for, method_of, parameters_of, payload_for, verdict}
 use Rattle.wire_encoder.specs.declared.prepared.Prepared.{Prepared}
 use Rattle.handle_table.specs.declared.thing.Thing.{Thing}
 use Rattle.message_laws.specs.Filled.{AreBytes}
@@ -48,12 +50,15 @@ use Rattle.printed_laws.proofs.ValueBytes.{of_message, of_value}
 use Rattle.printed_laws.proofs.ValueGot.{AllSendBytes, SendsBytes}
 use Rattle.printed_laws.proofs.ValueSent.{IsSaid, PassedIsEncodable, named_parameters, sent_value}
 
--- what is sent for a target of a side: a value of the struct of its parameters
+-- what is sent for a target of a side: a value of the struct of its parameters, which passes all checks, in few bytes
 pub record IsSending (schema : Schema) (side : MessageSide) (target : Target) (t : Tree) : Type 0 where
   pub number : ℕ
   pub sided : target.side ≡ side
   pub parameters : parameters_of schema target ≡ Some number
   pub said : IsSaid schema number t
+  pub met : Met
+  pub passes : verdict schema target t ≡ Ok met
+  pub short : length (payload_for schema target t) ≤ MAX_PAYLOAD_BYTES
 
 -- some word names an interface
 abbrev pub IsNamedInterface : Schema → ℕ → Type 0
@@ -93,7 +98,15 @@ module _ (law : PassedIsEncodable) (schema : Schema) where
       → IsSending schema side prepared.target (view prepared.value)
   sending side method word prepared number found value =
       let is = named_parameters schema side method prepared.target number found in
-      record { number = number; sided = is.1; parameters = is.0; said = sent_value law schema number word prepared value is.0 }
+      record {
+        number = number;
+        sided = is.1;
+        parameters = is.0;
+        said = sent_value law schema number word prepared value is.0;
+        met = record { handles = prepared.handles; endpoints = prepared.endpoints.items };
+        passes = value.1.passes;
+        short = subst (λ (bs : List ℕ). length bs ≤ MAX_PAYLOAD_BYTES) value.1.payload prepared.short;
+      }
 
   -- what a command sends
   abbrev CommandSaid : Command → Type 0

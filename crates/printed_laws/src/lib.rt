@@ -1,7 +1,8 @@
-//! That what a script's run makes can be printed, and that its text says its history and no other.
+//! That what a script's run makes can be printed, that its text says its history and no other, and that
+//! what it sends fits.
 #![tactic(auto)]
 
-ghost use Rattle.std.specs.Prelude.{◌≤◌, ◌*◌, List, ℕ, Ok, length};
+ghost use Rattle.std.specs.Prelude.{◌≤◌, ◌*◌, List, ℕ, Ok, length, reverse};
 ghost use Rattle.mj_base.specs.declared.limits.TheConstants.{MAX_SCRIPT_LINES};
 ghost use Rattle.mj_schema.specs.declared.schema.Schema.{Schema};
 ghost use Rattle.bind_model.specs.Replies.{Legal};
@@ -16,6 +17,7 @@ ghost use Rattle.call_script.specs.declared.script.TheConstants.{SEQUENCES};
 ghost use Rattle.history_reader.specs.Printable.{IsPrintable};
 ghost use Rattle.history_reader.specs.Texts.{Tells};
 ghost use Rattle.history_reader.specs.Whole.{history as history_rule};
+ghost use Rattle.printed_laws.specs.Fitting.{AllFit};
 ghost use Rattle.printed_laws.specs.Runs.{run_said, run_text};
 ghost use Rattle.script_run.specs.OfScript.{OfScript};
 
@@ -40,6 +42,17 @@ pub fn runs_are_read_back()
         → IsSchemaOfFiles sources schema → IsScriptOf schema bytes script → Legal (wire_of schema) SEQUENCES history
         → OfScript schema script history → length history ≤ 4 * MAX_SCRIPT_LINES
         → Tells (history_rule schema) (run_text schema history) (Ok (run_said history)) }
+{
+    passed_is_encodable();
+}
+
+/// What the calls and answers of such a run are to send was prepared, and so fits its method: its parameters
+/// pass all checks, in few bytes, and the method's ordinal is a number of 32 bits. This is a law and does
+/// nothing: it calls the law that it rests on.
+pub fn runs_send_what_fits()
+    ensures { (sources : List Source) (schema : Schema) (bytes : List ℕ) (script : Script) (history : List Event)
+        → IsSchemaOfFiles sources schema → IsScriptOf schema bytes script
+        → OfScript schema script history → AllFit schema (reverse history) }
 {
     passed_is_encodable();
 }
