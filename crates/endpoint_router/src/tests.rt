@@ -1,0 +1,191 @@
+//! The ids that ends make, requests until they end, and what is found at messages.
+
+ghost use Rattle.std.specs.Prelude.{◌≡◌, Some, IfOk};
+ghost use Rattle.endpoint_router.specs.Rows.{row_at, row_of};
+
+use crate::{Next, Router, Row};
+use bind_model::{Endpoint, State};
+use handle_table::{Thing, TokenId};
+use message_pipe::Message;
+use mj_base::{Fault, FaultKind, Items, SeqId, push_le32};
+use std::alloc::Global;
+use std::process::Abort;
+use std::test::Fail;
+use wire_encoder::EndpointSide;
+
+const ONLY: SeqId = SeqId(0);
+
+const OTHER: SeqId = SeqId(1);
+
+const TOKEN: Thing = Thing::Token(TokenId { seq: 0, serial: 0 });
+
+/// A remote that is bound.
+const REMOTE: Endpoint = Endpoint {
+    side: EndpointSide::Remote,
+    interface: 0,
+    state: State::Bound(ONLY),
+    peer_closed: false,
+};
+
+/// A receiver that is bound.
+const RECEIVER: Endpoint = Endpoint {
+    side: EndpointSide::Receiver,
+    interface: 0,
+    state: State::Bound(ONLY),
+    peer_closed: false,
+};
+
+/// A receiver that nobody has bound yet.
+const PENDING: Endpoint = Endpoint {
+    side: EndpointSide::Receiver,
+    interface: 0,
+    state: State::Pending,
+    peer_closed: false,
+};
+
+/// Requests by endpoint, number and method, and whether they wait where the first two were sent.
+const WANTS: [(u32, u64, u32, bool); 5] = [
+    (0, 1, 7, true),
+    (0, 2, 8, true),
+    (0, 1, 8, false),
+    (0, 3, 7, false),
+    (1, 1, 7, false),
+];
+
+/// The numbers of a control that tells of endpoint 5.
+const CONTROL: [u32; 10] = [24, 0, 0xffff_ffff, 0, 0, 0, 16, 0, 1, 5];
+
+/// The numbers of a request to endpoint 1.
+const REQUEST: [u32; 10] = [24, 0, 1, 0, 0, 0, 16, 0, 0, 0];
+
+/// Messages by their numbers, whether they have a handle, and what is found at them where no endpoint
+/// is there.
+const FOUND: [([u32; 10], bool, Next); 3] = [
+    (CONTROL, false, Next::Control(5)),
+    (
+        CONTROL,
+        true,
+        Next::Bad(Fault {
+            kind: FaultKind::IllegalHandle,
+            at: 0,
+        }),
+    ),
+    (REQUEST, false, Next::Dropped(1)),
+];
+
+/// An end with this endpoint 0.
+fn end_with(alloc: Global, endpoint: Endpoint) -> Result<Router, Fail>
+    ensures row { IfOk result (λ router. row_at router 0 ≡ Some (row_of endpoint)) }
+    ensures drawn { IfOk result (λ router. router.drawn ≡ 0) }
+{
+    let mut router = Router::new(alloc);
+    router.reserve(0)?;
+    router.enter(0, Row::new(alloc, endpoint));
+    Ok(router)
+}
+
+/// The first ids that an end makes by itself, with this endpoint 0.
+fn first_ids(alloc: Global, endpoint: Endpoint) -> Result<(u32, u32, u32), Fail> {
+    let mut router = end_with(alloc, endpoint)?;
+    let first = router.new_id();
+    let second = router.new_id();
+    Ok((first, second, router.next_id()))
+}
+
+#[test]
+fn own_ids_are_numbered_by_side(rt: HostRuntime) -> Result<(), Fail> {
+    let alloc = rt.alloc();
+    assert_eq!(rt; first_ids(alloc, RECEIVER)?, (1, 2, 3));
+    assert_eq!(rt;
+        first_ids(alloc, REMOTE)?,
+        (2_147_483_649, 2_147_483_650, 2_147_483_651)
+    );
+    Ok(())
+}
+
+/// What is said of endpoint 0, from which two requests were sent.
+fn is_said(rt: &impl Abort, router: &Router) -> Result<(), Fail> {
+    for (id, request, method, waits) in WANTS.as_slice() {
+        assert_eq!(rt;
+            router.answered(*id, *request, *method),
+            *waits,
+            "{id} {request} {method}"
+        );
+    }
+    let Some(row) = router.row(0) else {
+        return Err(Fail::new("no row"));
+    };
+    assert_eq!(rt; (row.endpoint(), row.next_request()), (REMOTE, 3));
+    assert!(rt; row.is_pending(1, 7) && !row.is_pending(1, 8));
+    assert_eq!(rt;
+        (router.endpoint(0), router.endpoint(1)),
+        (Some(REMOTE), None)
+    );
+    Ok(())
+}
+
+#[test]
+fn a_request_waits_until_it_ends(rt: HostRuntime) -> Result<(), Fail> {
+    let mut router = end_with(rt.alloc(), REMOTE)?;
+    router.reserve_draw(0)?;
+    assert_eq!(rt; router.draw(0, 7), 1);
+    router.reserve_draw(0)?;
+    assert_eq!(rt; router.draw(0, 8), 2);
+    is_said(&rt, &router)?;
+    router.end_request(0, 1);
+    assert!(rt; !router.answered(0, 1, 7) && router.answered(0, 2, 8));
+    router.peer_closed(0);
+    assert!(rt; !router.answered(0, 2, 8));
+    Ok(())
+}
+
+/// A message of numbers, with a handle or without.
+fn message(alloc: Global, numbers: &[u32], has_handle: bool) -> Result<Message, Fail> {
+    let mut bytes = Vec::new(alloc);
+    for number in numbers {
+        push_le32(&mut bytes, *number)?;
+    }
+    let mut handles = Vec::new(alloc);
+    if has_handle {
+        handles.push(TOKEN)?;
+    }
+    Ok(Message {
+        bytes: Items::from_vec(bytes),
+        handles: Items::from_vec(handles),
+        emitted: false,
+    })
+}
+
+/// What is found at messages where no endpoint is there.
+fn is_found(rt: &impl Abort, alloc: Global, router: &Router) -> Result<(), Fail> {
+    let fault = Fault {
+        kind: FaultKind::IllegalMemoryRange,
+        at: 0,
+    };
+    assert_eq!(rt;
+        router.next_for(ONLY, &message(alloc, &[], false)?),
+        Next::Bad(fault)
+    );
+    for (numbers, has_handle, next) in FOUND.as_slice() {
+        let message = message(alloc, numbers, *has_handle)?;
+        assert_eq!(rt; router.next_for(ONLY, &message), *next);
+    }
+    Ok(())
+}
+
+#[test]
+fn what_is_found_goes_by_the_message_and_its_endpoint(rt: HostRuntime) -> Result<(), Fail> {
+    let alloc = rt.alloc();
+    let asks = message(alloc, &REQUEST, false)?;
+    let mut router = Router::new(alloc);
+    is_found(&rt, alloc, &router)?;
+    router.reserve(1)?;
+    router.enter(1, Row::new(alloc, PENDING));
+    assert_eq!(rt; router.next_for(ONLY, &asks), Next::Unbound(1));
+    router.attach(1, ONLY);
+    assert_eq!(rt; router.next_for(ONLY, &asks), Next::Check(1));
+    assert_eq!(rt; router.next_for(OTHER, &asks), Next::Elsewhere(ONLY));
+    router.detach(1);
+    assert_eq!(rt; router.next_for(ONLY, &asks), Next::Dropped(1));
+    Ok(())
+}
