@@ -13,3 +13,14 @@ pub mod TableAfter
 pub mod GroupLemmas
 pub mod NameOrder
 pub mod ResponderCounts
+pub mod Entering
+pub mod Telling
+pub mod Turns
+pub mod PendingLists
+pub mod Turning
+pub mod TurningOut
+pub mod TurnOf
+pub mod Controls
+pub mod Growing
+pub mod PendingFacts
+pub mod Askers

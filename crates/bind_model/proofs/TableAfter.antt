@@ -122,7 +122,7 @@ all_there wire seqs (event ∷ past) h x id e = there_step wire seqs past event.
 -- ## What comes is new, and no id comes twice
 
 module _ (endpoints : Endpoints) (named : List Named) where
-  not_strange : (k : ℕ) (earlier ids : List ℕ) (j : ℕ) → has_number (ids_of_entries (entries_of endpoints named k earlier ids)) j ≡ true
+  pub not_strange : (k : ℕ) (earlier ids : List ℕ) (j : ℕ) → has_number (ids_of_entries (entries_of endpoints named k earlier ids)) j ≡ true
       → is_strange endpoints earlier j ≡ false
   not_strange k earlier [] j h = absurd cc
   not_strange k earlier (id ∷ ids) j h = go (not_strange (suc k) (id ∷ earlier) ids j) (is_strange endpoints earlier id) refl h
@@ -147,7 +147,7 @@ module _ (endpoints : Endpoints) (named : List Named) where
         | inr s ↦ tail (rest s)
       ]
 
-  no_double : (k : ℕ) (earlier ids : List ℕ) → all_differ (ids_of_entries (entries_of endpoints named k earlier ids)) ≡ true
+  pub no_double : (k : ℕ) (earlier ids : List ℕ) → all_differ (ids_of_entries (entries_of endpoints named k earlier ids)) ≡ true
   no_double k earlier [] = refl
   no_double k earlier (id ∷ ids) = go (no_double (suc k) (id ∷ earlier) ids) (is_strange endpoints earlier id)
     where
@@ -167,7 +167,7 @@ module _ (endpoints : Endpoints) (named : List Named) where
       go rest true = rest
       go rest false = rw (absent (has_number (ids_of_entries (entries_of endpoints named (suc k) (id ∷ earlier) ids)) id) refl, rest) refl
 
-  new_ids : (k : ℕ) (ids : List ℕ) (j : ℕ) → has_number (ids_of_entries (entries_of endpoints named k [] ids)) j ≡ true → is_some (endpoints j) ≡ false
+  pub new_ids : (k : ℕ) (ids : List ℕ) (j : ℕ) → has_number (ids_of_entries (entries_of endpoints named k [] ids)) j ≡ true → is_some (endpoints j) ≡ false
   new_ids k ids j h = not_left (is_some (endpoints j)) false (not_left (is_some (endpoints j) || false) (is_own endpoints j) (not_strange k [] ids j h))
 
 abbrev pub entry_line : Entry → Line

@@ -10,10 +10,10 @@ use Rattle.bind_model.specs.declared.endpoint.Endpoint.{Endpoint}
 use Rattle.bind_model.specs.declared.told.Got.{Got}
 use Rattle.bind_model.specs.declared.endpoint.State.TheVariants as states
 use Rattle.bind_model.specs.declared.asked.Asked.{Asked}
-use Rattle.bind_model.specs.declared.asked.Asked.TheVariants.{Take}
+use Rattle.bind_model.specs.declared.asked.Asked.TheVariants.{Call, Take}
 use Rattle.bind_model.specs.declared.told.Told.{Told}
-use Rattle.bind_model.specs.declared.told.Told.TheVariants.{Taken, Dropped, Control}
-use Rattle.handle_table.specs.Things.{times}
+use Rattle.bind_model.specs.declared.told.Told.TheVariants.{Sent, Taken, Dropped, Control}
+use Rattle.handle_table.specs.Things.{same_end, times}
 use Rattle.wire_model.specs.HeaderMarks.{CONTROL_ID}
 use Rattle.bind_model.specs.Wire.{Wire, Header, Content}
 use Rattle.bind_model.specs.Machine.{made, out, gone, is_gone, held_unread, held_bound, written, endpoint_at, is_closed, unread, takes, consumed}
@@ -52,6 +52,27 @@ pub record OwnResponses (past : List Event) : Type 0 where
   pub numbers : (x : EndId) (id : ℕ) → map (λ (d : Drawn). d.request) (drawn past x id) ≡ up_from 1 (length (drawn past x id))
   pub once : (x : EndId) (id : ℕ) → all_differ (answered past x id) ≡ true
   pub awaited : AllAwaited past
+
+-- ## Who asked
+
+-- whether an event sent a request of this number at an endpoint
+abbrev pub sends_at : Told → Asked → EndId → ℕ → ℕ → Bool
+sends_at (Sent request bytes) (Call y n outgoing) x id number = same_end y x && (n == id) && (request == number)
+sends_at told asked x id number = false
+
+-- each request of this number at an endpoint was sent by this sequence
+abbrev pub SentBy : List Event → EndId → ℕ → ℕ → SeqId → Type 0
+SentBy [] x id number seq = Unit {0}
+SentBy (event ∷ past) x id number seq = (sends_at event.told event.asked x id number ≡ true → event.seq ≡ seq) × SentBy past x id number seq
+
+-- a response is got by the sequence that asked for it: what is awaited was sent, and by no other sequence
+abbrev pub IsOfAsker : List Event → SeqId → Told → Asked → Type 0
+IsOfAsker past seq (Taken g) (Take y) = is_response g.target.side ≡ true → SentBy past y g.id g.request seq
+IsOfAsker past seq told asked = Unit {0}
+
+abbrev pub AllOfAskers : List Event → Type 0
+AllOfAskers [] = Unit {0}
+AllOfAskers (event ∷ past) = IsOfAsker past event.seq event.told event.asked × AllOfAskers past
 
 -- ## Messages stay, and are consumed in order
 

@@ -1,13 +1,14 @@
 //! What every legal history keeps. Each law is proved of all histories at once, so its function
 //! does nothing.
 
-ghost use Rattle.std.specs.Prelude.{ℕ, List};
+ghost use Rattle.std.specs.Prelude.{ℕ, ◌≤◌, List, length};
+ghost use Rattle.mj_base.specs.declared.limits.TheConstants.{MAX_EVENTS};
 ghost use Rattle.bind_model.specs.declared.event.Event.{Event};
 ghost use Rattle.bind_model.specs.Wire.{Wire};
 ghost use Rattle.bind_model.specs.Replies.{legal};
 ghost use Rattle.bind_model.specs.Origins.{HaveWriters};
 ghost use Rattle.bind_model.specs.Tables.{TableIsEndpoints};
-ghost use Rattle.bind_model.specs.Laws.{OnePlace, OwnResponses, InOrder, AllStand, Stays};
+ghost use Rattle.bind_model.specs.Laws.{OnePlace, OwnResponses, AllOfAskers, InOrder, AllStand, Stays};
 
 /// Each thing that was made has one place: with a caller, in an unread message, bound, or gone.
 #[tactic(auto, using(crate::proofs::Fresh::one_place))]
@@ -20,6 +21,12 @@ pub fn one_place()
 #[tactic(auto, using(crate::proofs::Responses::own_responses))]
 pub fn own_responses()
     ensures { (wire : Wire) (seqs : ℕ) (past : List Event) → legal wire seqs past → OwnResponses past }
+{}
+
+/// A response is got by the sequence that asked for it, in every history that a core can have.
+#[tactic(auto, using(crate::proofs::Askers::of_askers))]
+pub fn of_askers()
+    ensures { (wire : Wire) (seqs : ℕ) (past : List Event) → legal wire seqs past → length past ≤ MAX_EVENTS → AllOfAskers past }
 {}
 
 /// At each end the messages are consumed in the order in which they were written, while it is open.

@@ -7,6 +7,7 @@ use Rattle.handle_table.specs.declared.thing.Thing.{Thing}
 use Rattle.bind_model.specs.declared.event.Event.{Event}
 use Rattle.bind_model.specs.WireOf.{wire_of}
 use Rattle.bind_model.specs.Replies.{legal, Legal}
+use Rattle.bind_model.proofs.Askers.{of_askers}
 use Rattle.bind_model.proofs.Fresh.{one_place}
 use Rattle.bind_model.proofs.Responses.{own_responses, in_order, all_stand}
 use Rattle.bind_model.proofs.OriginLemmas.{have_writers}
@@ -40,6 +41,7 @@ keeps_laws law schema seqs past is few fit = record {
   writers = have_writers (wire_of schema) seqs past is;
   stands = all_stand (wire_of schema) seqs past is;
   responses = own_responses (wire_of schema) seqs past is;
+  askers = of_askers (wire_of schema) seqs past is few;
   own = all_own law schema seqs past is few;
   first = all_first law schema seqs past is few;
   fits = fit;

@@ -6,7 +6,7 @@ use Rattle.mj_schema.specs.declared.schema.Schema.{Schema}
 use Rattle.bind_model.specs.declared.event.Event.{Event}
 use Rattle.bind_model.specs.WireOf.{wire_of}
 use Rattle.bind_model.specs.Replies.{Legal}
-use Rattle.bind_model.specs.Laws.{InOrder, AllStand, OwnResponses, OnePlace}
+use Rattle.bind_model.specs.Laws.{InOrder, AllOfAskers, AllStand, OwnResponses, OnePlace}
 use Rattle.bind_model.specs.Origins.{HaveWriters}
 use Rattle.history_laws.specs.Owners.{OneOwner}
 use Rattle.reply_laws.specs.Once.{AllFirst}
@@ -63,6 +63,8 @@ pub record KeepsLaws (schema : Schema) (seqs : ℕ) (past : List Event) : Type 0
   pub stands : AllStand (wire_of schema) past
   -- requests are numbered, and each is answered once at most
   pub responses : OwnResponses past
+  -- and a response is got by the sequence that asked for it
+  pub askers : AllOfAskers past
   -- it is what the peer sent: a response what the responder of its own request answered, and that is the only answer to it
   pub own : AllOwn schema past
   pub first : AllFirst past
