@@ -1,5 +1,5 @@
 -- What the binding of an end makes of pipes, places and endpoints.
-use Rattle.std.proofs.Common.{◌≡◌, ℕ, Bool, true, false, List, ◌∷◌, length, refl, sym, ap, ◌∙◌, arith, subst}
+use Rattle.std.proofs.Common.{◌≡◌, ℕ, Bool, true, false, List, [], ◌∷◌, length, refl, sym, ap, ◌∙◌, arith, subst}
 use Rattle.std.specs.Prelude.{if◌then◌else◌, ◌||◌, ◌&&◌, not, ◌==◌, is_some, nat_lt, Option, Some, None}
 use Rattle.std.specs.Option.{option_map}
 use Rattle.std.specs.List.{count_by}
@@ -7,7 +7,7 @@ use Rattle.std.proofs.lemmas.List.{append-nil}
 use Rattle.mj_base.specs.declared.ids.EndId.{EndId}
 use Rattle.mj_base.specs.declared.ids.SeqId.{SeqId}
 use Rattle.mj_schema.specs.declared.schema.Schema.{Schema}
-use Rattle.handle_table.specs.Things.{has, same, same_end, is_end, seq_of}
+use Rattle.handle_table.specs.Things.{has, same, is_end, seq_of}
 use Rattle.handle_table.specs.Places.{place_of}
 use Rattle.handle_table.specs.declared.places.Place.{Place}
 use Rattle.handle_table.specs.declared.places.Place.TheVariants as places
@@ -23,13 +23,14 @@ use Rattle.bind_model.specs.declared.event.Event.{Event}
 use Rattle.bind_model.specs.Wire.{Wire}
 use Rattle.bind_model.specs.WireOf.{wire_of}
 use Rattle.bind_model.specs.Machine.{made, gone, out, bound_on}
-use Rattle.bind_model.specs.Replies.{answer, bound_as}
+use Rattle.bind_model.specs.Replies.{answer, bound_as, drawn}
 use Rattle.bind_model.proofs.Counting.{absent, times-present}
 use Rattle.bind_model.proofs.Kept.{Kept, most}
-use Rattle.bind_core.specs.Lines.{found_at}
+use Rattle.bind_core.specs.Routers.{Routers}
+use Rattle.bind_core.specs.steps.Turns.{EntersAt}
 use Rattle.bind_core.specs.Agreement.{Agrees, is_out, is_shut}
-use Rattle.bind_core.specs.declared.endpoint_table.Line.{Line}
 use Rattle.bind_core.proofs.After.{out_after, end_still}
+use Rattle.bind_core.proofs.Steady.{bind_enters}
 
 -- as many interfaces as the schema has
 pub interfaces_of : (schema : Schema) → (wire_of schema).interfaces ≡ length schema.interfaces
@@ -48,7 +49,7 @@ pub bind_told : (schema : Schema) (seqs : ℕ) (past : List Event) (seq : SeqId)
 bind_told schema seqs past seq z side interface b e h = rw (interfaces_of schema, ← e, h) refl
 
 module _ (wire : Wire) (past : List Event) (k : Kept wire past) (seq : SeqId) (x : EndId) (side : EndpointSide) (interface : ℕ)
-    (h : has (out past) (End x) ≡ true) where
+    (h : has (out past) (End x) ≡ true) (unsent : drawn past x 0 ≡ []) where
   abbrev pub bound_event : Event
   bound_event = record { seq = seq; asked = Bind (End x) side interface; told = Bound x }
 
@@ -84,8 +85,8 @@ module _ (wire : Wire) (past : List Event) (k : Kept wire past) (seq : SeqId) (x
       nowhere None = refl
       nowhere (Some q) = refl
 
-  pub bound_agrees : (old new : Contents) (before now : List (List (List Line))) → Puts (End x) places.Bound old new
-      → ((y : EndId) (id : ℕ) → found_at now y id ≡ (if same_end x y && (0 == id) then Some (bound_on seq side interface) else found_at before y id))
+  pub bound_agrees : (old new : Contents) (before now : Routers) → Puts (End x) places.Bound old new
+      → EntersAt (bound_on seq side interface) x 0 before now
       → Agrees wire past old before → Agrees wire (bound_event ∷ past) new now
   bound_agrees old new before now p e a = record {
     ends = λ y. p.ends y ∙ (a.ends y ∙ sym (end_still wire bound_event past y (ap (λ ms. has ms (End y)) (append-nil (made past))) refl refl refl refl));
@@ -98,5 +99,5 @@ module _ (wire : Wire) (past : List Event) (k : Kept wire past) (seq : SeqId) (x
     made = p.made ∙ (a.made ∙ ap length (sym (append-nil (made past))));
     serials = λ n. p.table.ends n ∙ (a.serials n ∙ ap (λ ms. count_by (λ z. is_end z && (seq_of z == n)) ms) (sym (append-nil (made past))));
     tokens = λ n. p.table.tokens n ∙ (a.tokens n ∙ ap (λ ms. count_by (λ z. not (is_end z) && (seq_of z == n)) ms) (sym (append-nil (made past))));
-    endpoints = λ y id. e y id ∙ ap (λ o. if same_end x y && (0 == id) then Some (bound_on seq side interface) else o) (a.endpoints y id);
+    routers = bind_enters wire past seq before now a.routers x (End x) side interface unsent e;
   }

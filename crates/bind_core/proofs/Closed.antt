@@ -1,15 +1,13 @@
 -- What is told of a closing, and what it makes of a state that agrees.
 use Rattle.std.proofs.Common.{◌≡◌, ◌<◌, ℕ, Bool, true, false, List, [], ◌∷◌, length, refl, sym, ap, ◌∙◌, subst}
-use Rattle.std.specs.Prelude.{if◌then◌else◌, ◌||◌, ◌&&◌, ◌==◌, Option, Some, None, Result}
-use Rattle.std.specs.Option.{option_map}
-use Rattle.std.proofs.lemmas.Bool.{eqb-true}
+use Rattle.std.specs.Prelude.{if◌then◌else◌, ◌||◌, ◌==◌, Option, None, Result}
 use Rattle.mj_base.specs.declared.ids.EndId.{EndId}
 use Rattle.mj_base.specs.declared.ids.SeqId.{SeqId}
-use Rattle.handle_table.specs.Things.{has, same, same_end}
+use Rattle.handle_table.specs.Things.{has, same}
 use Rattle.handle_table.specs.declared.places.Place.TheVariants as places
 use Rattle.handle_table.specs.declared.thing.Thing.{Thing}
 use Rattle.handle_table.specs.declared.thing.Thing.TheVariants.{End}
-use Rattle.handle_table.proofs.ThingsLemmas.{same-true, same_end-true}
+use Rattle.handle_table.proofs.ThingsLemmas.{same-true}
 use Rattle.message_pipe.specs.Contents.{Contents, Closes, Puts}
 use Rattle.message_pipe.specs.Ends as ends
 use Rattle.message_pipe.specs.Ends.{spread, carried_in, end_of}
@@ -22,20 +20,21 @@ use Rattle.bind_model.specs.declared.told.Told.TheVariants.{Closed, Bad}
 use Rattle.bind_model.specs.declared.told.Why.{Why}
 use Rattle.bind_model.specs.declared.event.Event.{Event}
 use Rattle.bind_model.specs.Wire.{Wire}
-use Rattle.bind_model.specs.Machine.{out, made, is_gone, carried, goes_with, endpoint_at, with_state}
+use Rattle.bind_model.specs.Machine.{out, made, is_gone, carried, goes_with, endpoint_at}
 use Rattle.bind_model.specs.Replies.{answer, legal}
 use Rattle.bind_model.proofs.Fresh.{kept}
-use Rattle.bind_core.specs.Lines.{found_at}
-use Rattle.bind_core.specs.steps.LineChanges.{put}
+use Rattle.endpoint_router.specs.Changes.{in_state}
+use Rattle.bind_core.specs.Routers.{Routers, found_at}
 use Rattle.bind_core.specs.steps.Opens.{opened}
+use Rattle.bind_core.specs.steps.Turns.{TurnsAt}
 use Rattle.bind_core.specs.Agreement.{Agrees}
-use Rattle.bind_core.specs.declared.endpoint_table.Line.{Line}
 use Rattle.bind_core.proofs.Facts.{closed_is, carried_is, spread_same}
 use Rattle.bind_core.proofs.Closing.{closes_put, spread_first, closed_agrees}
 use Rattle.bind_core.proofs.Opening.{told_of_opened, closing_told}
+use Rattle.bind_core.proofs.Steady.{close_turns, found_is, steady}
 
 module _ (wire : Wire) (seqs : ℕ) (past : List Event) (h : legal wire seqs past) (seq : SeqId) (within : seq.0 < seqs) (pipes : Contents)
-    (endpoints : List (List (List Line))) (a : Agrees wire past pipes endpoints) where
+    (endpoints : Routers) (a : Agrees wire past pipes endpoints) where
   -- what the code finds is what the events say
   pub goes_is : (xs : List Thing) → spread (carried_in pipes.ends None) pipes.made xs ≡ goes_with wire past xs
   goes_is xs =
@@ -46,7 +45,7 @@ module _ (wire : Wire) (seqs : ℕ) (past : List Event) (h : legal wire seqs pas
       → opened seq (ends.is_closed (end_of pipes.ends y)) id (found_at endpoints y id) ≡ opened seq (is_gone past y) id (endpoint_at wire past y id)
   opened_is y id =
       ap (λ (b : Bool). opened seq b id (found_at endpoints y id)) (closed_is wire past (kept wire seqs past h) pipes endpoints a y)
-      ∙ ap (λ (o : Option Endpoint). opened seq (is_gone past y) id o) (a.endpoints y id)
+      ∙ ap (λ (o : Option Endpoint). opened seq (is_gone past y) id o) (found_is a y id)
 
   -- ## What is told
 
@@ -86,7 +85,9 @@ module _ (wire : Wire) (seqs : ℕ) (past : List Event) (h : legal wire seqs pas
     handle_closed o mid new p c =
         closed_agrees wire handle_event past (kept wire seqs past h) (kept wire seqs (handle_event ∷ past) (within, handle_told o, h)) goes
         (record { made = refl; gone = refl; given = given_goes; handed = refl; takes = λ y. refl; puts = λ y. refl; peer = λ y. refl })
-        pipes new endpoints endpoints (closes_put x goes pipes mid new p c first_goes) a.endpoints a
+        pipes new endpoints endpoints (closes_put x goes pipes mid new p c first_goes)
+        (steady wire (handle_event) past
+        (record { draws = λ x n. refl; answers = λ x n. refl; associates = λ x. refl; endpoints = λ x n. refl }) endpoints a.routers) a
 
   -- ## An end
 
@@ -98,35 +99,13 @@ module _ (wire : Wire) (seqs : ℕ) (past : List Event) (h : legal wire seqs pas
         → Closed goes ≡ answer wire seqs past seq (Close (closings.Endpoint y 0))
     end_told t = ap Closed (e ∙ goes_is (End y ∷ [])) ∙ sym t
 
-    -- endpoint 0 of the end is closed, and the others are as they were
-    abbrev ClosesMain : Endpoint → List (List (List Line)) → Type 0
-    ClosesMain r after = (x : EndId) (n : ℕ)
-        → found_at after x n
-        ≡ (if same_end y x && (0 == n) then option_map (put (with_state states.Closed r)) (found_at endpoints x n) else found_at endpoints x n)
-
-    endpoints_now : (r : Endpoint) (after : List (List (List Line))) → found_at endpoints y 0 ≡ Some r → ClosesMain r after
-        → (x : EndId) (n : ℕ) → found_at after x n ≡ endpoint_at wire (end_event ∷ past) x n
-    endpoints_now r after f g x n =
-        g x n
-        ∙ (ap (λ (o : Option Endpoint). if same_end y x && (0 == n) then option_map (put (with_state states.Closed r)) o else o) (a.endpoints x n)
-        ∙ go (same_end y x) (0 == n) refl refl)
-      where
-        go : (b c : Bool) → same_end y x ≡ b → (0 == n) ≡ c
-            → (if (b && c) then option_map (put (with_state states.Closed r)) (endpoint_at wire past x n) else endpoint_at wire past x n)
-            ≡ (if (b && c) then option_map (with_state states.Closed) (endpoint_at wire past x n) else endpoint_at wire past x n)
-        go false c i j = refl
-        go true false i j = refl
-        go true true i j =
-            let here : endpoint_at wire past x n ≡ Some r = sym (a.endpoints x n) ∙ (rw (← same_end-true y x i, ← eqb-true 0 n j) f) in
-            rw here refl
-
     pub end_closed : answer wire seqs past seq (Close (closings.Endpoint y 0)) ≡ Closed (goes_with wire past (End y ∷ []))
-        → (r : Endpoint) → found_at endpoints y 0 ≡ Some r → (new : Contents) (after : List (List (List Line)))
-        → ClosesMain r after → Closes goes pipes new → Agrees wire (end_event ∷ past) new after
-    end_closed t r f new after g c =
+        → (new : Contents) (after : Routers) → TurnsAt (in_state states.Closed) y 0 endpoints after → Closes goes pipes new
+        → Agrees wire (end_event ∷ past) new after
+    end_closed t new after g c =
         closed_agrees wire end_event past (kept wire seqs past h) (kept wire seqs (end_event ∷ past) (within, end_told t, h)) goes
         (record { made = refl; gone = refl; given = λ z i. refl; handed = refl; takes = λ x. refl; puts = λ x. refl; peer = λ x. refl })
-        pipes new endpoints after c (endpoints_now r after f g) a
+        pipes new endpoints after c (close_turns wire past seq endpoints after a.routers y 0 goes g) a
 
     -- ## An end whose oldest message is bad
 
@@ -142,4 +121,6 @@ module _ (wire : Wire) (seqs : ℕ) (past : List Event) (h : legal wire seqs pas
     bad_closed why t new c =
         closed_agrees wire (bad_event why) past (kept wire seqs past h) (kept wire seqs (bad_event why ∷ past) (within, bad_told why t, h)) goes
         (record { made = refl; gone = refl; given = λ z i. refl; handed = refl; takes = λ x. refl; puts = λ x. refl; peer = λ x. refl })
-        pipes new endpoints endpoints c a.endpoints a
+        pipes new endpoints endpoints c
+        (steady wire (bad_event why) past
+        (record { draws = λ x n. refl; answers = λ x n. refl; associates = λ x. refl; endpoints = λ x n. refl }) endpoints a.routers) a

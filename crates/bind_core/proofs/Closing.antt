@@ -20,11 +20,11 @@ use Rattle.bind_model.specs.Wire.{Wire}
 use Rattle.bind_model.specs.Machine.{made, made_by, peer, peer_by, gone, gone_by, is_gone, out, given, handed, taken, takes, written, puts, endpoint_at}
 use Rattle.bind_model.specs.Machine.{unread}
 use Rattle.bind_model.proofs.Kept.{Kept}
-use Rattle.bind_core.specs.Lines.{found_at}
+use Rattle.bind_core.specs.Routers.{Routers}
 use Rattle.bind_core.specs.Agreement.{Agrees, end_in, end_with, is_out, is_shut}
-use Rattle.bind_core.specs.declared.endpoint_table.Line.{Line}
 use Rattle.bind_core.proofs.After.{gone_after, out_after, unread_after, end_after}
 use Rattle.bind_core.proofs.Facts.{gone_out, gone_made}
+use Rattle.bind_core.proofs.Steady.{AllAgree}
 
 -- the place of a thing once it is closed; none where it was never made
 abbrev closed_place : Option Place → Option Place
@@ -162,8 +162,8 @@ module _ (wire : Wire) (event : Event) (past : List Event) (k : Kept wire past) 
   still_some (Some p) true = refl
 
   -- what agreed agrees with the longer history, once these are closed and the endpoints are as it says
-  pub closed_agrees : (old new : Contents) (before now : List (List (List Line))) → Closes goes old new
-      → ((x : EndId) (id : ℕ) → found_at now x id ≡ endpoint_at wire (event ∷ past) x id)
+  pub closed_agrees : (old new : Contents) (before now : Routers) → Closes goes old new
+      → AllAgree wire (event ∷ past) now
       → Agrees wire past old before → Agrees wire (event ∷ past) new now
   closed_agrees old new before now c e a = record {
     ends = λ x. c.ends x ∙ (ap (option_map (closed_by goes x)) (a.ends x) ∙ ends_now x);
@@ -175,5 +175,5 @@ module _ (wire : Wire) (event : Event) (past : List Event) (k : Kept wire past) 
     made = c.made ∙ (a.made ∙ sym (ap length same_made));
     serials = λ n. c.ends_made n ∙ (a.serials n ∙ sym (ap (λ ms. count_by (λ x. is_end x && (seq_of x == n)) ms) same_made));
     tokens = λ n. c.tokens_made n ∙ (a.tokens n ∙ sym (ap (λ ms. count_by (λ x. not (is_end x) && (seq_of x == n)) ms) same_made));
-    endpoints = e;
+    routers = e;
   }

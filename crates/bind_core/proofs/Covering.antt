@@ -1,6 +1,6 @@
 -- A set that covers what is ready covers it after each command, once the end that the command is about and its peer are added.
 use Rattle.std.proofs.Common.{◌≡◌, ℕ, Bool, true, false, List, [], ◌∷◌, refl, sym, ap, ◌∙◌, subst}
-use Rattle.std.specs.Prelude.{◌&&◌, ◌||◌, nat_lt, reverse, Some, None, is_some, Result, Ok, Err, IfOk, IfErr}
+use Rattle.std.specs.Prelude.{◌&&◌, ◌||◌, not, nat_lt, reverse, Some, None, is_some, Result, Ok, Err, IfOk, IfErr}
 use Rattle.std.proofs.lemmas.List.{reverse-append}
 use Rattle.mj_base.specs.declared.ids.EndId.{EndId}
 use Rattle.mj_base.specs.declared.ids.SeqId.{SeqId}
@@ -11,13 +11,14 @@ use Rattle.handle_table.specs.declared.thing.Thing.TheVariants.{End, Token}
 use Rattle.handle_table.proofs.ThingsLemmas.{has-append}
 use Rattle.message_pipe.specs.Ends.{end_of, peer_of}
 use Rattle.wire_encoder.specs.declared.endpoint.EndpointSide.{EndpointSide}
+use Rattle.bind_model.specs.declared.asked.Asked.TheVariants as asks
 use Rattle.bind_model.specs.declared.event.Event.{Event}
 use Rattle.bind_model.specs.declared.told.Told.{Told}
-use Rattle.bind_model.specs.declared.told.Told.TheVariants.{Made}
-use Rattle.bind_model.specs.declared.told.Why.TheVariants.{NoName}
-use Rattle.bind_model.specs.Machine.{is_gone, made, made_by, out, peer, peer_by, peer_in, unread}
+use Rattle.bind_model.specs.declared.told.Told.TheVariants.{Associated, Made}
+use Rattle.bind_model.specs.declared.told.Why.TheVariants.{Disconnected, NoName}
+use Rattle.bind_model.specs.Machine.{endpoint_at, is_gone, made, made_by, out, peer, peer_by, peer_in, unread}
 use Rattle.bind_model.specs.Ready.{is_ready, ready}
-use Rattle.bind_model.specs.Replies.{answer, bound_as, first_of, unless}
+use Rattle.bind_model.specs.Replies.{answer, bound_as, first_of, next_id, unless}
 use Rattle.bind_model.specs.Wire.{Wire}
 use Rattle.bind_model.specs.WireOf.{wire_of}
 use Rattle.bind_model.proofs.Outcomes.{left_false, right_false}
@@ -31,12 +32,13 @@ use Rattle.bind_core.specs.Agreement.{Holds, end_with, past_of, schema_of, wire_
 use Rattle.bind_core.specs.steps.Doing.{Done, Undone, told_in}
 use Rattle.bind_core.specs.steps.Takers.{taker_of}
 use Rattle.bind_model.specs.declared.commands.Command.{Command}
-use Rattle.bind_model.specs.declared.commands.Command.TheVariants.{Pipe, Join, Mint, Bind, Call, Answer, Take, Close, Skip}
+use Rattle.bind_model.specs.declared.commands.Command.TheVariants.{Pipe, Join, Mint, Bind, Associate, Attach, Call, Answer, Raw, Take, Close, Skip}
 use Rattle.bind_model.specs.declared.commands.Refused.{Refused}
 use Rattle.bind_model.specs.declared.commands.Reply.{Reply}
 use Rattle.bind_core.specs.declared.state.State.{State}
-use Rattle.bind_core.proofs.Untouched.{about, bound_end, ready_far}
+use Rattle.bind_core.proofs.Untouched.{about, associated_end, bound_end, ready_far}
 use Rattle.bind_core.proofs.FirstReady.{first_is}
+use Rattle.bind_core.proofs.NearAsked.{near_asked}
 use Rattle.bind_core.proofs.WhoTakes.{some_taker, taker_is, taker_of_is}
 
 -- ## The peer of an end that was not made is itself
@@ -85,6 +87,13 @@ module _ (wire : Wire) (seqs : ℕ) (past : List Event) (seq : SeqId) (y : EndId
   bind_near (Token t) true h side interface = h
   bind_near (Token t) false h side interface = h
 
+  made_near : (x : EndId) (n : ℕ) (b c : Bool)
+      → is_near past (associated_end (first_of (unless b NoName ∷ unless c Disconnected ∷ []) (Associated (record { end = x; id = n })))) y ≡ true
+      → is_near past (Some x) y ≡ true
+  made_near x n true true h = h
+  made_near x n true false h = absurd cc
+  made_near x n false c h = absurd cc
+
   near_named : (command : Command) (told : Told) → told ≡ answer wire seqs past seq (asked_of command) → is_near past (about (asked_of command) told) y ≡ true
       → is_near past (end_named command) y ≡ true
   near_named (Bind z side interface) told e h =
@@ -92,10 +101,17 @@ module _ (wire : Wire) (seqs : ℕ) (past : List Event) (seq : SeqId) (y : EndId
   near_named Pipe told e h = h
   near_named (Join other) told e h = h
   near_named (Mint sort) told e h = h
-  near_named (Call x id prepared handles) told e h = h
-  near_named (Answer r prepared handles) told e h = h
+  near_named (Associate x side interface) told e h =
+      made_near x (next_id wire past x) (is_some (endpoint_at wire past x 0) && nat_lt interface wire.interfaces) (not (is_gone past x))
+      (subst (λ (t : Told). is_near past (associated_end t) y ≡ true) e h)
+  near_named (Attach pending t) told e h = h
+  near_named (Call x id prepared handles pendings) told e h = h
+  near_named (Answer r prepared handles pendings) told e h = h
+  near_named (Raw (End x) bytes handles) told e h = near_asked wire seqs past seq y (asks.Raw (End x) bytes handles) told e h
+  near_named (Raw (Token t) bytes handles) told e h = absurd (let n = near_asked wire seqs past seq y (asks.Raw (Token t) bytes handles) told e h in cc)
   near_named (Take x) told e h = h
   near_named (Close (Rattle.bind_model.specs.declared.commands.ToClose.TheVariants.Handle x)) told e h = h
+  near_named (Close (Rattle.bind_model.specs.declared.commands.ToClose.TheVariants.Pending p)) told e h = h
   near_named (Close (Rattle.bind_model.specs.declared.commands.ToClose.TheVariants.Responder r)) told e h = h
   near_named (Close (Rattle.bind_model.specs.declared.commands.ToClose.TheVariants.Endpoint x id)) told e h = h
   near_named (Skip line) told e h = h

@@ -1,11 +1,10 @@
 -- That a closing is done, by what its parts did.
-use Rattle.std.proofs.Common.{◌≡◌, ℕ, true, List, [], ◌∷◌, ◌++◌, refl, sym, ap, ◌∙◌, subst}
-use Rattle.std.specs.Prelude.{◌==◌, ◌&&◌, if◌then◌else◌, Some, None}
-use Rattle.std.specs.Option.{option_map}
+use Rattle.std.proofs.Common.{◌≡◌, true, List, [], ◌∷◌, ◌++◌, refl, sym, ap, ◌∙◌, subst}
+use Rattle.std.specs.Prelude.{None}
 use Rattle.mj_base.specs.declared.ids.EndId.{EndId}
 use Rattle.mj_base.specs.declared.ids.SeqId.{SeqId}
 use Rattle.handle_table.specs.Places.{place_of}
-use Rattle.handle_table.specs.Things.{has, same_end}
+use Rattle.handle_table.specs.Things.{has}
 use Rattle.handle_table.specs.declared.places.Place.TheVariants as places
 use Rattle.handle_table.specs.declared.thing.Thing.{Thing}
 use Rattle.handle_table.specs.declared.thing.Thing.TheVariants.{End}
@@ -13,20 +12,19 @@ use Rattle.message_pipe.specs.Contents.{Contents, Closes, Puts}
 use Rattle.message_pipe.specs.Ends.{spread, carried_in}
 use Rattle.bind_model.specs.declared.asked.Asked.TheVariants as asks
 use Rattle.bind_model.specs.declared.asked.Closing.TheVariants as closings
-use Rattle.bind_model.specs.declared.endpoint.Endpoint.{Endpoint}
 use Rattle.bind_model.specs.declared.endpoint.State.TheVariants as states
 use Rattle.bind_model.specs.declared.told.Told.TheVariants as tells
 use Rattle.bind_model.specs.declared.event.Event.{Event}
-use Rattle.bind_model.specs.Machine.{out, goes_with, with_state}
-use Rattle.bind_core.specs.Lines.{found_at}
-use Rattle.bind_core.specs.steps.LineChanges.{put}
+use Rattle.bind_model.specs.Machine.{out, goes_with}
+use Rattle.endpoint_router.specs.Changes.{in_state}
+use Rattle.bind_core.specs.Routers.{Routers}
 use Rattle.bind_core.specs.Agreement.{Agrees, is_out, past_of, schema_of, wire_in}
 use Rattle.bind_core.specs.steps.Doing.{HasRoom, Done, told_to}
+use Rattle.bind_core.specs.steps.Turns.{TurnsAt}
 use Rattle.bind_model.specs.declared.commands.Command.TheVariants as commands
 use Rattle.bind_model.specs.declared.commands.ToClose.{ToClose}
 use Rattle.bind_model.specs.declared.commands.ToClose.TheVariants as close
 use Rattle.bind_model.specs.declared.commands.Reply.TheVariants as replies
-use Rattle.bind_core.specs.declared.endpoint_table.Line.{Line}
 use Rattle.bind_core.specs.declared.state.State.{State}
 use Rattle.bind_model.specs.Plain.{closing_of}
 use Rattle.bind_core.proofs.Held.{finish}
@@ -34,13 +32,13 @@ use Rattle.bind_core.proofs.Quiet.{IsQuiet}
 use Rattle.bind_core.proofs.Closed.{handle_told, handle_closed, end_told, end_closed}
 
 module _ (old new : State) (seq : SeqId) (able : HasRoom old seq) (schema : schema_of new ≡ schema_of old) (seqs : new.seqs ≡ old.seqs)
-    (unmoved : new.responders ≡ old.responders) (goes told : List Thing) (t : told ≡ goes) where
+    (unmoved : new.rights ≡ old.rights) (goes told : List Thing) (t : told ≡ goes) where
   -- the event of a closing of this, with which these went
   abbrev event_with : ToClose → List Thing → Event
   event_with what things = record { seq = seq; asked = asks.Close (closing_of what); told = tells.Closed things }
 
   -- a closing is done where what went is what the history says, and the rest agrees with the event
-  close_done : (what : ToClose) → IsQuiet (commands.Close what) (replies.Closed told) → new.log.events ≡ old.log.events ++ event_with what goes ∷ []
+  pub close_done : (what : ToClose) → IsQuiet (commands.Close what) (replies.Closed told) → new.log.events ≡ old.log.events ++ event_with what goes ∷ []
       → tells.Closed goes ≡ told_to old seq (asks.Close (closing_of what))
       → Agrees (wire_in old) (event_with what goes ∷ past_of old) new.pipes new.endpoints
       → Done old new seq (commands.Close what) (replies.Closed told)
@@ -58,23 +56,21 @@ module _ (old new : State) (seq : SeqId) (able : HasRoom old seq) (schema : sche
       → Done old new seq (commands.Close (close.Handle x)) (replies.Closed told)
   handle_done x mid at e same events p c =
       let o : has (out (past_of old)) x ≡ true = sym (able.holds.agrees.outs x) ∙ at in
-      close_done (close.Handle x) (record { none = refl; handed = λ wire. refl; after = λ rs. refl }) events
+      close_done (close.Handle x) (record { none = refl; handed = λ wire. refl; after = λ rs. refl; gives = refl; hands = refl; halves = λ wire past. refl }) events
       (handle_told (wire_in old) old.seqs (past_of old) able.holds.legal seq able.within old.pipes old.endpoints able.holds.agrees x goes e o)
-      (subst (λ (tables : List (List (List Line))). Agrees (wire_in old) (event_with (close.Handle x) goes ∷ past_of old) new.pipes tables) (sym same)
+      (subst (λ (tables : Routers). Agrees (wire_in old) (event_with (close.Handle x) goes ∷ past_of old) new.pipes tables) (sym same)
       (handle_closed (wire_in old) old.seqs (past_of old) able.holds.legal seq able.within old.pipes old.endpoints able.holds.agrees x goes e o
       mid new.pipes p c))
 
-  pub end_done : (y : EndId) (r : Endpoint) → found_at old.endpoints y 0 ≡ Some r
+  pub end_done : (y : EndId)
       → told_to old seq (asks.Close (closings.Endpoint y 0)) ≡ tells.Closed (goes_with (wire_in old) (past_of old) (End y ∷ []))
       → goes ≡ spread (carried_in old.pipes.ends None) old.pipes.made (End y ∷ [])
-      → ((x : EndId) (n : ℕ)
-      → found_at new.endpoints x n
-      ≡ (if same_end y x && (0 == n) then option_map (put (with_state states.Closed r)) (found_at old.endpoints x n) else found_at old.endpoints x n))
+      → TurnsAt (in_state states.Closed) y 0 old.endpoints new.endpoints
       → new.log.events ≡ old.log.events ++ record { seq = seq; asked = asks.Close (closings.Endpoint y 0); told = tells.Closed goes } ∷ []
       → Closes goes old.pipes new.pipes
       → Done old new seq (commands.Close (close.Endpoint y 0)) (replies.Closed told)
-  end_done y r f h e g events c =
-      close_done (close.Endpoint y 0) (record { none = refl; handed = λ wire. refl; after = λ rs. refl }) events
+  end_done y h e g events c =
+      close_done (close.Endpoint y 0) (record { none = refl; handed = λ wire. refl; after = λ rs. refl; gives = refl; hands = refl; halves = λ wire past. refl }) events
       (end_told (wire_in old) old.seqs (past_of old) able.holds.legal seq able.within old.pipes old.endpoints able.holds.agrees y goes e h)
-      (end_closed (wire_in old) old.seqs (past_of old) able.holds.legal seq able.within old.pipes old.endpoints able.holds.agrees y goes e h r f
+      (end_closed (wire_in old) old.seqs (past_of old) able.holds.legal seq able.within old.pipes old.endpoints able.holds.agrees y goes e h
       new.pipes new.endpoints g c)

@@ -23,8 +23,8 @@ use Rattle.bind_model.specs.Replies.{legal, serials, tokens}
 use Rattle.bind_model.proofs.Counting.{absent, present, times-absent, times-present}
 use Rattle.bind_model.proofs.Kept.{Kept, most, bound_held}
 use Rattle.bind_model.proofs.Outcomes.{Outcome, outcome, joins, mints, binds, associates, attaches, calls, answers, writes, gets, drops, controls, spoils, closes, closes_pending, closes_responder, closes_end, closes_endpoint, skips, refuses}
+use Rattle.bind_core.specs.Routers.{Routers}
 use Rattle.bind_core.specs.Agreement.{Agrees, end_with}
-use Rattle.bind_core.specs.declared.endpoint_table.Line.{Line}
 
 module _ (wire : Wire) (past : List Event) (k : Kept wire past) where
   -- what was not made is not gone, and what is gone is not out
@@ -59,7 +59,7 @@ module _ (wire : Wire) (past : List Event) (k : Kept wire past) where
 
   -- ## What the pipes say, where they agree
 
-  module _ (pipes : Contents) (endpoints : List (List (List Line))) (a : Agrees wire past pipes endpoints) where
+  module _ (pipes : Contents) (endpoints : Routers) (a : Agrees wire past pipes endpoints) where
     pub closed_is : (x : EndId) → is_closed (end_of pipes.ends x) ≡ is_gone past x
     closed_is x = ap is_closed (a.ends x) ∙ go (has (made past) (End x)) refl
       where

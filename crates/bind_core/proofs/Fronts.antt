@@ -10,14 +10,14 @@ use Rattle.handle_table.specs.declared.places.Place.TheVariants as places
 use Rattle.handle_table.specs.declared.thing.Thing.{Thing}
 use Rattle.handle_table.specs.declared.thing.Thing.TheVariants.{End, Token}
 use Rattle.handle_table.proofs.ThingsLemmas.{same-refl}
-use Rattle.message_pipe.specs.Contents.{Contents, Becomes, Closes}
-use Rattle.message_pipe.specs.Ends.{end_of, unread_of, carried_in, spread, without_front}
+use Rattle.message_pipe.specs.Contents.{Contents, Closes}
+use Rattle.message_pipe.specs.Ends.{end_of, unread_of, carried_in, spread}
 use Rattle.message_pipe.specs.Mail.{handles_of}
 use Rattle.message_pipe.specs.declared.message.Message.{Message}
 use Rattle.message_pipe.specs.declared.pipe_end.PipeEnd.{PipeEnd}
 use Rattle.bind_model.specs.declared.asked.Asked.TheVariants.{Take}
 use Rattle.bind_model.specs.declared.told.Got.{Got}
-use Rattle.bind_model.specs.declared.told.Told.TheVariants.{Taken, Dropped}
+use Rattle.bind_model.specs.declared.told.Told.TheVariants.{Control, Taken, Dropped}
 use Rattle.bind_model.specs.declared.event.Event.{Event}
 use Rattle.bind_model.specs.Wire.{Wire}
 use Rattle.bind_model.specs.Machine.{made, gone, out, unread, carried_behind, goes_behind}
@@ -29,9 +29,9 @@ use Rattle.bind_model.proofs.Kept.{Kept, most}
 use Rattle.bind_model.proofs.Moving.{moves}
 use Rattle.bind_model.proofs.Outcomes.{outcome}
 use Rattle.bind_model.proofs.Responses.{all_stand}
+use Rattle.bind_core.specs.Routers.{Routers}
 use Rattle.bind_core.specs.Agreement.{Agrees, is_out, is_shut}
 use Rattle.bind_core.specs.steps.Taking.{LieThere}
-use Rattle.bind_core.specs.declared.endpoint_table.Line.{Line}
 use Rattle.bind_core.proofs.Facts.{unread_is, spread_same}
 
 -- where each thing stands once at most, all are distinct
@@ -56,7 +56,7 @@ kept_there (Some (places.Unread end)) e f g = refl
 kept_there (Some places.Bound) e f g = refl
 kept_there (Some places.Closed) e f g = cc
 
-module _ (wire : Wire) (seqs : ℕ) (past : List Event) (h : legal wire seqs past) (pipes : Contents) (endpoints : List (List (List Line)))
+module _ (wire : Wire) (seqs : ℕ) (past : List Event) (h : legal wire seqs past) (pipes : Contents) (endpoints : Routers)
     (a : Agrees wire past pipes endpoints) where
   -- what the code finds to go behind the front is what the events say
   pub goes_is : (y : EndId) (xs : List Thing) → spread (carried_in pipes.ends (Some y)) pipes.made xs ≡ goes_behind wire past y xs
@@ -75,6 +75,11 @@ module _ (wire : Wire) (seqs : ℕ) (past : List Event) (h : legal wire seqs pas
     pub dropped_there : (id : ℕ) (goes : List Thing) → Dropped id goes ≡ answer wire seqs past seq (Take y) → IsSome (end_of pipes.ends y)
     dropped_there id goes told =
         let f = (all_stand wire seqs (record { seq = seq; asked = Take y; told = Dropped id goes } ∷ past) (within, told, h)).0 in
+        there y f.0 f.1 f.2
+
+    pub control_there : (id : ℕ) → Control id ≡ answer wire seqs past seq (Take y) → IsSome (end_of pipes.ends y)
+    control_there id told =
+        let f = (all_stand wire seqs (record { seq = seq; asked = Take y; told = Control id } ∷ past) (within, told, h)).0 in
         there y f.0 f.1 f.2
 
     module _ (g : Got) (told : Taken g ≡ answer wire seqs past seq (Take y)) where
@@ -120,11 +125,11 @@ module _ (wire : Wire) (seqs : ℕ) (past : List Event) (h : legal wire seqs pas
           let one : 1 ≤ times z g.handles = times-present z g.handles i in
           absent z g.gone (omega (arith, out_now z, times-append z (gone past) g.gone, after.one z, most wire (got_event ∷ past) after z))
 
-      pub lie_there : (mid shut : Contents) → Becomes y without_front pipes mid → Closes g.gone mid shut → LieThere shut g.handles
+      pub lie_there : (mid shut : Contents) → mid.table ≡ pipes.table → Closes g.gone mid shut → LieThere shut g.handles
       lie_there mid shut b c = record { once = once; kept = lies }
         where
           lies : (z : Thing) → has g.handles z ≡ true → is_kept (place_of shut.table z) ≡ true
           lies z i =
               let f = in_message z i in
-              let same : place_of shut.table z ≡ place_of pipes.table z = c.places z ∙ rw (stays z i, b.table) refl in
+              let same : place_of shut.table z ≡ place_of pipes.table z = c.places z ∙ rw (stays z i, b) refl in
               rw same (kept_there (place_of pipes.table z) (a.outs z ∙ f.0) (a.shuts z ∙ f.1) (a.there z ∙ f.2))

@@ -1,4 +1,4 @@
--- What a take that consumes a message makes of pipes, places and endpoints, where the message carries no ids.
+-- What a take that consumes a control makes of pipes, places and endpoints.
 use Rattle.std.proofs.Common.{◌≡◌, ◌≤◌, ℕ, Bool, true, false, List, [], ◌∷◌, ◌++◌, length, drop, refl, sym, ap, ◌∙◌, arith}
 use Rattle.std.specs.Prelude.{if◌then◌else◌, ◌||◌, ◌&&◌, not, ◌==◌, is_some, Option, Some, None}
 use Rattle.std.specs.Option.{option_map}
@@ -18,19 +18,18 @@ use Rattle.message_pipe.specs.Ends.{closed_by, shut, without_front}
 use Rattle.message_pipe.specs.declared.message.Message.{Message}
 use Rattle.message_pipe.specs.declared.pipe_end.PipeEnd.{PipeEnd}
 use Rattle.bind_model.specs.declared.asked.Asked.TheVariants.{Take}
-use Rattle.bind_model.specs.declared.told.Got.{Got}
-use Rattle.bind_model.specs.declared.told.Told.TheVariants.{Taken, Dropped}
+use Rattle.bind_model.specs.declared.told.Told.TheVariants.{Control}
 use Rattle.bind_model.specs.declared.event.Event.{Event}
 use Rattle.bind_model.specs.Wire.{Wire}
-use Rattle.bind_model.specs.Machine.{made, made_by, peer, peer_by, gone, gone_by, is_gone, out, given, handed, taken, takes, written, puts, changes}
-use Rattle.bind_model.specs.Machine.{unread, endpoint_at, enters, enters_from, Endpoints}
+use Rattle.bind_model.specs.Machine.{made, made_by, peer, peer_by, gone, gone_by, is_gone, out, given, handed, taken, takes, written, puts}
+use Rattle.bind_model.specs.Machine.{unread, endpoint_at}
 use Rattle.bind_model.proofs.Kept.{Kept, out_made}
-use Rattle.bind_core.specs.steps.Founds.{carried_ids, front_at}
+use Rattle.bind_core.specs.Routers.{Routers}
 use Rattle.bind_core.specs.steps.Placing.{PutsAll}
 use Rattle.bind_core.specs.Agreement.{Agrees, end_in, end_with, is_out, is_shut}
-use Rattle.bind_core.specs.declared.endpoint_table.Line.{Line}
 use Rattle.bind_core.proofs.After.{gone_after, out_after, unread_after, end_after}
 use Rattle.bind_core.proofs.Facts.{gone_out, gone_made}
+use Rattle.bind_core.proofs.Steady.{AllAgree}
 
 -- an event that consumes the oldest message at y, and makes, takes in and writes nothing
 pub record IsReading (wire : Wire) (event : Event) (past : List Event) (y : EndId) : Type 0 where
@@ -39,8 +38,6 @@ pub record IsReading (wire : Wire) (event : Event) (past : List Event) (y : EndI
   pub takes : (x : EndId) → length (takes event.told event.asked x) ≡ (if same_end y x then 1 else 0)
   pub puts : (x : EndId) → puts wire past (written wire past) (endpoint_at wire past) event.told event.asked x ≡ []
   pub peer : (x : EndId) → peer_by event.told x (peer past x) ≡ peer past x
-  pub endpoints : (x : EndId) (id : ℕ) → changes wire past (written wire past) (endpoint_at wire past) event.seq event.told event.asked x id
-      ≡ endpoint_at wire past x id
 
 -- a place that is another where this holds
 abbrev moved : Bool → Place → Option Place → Option Place
@@ -166,10 +163,10 @@ module _ (wire : Wire) (event : Event) (past : List Event) (y : EndId) (k : Kept
       go false false i j = e ∙ sym (gone_after wire event past z ∙ rw j (plain (has (gone past) z)))
 
   -- what agreed agrees with the longer history, once the message is away, what goes is closed and what comes out is out
-  pub read_agrees : (old mid shut new : Contents) (endpoints : List (List (List Line)))
+  pub read_agrees : (old mid shut new : Contents) (before now : Routers)
       → Becomes y without_front old mid → Closes (gone_by event.told) mid shut → PutsAll (handed event.told) places.Out shut new
-      → Agrees wire past old endpoints → Agrees wire (event ∷ past) new endpoints
-  read_agrees old mid shut new endpoints b c p a = record {
+      → AllAgree wire (event ∷ past) now → Agrees wire past old before → Agrees wire (event ∷ past) new now
+  read_agrees old mid shut new before now b c p r a = record {
     ends = λ x.
         p.ends x
         ∙ (c.ends x
@@ -190,7 +187,7 @@ module _ (wire : Wire) (event : Event) (past : List Event) (y : EndId) (k : Kept
         p.tokens_made n
         ∙ (c.tokens_made n
         ∙ (ap (λ t. tokens_made t n) b.table ∙ (a.tokens n ∙ sym (ap (λ ms. count_by (λ z. not (is_end z) && (seq_of z == n)) ms) same_made))));
-    endpoints = λ x id. a.endpoints x id ∙ sym (s.endpoints x id);
+    routers = r;
   }
     where
       at : (z : Thing) → place_of new.table z
@@ -200,53 +197,19 @@ module _ (wire : Wire) (event : Event) (past : List Event) (y : EndId) (k : Kept
           ∙ ap (moved (has (handed event.told) z) places.Out)
           (c.places z ∙ ap (λ t. moved (has (gone_by event.told) z) places.Closed (place_of t z)) b.table)
 
--- ## Messages without ids
-
-either_way : (b : Bool) → ◌≡◌ {A = List Message} (if b then [] else []) []
-either_way true = refl
-either_way false = refl
-
-same_either : {A : Type 0} (b : Bool) (a : A) → (if b then a else a) ≡ a
-same_either true a = refl
-same_either false a = refl
+-- ## Controls
 
 one_taken : {A : Type 0} (b : Bool) (a : A) → length (if b then a ∷ [] else []) ≡ (if b then 1 else 0)
 one_taken true a = refl
 one_taken false a = refl
 
-module _ (wire : Wire) (past : List Event) (seq : SeqId) (y : EndId) (none : carried_ids wire (front_at wire past y) ≡ []) where
-  -- what a got message without ids does
-  pub got_reads : (g : Got) → IsReading wire (record { seq = seq; asked = Take y; told = Taken g }) past y
-  got_reads g = record {
-    made = refl;
-    given = refl;
-    takes = λ x. one_taken (same_end y x) (Taken g);
-    puts = λ x. rw alone (either_way (same_end (peer past y) x && not (is_gone past x)));
-    peer = λ x. refl;
-    endpoints = λ x id. rw alone (same_either (same_end y x) (endpoint_at wire past x id));
-  }
-    where
-      go : (endpoints : Endpoints) (o : Option Message) → carried_ids wire o ≡ [] → enters_from wire endpoints (Taken g) o ≡ []
-      go endpoints None e = refl
-      go endpoints (Some m) e = rw e refl
-
-      alone : enters wire past y (written wire past y) (endpoint_at wire past y) (Taken g) ≡ []
-      alone = go (endpoint_at wire past y) _ none
-
-  -- and what a dropped one does
-  pub dropped_reads : (id : ℕ) (goes : List Thing) → IsReading wire (record { seq = seq; asked = Take y; told = Dropped id goes }) past y
-  dropped_reads id goes = record {
-    made = refl;
-    given = refl;
-    takes = λ x. one_taken (same_end y x) (Dropped id goes);
-    puts = λ x. rw alone (either_way (same_end (peer past y) x && not (is_gone past x)));
-    peer = λ x. refl;
-    endpoints = λ x n. rw alone (same_either (same_end y x) (endpoint_at wire past x n));
-  }
-    where
-      go : (endpoints : Endpoints) (o : Option Message) → carried_ids wire o ≡ [] → enters_from wire endpoints (Dropped id goes) o ≡ []
-      go endpoints None e = refl
-      go endpoints (Some m) e = rw e refl
-
-      alone : enters wire past y (written wire past y) (endpoint_at wire past y) (Dropped id goes) ≡ []
-      alone = go (endpoint_at wire past y) _ none
+-- what a control does
+pub control_read : (wire : Wire) (past : List Event) (seq : SeqId) (y : EndId) (id : ℕ)
+    → IsReading wire (record { seq = seq; asked = Take y; told = Control id }) past y
+control_read wire past seq y id = record {
+  made = refl;
+  given = refl;
+  takes = λ x. one_taken (same_end y x) (Control id);
+  puts = λ x. refl;
+  peer = λ x. refl;
+}

@@ -8,15 +8,16 @@ use Rattle.bind_model.specs.declared.event.Event.{Event}
 use Rattle.bind_model.specs.declared.told.Told.{Told}
 use Rattle.bind_model.specs.WireOf.{wire_of}
 use Rattle.bind_model.specs.Replies.{legal, responders_out}
-use Rattle.bind_model.specs.Plain.{asked_of, told_of, HandsBack, HandsResponders}
+use Rattle.bind_model.specs.Plain.{asked_of, told_of, HandsBack, HandsPendings, HandsResponders}
 use Rattle.bind_model.specs.Responders.{CountsResponders}
 use Rattle.bind_core.specs.Agreement.{Agrees, past_of, schema_of, wire_in}
 use Rattle.bind_core.specs.steps.Doing.{HasRoom, Done, told_in}
 use Rattle.bind_model.specs.declared.commands.Command.{Command}
 use Rattle.bind_model.specs.declared.commands.Reply.{Reply}
-use Rattle.bind_model.specs.declared.responder.ResponderName.{ResponderName}
+use Rattle.bind_model.specs.Pendings.{KnowsPendings}
+use Rattle.bind_core.specs.declared.state.Rights.{Rights}
 use Rattle.bind_core.specs.declared.state.State.{State}
-use Rattle.bind_core.proofs.Quiet.{IsQuiet, counts_still}
+use Rattle.bind_core.proofs.Quiet.{IsQuiet, counts_still, pendings_still}
 
 reverse-snoc : (events : List Event) (event : Event) → reverse (events ++ event ∷ []) ≡ event ∷ reverse events
 reverse-snoc events event = reverse-append events (event ∷ [])
@@ -37,11 +38,13 @@ module _ (old new : State) (seq : SeqId) (command : Command) (reply : Reply) whe
       → new.log.events ≡ old.log.events ++ event_of seq command reply ∷ []
       → told_of reply ≡ told_in old seq command
       → Agrees (wire_in old) (event_of seq command reply ∷ past_of old) new.pipes new.endpoints
-      → CountsResponders (wire_in old) (event_of seq command reply ∷ past_of old) new.responders
+      → CountsResponders (wire_in old) (event_of seq command reply ∷ past_of old) new.rights.responders
       → HandsBack command reply
       → HandsResponders (wire_in old) command reply
+      → KnowsPendings (event_of seq command reply ∷ past_of old) new.rights.pendings
+      → HandsPendings (wire_in old) (event_of seq command reply ∷ past_of old) command reply
       → Done old new seq command reply
-  finish_with can schema seqs events told agrees responders back hands =
+  finish_with can schema seqs events told agrees responders back hands pendings halves =
       let past : past_of new ≡ event_of seq command reply ∷ past_of old = ap reverse events ∙ reverse-snoc old.log.events (event_of seq command reply) in
       record {
         holds = record {
@@ -53,8 +56,9 @@ module _ (old new : State) (seq : SeqId) (command : Command) (reply : Reply) whe
               subst (λ (w : Schema). Agrees (wire_of w) (past_of new) new.pipes new.endpoints) (sym schema)
               (subst (λ (p : List Event). Agrees (wire_in old) p new.pipes new.endpoints) (sym past) agrees);
           responders =
-              subst (λ (w : Schema). CountsResponders (wire_of w) (past_of new) new.responders) (sym schema)
-              (subst (λ (p : List Event). CountsResponders (wire_in old) p new.responders) (sym past) responders);
+              subst (λ (w : Schema). CountsResponders (wire_of w) (past_of new) new.rights.responders) (sym schema)
+              (subst (λ (p : List Event). CountsResponders (wire_in old) p new.rights.responders) (sym past) responders);
+          pendings = subst (λ (p : List Event). KnowsPendings p new.rights.pendings) (sym past) pendings;
           few = let n = can.few in omega (arith, ap length events, length-append old.log.events (event_of seq command reply ∷ []));
         };
         schema = schema;
@@ -63,6 +67,7 @@ module _ (old new : State) (seq : SeqId) (command : Command) (reply : Reply) whe
         told = told;
         back = back;
         responders = hands;
+        pendings = subst (λ (p : List Event). HandsPendings (wire_in old) p command reply) (sym past) halves;
         few = can.few;
       }
 
@@ -70,7 +75,7 @@ module _ (old new : State) (seq : SeqId) (command : Command) (reply : Reply) whe
   pub finish : HasRoom old seq
       → schema_of new ≡ schema_of old
       → new.seqs ≡ old.seqs
-      → new.responders ≡ old.responders
+      → new.rights ≡ old.rights
       → IsQuiet command reply
       → new.log.events ≡ old.log.events ++ event_of seq command reply ∷ []
       → told_of reply ≡ told_in old seq command
@@ -79,8 +84,11 @@ module _ (old new : State) (seq : SeqId) (command : Command) (reply : Reply) whe
       → Done old new seq command reply
   finish can schema seqs same quiet events told agrees back =
       finish_with can schema seqs events told agrees
-      (subst (λ (counts : List (ResponderName × ℕ)). CountsResponders (wire_in old) (event_of seq command reply ∷ past_of old) counts) (sym same)
-      (counts_still (wire_in old) (event_of seq command reply) (past_of old) old.responders (quiet.handed (wire_in old))
+      (subst (λ (rights : Rights). CountsResponders (wire_in old) (event_of seq command reply ∷ past_of old) rights.responders) (sym same)
+      (counts_still (wire_in old) (event_of seq command reply) (past_of old) old.rights.responders (quiet.handed (wire_in old))
       (quiet.after (responders_out (wire_in old) (past_of old))) can.holds.responders))
       back
       (quiet.none ∙ sym (quiet.handed (wire_in old)))
+      (subst (λ (rights : Rights). KnowsPendings (event_of seq command reply ∷ past_of old) rights.pendings) (sym same)
+      (pendings_still (event_of seq command reply) (past_of old) old.rights.pendings quiet.gives quiet.hands can.holds.pendings))
+      (quiet.halves (wire_in old) (event_of seq command reply ∷ past_of old))

@@ -21,21 +21,21 @@ use Rattle.bind_model.specs.Machine.{made, peer, is_gone, unread, endpoint_at}
 use Rattle.bind_model.specs.Replies.{first_of, unless, headed, took, took_front}
 use Rattle.bind_model.proofs.Fresh.{kept}
 use Rattle.bind_model.proofs.Kept.{Kept, bound_made}
+use Rattle.bind_core.specs.Routers.{Routers, found_at}
 use Rattle.bind_core.specs.steps.Founds.{front_at}
-use Rattle.bind_core.specs.Lines.{found_at}
 use Rattle.bind_core.specs.Agreement.{Agrees, Holds, past_of, wire_in}
 use Rattle.bind_core.specs.steps.Doing.{told_to}
 use Rattle.bind_core.specs.steps.Taking.{front_found, front_bound, front_open}
-use Rattle.bind_core.specs.declared.endpoint_table.Line.{Line}
 use Rattle.bind_core.specs.declared.state.State.{State}
 use Rattle.bind_core.proofs.Facts.{closed_is, unread_is, peer_is}
+use Rattle.bind_core.proofs.Steady.{found_is}
 
 -- the reply to what is found
 abbrev pub told_of_front : (Message → Told) → Result Message Why → Told
 told_of_front next (Ok m) = next m
 told_of_front next (Err why) = No why
 
-module _ (wire : Wire) (past : List Event) (k : Kept wire past) (pipes : Contents) (endpoints : List (List (List Line)))
+module _ (wire : Wire) (past : List Event) (k : Kept wire past) (pipes : Contents) (endpoints : Routers)
     (a : Agrees wire past pipes endpoints) (seq : SeqId) (y : EndId) where
   abbrev next : Message → Told
   next m = headed wire past seq y m (wire.header m.bytes)
@@ -68,10 +68,10 @@ module _ (wire : Wire) (past : List Event) (k : Kept wire past) (pipes : Content
       go false = open_told m (unread wire past y)
 
   pub front_told : told_of_front next (front_found pipes endpoints y) ≡ took wire past seq y
-  front_told = rw (a.endpoints y 0) (bound_told (endpoint_at wire past y 0) refl)
+  front_told = rw (found_is a y 0) (bound_told (endpoint_at wire past y 0) refl)
 
 -- what is found is the oldest unread message
-module _ (wire : Wire) (past : List Event) (k : Kept wire past) (pipes : Contents) (endpoints : List (List (List Line)))
+module _ (wire : Wire) (past : List Event) (k : Kept wire past) (pipes : Contents) (endpoints : Routers)
     (a : Agrees wire past pipes endpoints) (y : EndId) where
   found_open : (m : Message) (o : Option Message) → front_open pipes y o ≡ Ok m → o ≡ Some m
   found_open m None e = cc

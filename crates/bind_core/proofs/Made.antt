@@ -16,12 +16,12 @@ use Rattle.bind_model.specs.declared.event.Event.{Event}
 use Rattle.bind_model.specs.Replies.{joined}
 use Rattle.bind_model.proofs.Fresh.{kept}
 use Rattle.bind_model.specs.Plain.{asked_of}
+use Rattle.bind_core.specs.Routers.{Routers}
 use Rattle.bind_core.specs.Agreement.{Agrees, past_of, schema_of, wire_in}
 use Rattle.bind_core.specs.steps.Doing.{HasRoom, Done, told_in, told_to}
 use Rattle.bind_model.specs.declared.commands.Command.{Command}
 use Rattle.bind_model.specs.declared.commands.Command.TheVariants as commands
 use Rattle.bind_model.specs.declared.commands.Reply.TheVariants as replies
-use Rattle.bind_core.specs.declared.endpoint_table.Line.{Line}
 use Rattle.bind_core.specs.declared.state.State.{State}
 use Rattle.bind_core.proofs.Held.{finish}
 use Rattle.bind_core.proofs.Facts.{made_few, serials_few, tokens_few}
@@ -42,7 +42,7 @@ module _ (s : State) (seq : SeqId) (able : HasRoom s seq) where
   few_tokens t = rw (able.holds.agrees.tokens t, able.holds.agrees.made) (tokens_few (past_of s) t)
 
 module _ (old new : State) (seq : SeqId) (able : HasRoom old seq) (schema : schema_of new ≡ schema_of old) (seqs : new.seqs ≡ old.seqs)
-    (unmoved : new.responders ≡ old.responders) where
+    (unmoved : new.rights ≡ old.rights) where
   abbrev noted : Asked → Told → List Event
   noted asked told = old.log.events ++ record { seq = seq; asked = asked; told = told } ∷ []
 
@@ -58,12 +58,13 @@ module _ (old new : State) (seq : SeqId) (able : HasRoom old seq) (schema : sche
       let all : handles ≡ End a ∷ End b ∷ [] = e2 ∙ (ap (λ (z : Thing). z ∷ y ∷ []) m.2 ∙ ap (λ (z : Thing). End a ∷ z ∷ []) m.3) in
       let told : tells.Made (End a ∷ End b ∷ []) ≡ told_in old seq command = pipe_told (wire_in old) old.seqs
       (past_of old) k seq asked old.pipes new.pipes old.endpoints able.holds.agrees other a b m.4 ∙ (sym t ∙ ap (told_to old seq) q) in
-      finish old new seq command (replies.Made handles) able schema seqs unmoved (record { none = refl; handed = λ wire. refl; after = λ rs. refl })
+      finish old new seq command (replies.Made handles) able schema seqs unmoved
+      (record { none = refl; handed = λ wire. refl; after = λ rs. refl; gives = refl; hands = refl; halves = λ wire past. refl })
       (events ∙ (ap (λ (r : Asked). noted r (tells.Made things)) q ∙ ap (λ (ts : List Thing). noted (asked_of command) (tells.Made ts)) (e1 ∙ sym e2)))
       (ap (λ (ts : List Thing). tells.Made ts) all ∙ told)
       (subst (λ (ts : List Thing). Agrees (wire_in old) (record { seq = seq; asked = asked_of command; told = tells.Made ts }
       ∷ past_of old) new.pipes new.endpoints) (sym all)
-      (subst (λ (tables : List (List (List Line))). Agrees (wire_in old)
+      (subst (λ (tables : Routers). Agrees (wire_in old)
       (record { seq = seq; asked = asked_of command; told = tells.Made (End a ∷ End b ∷ []) } ∷ past_of old) new.pipes tables) (sym same)
       (pipe_agrees (wire_in old) old.seqs (past_of old) k seq (asked_of command) old.pipes new.pipes old.endpoints able.holds.agrees other a b m.4)))
       tt
@@ -74,13 +75,13 @@ module _ (old new : State) (seq : SeqId) (able : HasRoom old seq) (schema : sche
   token_done sort handles things x same events e1 e2 m =
       let k = kept (wire_in old) old.seqs (past_of old) able.holds.legal in
       finish old new seq (commands.Mint sort) (replies.Made handles) able schema seqs unmoved
-      (record { none = refl; handed = λ wire. refl; after = λ rs. refl })
+      (record { none = refl; handed = λ wire. refl; after = λ rs. refl; gives = refl; hands = refl; halves = λ wire past. refl })
       (events ∙ ap (λ (ts : List Thing). noted (asks.Mint sort) (tells.Made ts)) (e1 ∙ sym e2))
       (ap (λ (ts : List Thing). tells.Made ts) e2 ∙ token_told (wire_in old) old.seqs (past_of old) k seq
       (asks.Mint sort) old.pipes new.pipes old.endpoints able.holds.agrees x m)
       (subst (λ (ts : List Thing). Agrees (wire_in old) (record { seq = seq; asked = asks.Mint sort; told = tells.Made ts }
       ∷ past_of old) new.pipes new.endpoints) (sym e2)
-      (subst (λ (tables : List (List (List Line))). Agrees (wire_in old)
+      (subst (λ (tables : Routers). Agrees (wire_in old)
       (record { seq = seq; asked = asks.Mint sort; told = tells.Made (x ∷ []) } ∷ past_of old) new.pipes tables) (sym same)
       (token_agrees (wire_in old) old.seqs (past_of old) k seq (asks.Mint sort) old.pipes new.pipes old.endpoints able.holds.agrees x m)))
       tt

@@ -24,10 +24,11 @@ use Rattle.bind_model.specs.Machine.{made, peer, gone, is_gone, out, unread}
 use Rattle.bind_model.specs.Replies.{serials, tokens, joined}
 use Rattle.bind_model.proofs.Kept.{Kept}
 use Rattle.bind_model.proofs.Moving.{new_end, new_token}
+use Rattle.bind_core.specs.Routers.{Routers}
 use Rattle.bind_core.specs.Agreement.{Agrees, end_in, is_out, is_shut}
-use Rattle.bind_core.specs.declared.endpoint_table.Line.{Line}
 use Rattle.bind_core.proofs.After.{made_after, out_after, gone_still, unread_still, end_after, end_still}
 use Rattle.bind_core.proofs.Facts.{not_gone, unmade_unread}
+use Rattle.bind_core.proofs.Steady.{steady}
 
 sym_if : (s t : ℕ) → ◌≡◌ {A = ℕ} (if s == t then 1 else 0) (if t == s then 1 else 0)
 sym_if s t = go (s == t) (t == s) refl refl
@@ -64,7 +65,7 @@ shut_still true o b e f = sym (f refl)
 shut_still false o b e f = e
 
 module _ (wire : Wire) (seqs : ℕ) (past : List Event) (k : Kept wire past) (seq : SeqId) (asked : Asked) (old new : Contents)
-    (endpoints : List (List (List Line))) (agrees : Agrees wire past old endpoints) where
+    (endpoints : Routers) (agrees : Agrees wire past old endpoints) where
   -- ## A pipe
 
   module _ (t : SeqId) (a b : EndId) (m : MakesPipe seq.0 t.0 a b old new) where
@@ -170,7 +171,8 @@ module _ (wire : Wire) (seqs : ℕ) (past : List Event) (k : Kept wire past) (se
       made = m.made ∙ (ap (λ n. n + 2) agrees.made ∙ sym (length-append (made past) (End a ∷ End b ∷ [])));
       serials = λ s. m.table.ends s ∙ counted s;
       tokens = λ s. m.table.tokens s ∙ (agrees.tokens s ∙ none s);
-      endpoints = λ x id. agrees.endpoints x id;
+      routers = steady wire made_pipe past
+          (record { draws = λ x n. refl; answers = λ x n. refl; associates = λ x. refl; endpoints = λ x n. refl }) endpoints agrees.routers;
     }
       where
         counted : (s : ℕ) → ends_made old.table s + ((if seq.0 == s then 1 else 0) + (if t.0 == s then 1 else 0)) ≡ serials (made_pipe ∷ past) s
@@ -230,7 +232,8 @@ module _ (wire : Wire) (seqs : ℕ) (past : List Event) (k : Kept wire past) (se
       made = m.made ∙ (ap (λ n. n + 1) agrees.made ∙ sym (length-append (made past) (z ∷ [])));
       serials = λ s. m.table.ends s ∙ (agrees.serials s ∙ none s);
       tokens = λ s. m.table.tokens s ∙ counted s;
-      endpoints = λ x id. agrees.endpoints x id;
+      routers = steady wire made_token past
+          (record { draws = λ x n. refl; answers = λ x n. refl; associates = λ x. refl; endpoints = λ x n. refl }) endpoints agrees.routers;
     }
       where
         none : (s : ℕ) → serials past s ≡ serials (made_token ∷ past) s

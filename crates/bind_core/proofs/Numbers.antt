@@ -1,20 +1,39 @@
 -- A number that no request of an endpoint has yet.
-use Rattle.std.proofs.Common.{◌≡◌, ◌<◌, ℕ, zero, suc, ◌+◌, Bool, true, false, List, [], ◌∷◌, ◌++◌, length, refl, sym, ap, ◌∙◌, subst, arith, inl, inr}
-use Rattle.std.specs.Prelude.{if◌then◌else◌, ◌==◌, ◌&&◌, ◌||◌, map}
+use Rattle.std.proofs.Common.{◌≡◌, ◌≤◌, ℕ, zero, suc, ◌+◌, Bool, true, false, List, [], ◌∷◌, length, refl, sym, ap, ◌∙◌, arith, inl, inr}
+use Rattle.std.specs.Prelude.{if◌then◌else◌, not, ◌==◌, ◌&&◌, ◌||◌, map}
 use Rattle.std.specs.List.{list_any}
 use Rattle.std.proofs.lemmas.Bool.{eqb-true, ne_eqb}
+use Rattle.std.proofs.lemmas.List.{length-append}
 use Rattle.std.proofs.lemmas.List.Folds.{list_any-append}
 use Rattle.mj_base.specs.declared.ids.EndId.{EndId}
 use Rattle.handle_table.specs.Things.{same_end}
 use Rattle.handle_table.proofs.ThingsLemmas.{and_left, and_right, or_cases, or_left, or_right, same_end-true}
 use Rattle.bind_model.specs.declared.asked.Asked.{Asked}
-use Rattle.bind_model.specs.declared.asked.Asked.TheVariants.{Take}
+use Rattle.bind_model.specs.declared.asked.Asked.TheVariants.{Call, Take}
 use Rattle.bind_model.specs.declared.event.Event.{Event}
 use Rattle.bind_model.specs.declared.told.Told.{Told}
-use Rattle.bind_model.specs.declared.told.Told.TheVariants.{Taken}
+use Rattle.bind_model.specs.declared.told.Told.TheVariants.{Sent, Taken}
 use Rattle.bind_model.specs.Laws.{AllAwaited, IsAwaited, OwnResponses, has_number, up_from}
 use Rattle.bind_model.specs.Replies.{Drawn, answered, answers, drawn, draws, is_asked, is_response}
-use Rattle.bind_core.specs.steps.Counting.{IsFresh}
+
+-- no request of this number was sent there, and no response to one was got
+pub record IsFresh (past : List Event) (end : EndId) (id request : ℕ) : Type 0 where
+  pub drawn : list_any (λ (d : Drawn). d.request == request) (drawn past end id) ≡ false
+  pub answered : list_any (λ k. k == request) (answered past end id) ≡ false
+
+-- an event draws one request at most, so there are no more than events
+draws_few : (told : Told) (asked : Asked) (x : EndId) (id : ℕ) → length (draws told asked x id) ≤ 1
+draws_few (Sent request bytes) (Call y n o) x id = go (same_end y x && (n == id) && not (request == 0))
+  where
+    go : (b : Bool) → length {A = Drawn} (if b then record { request = request; method = o.target.method } ∷ [] else []) ≤ 1
+    go true = omega arith
+    go false = omega arith
+draws_few told asked x id = omega arith
+
+pub drawn_few : (past : List Event) (x : EndId) (id : ℕ) → length (drawn past x id) ≤ length past
+drawn_few [] x id = omega arith
+drawn_few (event ∷ past) x id =
+    omega (arith, drawn_few past x id, draws_few event.told event.asked x id, length-append (drawn past x id) (draws event.told event.asked x id))
 
 -- whether a request has this number
 abbrev has_drawn : List Drawn → ℕ → Bool
@@ -24,11 +43,7 @@ drawn_number : (ds : List Drawn) (n : ℕ) → has_drawn ds n ≡ has_number (ma
 drawn_number [] n = refl
 drawn_number (d ∷ ds) n = ap (λ b. (d.request == n) || b) (drawn_number ds n)
 
--- a number below the first isn't among them, nor one behind the last
-below : (first count n : ℕ) → n < first → has_number (up_from first count) n ≡ false
-below first zero n h = refl
-below first (suc count) n h = rw (ne_eqb first n (λ e. omega (arith, h, e)), below (suc first) count n (omega (arith, h))) refl
-
+-- a number behind the last isn't among them
 behind : (first count n : ℕ) → n ≡ first + count → has_number (up_from first count) n ≡ false
 behind first zero n h = refl
 behind first (suc count) n h = rw (ne_eqb first n (λ e. omega (arith, h, e)), behind (suc first) count n (omega (arith, h))) refl
@@ -85,7 +100,6 @@ module _ (past : List Event) (own : OwnResponses past) (x : EndId) (id : ℕ) wh
   numbered : (n : ℕ) → has_number (up_from 1 (length (drawn past x id))) n ≡ false → IsFresh past x id n
   numbered n h = undrawn n (drawn_number (drawn past x id) n ∙ (ap (λ (ns : List ℕ). has_number ns n) (own.numbers x id) ∙ h))
 
-  -- the number of the next request is fresh, and so is 0, which none has
-  pub next_fresh : (none : Bool) → IsFresh past x id (if none then 0 else length (drawn past x id) + 1)
-  next_fresh true = numbered 0 (below 1 (length (drawn past x id)) 0 (omega arith))
-  next_fresh false = numbered (length (drawn past x id) + 1) (behind 1 (length (drawn past x id)) (length (drawn past x id) + 1) (omega arith))
+  -- the number of the next request is fresh
+  pub next_fresh : IsFresh past x id (length (drawn past x id) + 1)
+  next_fresh = numbered (length (drawn past x id) + 1) (behind 1 (length (drawn past x id)) (length (drawn past x id) + 1) (omega arith))

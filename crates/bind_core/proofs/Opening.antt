@@ -1,5 +1,5 @@
 -- What the closing of an endpoint is told, by whether it is open.
-use Rattle.std.proofs.Common.{◌≡◌, ℕ, Bool, true, false, List, [], ◌∷◌, refl}
+use Rattle.std.proofs.Common.{◌≡◌, ℕ, Bool, true, false, List, [], ◌∷◌, refl, sym, ap, ◌∙◌}
 use Rattle.std.specs.Prelude.{if◌then◌else◌, ◌||◌, not, ◌==◌, Option, Some, None, Result, Ok, Err}
 use Rattle.mj_base.specs.declared.ids.EndId.{EndId}
 use Rattle.mj_base.specs.declared.ids.SeqId.{SeqId}
@@ -15,6 +15,8 @@ use Rattle.bind_model.specs.declared.event.Event.{Event}
 use Rattle.bind_model.specs.Wire.{Wire}
 use Rattle.bind_model.specs.Machine.{is_gone, is_closed, goes_with}
 use Rattle.bind_model.specs.Replies.{first_of, unless, unbound, elsewhere, closed_at}
+use Rattle.endpoint_router.specs.Changes.{IsBound}
+use Rattle.endpoint_router.specs.Rows.{RowSeen}
 use Rattle.bind_core.specs.steps.Opens.{opened, opened_in}
 
 -- the first tests of what is done at an endpoint, and what follows them
@@ -67,3 +69,22 @@ opened_there seq false id (Some e) r h = at e.state h
         go : (b : Bool) → (if b then Ok e else Err (Elsewhere t)) ≡ Ok r → Some e ≡ Some r
         go true h = cc
         go false h = cc
+
+-- and is bound
+pub opened_bound : (seq : SeqId) (gone : Bool) (id : ℕ) (o : Option Endpoint) (r : Endpoint) (row : RowSeen) → row.endpoint ≡ r
+    → opened seq gone id o ≡ Ok r → IsBound (Some row)
+opened_bound seq gone id None r row e h = absurd cc
+opened_bound seq true id (Some q) r row e h = absurd cc
+opened_bound seq false id (Some q) r row e h = at q.state refl h
+  where
+    at : (state : State) → q.state ≡ state → opened_in seq id q state ≡ Ok r → IsBound (Some row)
+    at states.Closed is h = absurd cc
+    at states.Pending is h = absurd cc
+    at (states.Bound t) is h = go (t.0 == seq.0) h
+      where
+        go : (b : Bool) → (if b then Ok q else Err (Elsewhere t)) ≡ Ok r → IsBound (Some row)
+        go true g =
+            let same : q ≡ r = cc in
+            let on : row.endpoint.state ≡ states.Bound t = ap (λ (e : Endpoint). e.state) (e ∙ sym same) ∙ is in
+            rw on tt
+        go false g = absurd cc

@@ -1,5 +1,5 @@
 -- A thing stands twice where an end or a token does.
-use Rattle.std.proofs.Common.{◌≡◌, Bool, true, false, List, [], ◌∷◌, refl, sym, arith}
+use Rattle.std.proofs.Common.{◌≡◌, Bool, true, false, List, [], ◌∷◌, refl, sym, ap, ◌∙◌, arith}
 use Rattle.std.specs.Prelude.{◌&&◌, ◌||◌, not, ◌↔◌, IsTrue}
 use Rattle.std.specs.List.{AllByRecursion, IsDistinct, list_any}
 use Rattle.std.proofs.lemmas.Map.Keys.{IsDistinct-cons, IsDistinct-from_apart, IsDistinct-head, IsDistinct-tail}
@@ -9,7 +9,14 @@ use Rattle.handle_table.specs.declared.thing.Thing.{Thing}
 use Rattle.handle_table.specs.declared.thing.Thing.TheVariants.{End, Token}
 use Rattle.handle_table.specs.declared.thing.TokenId.{TokenId}
 use Rattle.handle_table.proofs.ThingsLemmas.{same-sym}
+use Rattle.bind_model.specs.Names.{endpoint_name, is_named}
 use Rattle.bind_model.specs.Ready.{ends_of}
+use Rattle.bind_model.specs.Replies.{distinct_pendings, has_pending, same_pending}
+use Rattle.bind_model.specs.declared.endpoint.PendingId.{PendingId}
+use Rattle.bind_model.specs.declared.names.EndpointName.{EndpointName}
+use Rattle.bind_model.proofs.PendingLists.{same_pending-refl}
+use Rattle.bind_model.proofs.Telling.{same_pending-true}
+use Rattle.bind_core.specs.steps.Carrying.{endpoint_names}
 use Rattle.bind_core.specs.steps.Tokens.{tokens_of}
 
 module _ {K : Type 0} (eq : K → K → Bool) where
@@ -91,3 +98,36 @@ module _ (xs : List Thing) (ends : List EndId) (tokens : List TokenId) (e : ends
   tokens_differ t r s f h i =
       let a : true ≡ all_apart same_end (ends_of xs) = rw (← f, ← e) (apart_is same_end ends r h) in
       let b : s ≡ all_apart same_token (tokens_of xs) = rw (← t) (apart_is same_token tokens s i) in rw (b, ← by_sort xs, ← a) refl
+
+-- ## Pendings
+
+pending-sym : (p q : PendingId) → same_pending p q ≡ same_pending q p
+pending-sym p q = go (same_pending p q) (same_pending q p) refl refl
+  where
+    go : (x y : Bool) → same_pending p q ≡ x → same_pending q p ≡ y → x ≡ y
+    go true true e h = refl
+    go false false e h = refl
+    go true false e h = let t : same_pending q p ≡ true = rw (same_pending-true p q e) (same_pending-refl q) in cc
+    go false true e h = let t : same_pending p q ≡ true = rw (same_pending-true q p h) (same_pending-refl p) in cc
+
+-- whether two names are of one endpoint
+abbrev pub same_name : EndpointName → EndpointName → Bool
+same_name a b = is_named a.end a.id b
+
+has_name : (p : PendingId) (ps : List PendingId) → list_any (same_name (endpoint_name p.end p.id)) (endpoint_names ps) ≡ has_pending ps p
+has_name p [] = refl
+has_name p (q ∷ ps) =
+    ap (λ (b : Bool). b || list_any (same_name (endpoint_name p.end p.id)) (endpoint_names ps)) (pending-sym p q)
+    ∙ ap (λ (b : Bool). same_pending q p || b) (has_name p ps)
+
+names_apart : (ps : List PendingId) → all_apart same_name (endpoint_names ps) ≡ distinct_pendings ps
+names_apart [] = refl
+names_apart (p ∷ ps) =
+    ap (λ (b : Bool). not b && all_apart same_name (endpoint_names ps)) (has_name p ps)
+    ∙ ap (λ (b : Bool). not (has_pending ps p) && b) (names_apart ps)
+
+-- a pending stands twice where its name does
+pub pendings_differ : (ps : List PendingId) (names : List EndpointName) → names ≡ endpoint_names ps → (r : Bool) → IsTrue r ↔ IsDistinct same_name names
+    → r ≡ distinct_pendings ps
+pendings_differ ps names e r h =
+    apart_is same_name names r h ∙ (ap (λ (ns : List EndpointName). all_apart same_name ns) e ∙ names_apart ps)

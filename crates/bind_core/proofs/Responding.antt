@@ -2,17 +2,13 @@
 use Rattle.std.proofs.Common.{◌≡◌, ◌≤◌, ℕ, ◌+◌, ◌^◌, ◌<◌, Bool, true, false, List, [], ◌∷◌, ◌++◌, length, refl, sym, ap, ◌∙◌, arith}
 use Rattle.std.specs.Prelude.{if◌then◌else◌, not, ◌==◌, ◌&&◌, ◌||◌, Option, Some, None}
 use Rattle.std.specs.List.{count_by, list_any}
-use Rattle.std.proofs.lemmas.Bool.{eqb-true, eq-eqb, ne_eqb}
+use Rattle.std.proofs.lemmas.Bool.{ne_eqb}
 use Rattle.std.proofs.lemmas.List.{append-nil, length-append, length-reverse}
 use Rattle.std.proofs.lemmas.List.Sums.{sum_by-append, sum_by-cons, count_by-le-length}
 use Rattle.mj_base.specs.declared.ids.EndId.{EndId}
-use Rattle.handle_table.specs.Things.{same_end}
-use Rattle.handle_table.proofs.ThingsLemmas.{and_left, and_right, same_end-true}
-use Rattle.wire_model.specs.declared.target.Target.{Target}
 use Rattle.bind_model.specs.declared.asked.Asked.{Asked}
 use Rattle.bind_model.specs.declared.asked.Asked.TheVariants.{Answer, Close, Take}
 use Rattle.bind_model.specs.declared.asked.Closing.TheVariants as closings
-use Rattle.bind_model.specs.declared.asked.Outgoing.{Outgoing}
 use Rattle.bind_model.specs.declared.endpoint.ResponderId.{ResponderId}
 use Rattle.bind_model.specs.declared.event.Event.{Event}
 use Rattle.bind_model.specs.declared.told.Got.{Got}
@@ -23,7 +19,6 @@ use Rattle.bind_model.specs.Wire.{Wire}
 use Rattle.bind_model.proofs.ResponderCounts.{same-true}
 use Rattle.bind_core.specs.Agreement.{Holds, past_of, wire_in}
 use Rattle.bind_model.specs.Responders.{CountsResponders, count_of}
-use Rattle.bind_core.specs.steps.Doing.{HasRoom}
 use Rattle.bind_core.specs.steps.Taking.{responder_due, times_in}
 use Rattle.bind_model.specs.declared.responder.ResponderName.{ResponderName}
 use Rattle.bind_core.specs.declared.state.State.{State}
@@ -156,7 +151,7 @@ out_few wire (event ∷ past) =
     )
 
 -- so a count has room for one more
-pub count_few : (s : State) → Holds s → (r : ResponderId) → count_of s.responders r + 1 < 2 ^ 64
+pub count_few : (s : State) → Holds s → (r : ResponderId) → count_of s.rights.responders r + 1 < 2 ^ 64
 count_few s h r =
     let c = h.responders r in
     let few = h.few in

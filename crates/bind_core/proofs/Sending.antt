@@ -1,5 +1,5 @@
--- What a call makes of pipes, places and endpoints.
-use Rattle.std.proofs.Common.{◌≡◌, ◌≤◌, ℕ, Bool, true, false, List, [], ◌∷◌, ◌++◌, length, refl, sym, ap, ◌∙◌, arith, subst}
+-- What a message that is written makes of pipes, places and endpoints.
+use Rattle.std.proofs.Common.{◌≡◌, ◌≤◌, ℕ, Bool, true, false, List, [], ◌∷◌, ◌++◌, length, drop, refl, sym, ap, ◌∙◌, arith, subst}
 use Rattle.std.specs.Prelude.{if◌then◌else◌, ◌||◌, ◌&&◌, not, ◌==◌, is_some, Option, Some, None}
 use Rattle.std.specs.Option.{option_map}
 use Rattle.std.specs.List.{count_by}
@@ -18,47 +18,73 @@ use Rattle.message_pipe.specs.Ends.{with_message}
 use Rattle.message_pipe.specs.declared.message.Message.{Message}
 use Rattle.message_pipe.specs.declared.pipe_end.PipeEnd.{PipeEnd}
 use Rattle.bind_model.specs.declared.asked.Asked.{Asked}
-use Rattle.bind_model.specs.declared.told.Told.TheVariants.{Sent}
+use Rattle.bind_model.specs.declared.told.Told.{Told}
 use Rattle.bind_model.specs.declared.event.Event.{Event}
 use Rattle.bind_model.specs.Wire.{Wire}
-use Rattle.bind_model.specs.Machine.{made, peer, gone, is_gone, given, lands, out, puts, taken, written, unread, endpoint_at}
+use Rattle.bind_model.specs.Machine.{made, made_by, peer, peer_by, gone, gone_by, is_gone, given, handed, lands, out, puts, taken, takes, written, unread, endpoint_at}
 use Rattle.bind_model.specs.Replies.{all_out}
 use Rattle.bind_model.proofs.Kept.{Kept, most, own_times}
 use Rattle.bind_model.proofs.Counting.{absent, times-present}
+use Rattle.bind_core.specs.Routers.{Routers}
 use Rattle.bind_core.specs.steps.Placing.{PutsAll}
 use Rattle.bind_core.specs.Agreement.{Agrees, end_in, end_with, is_out, is_shut}
-use Rattle.bind_core.specs.declared.endpoint_table.Line.{Line}
-use Rattle.bind_core.proofs.After.{out_after, unread_after, end_after}
+use Rattle.bind_core.proofs.After.{out_after, unread_after, end_after, gone_still}
+use Rattle.bind_core.proofs.Steady.{AllAgree}
 
--- a call or an answer that takes these handles in and writes this message at y
-module _ (wire : Wire) (past : List Event) (k : Kept wire past) (seq : SeqId) (asked : Asked) (y : EndId) (handles : List Thing) (request : ℕ) (bytes : List ℕ)
-    (gives : given (Sent request bytes) asked ≡ handles)
-    (lays : (x : EndId) → puts wire past (written wire past) (endpoint_at wire past) (Sent request bytes) asked x ≡ lands past y bytes handles x)
+-- what an event is that writes a message: it makes, hands out and reads nothing, and nothing goes with it
+pub record IsWriting (told : Told) (asked : Asked) : Type 0 where
+  pub made : made_by told ≡ []
+  pub gone : gone_by told ≡ []
+  pub handed : handed told ≡ []
+  pub takes : (x : EndId) → takes told asked x ≡ []
+  pub peer : (x before : EndId) → peer_by told x before ≡ before
+
+-- an event that takes these handles in and writes this message at y
+module _ (wire : Wire) (past : List Event) (k : Kept wire past) (seq : SeqId) (asked : Asked) (told : Told) (y : EndId) (handles : List Thing)
+    (bytes : List ℕ) (w : IsWriting told asked)
+    (gives : given told asked ≡ handles)
+    (lays : (x : EndId) → puts wire past (written wire past) (endpoint_at wire past) told asked x ≡ lands past y bytes handles x)
     (own : all_out past handles ≡ true) (alive : is_gone past (peer past y) ≡ false) where
   abbrev pub sent_event : Event
-  sent_event = record { seq = seq; asked = asked; told = Sent request bytes }
+  sent_event = record { seq = seq; asked = asked; told = told }
 
   abbrev pub sent_message : Message
   sent_message = record { bytes = bytes; handles = handles; emitted = false }
 
-  few : (x : EndId) → length (taken past x ++ []) ≤ length (written wire past x)
-  few x = rw (append-nil (taken past x)) (k.counted x)
+  few : (x : EndId) → length (taken past x ++ takes told asked x) ≤ length (written wire past x)
+  few x =
+      subst (λ (ts : List Told). length (taken past x ++ ts) ≤ length (written wire past x)) (sym (w.takes x))
+      (rw (append-nil (taken past x)) (k.counted x))
 
   unread_now : (x : EndId) → unread wire (sent_event ∷ past) x ≡ unread wire past x
       ++ (if is_gone past x then [] else (if same_end (peer past y) x then sent_message ∷ [] else []))
   unread_now x =
       unread_after wire sent_event past x (few x)
-      ∙ ap (λ (ps : List Message). unread wire past x ++ (if is_gone past x then [] else ps)) (lays x)
+      ∙ go (gone_by told) (takes told asked x) (puts wire past (written wire past) (endpoint_at wire past) told asked x) w.gone (w.takes x) (lays x)
+    where
+      go : (gs : List Thing) (ts : List Told) (ps : List Message) → gs ≡ [] → ts ≡ [] → ps ≡ lands past y bytes handles x
+          → (if has gs (End x) then [] else drop (length ts) (unread wire past x) ++ (if is_gone past x then [] else ps))
+          ≡ unread wire past x ++ (if is_gone past x then [] else (if same_end (peer past y) x then sent_message ∷ [] else []))
+      go gs ts ps e f g = rw (e, f, g) refl
 
   gone_now : gone (sent_event ∷ past) ≡ gone past
-  gone_now = append-nil (gone past)
+  gone_now = gone_still wire sent_event past w.gone
+
+  made_now : made (sent_event ∷ past) ≡ made past
+  made_now = ap (λ (ms : List Thing). made past ++ ms) w.made ∙ append-nil (made past)
+
+  outs_now : (z : Thing) → has (out (sent_event ∷ past)) z ≡ ((has (out past) z && not (has handles z)) || false)
+  outs_now z =
+      out_after wire sent_event past z
+      ∙ (ap (λ (hs : List Thing). (has (out past) z && not (has hs z)) || has (handed told) z) gives
+      ∙ ap (λ (hs : List Thing). (has (out past) z && not (has handles z)) || has hs z) w.handed)
 
   end_now : (x : EndId) → end_in wire (sent_event ∷ past) x
       ≡ end_with (has (made past) (End x)) (peer past x) (is_gone past x)
       (unread wire past x ++ (if is_gone past x then [] else (if same_end (peer past y) x then sent_message ∷ [] else [])))
   end_now x = end_after wire sent_event past x (has (made past) (End x)) (peer past x) (is_gone past x)
       (unread wire past x ++ (if is_gone past x then [] else (if same_end (peer past y) x then sent_message ∷ [] else [])))
-      (ap (λ ms. has ms (End x)) (append-nil (made past))) refl (ap (λ gs. has gs (End x)) gone_now) (unread_now x)
+      (ap (λ ms. has ms (End x)) made_now) (w.peer x (peer past x)) (ap (λ gs. has gs (End x)) gone_now) (unread_now x)
 
   added : (m : Bool) (p : EndId) (ms : List Message) → option_map (with_message sent_message) (end_with m p false ms)
       ≡ end_with m p false (ms ++ sent_message ∷ [])
@@ -110,22 +136,22 @@ module _ (wire : Wire) (past : List Event) (k : Kept wire past) (seq : SeqId) (a
       nowhere None = refl
       nowhere (Some r) = n
 
-  pub sent_agrees : (old mid new : Contents) (endpoints : List (List (List Line))) → Becomes (peer past y) (with_message sent_message) old mid
+  pub sent_agrees : (old mid new : Contents) (before now : Routers) → Becomes (peer past y) (with_message sent_message) old mid
       → PutsAll handles (places.Unread (peer past y)) mid new
-      → Agrees wire past old endpoints → Agrees wire (sent_event ∷ past) new endpoints
-  sent_agrees old mid new endpoints b p a = record {
+      → AllAgree wire (sent_event ∷ past) now → Agrees wire past old before → Agrees wire (sent_event ∷ past) new now
+  sent_agrees old mid new before now b p r a = record {
     ends = λ x. p.ends x ∙ (b.ends x ∙ (ap (λ (o : Option PipeEnd). if same_end (peer past y) x then option_map (with_message sent_message) o else o)
         (a.ends x) ∙ ends_now x));
     outs = λ z. ap is_out (at z) ∙ (out_now (places.Unread (peer past y)) (has handles z) (has (out past) z) (place_of old.table z) refl (a.outs z)
-        ∙ sym (out_after wire sent_event past z ∙ ap (λ (hs : List Thing). (has (out past) z && not (has hs z)) || false) gives));
+        ∙ sym (outs_now z));
     there = λ z. ap (λ (o : Option Place). is_some o) (at z)
-        ∙ (some_now (places.Unread (peer past y)) (has handles z) (place_of old.table z) ∙ (a.there z ∙ ap (λ ms. has ms z) (sym (append-nil (made past)))));
+        ∙ (some_now (places.Unread (peer past y)) (has handles z) (place_of old.table z) ∙ (a.there z ∙ ap (λ ms. has ms z) (sym made_now)));
     shuts = λ z. ap is_shut (at z) ∙ (shut_now (places.Unread (peer past y)) (has handles z) (has (gone past) z) (place_of old.table z) refl (a.shuts z)
-        (not_gone_own z) ∙ ap (λ gs. has gs z) (sym (append-nil (gone past))));
-    made = p.made ∙ (b.made ∙ (a.made ∙ ap length (sym (append-nil (made past)))));
-    serials = λ n. p.ends_made n ∙ (rw b.table (a.serials n ∙ ap (λ ms. count_by (λ z. is_end z && (seq_of z == n)) ms) (sym (append-nil (made past)))));
-    tokens = λ n. p.tokens_made n ∙ (rw b.table (a.tokens n ∙ ap (λ ms. count_by (λ z. not (is_end z) && (seq_of z == n)) ms) (sym (append-nil (made past)))));
-    endpoints = λ x i. a.endpoints x i;
+        (not_gone_own z) ∙ ap (λ gs. has gs z) (sym gone_now));
+    made = p.made ∙ (b.made ∙ (a.made ∙ ap length (sym made_now)));
+    serials = λ n. p.ends_made n ∙ (rw b.table (a.serials n ∙ ap (λ ms. count_by (λ z. is_end z && (seq_of z == n)) ms) (sym made_now)));
+    tokens = λ n. p.tokens_made n ∙ (rw b.table (a.tokens n ∙ ap (λ ms. count_by (λ z. not (is_end z) && (seq_of z == n)) ms) (sym made_now)));
+    routers = r;
   }
     where
       at : (z : Thing) → place_of new.table z ≡ (if has handles z then option_map (λ (before : Place). places.Unread (peer past y))

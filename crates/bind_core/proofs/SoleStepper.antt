@@ -1,6 +1,6 @@
 -- Where no other steps a core, nothing stands between.
-use Rattle.std.proofs.Common.{◌≡◌, ◌<◌, ℕ, List, [], ◌∷◌, ◌++◌, length, refl, sym}
-use Rattle.std.specs.Prelude.{Result, Ok, Err, IfOk, OnOk}
+use Rattle.std.proofs.Common.{◌≡◌, ◌<◌, ℕ, List, true, [], ◌∷◌, ◌++◌, length, refl, sym}
+use Rattle.std.specs.Prelude.{Result, Ok, Err, IfOk, OnOk, reverse}
 use Rattle.std.proofs.lemmas.List.{append-nil, reverse-append}
 use Rattle.mj_base.specs.declared.ids.SeqId.{SeqId}
 use Rattle.mj_base.specs.declared.limits.TheConstants.{MAX_EVENTS}
@@ -10,12 +10,12 @@ use Rattle.bind_model.specs.declared.commands.Command.{Command}
 use Rattle.bind_model.specs.declared.commands.Reply.{Reply}
 use Rattle.bind_model.specs.declared.commands.Refused.{Refused}
 use Rattle.bind_model.specs.WireOf.{wire_of}
-use Rattle.bind_model.specs.Plain.{asked_of, told_of, HandsBack, HandsResponders}
+use Rattle.bind_model.specs.Plain.{asked_of, told_of, HandsBack, HandsPendings, HandsResponders}
 use Rattle.bind_model.specs.Seen.{Continues, KeepsLegal, Saw, told_behind}
 
 -- all that was seen continues itself
-pub nothing_between : (me : SeqId) (events : List Event) → Continues me events events
-nothing_between me events = record { between = []; none_own = refl; all = sym (append-nil events) }
+pub nothing_between : (me : SeqId) (events : List Event) → Continues true me events events
+nothing_between me events = record { between = []; none_own = refl; none = λ a. refl; all = sym (append-nil events) }
 
 module _ (schema : Schema) (seqs : ℕ) (me : SeqId) (old new : List Event) (command : Command) where
   abbrev pub its_event : Event
@@ -28,9 +28,10 @@ module _ (schema : Schema) (seqs : ℕ) (me : SeqId) (old new : List Event) (com
   pub saw_alone : (result : Result Reply Refused) → me.0 < seqs
       → IfOk result (λ reply. new ≡ old ++ its_event ∷ []) → IfOk result (λ reply. told_of reply ≡ told_behind schema seqs me old command)
       → IfOk result (λ reply. HandsBack command reply) → IfOk result (λ reply. HandsResponders (wire_of schema) command reply)
+      → IfOk result (λ reply. HandsPendings (wire_of schema) (reverse new) command reply)
       → OnOk result (length old < MAX_EVENTS)
-      → IfOk result (λ reply. Saw schema seqs me old new command reply)
-  saw_alone (Ok reply) within event told back responders room = record {
+      → IfOk result (λ reply. Saw schema seqs true me old new command reply)
+  saw_alone (Ok reply) within event told back responders pendings room = record {
     before = old;
     others = nothing_between me old;
     event = event;
@@ -39,5 +40,6 @@ module _ (schema : Schema) (seqs : ℕ) (me : SeqId) (old new : List Event) (com
     told = told;
     back = back;
     responders = responders;
+    pendings = pendings;
   }
-  saw_alone (Err refused) within event told back responders room = tt
+  saw_alone (Err refused) within event told back responders pendings room = tt

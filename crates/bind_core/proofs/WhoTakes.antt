@@ -29,11 +29,12 @@ use Rattle.bind_model.specs.Wire.{Content, Header, Wire}
 use Rattle.bind_model.specs.WireOf.{header_in, wire_of}
 use Rattle.bind_model.specs.declared.told.BadWhy.TheVariants as bads
 use Rattle.bind_model.proofs.Fresh.{kept}
-use Rattle.bind_core.specs.Lines.{found_at}
+use Rattle.bind_core.specs.Routers.{found_at}
 use Rattle.bind_core.specs.Agreement.{Holds, past_of, schema_of, wire_in}
 use Rattle.bind_core.specs.steps.Takers.{id_in, id_meant, taker_at, taker_for, taker_front, taker_in, taker_meant, taker_of, taker_open}
 use Rattle.bind_core.specs.declared.state.State.{State}
 use Rattle.bind_core.proofs.Facts.{closed_is, unread_is}
+use Rattle.bind_core.proofs.Steady.{found_is}
 
 -- a header that reads, and is no control's
 pub id_read : (bytes : List ℕ) (header : Read) → IsFine (header_marks bytes) → header ≡ header_said bytes → (header.interface_id == CONTROL_ID) ≡ false
@@ -210,7 +211,7 @@ module _ (s : State) (h : Holds s) (y : EndId) where
   taker_of_is =
       let k = kept (wire_in s) s.seqs (past_of s) h.legal in
       same_taker (λ m. id_meant m.bytes) (λ m. meant (wire_in s) m) (found_at s.endpoints y) (endpoint_at (wire_in s) (past_of s) y) (meant_is (schema_of s))
-      (λ id. h.agrees.endpoints y id) (is_closed (end_of s.pipes.ends y)) (is_gone (past_of s) y) (front_of (unread_at s.pipes.ends y))
+      (λ id. found_is h.agrees y id) (is_closed (end_of s.pipes.ends y)) (is_gone (past_of s) y) (front_of (unread_at s.pipes.ends y))
       (front_of (unread (wire_in s) (past_of s) y))
       (closed_is (wire_in s) (past_of s) k s.pipes s.endpoints h.agrees y)
       (ap (λ (ms : List Message). front_of ms) (unread_is (wire_in s) (past_of s) k s.pipes s.endpoints h.agrees y))

@@ -6,6 +6,7 @@ use Rattle.bounds_claims.specs.declared.claims.Claims.{Claims}
 use Rattle.mj_base.specs.declared.fault.Fault.{Fault}
 use Rattle.mj_base.specs.declared.header.Header.{Header as Read}
 use Rattle.mj_schema.specs.declared.schema.Schema.{Schema}
+use Rattle.message_header.specs.Controls.{control_id, control_marks}
 use Rattle.message_header.specs.FirstFailed.{first_failed}
 use Rattle.message_header.specs.Said.{header_said}
 use Rattle.message_header.proofs.Fine.{fine_passes}
@@ -30,6 +31,17 @@ pub header_reads : (schema : Schema) (bytes : List ℕ) (header : Read) → IsFi
     → (wire_of schema).header bytes ≡ Ok (record { id = header.interface_id; ids = ids_read bytes })
 unfolding wire_of
 header_reads schema bytes header fine e = rw (fine_passes (header_marks bytes) fine, e) refl
+
+-- a control of which a test fails, and one of which each holds
+pub control_fails : (schema : Schema) (bytes : List ℕ) (fault : Fault) → first_failed (control_marks bytes) ≡ Some fault
+    → (wire_of schema).closed_id bytes ≡ Err fault
+unfolding wire_of
+control_fails schema bytes fault h = rw h refl
+
+pub control_reads : (schema : Schema) (bytes : List ℕ) (id : ℕ) → IsFine (control_marks bytes) → id ≡ control_id bytes
+    → (wire_of schema).closed_id bytes ≡ Ok id
+unfolding wire_of
+control_reads schema bytes id fine e = rw (fine_passes (control_marks bytes) fine, e) refl
 
 -- what comes to an endpoint of this side and interface
 abbrev pub coming : EndpointSide → ℕ → Expected

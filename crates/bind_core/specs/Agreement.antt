@@ -17,11 +17,12 @@ use Rattle.message_pipe.specs.declared.pipe_end.PipeEnd.{PipeEnd}
 use Rattle.bind_model.specs.declared.event.Event.{Event}
 use Rattle.bind_model.specs.Wire.{Wire}
 use Rattle.bind_model.specs.WireOf.{wire_of}
-use Rattle.bind_model.specs.Machine.{made, out, gone, peer, is_gone, unread, endpoint_at}
+use Rattle.bind_model.specs.Machine.{made, out, gone, peer, is_gone, unread}
 use Rattle.bind_model.specs.Replies.{legal, serials, tokens}
-use Rattle.bind_core.specs.Lines.{found_at}
+use Rattle.bind_model.specs.Pendings.{KnowsPendings}
 use Rattle.bind_model.specs.Responders.{CountsResponders}
-use Rattle.bind_core.specs.declared.endpoint_table.Line.{Line}
+use Rattle.endpoint_router.specs.Agreement.{Agrees as AgreesAt}
+use Rattle.bind_core.specs.Routers.{Routers, router_at}
 use Rattle.bind_core.specs.declared.state.State.{State}
 
 -- an end of a pipe by its parts; none where it was never made
@@ -42,8 +43,8 @@ abbrev pub is_shut : Option Place → Bool
 is_shut None = false
 is_shut (Some place) = elim place [ places.Out ↦ false | places.Unread end ↦ false | places.Bound ↦ false | places.Closed ↦ true ]
 
--- pipes, places and endpoints are those that the events give
-pub record Agrees (wire : Wire) (past : List Event) (pipes : Contents) (tables : List (List (List Line))) : Type 0 where
+-- pipes, places and the routers of all ends are those that the events give
+pub record Agrees (wire : Wire) (past : List Event) (pipes : Contents) (endpoints : Routers) : Type 0 where
   pub ends : (x : EndId) → end_of pipes.ends x ≡ end_in wire past x
   pub outs : (z : Thing) → is_out (place_of pipes.table z) ≡ has (out past) z
   pub there : (z : Thing) → is_some (place_of pipes.table z) ≡ has (made past) z
@@ -51,7 +52,7 @@ pub record Agrees (wire : Wire) (past : List Event) (pipes : Contents) (tables :
   pub made : pipes.made ≡ length (made past)
   pub serials : (s : ℕ) → ends_made pipes.table s ≡ serials past s
   pub tokens : (s : ℕ) → tokens_made pipes.table s ≡ tokens past s
-  pub endpoints : (x : EndId) (id : ℕ) → found_at tables x id ≡ endpoint_at wire past x id
+  pub routers : (x : EndId) → AgreesAt wire past x (router_at endpoints x)
 
 -- the events, the newest first
 abbrev pub past_of : State → List Event
@@ -68,5 +69,6 @@ wire_in s = wire_of (schema_of s)
 pub record Holds (s : State) : Type 0 where
   pub legal : legal (wire_in s) s.seqs (past_of s)
   pub agrees : Agrees (wire_in s) (past_of s) s.pipes s.endpoints
-  pub responders : CountsResponders (wire_in s) (past_of s) s.responders
+  pub responders : CountsResponders (wire_in s) (past_of s) s.rights.responders
+  pub pendings : KnowsPendings (past_of s) s.rights.pendings
   pub few : length s.log.events ≤ MAX_EVENTS

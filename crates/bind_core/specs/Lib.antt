@@ -1,9 +1,6 @@
 pub mod Agreement
-pub mod Counts
 pub mod Covers
 pub mod EndSets
-pub mod Lines
-pub mod Log
 pub mod Play
-pub mod Waits
+pub mod Routers
 pub mod steps

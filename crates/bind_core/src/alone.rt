@@ -1,5 +1,7 @@
 //! The only one that steps a core.
 
+ghost use Rattle.std.specs.Prelude.{true};
+
 use crate::machine::Core;
 use bind_model::{Command, Refused, Reply, Stepper};
 use mj_base::SeqId;
@@ -16,6 +18,8 @@ impl Stepper for Alone<'_> {
     ghost schema = { λ a. a.core.now.schema };
 
     ghost seqs = { λ a. a.core.now.seqs };
+
+    ghost alone = { λ a. true };
 
     ghost me = { λ a. a.seq };
 

@@ -2,50 +2,54 @@
 
 ghost use Rattle.std.specs.Prelude.{◌≡◌, ◌==◌, ◌&&◌, not, Ok, IfOk, IfErr};
 ghost use Rattle.message_pipe.specs.Ends.{end_of, is_closed};
-ghost use Rattle.bind_core.specs.Lines.{found_at};
-ghost use Rattle.bind_model.specs.Plain.{asked_of};
+ghost use Rattle.bind_core.specs.Routers.{found_at};
+ghost use Rattle.bind_model.specs.declared.asked.Asked.TheVariants as asks;
 ghost use Rattle.bind_model.specs.Responders.{count_of};
-ghost use Rattle.bind_core.specs.steps.Answering.{answers_to, command_with, reached, way_back};
-ghost use Rattle.bind_core.specs.steps.Ways.{all_out};
+ghost use Rattle.bind_core.specs.steps.Answering.{answers_to, command_of, reached, way_back};
+ghost use Rattle.bind_core.specs.steps.Calls.{outgoing_named};
+ghost use Rattle.bind_core.specs.steps.Carrying.{all_own, names_in};
 ghost use Rattle.bind_core.specs.steps.Doing.{CanDo, Done, Undone};
 
+use crate::carried::{Carried, CarriedNames, all_own, spend_all};
 use crate::state::{State, refuse};
-use crate::things::{all_out, put_all};
-use crate::writing::{outgoing, suits, way_to, writes_of};
+use crate::things::put_all;
+use crate::writing::{outgoing, way_with, writes_of};
 use bind_model::{
-    Asked, Closing, Command, Endpoint, Event, Refused, Reply, Responder, ResponderId,
+    Asked, Closing, Command, Endpoint, Event, PendingList, Refused, Reply, Responder, ResponderId,
     State as EndpointState, ToClose, Told, Why,
 };
-use handle_table::{Handles, Place, Thing};
+use handle_table::{Handles, Place};
 use mj_base::{EndId, Items, SeqId};
 use std::alloc::{AllocError, Global};
 use wire_encoder::Prepared;
 use wire_model::{MessageSide, Target};
 
-/// What answers a request: the right to do so, what is sent, and the handles that go with it.
+/// What answers a request: the right to do so, what is sent, and what goes with that.
 struct Response {
     responder: Responder,
     prepared: Prepared,
-    handles: Handles,
+    carried: Carried,
 }
 
 impl Response {
-    ghost use Rattle.bind_core.specs.steps.Answering.{command_with};
+    ghost use Rattle.bind_core.specs.steps.Answering.{command_of};
 
     /// The command that it came with.
     fn into_command(self) -> Command
-        ensures { result ≡ command_with self self.handles }
+        ensures { result ≡ command_of self }
     {
         let Response {
             responder,
             prepared,
-            handles,
+            carried,
         } = self;
-        Command::Answer(responder, prepared, handles)
+        let Carried { handles, pendings } = carried;
+        Command::Answer(responder, prepared, handles, pendings)
     }
 }
 
-/// Sends a prepared response to the request of a responder, with the handles that its parameters name.
+/// Sends a prepared response to the request of a responder, with the handles and the pendings that its
+/// parameters name.
 pub fn answer(
     state: &mut State,
     alloc: Global,
@@ -53,44 +57,61 @@ pub fn answer(
     responder: Responder,
     prepared: Prepared,
     handles: Handles,
+    pendings: PendingList,
 ) -> Result<Reply, Refused>
-    requires { CanDo state.old seq (Command.Answer responder prepared handles) }
-    ensures done { IfOk result (λ reply. Done state.old state.new seq (Command.Answer responder prepared handles) reply) }
-    ensures undone { IfErr result (λ refused. Undone state.old state.new (Command.Answer responder prepared handles) refused) }
+    requires { CanDo state.old seq (Command.Answer responder prepared handles pendings) }
+    ensures done { IfOk result (λ reply. Done state.old state.new seq (Command.Answer responder prepared handles pendings) reply) }
+    ensures undone { IfErr result (λ refused. Undone state.old state.new (Command.Answer responder prepared handles pendings) refused) }
 {
     let response = Response {
         responder,
         prepared,
-        handles,
+        carried: Carried { handles, pendings },
     };
-    let Ok(things) = response.handles.things(alloc) else {
+    respond(state, alloc, seq, response)
+}
+
+/// Sends a response, or notes why it isn't sent.
+fn respond(
+    state: &mut State,
+    alloc: Global,
+    seq: SeqId,
+    response: Response,
+) -> Result<Reply, Refused>
+    requires { CanDo state.old seq (command_of response) }
+    ensures done { IfOk result (λ reply. Done state.old state.new seq (command_of response) reply) }
+    ensures undone { IfErr result (λ refused. Undone state.old state.new (command_of response) refused) }
+{
+    let Ok(names) = response.carried.names(alloc) else {
         return Err(Refused::Memory(response.into_command()));
     };
-    let Ok(own) = is_own(state, alloc, response.responder.id(), &things) else {
+    let Ok(own) = is_own(state, alloc, response.responder.id(), &names) else {
         return Err(Refused::Memory(response.into_command()));
     };
-    match way(state, seq, &response, &things, own) {
-        Ok(peer) => send(state, alloc, seq, response, Items::from_vec(things), peer),
-        Err(why) => match asked(alloc, &response, Items::from_vec(things)) {
+    match way(state, seq, &response, &names, own) {
+        Ok(peer) => send(state, alloc, seq, response, names, peer),
+        Err(why) => match asked(alloc, &response, names) {
             Ok(asked) => refuse(state, seq, asked, why, response.into_command()),
             Err(_) => Err(Refused::Memory(response.into_command())),
         },
     }
 }
 
-/// Whether a responder of this name and the handles of all are with callers, and none stands twice.
+/// Whether a responder of this name and all that goes with its answer are with callers, and nothing stands
+/// twice.
 fn is_own(
     state: &State,
     alloc: Global,
     id: ResponderId,
-    things: &[Thing],
+    names: &CarriedNames,
 ) -> Result<bool, AllocError>
-    ensures { IfOk result (λ own. own ≡ (not (count_of state.now.responders id == 0) && all_out state.now.pipes things.now)) }
+    ensures { IfOk result (λ own. own ≡ (not (count_of state.now.rights.responders id == 0)
+        && all_own state.now.pipes state.now.rights.pendings names.now)) }
 {
-    if !state.responders.is_out(id) {
+    if !state.rights.responders.is_out(id) {
         return Ok(false);
     }
-    all_out(alloc, &state.pipes, things)
+    all_own(alloc, &state.pipes, &state.rights.pendings, names)
 }
 
 /// The endpoint that a request came to, or why nothing is sent from it: it isn't there, is closed, or is
@@ -124,15 +145,15 @@ fn answers_to(id: ResponderId, target: Target) -> bool
 }
 
 /// The end that an answer goes to, or why it is refused. It is told whether the caller has the responder
-/// and all the handles.
+/// and all that goes with it.
 fn way(
     state: &State,
     seq: SeqId,
     response: &Response,
-    things: &[Thing],
+    names: &CarriedNames,
     own: bool,
 ) -> Result<EndId, Why>
-    ensures { result ≡ way_back seq response.now.responder response.now.prepared things.now own state.now.pipes state.now.endpoints }
+    ensures { result ≡ way_back seq response.now.responder response.now.prepared names.now own state.now.pipes state.now.endpoints }
 {
     if !own {
         return Err(Why::NoName);
@@ -142,17 +163,20 @@ fn way(
     if !answers_to(id, response.prepared.target) {
         return Err(Why::WrongMethod);
     }
-    if !suits(&response.prepared, things) {
-        return Err(Why::WrongTokens);
-    }
-    way_to(&state.pipes, id.end, endpoint.peer_closed, things)
+    way_with(
+        state,
+        &response.prepared,
+        names,
+        id.end,
+        endpoint.peer_closed,
+    )
 }
 
-/// The plain form of an answer with these handles.
-fn asked(alloc: Global, response: &Response, things: Items<Thing>) -> Result<Asked, AllocError>
-    ensures { IfOk result (λ asked. asked ≡ asked_of (command_with response.now things)) }
+/// The plain form of an answer with these names.
+fn asked(alloc: Global, response: &Response, names: CarriedNames) -> Result<Asked, AllocError>
+    ensures { IfOk result (λ asked. asked ≡ asks.Answer response.now.responder (outgoing_named response.now.prepared names)) }
 {
-    let outgoing = outgoing(alloc, &response.prepared, things)?;
+    let outgoing = outgoing(alloc, &response.prepared, names)?;
     Ok(Asked::Answer(response.responder.id(), outgoing))
 }
 
@@ -162,19 +186,19 @@ fn send(
     alloc: Global,
     seq: SeqId,
     response: Response,
-    things: Items<Thing>,
+    names: CarriedNames,
     peer: EndId,
 ) -> Result<Reply, Refused>
-    requires can { CanDo state.old seq (command_with response response.handles) }
-    requires same { things ≡ response.handles }
-    requires free { way_back seq response.responder response.prepared response.handles
-        (not (count_of state.old.responders response.responder == 0) && all_out state.old.pipes response.handles)
-        state.old.pipes state.old.endpoints ≡ Ok peer }
-    ensures done { IfOk result (λ reply. Done state.old state.new seq (command_with response response.handles) reply) }
-    ensures undone { IfErr result (λ refused. Undone state.old state.new (command_with response response.handles) refused) }
+    requires can { CanDo state.old seq (command_of response) }
+    requires same { names ≡ names_in response.carried }
+    requires free { way_back seq response.responder response.prepared (names_in response.carried)
+        (not (count_of state.old.rights.responders response.responder == 0)
+        && all_own state.old.pipes state.old.rights.pendings (names_in response.carried)) state.old.pipes state.old.endpoints ≡ Ok peer }
+    ensures done { IfOk result (λ reply. Done state.old state.new seq (command_of response) reply) }
+    ensures undone { IfErr result (λ refused. Undone state.old state.new (command_of response) refused) }
 {
     let id = response.responder.id();
-    let Ok(writes) = writes_of(alloc, &response.prepared, id.id, id.request, things) else {
+    let Ok(writes) = writes_of(alloc, &response.prepared, id.id, id.request, names) else {
         return Err(Refused::Memory(response.into_command()));
     };
     // The way was free, so the end isn't full.
@@ -184,10 +208,12 @@ fn send(
     let Response {
         responder,
         prepared: _,
-        handles,
+        carried,
     } = response;
+    let Carried { handles, pendings } = carried;
     put_all(&mut state.pipes, handles, Place::Unread(peer));
-    state.responders.spend(responder);
+    spend_all(&mut state.rights.pendings, pendings);
+    state.rights.responders.spend(responder);
     state.log.push_reserved(Event {
         seq,
         asked: Asked::Answer(id, writes.outgoing),
@@ -209,11 +235,11 @@ pub fn close_responder(
 {
     let id = responder.id();
     let asked = Asked::Close(Closing::Responder(id));
-    if !state.responders.is_out(id) {
+    if !state.rights.responders.is_out(id) {
         let command = Command::Close(ToClose::Responder(responder));
         return refuse(state, seq, asked, Why::NoName, command);
     }
-    state.responders.spend(responder);
+    state.rights.responders.spend(responder);
     state.log.push_reserved(Event {
         seq,
         asked,

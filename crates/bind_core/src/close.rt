@@ -1,19 +1,22 @@
 //! Closing: a handle's thing, or an end, with all that goes with it.
 
-ghost use Rattle.std.specs.Prelude.{◌≡◌, [], ◌∷◌, None, Some, IfOk, IfErr, OnErr};
+ghost use Rattle.std.specs.Prelude.{◌≡◌, ◌==◌, [], ◌∷◌, false, None, IfOk, IfErr, IsSome, OnErr};
 ghost use Rattle.handle_table.specs.declared.thing.Thing.TheVariants.{End};
 ghost use Rattle.message_pipe.specs.Ends.{carried_in, spread, is_closed, end_of};
+ghost use Rattle.endpoint_router.specs.Rows.{row_at};
 ghost use Rattle.bind_model.specs.declared.asked.Asked.TheVariants as asks;
 ghost use Rattle.bind_model.specs.declared.asked.Closing.TheVariants as closings;
 ghost use Rattle.bind_model.specs.declared.told.Told.TheVariants as tells;
 ghost use Rattle.bind_model.specs.Machine.{goes_with as gone_with};
-ghost use Rattle.bind_core.specs.Lines.{found_at};
+ghost use Rattle.bind_core.specs.Routers.{found_at, router_at};
 ghost use Rattle.bind_core.specs.steps.Opens.{opened};
 ghost use Rattle.bind_core.specs.Agreement.{past_of, wire_in};
 ghost use Rattle.bind_core.specs.steps.Doing.{CanDo, Done, HasRoom, Stays, Undone, told_to};
 
+use crate::emit::emit_one;
 use crate::state::{State, refuse};
 use crate::things::is_out;
+use crate::turns::Turn;
 use bind_model::{
     Asked, Closing, Command, Endpoint, Event, Refused, Reply, State as EndpointState, ToClose,
     Told, Why,
@@ -109,13 +112,41 @@ pub fn close_endpoint(
             let command = Command::Close(ToClose::Endpoint(end, id));
             refuse(state, seq, asked, why, command)
         }
-        Ok(endpoint) if id == 0 => match close_end(state, alloc, seq, end, endpoint) {
+        Ok(_endpoint) if id == 0 => match close_end(state, alloc, seq, end) {
             Ok(goes) => Ok(Reply::Closed(goes)),
             Err(_) => Err(Refused::Memory(Command::Close(ToClose::Endpoint(end, id)))),
         },
-        // No end has another endpoint yet.
-        Ok(_) => Err(Refused::Memory(Command::Close(ToClose::Endpoint(end, id)))),
+        Ok(_) => match close_one(state, alloc, seq, end, id) {
+            Ok(goes) => Ok(Reply::Closed(goes)),
+            Err(_) => Err(Refused::Memory(Command::Close(ToClose::Endpoint(end, id)))),
+        },
     }
+}
+
+/// Closes an endpoint other than 0 that is open, and tells its peer. Nothing goes with it. Without memory
+/// nothing changes.
+fn close_one(
+    state: &mut State,
+    alloc: Global,
+    seq: SeqId,
+    end: EndId,
+    id: u32,
+) -> Result<Items<Thing>, AllocError>
+    requires able { HasRoom state.old seq }
+    requires here { IsSome (found_at state.old.endpoints end id) }
+    requires other { (id == 0) ≡ false }
+    requires told { told_to state.old seq (asks.Close (closings.Endpoint end id)) ≡ tells.Closed [] }
+    ensures done { IfOk result (λ goes. Done state.old state.new seq (Command.Close (ToClose.Endpoint end id)) (Reply.Closed goes)) }
+    ensures undone { OnErr result (Stays state.old state.new) }
+{
+    emit_one(&mut state.pipes, &state.endpoints, alloc, end, id)?;
+    state.endpoints.turn(end, id, Turn::Closed);
+    state.log.push_reserved(Event {
+        seq,
+        asked: Asked::Close(Closing::Endpoint(end, id)),
+        told: Told::Closed(Items::new(alloc)),
+    });
+    Ok(Items::new(alloc))
 }
 
 /// Closes an open end with its endpoint 0, and all that goes with it. Without memory nothing changes.
@@ -124,22 +155,15 @@ fn close_end(
     alloc: Global,
     seq: SeqId,
     end: EndId,
-    endpoint: Endpoint,
 ) -> Result<Items<Thing>, AllocError>
     requires able { HasRoom state.old seq }
-    requires here { found_at state.old.endpoints end 0 ≡ Some endpoint }
+    requires here { IsSome (row_at (router_at state.old.endpoints end) 0) }
     requires told { told_to state.old seq (asks.Close (closings.Endpoint end 0)) ≡ tells.Closed (gone_with (wire_in state.old) (past_of state.old) (End end ∷ [])) }
     ensures done { IfOk result (λ goes. Done state.old state.new seq (Command.Close (ToClose.Endpoint end 0)) (Reply.Closed goes)) }
     ensures undone { OnErr result (Stays state.old state.new) }
 {
     let goes = goes_with(&state.pipes, alloc, Thing::End(end))?;
-    let closed = Endpoint {
-        side: endpoint.side,
-        interface: endpoint.interface,
-        state: EndpointState::Closed,
-        peer_closed: endpoint.peer_closed,
-    };
-    state.endpoints.put(end, 0, closed);
+    state.endpoints.turn(end, 0, Turn::Closed);
     state.pipes.close(goes.noted.as_slice());
     state.log.push_reserved(Event {
         seq,

@@ -27,7 +27,7 @@ fn part(alloc: Global, things: &[Thing]) -> Result<(Vec<EndId>, Vec<TokenId>), A
 }
 
 /// Whether no item stands twice: in order, equal ones stand side by side.
-fn all_differ<T: Ord + Copy>(mut items: Vec<T>) -> bool
+pub(crate) fn all_differ<T: Ord + Copy>(mut items: Vec<T>) -> bool
     ensures { IsTrue result ↔ IsDistinct T.eq items.items }
 {
     items.sort_unstable();

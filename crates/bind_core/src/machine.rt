@@ -2,22 +2,21 @@
 
 ghost use Rattle.std.specs.Prelude.{◌≡◌, ◌<◌, ◌++◌, [], ◌∷◌, length, reverse, IfOk, IfErr, OnOk};
 ghost use Rattle.std.specs.Arc.{arc_value};
-ghost use Rattle.bind_model.specs.Laws.{OnePlace, OwnResponses, InOrder, AllStand};
+ghost use Rattle.bind_model.specs.Laws.{OnePlace, OwnResponses, AllOfAskers, InOrder, AllStand};
 ghost use Rattle.bind_model.specs.Origins.{HaveWriters};
 ghost use Rattle.bind_model.specs.Ready.{ready};
 ghost use Rattle.bind_model.specs.Replies.{Legal};
 ghost use Rattle.bind_model.specs.WireOf.{wire_of};
 ghost use Rattle.bind_model.specs.Left.{left};
-ghost use Rattle.bind_model.specs.Plain.{asked_of, told_of, HandsBack, HandsResponders, command_of, IsSpentAt, IsOf};
+ghost use Rattle.bind_model.specs.Plain.{asked_of, told_of, HandsBack, HandsPendings, HandsResponders, command_of, IsSpentAt, IsOf};
 ghost use Rattle.bind_core.specs.Play.{told_at};
 
 use crate::end_set::EndSet;
-use crate::endpoints::Endpoints;
-use crate::log::EventLog;
-use crate::state::State;
+use crate::routers::Routers;
+use crate::state::{Rights, State};
 use crate::watch::{end_named, unwatch, watch};
 use crate::{left, state};
-use bind_model::{Command, History, Refused, Reply, Responders};
+use bind_model::{Command, History, Pendings, Refused, Reply, Responders};
 use handle_table::{Ended, Thing};
 use message_pipe::Pipes;
 use mj_base::limits::MAX_EVENTS;
@@ -73,10 +72,13 @@ impl Core {
             state: State {
                 schema,
                 seqs,
-                log: EventLog::new(alloc),
+                log: History::new(alloc),
                 pipes: Pipes::new(alloc),
-                endpoints: Endpoints::new(alloc),
-                responders: Responders::new(alloc),
+                endpoints: Routers::new(alloc),
+                rights: Rights {
+                    responders: Responders::new(alloc),
+                    pendings: Pendings::new(alloc),
+                },
             },
             watched: EndSet::new(alloc),
         }
@@ -95,6 +97,8 @@ impl Core {
         ensures back { IfOk result (λ reply. HandsBack command reply) }
         // It hands out the responder that the event gives, and no other.
         ensures responders { IfOk result (λ reply. HandsResponders (wire_of self.old.schema) command reply) }
+        // It hands out the pending that the event gives, and no other.
+        ensures pendings { IfOk result (λ reply. HandsPendings (wire_of self.old.schema) (reverse self.new.events) command reply) }
         ensures refused { IfErr result (λ refused. (command_of refused ≡ command) × (self.new ≡ self.old)) }
         // It is spent exactly where 16,777,216 events stand.
         ensures room { OnOk result (length self.old.events < MAX_EVENTS) }
@@ -122,10 +126,12 @@ impl Core {
         ensures all_stand { AllStand (wire_of self.now.schema) (reverse self.now.events) }
         // Requests are numbered, no two responses got have one number, and each was asked for.
         ensures own_responses { OwnResponses (reverse self.now.events) }
+        // A response is got by the sequence that asked for it.
+        ensures of_askers { AllOfAskers (reverse self.now.events) }
         // Each message is the one that its writer says.
         ensures have_writers { HaveWriters (wire_of self.now.schema) (reverse self.now.events) }
     {
-        self.state.log.history()
+        &self.state.log
     }
 
     /// The least end where a take would consume a message or find it bad, behind the sequence that takes
@@ -156,9 +162,9 @@ impl Core {
             log,
             pipes,
             endpoints: _,
-            responders: _,
+            rights: _,
         } = state;
         let over = pipes.end();
-        (log.into_history(), over)
+        (log, over)
     }
 }

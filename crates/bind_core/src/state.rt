@@ -7,11 +7,16 @@ ghost use Rattle.bind_core.specs.Agreement.{Holds, schema_of};
 ghost use Rattle.bind_core.specs.steps.Doing.{CanDo, Done, Undone, told_in};
 
 use crate::answer::{answer, close_responder};
+use crate::associate::associate;
+use crate::attach::attach;
 use crate::close::{close_endpoint, close_handle};
-use crate::endpoints::Endpoints;
-use crate::log::EventLog;
+use crate::raw::raw;
+use crate::routers::Routers;
+use crate::unsent::close_pending;
 use crate::{bind, call, join, mint, take};
-use bind_model::{Asked, Command, Event, Refused, Reply, Responders, ToClose, Told, Why};
+use bind_model::{
+    Asked, Command, Event, History, Pendings, Refused, Reply, Responders, ToClose, Told, Why,
+};
 use message_pipe::Pipes;
 use mj_base::SeqId;
 use mj_base::limits::MAX_EVENTS;
@@ -19,15 +24,22 @@ use mj_schema::Schema;
 use std::alloc::Global;
 use std::sync::Arc;
 
+/// The rights that are with callers: to answer requests, and to bind endpoints or send them.
+#[derive(Drop)]
+pub struct Rights {
+    pub responders: Responders,
+    pub pendings: Pendings,
+}
+
 /// The schema, how many sequences there are, all events, the pipes with the places of all handles, the
-/// endpoints of ends, and the responders that are with callers.
+/// routers of ends, and the rights that are with callers.
 pub struct State {
     pub schema: Arc<Schema>,
     pub seqs: u32,
-    pub log: EventLog,
+    pub log: History,
     pub pipes: Pipes,
-    pub endpoints: Endpoints,
-    pub responders: Responders,
+    pub endpoints: Routers,
+    pub rights: Rights,
 }
 
 /// Does one command.
@@ -70,14 +82,20 @@ fn dispatch(
         Command::Bind(handle, side, interface) => {
             bind::bind(state, alloc, seq, handle, side, interface)
         }
-        Command::Call(end, id, prepared, handles) => {
-            call::call(state, alloc, seq, end, id, prepared, handles)
+        Command::Associate(end, side, interface) => {
+            associate(state, alloc, seq, end, side, interface)
         }
-        Command::Answer(responder, prepared, handles) => {
-            answer(state, alloc, seq, responder, prepared, handles)
+        Command::Attach(pending, on) => attach(state, seq, pending, on),
+        Command::Call(end, id, prepared, handles, pendings) => {
+            call::call(state, alloc, seq, end, id, prepared, handles, pendings)
         }
+        Command::Answer(responder, prepared, handles, pendings) => {
+            answer(state, alloc, seq, responder, prepared, handles, pendings)
+        }
+        Command::Raw(handle, bytes, handles) => raw(state, alloc, seq, handle, bytes, handles),
         Command::Take(end) => take::take(state, alloc, seq, end),
         Command::Close(ToClose::Handle(handle)) => close_handle(state, alloc, seq, handle),
+        Command::Close(ToClose::Pending(pending)) => close_pending(state, alloc, seq, pending),
         Command::Close(ToClose::Responder(responder)) => {
             close_responder(state, alloc, seq, responder)
         }

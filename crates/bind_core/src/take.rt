@@ -4,16 +4,22 @@ ghost use Rattle.std.specs.Prelude.{◌≡◌, Ok, Err, Some, IfOk, IfErr};
 ghost use Rattle.message_pipe.specs.Ends.{carried_in, end_of, peer_of, spread, unread_at};
 ghost use Rattle.message_pipe.specs.Mail.{front_of};
 ghost use Rattle.bind_model.specs.declared.asked.Asked.TheVariants as asks;
+ghost use Rattle.bind_model.specs.declared.told.Told.TheVariants as tells;
 ghost use Rattle.bind_model.specs.Replies.{bad};
-ghost use Rattle.bind_core.specs.steps.Founds.{IsDropped, Tells, things_in};
+ghost use Rattle.endpoint_router.specs.Changes.{marked};
+ghost use Rattle.bind_core.specs.steps.Founds.{Tells, things_in};
 ghost use Rattle.bind_core.specs.Agreement.{Holds, past_of, wire_in};
 ghost use Rattle.bind_core.specs.steps.Doing.{CanDo, Done, HasRoom, Undone, told_to};
 ghost use Rattle.bind_core.specs.steps.Taking.{front_found, nothing_at};
+ghost use Rattle.bind_core.specs.steps.Turns.{TurnsAt};
 
 use crate::close::{Goes, goes_with};
+use crate::dropping::discard;
 use crate::reading::{Found, read};
 use crate::receive::receive;
+use crate::routers::Routers;
 use crate::state::{State, refuse};
+use crate::turns::Turn;
 use bind_model::{Asked, BadWhy, Command, Event, Refused, Reply, Told, Why};
 use handle_table::Thing;
 use message_pipe::{Message, Pipes};
@@ -22,8 +28,8 @@ use std::alloc::{AllocError, Global};
 
 /// Takes the oldest unread message at an end. A request or a response is got, with the handles that its
 /// parameters name, and a request with the right to answer it where its method has a response; a message
-/// whose endpoint isn't there or is closed is dropped; a bad one closes the end. Without memory nothing
-/// happens.
+/// whose endpoint isn't there or is closed is dropped; a control is obeyed; a bad one closes the end. Without
+/// memory nothing happens.
 pub fn take(state: &mut State, alloc: Global, seq: SeqId, end: EndId) -> Result<Reply, Refused>
     requires { CanDo state.old seq (Command.Take end) }
     ensures done { IfOk result (λ reply. Done state.old state.new seq (Command.Take end) reply) }
@@ -32,10 +38,10 @@ pub fn take(state: &mut State, alloc: Global, seq: SeqId, end: EndId) -> Result<
     match look(state, alloc, seq, end) {
         Ok(Found::Nothing(why)) => refuse(state, seq, Asked::Take(end), why, Command::Take(end)),
         Ok(Found::Bad(why)) => spoil(state, alloc, seq, end, why),
-        Ok(Found::Dropped(id)) => discard(state, alloc, seq, end, id),
+        Ok(Found::Dropped(id, admitted)) => discard(state, alloc, seq, end, id, admitted),
+        Ok(Found::Control(id)) => Ok(obey(state, seq, end, id)),
         Ok(Found::Value(arrived)) => receive(state, alloc, seq, end, arrived),
-        // No command of today leads to what is for later.
-        Ok(Found::Later) | Err(_) => Err(Refused::Memory(Command::Take(end))),
+        Err(_) => Err(Refused::Memory(Command::Take(end))),
     }
 }
 
@@ -102,6 +108,31 @@ fn spoil(
     Ok(Reply::Bad(why, goes.told))
 }
 
+/// Notes that the peer of the endpoint of an id at an end is closed; nothing where the end has no such one.
+fn mark_peer(endpoints: &mut Routers, end: EndId, id: u32)
+    ensures { TurnsAt marked end id endpoints.old endpoints.new }
+{
+    if endpoints.find(end, id).is_some() {
+        endpoints.turn(end, id, Turn::PeerClosed);
+    }
+}
+
+/// Takes a control away: the peer of the endpoint that it names is closed.
+fn obey(state: &mut State, seq: SeqId, end: EndId, id: u32) -> Reply
+    requires able { HasRoom state.old seq }
+    requires told { told_to state.old seq (asks.Take end) ≡ tells.Control id }
+    ensures { Done state.old state.new seq (Command.Take end) result }
+{
+    let _front = state.pipes.pop_front(end);
+    mark_peer(&mut state.endpoints, end, id);
+    state.log.push_reserved(Event {
+        seq,
+        asked: Asked::Take(end),
+        told: Told::Control(id),
+    });
+    Reply::Control(id)
+}
+
 /// What goes with things of the message that is taken at an end. Nothing is closed yet.
 pub(crate) fn goes_behind(
     pipes: &Pipes,
@@ -128,37 +159,11 @@ fn front_handles(pipes: &Pipes, alloc: Global, end: EndId) -> Result<Vec<Thing>,
 }
 
 /// What goes with the handles of the oldest unread message at an end. Nothing is closed yet.
-fn goes_with_front(pipes: &Pipes, alloc: Global, end: EndId) -> Result<Goes, AllocError>
+pub(crate) fn goes_with_front(pipes: &Pipes, alloc: Global, end: EndId) -> Result<Goes, AllocError>
     ensures noted { IfOk result (λ goes. goes.noted ≡
         spread (carried_in pipes.now.ends (Some end)) pipes.now.made (things_in (front_of (unread_at pipes.now.ends end)))) }
     ensures told { IfOk result (λ goes. goes.told ≡ goes.noted) }
 {
     let things = front_handles(pipes, alloc, end)?;
     goes_behind(pipes, alloc, end, things)
-}
-
-/// Lets the oldest message go, whose endpoint isn't there or is closed, and what goes with its handles.
-fn discard(
-    state: &mut State,
-    alloc: Global,
-    seq: SeqId,
-    end: EndId,
-    id: u32,
-) -> Result<Reply, Refused>
-    requires able { HasRoom state.old seq }
-    requires told { IsDropped (wire_in state.old) (past_of state.old) end id (told_to state.old seq (asks.Take end)) }
-    ensures done { IfOk result (λ reply. Done state.old state.new seq (Command.Take end) reply) }
-    ensures undone { IfErr result (λ refused. Undone state.old state.new (Command.Take end) refused) }
-{
-    let Ok(goes) = goes_with_front(&state.pipes, alloc, end) else {
-        return Err(Refused::Memory(Command::Take(end)));
-    };
-    let _front = state.pipes.pop_front(end);
-    state.pipes.close(goes.noted.as_slice());
-    state.log.push_reserved(Event {
-        seq,
-        asked: Asked::Take(end),
-        told: Told::Dropped(id, goes.noted),
-    });
-    Ok(Reply::Dropped(id, goes.told))
 }

@@ -17,12 +17,16 @@ pub(crate) fn end_named(command: &Command) -> Option<EndId>
     ensures { result ≡ end_named command.now }
 {
     match command {
-        Command::Bind(handle, _, _) => match handle.thing() {
+        Command::Bind(handle, _, _) | Command::Raw(handle, _, _) => match handle.thing() {
             Thing::End(end) => Some(end),
             Thing::Token(_) => None,
         },
-        Command::Call(end, _, _, _) | Command::Take(end) => Some(*end),
-        Command::Answer(responder, _, _) => Some(responder.id().end),
+        Command::Associate(end, _, _) | Command::Call(end, _, _, _, _) | Command::Take(end) => {
+            Some(*end)
+        }
+        Command::Attach(pending, _) => Some(pending.id().end),
+        Command::Answer(responder, _, _, _) => Some(responder.id().end),
+        Command::Close(ToClose::Pending(pending)) => Some(pending.id().end),
         Command::Close(ToClose::Endpoint(end, _)) => Some(*end),
         _ => None,
     }

@@ -2,13 +2,19 @@
 
 ghost use Rattle.std.specs.Prelude.{◌≡◌, ◌==◌, ◌&&◌, length, IfOk};
 ghost use Rattle.message_pipe.specs.Ends.{end_of, peer_of};
-ghost use Rattle.bind_model.specs.Plain.{outgoing_of};
-ghost use Rattle.bind_core.specs.steps.Calls.{AreOf, sealed_bytes};
-ghost use Rattle.bind_core.specs.steps.Ways.{suits, way_at, way_to};
+ghost use Rattle.wire_model.specs.Message.{AreIds};
+ghost use Rattle.bind_model.specs.Replies.{ids_of};
+ghost use Rattle.bind_core.specs.steps.Calls.{AreOf, outgoing_named, sealed_bytes};
+ghost use Rattle.bind_core.specs.steps.Fitting.{suits, way_with};
+ghost use Rattle.bind_core.specs.steps.Ways.{way_at, way_to};
 
+use crate::carried::CarriedNames;
 use crate::copy::copy_value;
+use crate::fitting::{all_fit, wrong_pipe};
+use crate::routers::Routers;
+use crate::state::State;
 use crate::things::contains;
-use bind_model::{Outgoing, Parameters, Why};
+use bind_model::{Outgoing, Parameters, PendingId, Why};
 use handle_table::Thing;
 use message_pipe::{Message, Pipes};
 use mj_base::{EndId, Items};
@@ -46,28 +52,64 @@ pub(crate) fn way_to(
     }
 }
 
-/// Whether there are as many handles as the parameters name, and these want no endpoints.
-pub(crate) fn suits(prepared: &Prepared, things: &[Thing]) -> bool
-    ensures { result ≡ suits prepared.now things.now }
+/// Whether there are as many handles as the parameters name, and the pendings that they want.
+fn suits(prepared: &Prepared, names: &CarriedNames, endpoints: &Routers) -> bool
+    ensures { result ≡ suits prepared.now names.now endpoints.now }
 {
-    things.len() == prepared.handles as usize && prepared.endpoints.is_empty()
+    names.things.len() == prepared.handles as usize
+        && all_fit(
+            endpoints,
+            names.pendings.as_slice(),
+            prepared.endpoints.as_slice(),
+        )
 }
 
-/// What goes out with these handles, as plain data.
+/// The end that a message with this goes to from an end, unless it doesn't fit, or nothing can be written
+/// there.
+pub(crate) fn way_with(
+    state: &State,
+    prepared: &Prepared,
+    names: &CarriedNames,
+    end: EndId,
+    peer_closed: bool,
+) -> Result<EndId, Why>
+    ensures { result ≡ way_with prepared.now names.now state.now.pipes state.now.endpoints end peer_closed }
+{
+    if !suits(prepared, names, &state.endpoints) {
+        return Err(Why::WrongTokens);
+    }
+    match wrong_pipe(&state.endpoints, end, names.pendings.as_slice()) {
+        Some(why) => Err(why),
+        None => way_to(&state.pipes, end, peer_closed, names.things.as_slice()),
+    }
+}
+
+/// What goes out with these names, as plain data.
 pub(crate) fn outgoing(
     alloc: Global,
     prepared: &Prepared,
-    things: Items<Thing>,
+    names: CarriedNames,
 ) -> Result<Outgoing, AllocError>
-    ensures { IfOk result (λ outgoing. outgoing ≡ outgoing_of prepared.now things) }
+    ensures { IfOk result (λ outgoing. outgoing ≡ outgoing_named prepared.now names) }
 {
     let parameters = Parameters::new(copy_value(alloc, &prepared.value)?);
     Ok(Outgoing {
         target: prepared.target,
         parameters,
-        handles: things,
-        pendings: Items::new(alloc),
+        handles: names.things,
+        pendings: names.pendings,
     })
+}
+
+/// The ids of pendings, in order.
+fn ids_of(alloc: Global, pendings: &[PendingId]) -> Result<Vec<u32>, AllocError>
+    ensures { IfOk result (λ ids. ids.items ≡ ids_of pendings.now) }
+{
+    let mut ids = Vec::new(alloc);
+    for pending in pendings {
+        ids.push(pending.id)?;
+    }
+    Ok(ids)
 }
 
 /// All that a call or an answer writes: what goes out as plain data, its message, and the bytes twice, for
@@ -86,21 +128,23 @@ pub(crate) fn writes_of(
     prepared: &Prepared,
     id: u32,
     request_id: u64,
-    things: Items<Thing>,
+    names: CarriedNames,
 ) -> Result<Writes, AllocError>
-    requires { length prepared.now.endpoints.items ≡ 0 }
-    ensures { IfOk result (λ writes. AreOf prepared.now things (sealed_bytes id request_id prepared.now) writes) }
+    requires wanted { length (ids_of names.pendings) ≡ length prepared.now.endpoints.items }
+    requires ids { AreIds (ids_of names.pendings) }
+    ensures { IfOk result (λ writes. AreOf prepared.now names (sealed_bytes id request_id (ids_of names.pendings) prepared.now) writes) }
 {
+    let ids = ids_of(alloc, names.pendings.as_slice())?;
     let head = Head {
         interface_id: id,
         request_id,
-        ids: &[],
+        ids: ids.as_slice(),
     };
     let bytes = Items::from_vec(seal(alloc, prepared, &head)?);
     let noted = bytes.copy(alloc)?;
     let told = bytes.copy(alloc)?;
-    let carried = things.copy(alloc)?;
-    let outgoing = outgoing(alloc, prepared, things)?;
+    let carried = names.things.copy(alloc)?;
+    let outgoing = outgoing(alloc, prepared, names)?;
     let message = Message {
         bytes,
         handles: carried,

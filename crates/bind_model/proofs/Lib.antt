@@ -23,4 +23,5 @@ pub mod TurnOf
 pub mod Controls
 pub mod Growing
 pub mod PendingFacts
+pub mod PendingTable
 pub mod Askers

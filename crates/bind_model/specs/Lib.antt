@@ -10,6 +10,7 @@ pub mod Groups
 pub mod Histories
 pub mod Left
 pub mod Names
+pub mod Pendings
 pub mod Plain
 pub mod Responders
 pub mod Seen

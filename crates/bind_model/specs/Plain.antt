@@ -1,39 +1,58 @@
 -- The plain forms of commands and replies: things in place of their handles.
-use Rattle.std.specs.Prelude.{ℕ, ◌≡◌, ◌<◌, ◌≤◌, List, [], ◌∷◌, Some, None}
+use Rattle.std.specs.Prelude.{ℕ, ◌≡◌, ◌<◌, ◌≤◌, List, [], ◌∷◌, map, Option, Some, None}
+use Rattle.mj_base.specs.declared.ids.EndId.{EndId}
 use Rattle.mj_base.specs.declared.limits.TheConstants.{MAX_EVENTS}
 use Rattle.mj_schema.specs.declared.schema.Schema.{Schema}
 use Rattle.handle_table.specs.declared.thing.Thing.{Thing}
+use Rattle.handle_table.specs.declared.thing.Thing.TheVariants.{End, Token}
+use Rattle.wire_encoder.specs.declared.endpoint.EndpointSide.TheVariants.{Remote}
 use Rattle.wire_encoder.specs.Prepared.{IsPrepared}
 use Rattle.wire_encoder.specs.declared.prepared.Prepared.{Prepared}
 use Rattle.wire_model.specs.Trees.{view}
 use Rattle.bind_model.specs.declared.asked.Closing.{Closing}
 use Rattle.bind_model.specs.declared.asked.Closing.TheVariants as closings
+use Rattle.bind_model.specs.Machine.{endpoint_at, other_side}
+use Rattle.bind_model.specs.Pendings.{Half, names_of}
 use Rattle.bind_model.specs.Replies.{responders_handed}
 use Rattle.bind_model.specs.Wire.{Wire}
 use Rattle.bind_model.specs.declared.asked.Asked.{Asked}
 use Rattle.bind_model.specs.declared.asked.Asked.TheVariants as asks
 use Rattle.bind_model.specs.declared.asked.Outgoing.{Outgoing}
+use Rattle.bind_model.specs.declared.endpoint.Endpoint.{Endpoint}
+use Rattle.bind_model.specs.declared.endpoint.PendingId.{PendingId}
 use Rattle.bind_model.specs.declared.endpoint.ResponderId.{ResponderId}
+use Rattle.bind_model.specs.declared.event.Event.{Event}
 use Rattle.bind_model.specs.declared.told.Told.{Told}
 use Rattle.bind_model.specs.declared.told.Told.TheVariants as tells
 use Rattle.bind_model.specs.declared.commands.ToClose.{ToClose}
 use Rattle.bind_model.specs.declared.commands.ToClose.TheVariants as close
 use Rattle.bind_model.specs.declared.commands.Command.{Command}
-use Rattle.bind_model.specs.declared.commands.Command.TheVariants.{Pipe, Join, Mint, Bind, Call, Answer, Take, Close, Skip}
+use Rattle.bind_model.specs.declared.commands.Command.TheVariants.{Pipe, Join, Mint, Bind, Associate, Attach, Call, Answer, Raw, Take, Close, Skip}
 use Rattle.bind_model.specs.declared.commands.Reply.{Reply}
-use Rattle.bind_model.specs.declared.commands.Reply.TheVariants.{Made, Bound, Sent, Got, Dropped, Control, Bad, Closed, Skipped, No}
+use Rattle.bind_model.specs.declared.commands.Reply.TheVariants.{Made, Bound, Associated, Attached, Sent, Wrote, Got, Dropped, Control, Bad, Closed, Skipped, No}
 use Rattle.bind_model.specs.declared.commands.Refused.{Refused}
 use Rattle.bind_model.specs.declared.commands.Refused.TheVariants.{Memory, Spent}
 
 -- what is closed
 abbrev pub closing_of : ToClose → Closing
 closing_of (close.Handle handle) = closings.Handle handle
+closing_of (close.Pending pending) = closings.Pending pending.name
 closing_of (close.Responder responder) = closings.Responder responder
 closing_of (close.Endpoint end id) = closings.Endpoint end id
 
--- what is sent, with these handles
-abbrev pub outgoing_of : Prepared → List Thing → Outgoing
-outgoing_of prepared handles = record { target = prepared.target; parameters = view prepared.value; handles = handles; pendings = [] }
+-- what is sent, with these handles and pendings
+abbrev pub outgoing_of : Prepared → List Thing → List Half → Outgoing
+outgoing_of prepared handles pendings = record {
+  target = prepared.target;
+  parameters = view prepared.value;
+  handles = handles;
+  pendings = names_of pendings;
+}
+
+-- the end that a handle is of; no token was ever written from
+abbrev pub end_written : Thing → EndId
+end_written (End x) = x
+end_written (Token t) = record { seq = t.seq; serial = t.serial }
 
 -- what a command asks
 abbrev pub asked_of : Command → Asked
@@ -41,8 +60,11 @@ asked_of Pipe = asks.Pipe
 asked_of (Join other) = asks.Join other
 asked_of (Mint sort) = asks.Mint sort
 asked_of (Bind handle side interface) = asks.Bind handle side interface
-asked_of (Call end id prepared handles) = asks.Call end id (outgoing_of prepared handles)
-asked_of (Answer responder prepared handles) = asks.Answer responder (outgoing_of prepared handles)
+asked_of (Associate end side interface) = asks.Associate end side interface
+asked_of (Attach pending seq) = asks.Attach pending.name seq
+asked_of (Call end id prepared handles pendings) = asks.Call end id (outgoing_of prepared handles pendings)
+asked_of (Answer responder prepared handles pendings) = asks.Answer responder (outgoing_of prepared handles pendings)
+asked_of (Raw handle bytes handles) = asks.Raw handle bytes handles
 asked_of (Take end) = asks.Take end
 asked_of (Close thing) = asks.Close (closing_of thing)
 asked_of (Skip line) = asks.Skip line
@@ -51,14 +73,17 @@ asked_of (Skip line) = asks.Skip line
 abbrev pub told_of : Reply → Told
 told_of (Made handles) = tells.Made handles
 told_of (Bound end) = tells.Bound end
+told_of (Associated pending) = tells.Associated pending.name
+told_of (Attached id) = tells.Attached id
 told_of (Sent request bytes) = tells.Sent request bytes
+told_of (Wrote handle) = tells.Wrote (end_written handle)
 told_of (Got g) = tells.Taken (record {
   id = g.id;
   target = g.target;
   parameters = g.parameters;
   request = g.request;
   handles = g.handles;
-  pendings = [];
+  pendings = names_of g.pendings;
   gone = g.gone;
 })
 told_of (Dropped id gone) = tells.Dropped id gone
@@ -70,13 +95,19 @@ told_of (No why command) = tells.No why
 
 -- what a command sends was prepared for this schema
 abbrev pub IsOf : Schema → Command → Type 0
-IsOf schema (Call end id prepared handles) = IsPrepared schema prepared
-IsOf schema (Answer responder prepared handles) = IsPrepared schema prepared
+IsOf schema (Call end id prepared handles pendings) = IsPrepared schema prepared
+IsOf schema (Answer responder prepared handles pendings) = IsPrepared schema prepared
 IsOf schema command = Unit {0}
 
--- a reply that is a refusal hands the command back
+-- bytes were written from the end that the command has
+abbrev pub HandsEnd : Thing → Command → Type 0
+HandsEnd back (Raw handle bytes handles) = back ≡ handle
+HandsEnd back command = Unit {0}
+
+-- a reply that is a refusal hands the command back, and one that bytes were written the end
 abbrev pub HandsBack : Command → Reply → Type 0
 HandsBack command (No why back) = back ≡ command
+HandsBack command (Wrote back) = HandsEnd back command
 HandsBack command reply = Unit {0}
 
 -- the responders that a reply hands out
@@ -87,6 +118,27 @@ responders_in reply = []
 -- it hands out those that the machine does
 abbrev pub HandsResponders : Wire → Command → Reply → Type 0
 HandsResponders wire command reply = responders_in reply ≡ responders_handed wire (told_of reply) (asked_of command)
+
+-- the pendings that a reply hands out
+abbrev pub halves_in : Reply → List Half
+halves_in (Associated pending) = pending ∷ []
+halves_in (Got g) = g.pendings
+halves_in reply = []
+
+-- what the pending of a received endpoint stands for: that endpoint
+abbrev pub half_of : PendingId → Option Endpoint → Half
+half_of p None = record { name = p; side = Remote; interface = 0 }
+half_of p (Some e) = record { name = p; side = e.side; interface = e.interface }
+
+-- those that the machine hands out, where the events are these then: of an endpoint that is made the other half, under its id, and each endpoint that is received
+abbrev pub halves_handed : Wire → List Event → Told → Asked → List Half
+halves_handed wire past (tells.Associated p) (asks.Associate end side interface) = record { name = p; side = other_side side; interface = interface } ∷ []
+halves_handed wire past (tells.Taken g) (asks.Take y) = map (λ (p : PendingId). half_of p (endpoint_at wire past p.end p.id)) g.pendings
+halves_handed wire past told asked = []
+
+-- it hands out those that the machine does
+abbrev pub HandsPendings : Wire → List Event → Command → Reply → Type 0
+HandsPendings wire past command reply = halves_in reply ≡ halves_handed wire past (told_of reply) (asked_of command)
 
 -- the command that comes back without an event
 abbrev pub command_of : Refused → Command

@@ -1,6 +1,7 @@
 //! Commands and replies, with the handles and the rights that they take and hand out.
 
 use crate::parameters::Parameters;
+use crate::pending::{Pending, PendingList};
 use crate::responder::Responder;
 use crate::told::{BadWhy, Why};
 use handle_table::{Ended, Handle, Handles, Thing, TokenSort};
@@ -11,13 +12,15 @@ use wire_model::Target;
 /// What is closed.
 pub enum ToClose {
     Handle(Handle),
+    /// An endpoint that isn't sent, or isn't attached.
+    Pending(Pending),
     /// The right to answer a request, which then isn't answered.
     Responder(Responder),
     /// The endpoint of this id at an end; with id 0, the end.
     Endpoint(EndId, u32),
 }
 
-/// What a caller asks. It takes the handles and the responder with it.
+/// What a caller asks. It takes the handles, the pendings and the responder with it.
 pub enum Command {
     /// A new pipe.
     Pipe,
@@ -27,10 +30,19 @@ pub enum Command {
     Mint(TokenSort),
     /// To bind an end as a side of an interface, by its number in the schema.
     Bind(Handle, EndpointSide, u32),
-    /// A request from the endpoint of this id at an end, with the handles that its parameters name.
-    Call(EndId, u32, Prepared, Handles),
-    /// The response to a request, with the handles that its parameters name.
-    Answer(Responder, Prepared, Handles),
+    /// A new endpoint of an end, bound as a side of an interface on the sequence that asks; its other half
+    /// may be sent.
+    Associate(EndId, EndpointSide, u32),
+    /// To bind an endpoint that was received on a sequence.
+    Attach(Pending, SeqId),
+    /// A request from the endpoint of this id at an end, with the handles and the pendings that its
+    /// parameters name.
+    Call(EndId, u32, Prepared, Handles, PendingList),
+    /// The response to a request, with the handles and the pendings that its parameters name.
+    Answer(Responder, Prepared, Handles, PendingList),
+    /// To write bytes from an end that isn't bound, as they are, with handles. They are judged where they
+    /// are taken.
+    Raw(Handle, Items<u8>, Handles),
     /// The oldest unread message at an end.
     Take(EndId),
     Close(ToClose),
@@ -39,15 +51,16 @@ pub enum Command {
 }
 
 /// What a take got: the id of the endpoint that the message was for, its method and side, its
-/// parameters, its request id (0 where it has none), the handles that the parameters name in the order
-/// of their indexes, the right to answer it where it is a request with a response, and what went with
-/// the handles that the parameters don't name.
+/// parameters, its request id (0 where it has none), the handles and the pendings that the parameters name
+/// in the order of their indexes, the right to answer it where it is a request with a response, and what
+/// went with the handles that the parameters don't name.
 pub struct Received {
     pub id: u32,
     pub target: Target,
     pub parameters: Parameters,
     pub request: u64,
     pub handles: Handles,
+    pub pendings: PendingList,
     pub responder: Option<Responder>,
     pub gone: Items<Thing>,
 }
@@ -57,8 +70,14 @@ pub enum Reply {
     /// The handles of the two ends of a new pipe, or of a new token.
     Made(Handles),
     Bound(EndId),
+    /// The other half of a new endpoint.
+    Associated(Pending),
+    /// The id of the endpoint that was bound.
+    Attached(u32),
     /// The request id (0 where no response is expected) and the bytes that were sent.
     Sent(u64, Items<u8>),
+    /// The end that bytes were written from, which comes back.
+    Wrote(Handle),
     Got(Received),
     /// A message for the endpoint of this id, which isn't there or is closed, and what went with it.
     Dropped(u32, Items<Thing>),
@@ -85,6 +104,7 @@ impl ToClose {
     pub fn retire(self, over: &Ended) {
         match self {
             ToClose::Handle(handle) => handle.retire(over),
+            ToClose::Pending(pending) => pending.retire(over),
             ToClose::Responder(responder) => responder.retire(over),
             ToClose::Endpoint(_, _) => {}
         }
@@ -96,15 +116,25 @@ impl Command {
     pub fn retire(self, over: &Ended) {
         match self {
             Command::Bind(handle, _, _) => handle.retire(over),
-            Command::Call(_, _, _, handles) => handles.retire(over),
-            Command::Answer(responder, _, handles) => {
+            Command::Attach(pending, _) => pending.retire(over),
+            Command::Call(_, _, _, handles, pendings) => {
+                handles.retire(over);
+                pendings.retire(over);
+            }
+            Command::Answer(responder, _, handles, pendings) => {
                 responder.retire(over);
+                handles.retire(over);
+                pendings.retire(over);
+            }
+            Command::Raw(handle, _, handles) => {
+                handle.retire(over);
                 handles.retire(over);
             }
             Command::Close(closed) => closed.retire(over),
             Command::Pipe
             | Command::Join(_)
             | Command::Mint(_)
+            | Command::Associate(_, _, _)
             | Command::Take(_)
             | Command::Skip(_) => {}
         }
@@ -120,10 +150,12 @@ impl Received {
             parameters: _,
             request: _,
             handles,
+            pendings,
             responder,
             gone: _,
         } = self;
         handles.retire(over);
+        pendings.retire(over);
         if let Some(responder) = responder {
             responder.retire(over);
         }
@@ -135,9 +167,12 @@ impl Reply {
     pub fn retire(self, over: &Ended) {
         match self {
             Reply::Made(handles) => handles.retire(over),
+            Reply::Wrote(handle) => handle.retire(over),
+            Reply::Associated(pending) => pending.retire(over),
             Reply::Got(received) => received.retire(over),
             Reply::No(_, command) => command.retire(over),
             Reply::Bound(_)
+            | Reply::Attached(_)
             | Reply::Sent(_, _)
             | Reply::Dropped(_, _)
             | Reply::Control(_)

@@ -9,7 +9,7 @@ use Rattle.handle_table.proofs.ThingsLemmas.{same_end-true, same_end-refl}
 use Rattle.bind_model.specs.Replies.{is_response}
 use Rattle.bind_model.specs.declared.asked.Asked.{Asked}
 use Rattle.bind_model.specs.declared.asked.Asked.TheVariants.{Call, Take, Close}
-use Rattle.bind_model.specs.declared.asked.Closing.TheVariants.{Endpoint}
+use Rattle.bind_model.specs.declared.asked.Closing.TheVariants.{Endpoint, Pending}
 use Rattle.bind_model.specs.declared.event.Event.{Event}
 use Rattle.bind_model.specs.WireOf.{wire_of}
 use Rattle.mj_schema.specs.declared.schema.Schema.{Schema}
@@ -48,6 +48,9 @@ closes end id key false h = let both = of_endpoint end id key h in and_from (sam
 -- what ends the jobs of an endpoint shows that it is over
 ends_over : (key : Key) (asked : Asked) (told : Told) → shows_end key asked told ≡ true → shows_over told asked key.end key.id ≡ true
 ends_over key (Close (Endpoint end id)) (Closed gone) h = closes end id key (id == 0) h
+ends_over key (Close (Pending p)) (Closed gone) h =
+    let both = of_endpoint p.end p.id key h in
+    and_from (same_end p.end key.end) (p.id == key.id) both.0 both.1
 ends_over key (Take end) (Bad why gone) h = of_end end key h
 ends_over key (Take end) (No PeerClosed) h = of_end end key h
 ends_over key (Take end) (Control id) h =

@@ -1,8 +1,8 @@
-mod Agreeing
-mod Entering
+pub mod Agreeing
+pub mod Entering
 mod Finding
 mod Placed
 mod Reading
-mod Stepping
-mod Turning
-mod Undrawn
+pub mod Stepping
+pub mod Turning
+pub mod Undrawn

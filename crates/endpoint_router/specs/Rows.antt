@@ -1,5 +1,5 @@
 -- What an end's table of endpoints says.
-use Rattle.std.specs.Prelude.{ℕ, Bool, false, ◌+◌, ◌==◌, ◌&&◌, not, List, Option, Some, None, if◌then◌else◌, unwrap_or, is_some}
+use Rattle.std.specs.Prelude.{ℕ, Bool, false, ◌+◌, ◌==◌, ◌&&◌, not, List, [], Option, Some, None, if◌then◌else◌, unwrap_or, is_some}
 use Rattle.std.specs.Map.{lookup}
 use Rattle.std.specs.Option.{option_map}
 use Rattle.bind_model.specs.Machine.{Endpoints, is_closed, is_remote}
@@ -17,6 +17,10 @@ pub record RowSeen : Type 0 where
 pub record Contents : Type 0 where
   pub rows : List (ℕ × Option Row)
   pub drawn : ℕ
+
+-- no endpoints
+abbrev pub no_endpoints : Contents
+no_endpoints = record { rows = []; drawn = 0 }
 
 -- whether a request that waits with a method, or doesn't wait, waits with this one
 abbrev pub waits_with : Option ℕ → ℕ → Bool

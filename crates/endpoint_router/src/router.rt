@@ -6,7 +6,7 @@ ghost use Rattle.mj_base.specs.declared.limits.TheConstants.{MAX_EVENTS};
 ghost use Rattle.bind_model.specs.Machine.{is_remote};
 ghost use Rattle.bind_model.specs.declared.endpoint.State.TheVariants.{Bound, Closed};
 ghost use Rattle.endpoint_router.specs.Changes.{IsBound, IsPending, Stays, in_state, marked, with_request, without_request};
-ghost use Rattle.endpoint_router.specs.Rows.{can_draw, endpoints_of, has_place, is_pending, next_number, own_id, row_at, row_seen};
+ghost use Rattle.endpoint_router.specs.Rows.{can_draw, endpoints_of, has_place, is_pending, next_number, no_endpoints, own_id, row_at, row_seen};
 
 use crate::place;
 use crate::row::Row;
@@ -37,8 +37,7 @@ impl Model for Router {
 impl Router {
     /// No endpoints, and no ids drawn. Takes no memory.
     pub fn new(alloc: Global) -> Router
-        ensures rows { (n : ℕ) → row_at result n ≡ None }
-        ensures drawn { result.drawn ≡ 0 }
+        ensures { result ≡ no_endpoints }
     {
         Router {
             rows: BTreeMap::new(alloc),
@@ -62,6 +61,16 @@ impl Router {
     {
         let row = self.row(id)?;
         Some(row.endpoint())
+    }
+
+    /// The number that the next request of the endpoint of an id gets; 0 where the id isn't there.
+    pub fn next_request(&self, id: u32) -> u64
+        ensures { result ≡ next_number (row_at self.now id) }
+    {
+        match self.row(id) {
+            Some(row) => row.next_request(),
+            None => 0,
+        }
     }
 
     /// Whether the end is a remote: the side of its endpoint 0.

@@ -8,7 +8,7 @@ ghost use Rattle.bind_model.specs.WireOf.{wire_of};
 ghost use Rattle.remote_receiver.specs.Calls.{IsOther};
 
 use bind_core::{Alone, Core};
-use bind_model::{Command, Received, Reply, Stepper, ToClose, Why};
+use bind_model::{Command, PendingList, Received, Reply, Stepper, ToClose, Why};
 use handle_table::Handles;
 use mj_base::{EndId, Items, SeqId, Text};
 use mj_schema::{InterfaceRow, MethodRow, Schema, StructRow, VersionRow};
@@ -199,7 +199,15 @@ fn called<C: Job, P: Stepper>(
     ensures same { (P.schema desk.new.stepper ≡ P.schema desk.old.stepper) × (P.seqs desk.new.stepper ≡ P.seqs desk.old.stepper)
         × (P.me desk.new.stepper ≡ P.me desk.old.stepper) }
 {
-    match desk.call(alloc, from, 0, call, no_handles(alloc), Some(job)) {
+    match desk.call(
+        alloc,
+        from,
+        0,
+        call,
+        no_handles(alloc),
+        PendingList::new(alloc),
+        Some(job),
+    ) {
         Ok(sent) => sent.request,
         Err(_refused) => panic!(rt; "not sent"),
     }
@@ -241,6 +249,7 @@ fn answered<C: Job, P: Stepper>(
         parameters: _,
         request: _,
         handles,
+        pendings,
         responder,
         gone: _,
     } = taken(rt, desk, alloc, to);
@@ -249,10 +258,21 @@ fn answered<C: Job, P: Stepper>(
         panic!(rt; "handles came out");
     }
     items.destroy_empty();
+    let items = pendings.into_vec();
+    if !items.is_empty() {
+        panic!(rt; "pendings came out");
+    }
+    items.destroy_empty();
     let Some(responder) = responder else {
         panic!(rt; "no responder")
     };
-    match desk.reply(alloc, responder, response, no_handles(alloc)) {
+    match desk.reply(
+        alloc,
+        responder,
+        response,
+        no_handles(alloc),
+        PendingList::new(alloc),
+    ) {
         Ok(Reply::Sent(_, _)) => {}
         _other => panic!(rt; "not answered"),
     }

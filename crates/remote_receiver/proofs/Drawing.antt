@@ -21,6 +21,7 @@ use Rattle.bind_model.specs.Machine.{endpoint_at, is_closed, is_gone}
 use Rattle.bind_model.specs.Replies.{all_out, all_pending, called, cannot_write, drawn, draws, elsewhere, first_of, ids_of, is_receiver, is_response, request_of, unbound, unless, wrong_pipe, wrong_tokens}
 use Rattle.bind_model.specs.Wire.{Wire}
 use Rattle.bind_model.specs.WireOf.{wire_of}
+use Rattle.bind_model.specs.Pendings.{Half}
 use Rattle.bind_model.specs.Seen.{Continues, Saw, Waited}
 use Rattle.bind_model.specs.Plain.{told_of, outgoing_of}
 use Rattle.bind_model.specs.declared.commands.Command.{Command}
@@ -61,16 +62,16 @@ module _ {C : Type 0} where
       let grows = count_more seen more key.end key.id in
       omega arith
 
-  pub drawn_continues : (me : SeqId) (seen now : List Event) (waiting : FinMap key_cmp (Waiting C)) → Continues me seen now → AreDrawn seen waiting
-      → AreDrawn now waiting
-  drawn_continues me seen now waiting more are =
+  pub drawn_continues : (alone : Bool) (me : SeqId) (seen now : List Event) (waiting : FinMap key_cmp (Waiting C)) → Continues alone me seen now
+      → AreDrawn seen waiting → AreDrawn now waiting
+  drawn_continues alone me seen now waiting more are =
       subst (λ events. AreDrawn events waiting) (sym more.all) (drawn_more seen more.between waiting are)
 
-  pub drawn_saw : (schema : Schema) (seqs : ℕ) (me : SeqId) (seen now : List Event) (command : Command) (reply : Reply) (waiting : FinMap key_cmp (Waiting C))
-      → Saw schema seqs me seen now command reply → AreDrawn seen waiting → AreDrawn now waiting
-  drawn_saw schema seqs me seen now command reply waiting saw are =
+  pub drawn_saw : (schema : Schema) (seqs : ℕ) (alone : Bool) (me : SeqId) (seen now : List Event) (command : Command) (reply : Reply)
+      (waiting : FinMap key_cmp (Waiting C)) → Saw schema seqs alone me seen now command reply → AreDrawn seen waiting → AreDrawn now waiting
+  drawn_saw schema seqs alone me seen now command reply waiting saw are =
       subst (λ events. AreDrawn events waiting) (sym saw.event)
-      (drawn_more saw.before _ waiting (drawn_continues me seen saw.before waiting saw.others are))
+      (drawn_more saw.before _ waiting (drawn_continues alone me seen saw.before waiting saw.others are))
 
 -- ---- the reply to a call
 
@@ -142,45 +143,49 @@ no_number false n request t e = e
 -- ---- what a step of the stepper leaves
 
 module _ {C : Type 0} where
-  pub drawn_stepped : (schema : Schema) (seqs : ℕ) (me : SeqId) (seen now : List Event) (command : Command) (waiting : FinMap key_cmp (Waiting C))
-      (outcome : Result Reply Refused) → IfOk outcome (λ reply. Saw schema seqs me seen now command reply)
-      → IfErr outcome (λ refused. Waited schema seqs me seen now command refused) → AreDrawn seen waiting → AreDrawn now waiting
-  drawn_stepped schema seqs me seen now command waiting (Ok reply) saw waited are = drawn_saw schema seqs me seen now command reply waiting saw are
-  drawn_stepped schema seqs me seen now command waiting (Err refused) saw waited are = drawn_continues me seen now waiting waited.others are
+  pub drawn_stepped : (schema : Schema) (seqs : ℕ) (alone : Bool) (me : SeqId) (seen now : List Event) (command : Command)
+      (waiting : FinMap key_cmp (Waiting C)) (outcome : Result Reply Refused) → IfOk outcome (λ reply. Saw schema seqs alone me seen now command reply)
+      → IfErr outcome (λ refused. Waited schema seqs alone me seen now command refused) → AreDrawn seen waiting → AreDrawn now waiting
+  drawn_stepped schema seqs alone me seen now command waiting (Ok reply) saw waited are = drawn_saw schema seqs alone me seen now command reply waiting saw are
+  drawn_stepped schema seqs alone me seen now command waiting (Err refused) saw waited are = drawn_continues alone me seen now waiting waited.others are
 
 -- the events that a call's reply is read off, and the number of its request
-module _ (schema : Schema) (seqs : ℕ) (me : SeqId) (seen now : List Event) (end : EndId) (id : ℕ) (prepared : Prepared) (handles : List Thing) where
-  call_told : (reply : Reply) → Saw schema seqs me seen now (commands.Call end id prepared handles) reply
-      → (before : List Event) × (told_of reply ≡ called (wire_of schema) (reverse before) me end id (outgoing_of prepared handles)
+module _ (schema : Schema) (seqs : ℕ) (alone : Bool) (me : SeqId) (seen now : List Event) (end : EndId) (id : ℕ) (prepared : Prepared)
+    (handles : List Thing) (pendings : List Half) where
+  abbrev call : Command
+  call = commands.Call end id prepared handles pendings
+
+  call_told : (reply : Reply) → Saw schema seqs alone me seen now call reply
+      → (before : List Event) × (told_of reply ≡ called (wire_of schema) (reverse before) me end id (outgoing_of prepared handles pendings)
       (endpoint_at (wire_of schema) (reverse before) end id))
   call_told reply saw = (saw.before, saw.told)
 
   -- the reply to a call is Sent or No
-  pub is_answered : (reply : Reply) → Saw schema seqs me seen now (commands.Call end id prepared handles) reply → AnswersCall (told_of reply)
+  pub is_answered : (reply : Reply) → Saw schema seqs alone me seen now call reply → AnswersCall (told_of reply)
   is_answered reply saw =
       let told = call_told reply saw in
       subst AnswersCall (sym told.1)
-      (answers_call (wire_of schema) (reverse told.0) me end id (outgoing_of prepared handles) (endpoint_at (wire_of schema) (reverse told.0) end id))
+      (answers_call (wire_of schema) (reverse told.0) me end id (outgoing_of prepared handles pendings) (endpoint_at (wire_of schema) (reverse told.0) end id))
 
-  pub next_request : (request : ℕ) (bytes : List ℕ) → Saw schema seqs me seen now (commands.Call end id prepared handles) (replies.Sent request bytes)
+  pub next_request : (request : ℕ) (bytes : List ℕ) → Saw schema seqs alone me seen now call (replies.Sent request bytes)
       → (wire_of schema).responds prepared.target.interface prepared.target.method ≡ true
-      → (before : List Event) × Continues me seen before × (request ≡ suc (count before end id))
+      → (before : List Event) × Continues alone me seen before × (request ≡ suc (count before end id))
   next_request request bytes saw responds = (
     saw.before,
     saw.others,
     next_number ((wire_of schema).responds prepared.target.interface prepared.target.method) (count saw.before end id) request responds
-        (call_request (wire_of schema) (reverse saw.before) me end id (outgoing_of prepared handles)
+        (call_request (wire_of schema) (reverse saw.before) me end id (outgoing_of prepared handles pendings)
         (endpoint_at (wire_of schema) (reverse saw.before) end id) request bytes saw.told),
   )
 
   -- no job waits under the next request
   pub no_job_yet : {C : Type 0} (waiting : FinMap key_cmp (Waiting C)) (request : ℕ) (bytes : List ℕ)
-      → Saw schema seqs me seen now (commands.Call end id prepared handles) (replies.Sent request bytes)
+      → Saw schema seqs alone me seen now call (replies.Sent request bytes)
       → (wire_of schema).responds prepared.target.interface prepared.target.method ≡ true → AreDrawn seen waiting
       → get waiting (record { end = end; id = id; request = request }) ≡ None
   no_job_yet waiting request bytes saw responds are =
       let next = next_request request bytes saw responds in
-      let drawn = drawn_continues me seen next.0 waiting next.1 are in
+      let drawn = drawn_continues alone me seen next.0 waiting next.1 are in
       none_where _ (λ w there. let few = drawn (record { end = end; id = id; request = request }) w there in let is = next.2 in omega arith)
 
   count_step : (before : List Event) (event : Event) → count (before ++ event ∷ []) end id ≡ count before end id + length (draws event.told event.asked end id)
@@ -189,26 +194,27 @@ module _ (schema : Schema) (seqs : ℕ) (me : SeqId) (seen now : List Event) (en
       ∙ length-append (drawn (reverse before) end id) (draws event.told event.asked end id)
 
   -- the number of a request that was sent isn't above how many were
-  pub sent_counted : (request : ℕ) (bytes : List ℕ) → Saw schema seqs me seen now (commands.Call end id prepared handles) (replies.Sent request bytes)
+  pub sent_counted : (request : ℕ) (bytes : List ℕ) → Saw schema seqs alone me seen now call (replies.Sent request bytes)
       → request ≤ count now end id
   sent_counted request bytes saw =
       by (request == 0) refl ((wire_of schema).responds prepared.target.interface prepared.target.method) refl
     where
       number : request ≡ request_of (wire_of schema) (reverse saw.before) end id prepared.target
-      number = call_request (wire_of schema) (reverse saw.before) me end id (outgoing_of prepared handles)
+      number = call_request (wire_of schema) (reverse saw.before) me end id (outgoing_of prepared handles pendings)
           (endpoint_at (wire_of schema) (reverse saw.before) end id) request bytes saw.told
 
-      counted : count now end id ≡ count saw.before end id + length (draws (tells.Sent request bytes) (asks.Call end id (outgoing_of prepared handles)) end id)
+      counted : count now end id
+          ≡ count saw.before end id + length (draws (tells.Sent request bytes) (asks.Call end id (outgoing_of prepared handles pendings)) end id)
       counted =
           ap (λ events. count events end id) saw.event
           ∙ count_step saw.before _
-          ∙ ap (λ t. count saw.before end id + length (draws t (asks.Call end id (outgoing_of prepared handles)) end id)) (sym saw.told)
+          ∙ ap (λ t. count saw.before end id + length (draws t (asks.Call end id (outgoing_of prepared handles pendings)) end id)) (sym saw.told)
 
       by : (b : Bool) → (request == 0) ≡ b → (r : Bool) → (wire_of schema).responds prepared.target.interface prepared.target.method ≡ r
           → request ≤ count now end id
       by true e r f = let zero : request ≡ 0 = eqb-true request 0 e in omega arith
       by false e true f =
-          let one : length (draws (tells.Sent request bytes) (asks.Call end id (outgoing_of prepared handles)) end id) ≡ 1 =
+          let one : length (draws (tells.Sent request bytes) (asks.Call end id (outgoing_of prepared handles pendings)) end id) ≡ 1 =
           rw (same_end-refl end, eq-eqb id id refl, e) refl in
           let next : request ≡ suc (count saw.before end id) = next_number _ (count saw.before end id) request f number in
           omega (arith, counted, one, next)
@@ -235,11 +241,11 @@ module _ {C : Type 0} where
   drawn_kept now old new k (Some job) keeps few are = drawn_put now old.waiting new.waiting k _ keeps.0 few are
 
   -- where a job came with a call, none waits under its request yet
-  pub absent_yet : (schema : Schema) (seqs : ℕ) (me : SeqId) (seen now : List Event) (end : EndId) (id : ℕ) (prepared : Prepared) (handles : List Thing)
-      (waiting : FinMap key_cmp (Waiting C)) (request : ℕ) (bytes : List ℕ) (job : Option C)
-      → Saw schema seqs me seen now (commands.Call end id prepared handles) (replies.Sent request bytes)
+  pub absent_yet : (schema : Schema) (seqs : ℕ) (alone : Bool) (me : SeqId) (seen now : List Event) (end : EndId) (id : ℕ) (prepared : Prepared)
+      (handles : List Thing) (pendings : List Half) (waiting : FinMap key_cmp (Waiting C)) (request : ℕ) (bytes : List ℕ) (job : Option C)
+      → Saw schema seqs alone me seen now (commands.Call end id prepared handles pendings) (replies.Sent request bytes)
       → is_some job ≡ (wire_of schema).responds prepared.target.interface prepared.target.method → AreDrawn seen waiting
       → IfSome job (λ given. get waiting (record { end = end; id = id; request = request }) ≡ None)
-  absent_yet schema seqs me seen now end id prepared handles waiting request bytes None saw wanted are = tt
-  absent_yet schema seqs me seen now end id prepared handles waiting request bytes (Some job) saw wanted are =
-      no_job_yet schema seqs me seen now end id prepared handles waiting request bytes saw (sym wanted) are
+  absent_yet schema seqs alone me seen now end id prepared handles pendings waiting request bytes None saw wanted are = tt
+  absent_yet schema seqs alone me seen now end id prepared handles pendings waiting request bytes (Some job) saw wanted are =
+      no_job_yet schema seqs alone me seen now end id prepared handles pendings waiting request bytes saw (sym wanted) are

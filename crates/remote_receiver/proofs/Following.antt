@@ -1,5 +1,5 @@
 -- What a desk keeps follows each of its steps.
-use Rattle.std.proofs.Common.{◌≡◌, ℕ, Bool, true, false, List, [], ◌∷◌, ◌++◌, ◌⊎◌, inl, inr, refl, sym, ap, ◌∙◌, subst}
+use Rattle.std.proofs.Common.{◌≡◌, ◌==◌, ℕ, Bool, true, false, List, [], ◌∷◌, ◌++◌, ◌⊎◌, inl, inr, refl, sym, ap, ◌∙◌, subst}
 use Rattle.std.specs.Prelude.{Option, Some, None, IfSome, length, if◌then◌else◌, not, ◌&&◌, cond}
 use Rattle.std.specs.FinMap.{empty, get, insert}
 use Rattle.std.proofs.lemmas.Bool.{true≢false}
@@ -12,19 +12,23 @@ use Rattle.bind_model.specs.declared.told.Told.TheVariants as tells
 use Rattle.bind_model.specs.declared.told.Why.TheVariants as whys
 use Rattle.handle_table.specs.declared.thing.Thing.{Thing}
 use Rattle.wire_encoder.specs.declared.prepared.Prepared.{Prepared}
+use Rattle.bind_model.specs.Pendings.{Half}
 use Rattle.bind_model.specs.Plain.{asked_of, told_of}
 use Rattle.bind_model.specs.declared.commands.Command.{Command}
 use Rattle.bind_model.specs.declared.commands.Command.TheVariants as commands
 use Rattle.bind_model.specs.declared.commands.Reply.{Reply}
 use Rattle.bind_model.specs.declared.commands.Reply.TheVariants as replies
 use Rattle.bind_model.specs.declared.commands.ToClose.TheVariants as closes
+use Rattle.response_map.specs.Keys.{is_of_end, is_of_endpoint}
 use Rattle.response_map.specs.declared.key.Key.{Key}
 use Rattle.remote_receiver.specs.declared.job.Answered.{Answered}
 use Rattle.remote_receiver.specs.declared.jobs.Waiting.{Waiting}
+use Rattle.remote_receiver.specs.declared.told.Ends.{Ends}
+use Rattle.remote_receiver.specs.declared.told.Ends.TheVariants.{All, One}
 use Rattle.remote_receiver.specs.Stepped.{Step, given, answered, key_of, same_key, step_of}
 use Rattle.remote_receiver.specs.Notes.{unrun, IsWaiting, AreNotes, Kept, HasKept, Follows}
 use Rattle.remote_receiver.specs.Calls.{IsOther}
-use Rattle.remote_receiver.specs.steps.Doing.{AfterClose, AfterTake, Dropped, Keeps, Noted, Heard, HeardIf, closed_endpoint}
+use Rattle.remote_receiver.specs.steps.Doing.{AfterClose, AfterEnds, AfterTake, Dropped, Keeps, Noted, Heard, HeardIf, ended_by}
 use Rattle.remote_receiver.proofs.Later.{told_at, over_at, waits_less, waits_more}
 use Rattle.remote_receiver.proofs.Noting.{notes_stay, note_set, note_more, given_waits, waits_given}
 use Rattle.remote_receiver.proofs.Requests.{is_one, one_key, itself, same_itself, same_keys, get_put, get_taken, get_kept, none_there}
@@ -194,12 +198,21 @@ module _ {C : Type 0} (promises : C → Answered → ℕ → Type 0) where
       subst (Follows promises old (record { asked = asks.Take end; told = told; job = None })) (sym same)
       (follows_same (record { asked = asks.Take end; told = told; job = None }) old refl (λ key. refl) (λ key. refl))
 
-  pub follows_close : (command : Command) → IsOther command → (told : Told) (old new : Kept C) → AfterClose (closed_endpoint command) told old new
+  -- closing the endpoint of an id, or an end with it
+  dropped_with : (end : EndId) (id : ℕ) (old new : Kept C) (b : Bool) → AfterEnds (if b then All end else One end id) old new
+      → Dropped (λ key. if b then is_of_end end key else is_of_endpoint end id key) old new
+  dropped_with end id old new true after = after
+  dropped_with end id old new false after = after
+
+  pub follows_close : (command : Command) → IsOther command → (told : Told) (old new : Kept C) → AfterClose (ended_by command) told old new
       → Follows promises old (record { asked = asked_of command; told = told; job = None }) new
-  follows_close (commands.Call end id prepared handles) other told old new after = absurd other
+  follows_close (commands.Call end id prepared handles pendings) other told old new after = absurd other
   follows_close (commands.Take end) other told old new after = absurd other
   follows_close (commands.Close (closes.Endpoint end id)) other (tells.Closed gone) old new after =
-      follows_end (record { asked = asks.Close (closings.Endpoint end id); told = tells.Closed gone; job = None }) old new refl (λ key. refl) after
+      follows_end (record { asked = asks.Close (closings.Endpoint end id); told = tells.Closed gone; job = None }) old new refl (λ key. refl)
+      (dropped_with end id old new (id == 0) after)
+  follows_close (commands.Close (closes.Pending p)) other (tells.Closed gone) old new after =
+      follows_end (record { asked = asks.Close (closings.Pending p.name); told = tells.Closed gone; job = None }) old new refl (λ key. refl) after
   follows_close command other told old new same =
       subst (Follows promises old (record { asked = asked_of command; told = told; job = None })) (sym same)
       (follows_same (record { asked = asked_of command; told = told; job = None }) old refl (λ key. refl) (λ key. refl))
@@ -212,21 +225,22 @@ module _ {C : Type 0} (promises : C → Answered → ℕ → Type 0) where
       subst (λ (r : Reply). Follows promises before (step_of (commands.Take end) r None) new) (sym same)
       (subst (λ (k : Kept C). Follows promises k (step_of (commands.Take end) reply None) new) kept (follows_take end (told_of reply) old new after))
 
-  pub did : (command : Command) (closed : Option (EndId × ℕ)) (reply : Reply) (before old new : Kept C) → IsOther command → closed ≡ closed_endpoint command
-      → old ≡ before → AfterClose closed (told_of reply) old new → Follows promises before (step_of command reply None) new
-  did command closed reply before old new other is kept after =
+  pub did : (command : Command) (ends : Option Ends) (reply : Reply) (before old new : Kept C) → IsOther command → ends ≡ ended_by command
+      → old ≡ before → AfterClose ends (told_of reply) old new → Follows promises before (step_of command reply None) new
+  did command ends reply before old new other is kept after =
       subst (λ (k : Kept C). Follows promises k (step_of command reply None) new) kept
       (follows_close command other (told_of reply) old new (subst (λ o. AfterClose o (told_of reply) old new) is after))
 
   -- a call that was sent
-  pub called : (end : EndId) (id : ℕ) (prepared : Prepared) (handles : List Thing) (request : ℕ) (bytes : List ℕ) (job : Option C) (before old new : Kept C)
+  pub called : (end : EndId) (id : ℕ) (prepared : Prepared) (handles : List Thing) (pendings : List Half) (request : ℕ) (bytes : List ℕ)
+      (job : Option C) (before old new : Kept C)
       → old ≡ before → IfSome job (λ given. get old.waiting (record { end = end; id = id; request = request }) ≡ None)
       → Keeps (record { end = end; id = id; request = request }) job old new
-      → Follows promises before (step_of (commands.Call end id prepared handles) (replies.Sent request bytes) job) new
-  called end id prepared handles request bytes None before old new kept absent same =
-      subst (Follows promises before (step_of (commands.Call end id prepared handles) (replies.Sent request bytes) None)) (sym (same ∙ kept))
-      (follows_same (step_of (commands.Call end id prepared handles) (replies.Sent request bytes) None) before refl (λ key. refl) (λ key. refl))
-  called end id prepared handles request bytes (Some job) before old new kept absent keeps =
-      subst (λ (k : Kept C). Follows promises k (step_of (commands.Call end id prepared handles) (replies.Sent request bytes) (Some job)) new) kept
-      (follows_given (step_of (commands.Call end id prepared handles) (replies.Sent request bytes) (Some job)) old new
+      → Follows promises before (step_of (commands.Call end id prepared handles pendings) (replies.Sent request bytes) job) new
+  called end id prepared handles pendings request bytes None before old new kept absent same =
+      subst (Follows promises before (step_of (commands.Call end id prepared handles pendings) (replies.Sent request bytes) None)) (sym (same ∙ kept))
+      (follows_same (step_of (commands.Call end id prepared handles pendings) (replies.Sent request bytes) None) before refl (λ key. refl) (λ key. refl))
+  called end id prepared handles pendings request bytes (Some job) before old new kept absent keeps =
+      subst (λ (k : Kept C). Follows promises k (step_of (commands.Call end id prepared handles pendings) (replies.Sent request bytes) (Some job)) new) kept
+      (follows_given (step_of (commands.Call end id prepared handles pendings) (replies.Sent request bytes) (Some job)) old new
       (record { end = end; id = id; request = request }, job) refl (λ key. refl) (λ key. refl) absent keeps.0 keeps.1)

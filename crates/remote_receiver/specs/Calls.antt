@@ -1,5 +1,5 @@
 -- What a desk is asked, and how a call comes back.
-use Rattle.std.specs.Prelude.{ℕ, ◌≡◌, ◌≤◌, List, length, Option}
+use Rattle.std.specs.Prelude.{ℕ, Bool, ◌≡◌, ◌≤◌, List, length, Option}
 use Rattle.mj_base.specs.declared.ids.SeqId.{SeqId}
 use Rattle.mj_base.specs.declared.limits.TheConstants.{MAX_EVENTS}
 use Rattle.mj_schema.specs.declared.schema.Schema.{Schema}
@@ -13,17 +13,17 @@ use Rattle.remote_receiver.specs.declared.call.CallRefused.TheVariants.{No, Memo
 
 -- neither a call nor a take
 abbrev pub IsOther : Command → Type 0
-IsOther (Call end id prepared handles) = ⊥
+IsOther (Call end id prepared handles pendings) = ⊥
 IsOther (Take end) = ⊥
 IsOther command = Unit {0}
 
 -- there is no event of one's own
-abbrev pub Stays : Schema → ℕ → SeqId → List Event → List Event → Type 0
-Stays schema seqs me old new = Continues me old new × KeepsLegal schema seqs old new
+abbrev pub Stays : Schema → ℕ → Bool → SeqId → List Event → List Event → Type 0
+Stays schema seqs alone me old new = Continues alone me old new × KeepsLegal schema seqs old new
 
 -- a call that wasn't sent: the command comes back with its job, and there was an event exactly where it is refused
-abbrev pub NotSent : {C : Type 0} → Schema → ℕ → SeqId → List Event → List Event → Command → Option C → CallRefused C → Type 0
-NotSent schema seqs me old new command job (No why back same) = Saw schema seqs me old new command (replies.No why back) × (same ≡ job)
-NotSent schema seqs me old new command job (Memory back same) = Stays schema seqs me old new × (back ≡ command) × (same ≡ job)
-NotSent schema seqs me old new command job (Spent back same) =
-    Stays schema seqs me old new × (back ≡ command) × (same ≡ job) × (MAX_EVENTS ≤ length new)
+abbrev pub NotSent : {C : Type 0} → Schema → ℕ → Bool → SeqId → List Event → List Event → Command → Option C → CallRefused C → Type 0
+NotSent schema seqs alone me old new command job (No why back same) = Saw schema seqs alone me old new command (replies.No why back) × (same ≡ job)
+NotSent schema seqs alone me old new command job (Memory back same) = Stays schema seqs alone me old new × (back ≡ command) × (same ≡ job)
+NotSent schema seqs alone me old new command job (Spent back same) =
+    Stays schema seqs alone me old new × (back ≡ command) × (same ≡ job) × (MAX_EVENTS ≤ length new)

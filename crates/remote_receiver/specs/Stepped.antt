@@ -7,7 +7,7 @@ use Rattle.bind_model.specs.declared.commands.Reply.{Reply}
 use Rattle.bind_model.specs.Replies.{is_response}
 use Rattle.bind_model.specs.declared.asked.Asked.{Asked}
 use Rattle.bind_model.specs.declared.asked.Asked.TheVariants.{Call, Take, Close}
-use Rattle.bind_model.specs.declared.asked.Closing.TheVariants.{Endpoint}
+use Rattle.bind_model.specs.declared.asked.Closing.TheVariants.{Endpoint, Pending}
 use Rattle.bind_model.specs.declared.told.Got.{Got}
 use Rattle.bind_model.specs.declared.told.Told.{Told}
 use Rattle.bind_model.specs.declared.told.Told.TheVariants.{Sent, Taken, Control, Bad, Closed, No}
@@ -50,6 +50,7 @@ response_by key asked told = None
 -- whether a reply shows that the endpoint of a request is over: it is closed here, its peer is, or its end has gone
 abbrev pub shows_end : Key → Asked → Told → Bool
 shows_end key (Close (Endpoint end id)) (Closed gone) = if id == 0 then is_of_end end key else is_of_endpoint end id key
+shows_end key (Close (Pending p)) (Closed gone) = is_of_endpoint p.end p.id key
 shows_end key (Take end) (Bad why gone) = is_of_end end key
 shows_end key (Take end) (No PeerClosed) = is_of_end end key
 shows_end key (Take end) (Control id) = is_of_endpoint end id key

@@ -19,8 +19,8 @@ use crate::job::Job;
 use crate::jobs::Jobs;
 use crate::note::Note;
 use crate::rest::Rest;
-use crate::told::{closed_endpoint, tell_closed, tell_taken};
-use bind_model::{Command, Refused, Reply, Responder, Stepper};
+use crate::told::{ended_by, tell_closed, tell_taken};
+use bind_model::{Command, PendingList, Refused, Reply, Responder, Stepper};
 use handle_table::Handles;
 use mj_base::EndId;
 use response_map::Key;
@@ -59,11 +59,11 @@ impl<C: Job, P: Stepper> Desk<C, P> {
         requires seq { (P.me self.old.stepper).0 < P.seqs self.old.stepper }
         requires prepared { IsOf (P.schema self.old.stepper) command }
         ensures same { (P.schema self.new.stepper ≡ P.schema self.old.stepper) × (P.seqs self.new.stepper ≡ P.seqs self.old.stepper)
-            × (P.me self.new.stepper ≡ P.me self.old.stepper) }
-        ensures event { IfOk result (λ reply. Saw (P.schema self.old.stepper) (P.seqs self.old.stepper) (P.me self.old.stepper)
-            (P.seen self.old.stepper) (P.seen self.new.stepper) command reply) }
-        ensures refused { IfErr result (λ refused. Waited (P.schema self.old.stepper) (P.seqs self.old.stepper) (P.me self.old.stepper)
-            (P.seen self.old.stepper) (P.seen self.new.stepper) command refused) }
+            × (P.alone self.new.stepper ≡ P.alone self.old.stepper) × (P.me self.new.stepper ≡ P.me self.old.stepper) }
+        ensures event { IfOk result (λ reply. Saw (P.schema self.old.stepper) (P.seqs self.old.stepper) (P.alone self.old.stepper)
+            (P.me self.old.stepper) (P.seen self.old.stepper) (P.seen self.new.stepper) command reply) }
+        ensures refused { IfErr result (λ refused. Waited (P.schema self.old.stepper) (P.seqs self.old.stepper) (P.alone self.old.stepper)
+            (P.me self.old.stepper) (P.seen self.old.stepper) (P.seen self.new.stepper) command refused) }
         ensures jobs { self.new.jobs ≡ self.old.jobs }
     {
         self.stepper.step(alloc, command)
@@ -78,22 +78,24 @@ impl<C: Job, P: Stepper> Desk<C, P> {
         id: u32,
         prepared: Prepared,
         handles: Handles,
+        pendings: PendingList,
         job: Option<C>,
     ) -> Result<Sent, CallRefused<C>>
         requires seq { (P.me self.old.stepper).0 < P.seqs self.old.stepper }
         requires prepared { IsPrepared (P.schema self.old.stepper) prepared }
         requires job { is_some job ≡ (wire_of (P.schema self.old.stepper)).responds prepared.target.interface prepared.target.method }
         ensures same { (P.schema self.new.stepper ≡ P.schema self.old.stepper) × (P.seqs self.new.stepper ≡ P.seqs self.old.stepper)
-            × (P.me self.new.stepper ≡ P.me self.old.stepper) }
-        ensures event { IfOk result (λ sent. Saw (P.schema self.old.stepper) (P.seqs self.old.stepper) (P.me self.old.stepper)
-            (P.seen self.old.stepper) (P.seen self.new.stepper) (Call end id prepared handles) (replies.Sent sent.request sent.bytes)) }
+            × (P.alone self.new.stepper ≡ P.alone self.old.stepper) × (P.me self.new.stepper ≡ P.me self.old.stepper) }
+        ensures event { IfOk result (λ sent. Saw (P.schema self.old.stepper) (P.seqs self.old.stepper) (P.alone self.old.stepper)
+            (P.me self.old.stepper) (P.seen self.old.stepper) (P.seen self.new.stepper)
+            (Call end id prepared handles pendings) (replies.Sent sent.request sent.bytes)) }
         ensures kept { IfOk result (λ sent. Follows C.promises (kept_of self.old.jobs)
-            (step_of (Call end id prepared handles) (replies.Sent sent.request sent.bytes) job) (kept_of self.new.jobs)) }
-        ensures refused { IfErr result (λ refused. NotSent (P.schema self.old.stepper) (P.seqs self.old.stepper) (P.me self.old.stepper)
-            (P.seen self.old.stepper) (P.seen self.new.stepper) (Call end id prepared handles) job refused) }
+            (step_of (Call end id prepared handles pendings) (replies.Sent sent.request sent.bytes) job) (kept_of self.new.jobs)) }
+        ensures refused { IfErr result (λ refused. NotSent (P.schema self.old.stepper) (P.seqs self.old.stepper) (P.alone self.old.stepper)
+            (P.me self.old.stepper) (P.seen self.old.stepper) (P.seen self.new.stepper) (Call end id prepared handles pendings) job refused) }
         ensures unsent { OnErr result (kept_of self.new.jobs ≡ kept_of self.old.jobs) }
     {
-        let command = Command::Call(end, id, prepared, handles);
+        let command = Command::Call(end, id, prepared, handles, pendings);
         if self.jobs.reserve().is_err() {
             return Err(CallRefused::Memory(command, job));
         }
@@ -116,12 +118,12 @@ impl<C: Job, P: Stepper> Desk<C, P> {
     pub fn take(&mut self, alloc: Global, end: EndId) -> Result<Reply, Refused>
         requires { (P.me self.old.stepper).0 < P.seqs self.old.stepper }
         ensures same { (P.schema self.new.stepper ≡ P.schema self.old.stepper) × (P.seqs self.new.stepper ≡ P.seqs self.old.stepper)
-            × (P.me self.new.stepper ≡ P.me self.old.stepper) }
-        ensures event { IfOk result (λ reply. Saw (P.schema self.old.stepper) (P.seqs self.old.stepper) (P.me self.old.stepper)
-            (P.seen self.old.stepper) (P.seen self.new.stepper) (Take end) reply) }
+            × (P.alone self.new.stepper ≡ P.alone self.old.stepper) × (P.me self.new.stepper ≡ P.me self.old.stepper) }
+        ensures event { IfOk result (λ reply. Saw (P.schema self.old.stepper) (P.seqs self.old.stepper) (P.alone self.old.stepper)
+            (P.me self.old.stepper) (P.seen self.old.stepper) (P.seen self.new.stepper) (Take end) reply) }
         ensures kept { IfOk result (λ reply. Follows C.promises (kept_of self.old.jobs) (step_of (Take end) reply None) (kept_of self.new.jobs)) }
-        ensures refused { IfErr result (λ refused. Waited (P.schema self.old.stepper) (P.seqs self.old.stepper) (P.me self.old.stepper)
-            (P.seen self.old.stepper) (P.seen self.new.stepper) (Take end) refused) }
+        ensures refused { IfErr result (λ refused. Waited (P.schema self.old.stepper) (P.seqs self.old.stepper) (P.alone self.old.stepper)
+            (P.me self.old.stepper) (P.seen self.old.stepper) (P.seen self.new.stepper) (Take end) refused) }
         ensures unmoved { OnErr result (kept_of self.new.jobs ≡ kept_of self.old.jobs) }
     {
         let reply = self.advance(alloc, Command::Take(end))?;
@@ -134,17 +136,17 @@ impl<C: Job, P: Stepper> Desk<C, P> {
         requires prepared { IsOf (P.schema self.old.stepper) command }
         requires other { IsOther command }
         ensures same { (P.schema self.new.stepper ≡ P.schema self.old.stepper) × (P.seqs self.new.stepper ≡ P.seqs self.old.stepper)
-            × (P.me self.new.stepper ≡ P.me self.old.stepper) }
-        ensures event { IfOk result (λ reply. Saw (P.schema self.old.stepper) (P.seqs self.old.stepper) (P.me self.old.stepper)
-            (P.seen self.old.stepper) (P.seen self.new.stepper) command reply) }
+            × (P.alone self.new.stepper ≡ P.alone self.old.stepper) × (P.me self.new.stepper ≡ P.me self.old.stepper) }
+        ensures event { IfOk result (λ reply. Saw (P.schema self.old.stepper) (P.seqs self.old.stepper) (P.alone self.old.stepper)
+            (P.me self.old.stepper) (P.seen self.old.stepper) (P.seen self.new.stepper) command reply) }
         ensures kept { IfOk result (λ reply. Follows C.promises (kept_of self.old.jobs) (step_of command reply None) (kept_of self.new.jobs)) }
-        ensures refused { IfErr result (λ refused. Waited (P.schema self.old.stepper) (P.seqs self.old.stepper) (P.me self.old.stepper)
-            (P.seen self.old.stepper) (P.seen self.new.stepper) command refused) }
+        ensures refused { IfErr result (λ refused. Waited (P.schema self.old.stepper) (P.seqs self.old.stepper) (P.alone self.old.stepper)
+            (P.me self.old.stepper) (P.seen self.old.stepper) (P.seen self.new.stepper) command refused) }
         ensures unmoved { OnErr result (kept_of self.new.jobs ≡ kept_of self.old.jobs) }
     {
-        let closed = closed_endpoint(&command);
+        let ends = ended_by(&command);
         let reply = self.advance(alloc, command)?;
-        tell_closed(&mut self.jobs, closed, &reply);
+        tell_closed(&mut self.jobs, ends, &reply);
         Ok(reply)
     }
 
@@ -155,20 +157,24 @@ impl<C: Job, P: Stepper> Desk<C, P> {
         responder: Responder,
         prepared: Prepared,
         handles: Handles,
+        pendings: PendingList,
     ) -> Result<Reply, Refused>
         requires seq { (P.me self.old.stepper).0 < P.seqs self.old.stepper }
         requires prepared { IsPrepared (P.schema self.old.stepper) prepared }
         ensures same { (P.schema self.new.stepper ≡ P.schema self.old.stepper) × (P.seqs self.new.stepper ≡ P.seqs self.old.stepper)
-            × (P.me self.new.stepper ≡ P.me self.old.stepper) }
-        ensures event { IfOk result (λ reply. Saw (P.schema self.old.stepper) (P.seqs self.old.stepper) (P.me self.old.stepper)
-            (P.seen self.old.stepper) (P.seen self.new.stepper) (Answer responder prepared handles) reply) }
+            × (P.alone self.new.stepper ≡ P.alone self.old.stepper) × (P.me self.new.stepper ≡ P.me self.old.stepper) }
+        ensures event { IfOk result (λ reply. Saw (P.schema self.old.stepper) (P.seqs self.old.stepper) (P.alone self.old.stepper)
+            (P.me self.old.stepper) (P.seen self.old.stepper) (P.seen self.new.stepper) (Answer responder prepared handles pendings) reply) }
         ensures kept { IfOk result (λ reply. Follows C.promises (kept_of self.old.jobs)
-            (step_of (Answer responder prepared handles) reply None) (kept_of self.new.jobs)) }
-        ensures refused { IfErr result (λ refused. Waited (P.schema self.old.stepper) (P.seqs self.old.stepper) (P.me self.old.stepper)
-            (P.seen self.old.stepper) (P.seen self.new.stepper) (Answer responder prepared handles) refused) }
+            (step_of (Answer responder prepared handles pendings) reply None) (kept_of self.new.jobs)) }
+        ensures refused { IfErr result (λ refused. Waited (P.schema self.old.stepper) (P.seqs self.old.stepper) (P.alone self.old.stepper)
+            (P.me self.old.stepper) (P.seen self.old.stepper) (P.seen self.new.stepper) (Answer responder prepared handles pendings) refused) }
         ensures unmoved { OnErr result (kept_of self.new.jobs ≡ kept_of self.old.jobs) }
     {
-        self.step(alloc, Command::Answer(responder, prepared, handles))
+        self.step(
+            alloc,
+            Command::Answer(responder, prepared, handles, pendings),
+        )
     }
 
     /// Puts it to rest: its stepper, and its jobs and notes. Takes no memory.

@@ -6,7 +6,7 @@ ghost use Rattle.bind_model.specs.Replies.{is_response};
 ghost use Rattle.bind_model.specs.declared.commands.Reply.TheVariants.{Got};
 ghost use Rattle.remote_receiver.specs.Held.{kept_of};
 ghost use Rattle.remote_receiver.specs.Waits.{IsPartOf};
-ghost use Rattle.remote_receiver.specs.steps.Doing.{AfterClose, AfterEnd, AfterGot, AfterTake, HeardIf, closed_endpoint};
+ghost use Rattle.remote_receiver.specs.steps.Doing.{AfterClose, AfterEnd, AfterGot, AfterTake, HeardIf, ended_by, ends_with};
 
 use crate::job::{Answered, Job};
 use crate::jobs::Jobs;
@@ -36,6 +36,7 @@ fn hear_got<C: Job>(jobs: &mut Jobs<C>, end: EndId, received: Received) -> Recei
         parameters,
         request,
         handles,
+        pendings,
         responder,
         gone,
     } = received;
@@ -60,6 +61,7 @@ fn hear_got<C: Job>(jobs: &mut Jobs<C>, end: EndId, received: Received) -> Recei
         parameters,
         request,
         handles,
+        pendings,
         responder,
         gone,
     }
@@ -92,28 +94,48 @@ pub(crate) fn tell_taken<C: Job>(jobs: &mut Jobs<C>, end: EndId, reply: Reply) -
     }
 }
 
-/// The endpoint that a command would close.
-pub(crate) fn closed_endpoint(command: &Command) -> Option<(EndId, u32)>
-    ensures { result ≡ closed_endpoint command.now }
+/// What a command would end: all endpoints of an end, or one endpoint.
+#[derive(Drop)]
+pub(crate) enum Ends {
+    All(EndId),
+    One(EndId, u32),
+}
+
+/// What closing the endpoint of this id would end.
+fn ends_with(end: EndId, id: u32) -> Ends
+    ensures { result ≡ ends_with end id }
+{
+    if id == 0 {
+        Ends::All(end)
+    } else {
+        Ends::One(end, id)
+    }
+}
+
+/// What a command would end: the endpoint that it closes, or whose other half it does.
+pub(crate) fn ended_by(command: &Command) -> Option<Ends>
+    ensures { result ≡ ended_by command.now }
 {
     match command {
-        Command::Close(ToClose::Endpoint(end, id)) => Some((*end, *id)),
+        Command::Close(ToClose::Endpoint(end, id)) => Some(ends_with(*end, *id)),
+        Command::Close(ToClose::Pending(pending)) => {
+            let half = pending.id();
+            Some(Ends::One(half.end, half.id))
+        }
         _ => None,
     }
 }
 
-/// Tells the jobs what a command that isn't a call or a take was told, by the endpoint that it would
-/// close; with id 0 the end has gone.
-pub(crate) fn tell_closed<C: Job>(jobs: &mut Jobs<C>, closed: Option<(EndId, u32)>, reply: &Reply)
-    ensures kept { AfterClose closed (told_of reply.now) (kept_of jobs.old) (kept_of jobs.new) }
+/// Tells the jobs what a command that isn't a call or a take was told, by what it would end.
+pub(crate) fn tell_closed<C: Job>(jobs: &mut Jobs<C>, ends: Option<Ends>, reply: &Reply)
+    ensures kept { AfterClose ends (told_of reply.now) (kept_of jobs.old) (kept_of jobs.new) }
     ensures part { IsPartOf jobs.old.waiting.callbacks jobs.new.waiting.callbacks }
 {
-    let (Some((end, id)), Reply::Closed(_)) = (closed, reply) else {
+    let (Some(ends), Reply::Closed(_)) = (ends, reply) else {
         return;
     };
-    if id == 0 {
-        jobs.drop_end(end);
-    } else {
-        jobs.drop_endpoint(end, id);
+    match ends {
+        Ends::All(end) => jobs.drop_end(end),
+        Ends::One(end, id) => jobs.drop_endpoint(end, id),
     }
 }

@@ -17,12 +17,13 @@ use Rattle.bind_model.specs.Machine.{out, handed}
 use Rattle.bind_model.specs.Replies.{legal, responders_handed}
 use Rattle.bind_model.specs.declared.endpoint.ResponderId.{ResponderId}
 use Rattle.bind_model.specs.Wire.{Wire}
+use Rattle.bind_model.specs.Pendings.{Half}
 use Rattle.bind_model.specs.Plain.{asked_of, told_of, outgoing_of, HandsBack, HandsResponders, responders_in}
 use Rattle.bind_model.specs.declared.commands.Command as core
 use Rattle.bind_model.specs.declared.commands.Command.TheVariants as commands
 use Rattle.bind_model.specs.declared.commands.ToClose.TheVariants as close
 use Rattle.bind_model.specs.declared.commands.Reply.{Reply}
-use Rattle.bind_model.specs.declared.commands.Reply.TheVariants.{Made, Bound, Sent, Got, Dropped, Control, Bad, Closed, Skipped, No}
+use Rattle.bind_model.specs.declared.commands.Reply.TheVariants.{Made, Bound, Associated, Attached, Sent, Wrote, Got, Dropped, Control, Bad, Closed, Skipped, No}
 use Rattle.mj_schema.specs.declared.schema.Schema.{Schema}
 use Rattle.wire_model.specs.Trees.{Tree, view}
 use Rattle.wire_model.specs.declared.target.Target.{Target}
@@ -46,28 +47,32 @@ use Rattle.script_run.specs.steps.Lines.{called, answered, needed, things_in, To
 use Rattle.script_run.specs.steps.Responders.{Rights, responder_at, responder_in, EndsWith, TookResponder}
 use Rattle.script_run.specs.steps.Slots.{IsSound, thing_at, held_at, given, taken_from}
 use Rattle.script_run.specs.steps.Replies.{comes_with, settled, responder_with, responders_settled}
-use Rattle.script_run.specs.steps.Going.{past_in, wire_in, Agrees, IsGoing, told_next, Went, HasNames, asks_in, told_in, reply_of, Holds, holds_after}
+use Rattle.script_run.specs.steps.Going.{past_in, wire_in, Agrees, IsGoing, IsPlain, told_next, Went, HasNames, asks_in, told_in, reply_of, Holds, holds_after}
 use Rattle.script_run.specs.steps.Going.{DidLine, DidTake, DidReply, IsBetween}
 use Rattle.script_run.proofs.ResponderLemmas.{took_length}
 use Rattle.script_run.proofs.Responding.{due_is, settled_length, held_after}
 use Rattle.script_run.proofs.SlotLemmas.{all_back, taken_from-all_held}
 use Rattle.script_run.proofs.Holding.{agrees_same, agrees_left, agrees_given, given_length, left_length}
 use Rattle.script_run.proofs.Handed.{things_asked, is_done, given_is, handed_distinct, handed_new, out_then}
-use Rattle.script_run.proofs.Steps.{plain_command}
+use Rattle.script_run.proofs.Steps.{plain_asked}
 
 -- the things of a command are those of what it asks
-things_same : (command : core.Command) → things_asked (asked_of command) ≡ things_in command
-things_same commands.Pipe = refl
-things_same (commands.Join other) = refl
-things_same (commands.Mint sort) = refl
-things_same (commands.Bind handle side interface) = refl
-things_same (commands.Call end id prepared handles) = refl
-things_same (commands.Answer responder prepared handles) = refl
-things_same (commands.Take end) = refl
-things_same (commands.Close (close.Handle handle)) = refl
-things_same (commands.Close (close.Responder responder)) = refl
-things_same (commands.Close (close.Endpoint end id)) = refl
-things_same (commands.Skip line) = refl
+things_same : (command : core.Command) → IsPlain (asked_of command) → things_asked (asked_of command) ≡ things_in command
+things_same commands.Pipe plain = refl
+things_same (commands.Join other) plain = refl
+things_same (commands.Mint sort) plain = refl
+things_same (commands.Bind handle side interface) plain = refl
+things_same (commands.Associate end side interface) plain = refl
+things_same (commands.Attach pending seq) plain = refl
+things_same (commands.Call end id prepared handles pendings) plain = refl
+things_same (commands.Answer responder prepared handles pendings) plain = refl
+things_same (commands.Raw handle bytes handles) plain = absurd plain
+things_same (commands.Take end) plain = refl
+things_same (commands.Close (close.Handle handle)) plain = refl
+things_same (commands.Close (close.Pending pending)) plain = refl
+things_same (commands.Close (close.Responder responder)) plain = refl
+things_same (commands.Close (close.Endpoint end id)) plain = refl
+things_same (commands.Skip line) plain = refl
 
 all_out : (a : Bool) → a ≡ (a && true)
 all_out true = refl
@@ -107,6 +112,9 @@ module _ (line : Command) (old mid : List Slot) (command : core.Command) (took :
   size_after (Got g) slots e = ap length e ∙ given_length (λ z. false) [] (sets line) g.handles mid ∙ mid_length
   size_after (No why back) slots e = ap length e ∙ given_length (λ z. false) [] (needed line) (things_in back) mid ∙ mid_length
   size_after (Bound end) slots e = ap length e ∙ mid_length
+  size_after (Associated pending) slots e = ap length e ∙ mid_length
+  size_after (Attached id) slots e = ap length e ∙ mid_length
+  size_after (Wrote handle) slots e = ap length e ∙ mid_length
   size_after (Sent request bytes) slots e = ap length e ∙ mid_length
   size_after (Dropped id gone) slots e = ap length e ∙ mid_length
   size_after (Control id) slots e = ap length e ∙ mid_length
@@ -114,7 +122,7 @@ module _ (line : Command) (old mid : List Slot) (command : core.Command) (took :
   size_after (Closed gone) slots e = ap length e ∙ mid_length
   size_after Skipped slots e = ap length e ∙ mid_length
 
-  module _ (wire : Wire) (seqs : ℕ) (past : List Event) (seq : SeqId) (all : List Label) where
+  module _ (wire : Wire) (seqs : ℕ) (past : List Event) (seq : SeqId) (all : List Label) (plain : IsPlain (asked_of command)) where
     abbrev with_told : Told → Event
     with_told told = record { seq = seq; asked = asked_of command; told = told }
 
@@ -127,7 +135,7 @@ module _ (line : Command) (old mid : List Slot) (command : core.Command) (took :
     out_done told h d z =
         out_then wire seqs (with_told told) past h z
         ∙ ap (λ xs. (is_out z && not (has xs z)) || has (handed told) z)
-        (given_is wire seqs past seq (asked_of command) told (plain_command command) h.1 d ∙ things_same command)
+        (given_is wire seqs past seq (asked_of command) told plain h.1 d ∙ things_same command plain)
 
     -- nothing is handed out
     quiet : (told : Told) → legal wire seqs (with_told told ∷ past) → is_done told ≡ true → handed told ≡ [] → Agrees is_out all old
@@ -152,7 +160,7 @@ module _ (line : Command) (old mid : List Slot) (command : core.Command) (took :
         (handed_distinct wire seqs (with_told told) past h)
         (λ z e.
         ap (λ xs. is_out z && not (has xs z))
-        (sym (given_is wire seqs past seq (asked_of command) told (plain_command command) h.1 d ∙ things_same command))
+        (sym (given_is wire seqs past seq (asked_of command) told plain h.1 d ∙ things_same command plain))
         ∙ handed_new wire seqs (with_told told) past h z e)
         (rw mid_length within) (mid_agrees is_out all a))
 
@@ -174,6 +182,9 @@ module _ (line : Command) (old mid : List Slot) (command : core.Command) (took :
         let again : slots ≡ old = e ∙ (ap (λ c. given (needed line) (things_in c) mid) back ∙ back_again sound) in
         rw again (refused why h a)
     names_after (Bound end) slots h back e sound within a = rw e (quiet (told_of (Bound end)) h refl refl a)
+    names_after (Associated pending) slots h back e sound within a = rw e (quiet (told_of (Associated pending)) h refl refl a)
+    names_after (Attached id) slots h back e sound within a = rw e (quiet (told_of (Attached id)) h refl refl a)
+    names_after (Wrote handle) slots h back e sound within a = rw e (quiet (told_of (Wrote handle)) h refl refl a)
     names_after (Sent request bytes) slots h back e sound within a = rw e (quiet (told_of (Sent request bytes)) h refl refl a)
     names_after (Dropped id gone) slots h back e sound within a = rw e (quiet (told_of (Dropped id gone)) h refl refl a)
     names_after (Control id) slots h back e sound within a = rw e (quiet (told_of (Control id)) h refl refl a)
@@ -224,6 +235,10 @@ module _ (autos : List AutoReply) (line : Line) (before after : Run) (next : Pla
   abbrev event : Event
   event = record { seq = line.seq; asked = asked_of command; told = told_of reply }
 
+  plain : IsPlain (asked_of command)
+  plain = subst IsPlain (sym asked)
+      (plain_asked (thing_at before.held.slots.items) (held_at before.held.slots.items) (responder_at before.responders.named.items) line.number line.command)
+
   abbrev found_due : Option Due
   found_due = due_for autos line.seq (responders_in reply)
 
@@ -252,7 +267,7 @@ module _ (autos : List AutoReply) (line : Line) (before after : Run) (next : Pla
     size = size_after line.command before.held.slots.items mid command took reply after.held.slots.items slots;
     names = λ all a.
         rw (← asked, ← told, past_is) (
-        names_after line.command before.held.slots.items mid command took (wire_in before.core) SEQUENCES (past_in before.core) line.seq all reply
+        names_after line.command before.held.slots.items mid command took (wire_in before.core) SEQUENCES (past_in before.core) line.seq all plain reply
         after.held.slots.items is_legal back slots sound fits.sets a
         );
     room =
@@ -291,24 +306,26 @@ take_done autos seq end before after next reply answer went same told handed_is 
 abbrev sent_with : Target → Tree → List Thing → Outgoing
 sent_with t v hs = record { target = t; parameters = v; handles = hs; pendings = [] }
 
-same_sent : (p q : Prepared) (handles : List Thing) → p.target ≡ q.target → view p.value ≡ view q.value → handles ≡ []
-    → outgoing_of p handles ≡ outgoing q []
-same_sent p q handles targets values none =
-    ap (λ (t : Target). sent_with t (view p.value) handles) targets
-    ∙ (ap (λ (v : Tree). sent_with q.target v handles) values ∙ ap (λ (hs : List Thing). sent_with q.target (view q.value) hs) none)
+same_sent : (p q : Prepared) (handles : List Thing) (pendings : List Half) → p.target ≡ q.target → view p.value ≡ view q.value → handles ≡ []
+    → pendings ≡ [] → outgoing_of p handles pendings ≡ outgoing q []
+same_sent p q handles pendings targets values none bare =
+    ap (outgoing_of p handles) bare
+    ∙ (ap (λ (t : Target). sent_with t (view p.value) handles) targets
+    ∙ (ap (λ (v : Tree). sent_with q.target v handles) values ∙ ap (λ (hs : List Thing). sent_with q.target (view q.value) hs) none))
 
 -- an automatic reply
 pub reply_done : (reply : AutoReply) (before after : Run) (next : Play) (responder : ResponderId) (copied : Prepared) (handles : List Thing)
-    → EndsWith responder before.responders.others.items → copied.target ≡ reply.prepared.target → view copied.value ≡ view reply.prepared.value → handles ≡ []
-    → Went before.core next reply.seq (asks.Answer responder (outgoing_of copied handles)) → after.core ≡ next
+    (pendings : List Half) → EndsWith responder before.responders.others.items → copied.target ≡ reply.prepared.target
+    → view copied.value ≡ view reply.prepared.value → handles ≡ [] → pendings ≡ []
+    → Went before.core next reply.seq (asks.Answer responder (outgoing_of copied handles pendings)) → after.core ≡ next
     → after.held.slots.items ≡ before.held.slots.items → after.responders.named.items ≡ before.responders.named.items → DidReply reply before after
-reply_done reply before after next responder copied handles last targets values none went same slots named = record {
+reply_done reply before after next responder copied handles pendings last targets values none bare went same slots named = record {
   responder = responder;
   last = last;
   went =
       rw same (
       subst (λ (sent : Outgoing). Went before.core next reply.seq (asks.Answer responder sent))
-      (same_sent copied reply.prepared handles targets values none) went
+      (same_sent copied reply.prepared handles pendings targets values none bare) went
       );
   slots = slots;
   named = named;

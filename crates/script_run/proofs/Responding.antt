@@ -26,7 +26,7 @@ use Rattle.bind_model.specs.declared.commands.Command as core
 use Rattle.bind_model.specs.declared.commands.Command.TheVariants as commands
 use Rattle.bind_model.specs.declared.commands.ToClose.TheVariants as close
 use Rattle.bind_model.specs.declared.commands.Reply.{Reply}
-use Rattle.bind_model.specs.declared.commands.Reply.TheVariants.{Made, Bound, Sent, Got, Dropped, Control, Bad, Closed, Skipped, No}
+use Rattle.bind_model.specs.declared.commands.Reply.TheVariants.{Made, Bound, Associated, Attached, Sent, Wrote, Got, Dropped, Control, Bad, Closed, Skipped, No}
 use Rattle.call_script.specs.declared.script.AutoReply.{AutoReply}
 use Rattle.call_script.specs.declared.script.Command.{Command}
 use Rattle.call_script.specs.declared.script.Line.{Line}
@@ -35,7 +35,7 @@ use Rattle.call_script.specs.Sound.{sets}
 use Rattle.script_run.specs.Autos.{Due, due_for, replies_to}
 use Rattle.script_run.specs.Names.{is_name, responder_name, responder_needed, spends}
 use Rattle.script_run.specs.declared.replies.Comes.{Comes}
-use Rattle.script_run.specs.declared.replies.Comes.TheVariants.{New, Back, Nothing}
+use Rattle.script_run.specs.declared.replies.Comes.TheVariants.{New, Back, Unasked, Nothing}
 use Rattle.script_run.specs.steps.Going.{Holds, holds_after}
 use Rattle.script_run.specs.steps.Replies.{comes_with, responder_with, place_for, responders_settled}
 use Rattle.script_run.specs.steps.Responders.{Rights, responder_at, emptied, filled, held_under, responder_in, TookResponder}
@@ -70,9 +70,9 @@ module _ (wire : Wire) (seqs : ℕ) (past : List Event) (seq : SeqId) where
   -- a command with a responder is refused, or spends it
   responder_told : (command : core.Command) (r : ResponderId) (told : Told) → responder_in command ≡ Some r
       → told ≡ answer wire seqs past seq (asked_of command) → ((why : Why) × (told ≡ tells.No why)) ⊎ (spends told (asked_of command) ≡ true)
-  responder_told (commands.Answer q p hs) r told there e = go (answer_told q (outgoing_of p hs) told e)
+  responder_told (commands.Answer q p hs ps) r told there e = go (answer_told q (outgoing_of p hs ps) told e)
     where
-      go : AnswerTold told → ((why : Why) × (told ≡ tells.No why)) ⊎ (spends told (asked_of (commands.Answer q p hs)) ≡ true)
+      go : AnswerTold told → ((why : Why) × (told ≡ tells.No why)) ⊎ (spends told (asked_of (commands.Answer q p hs ps)) ≡ true)
       go (Refuses why f) = inl (why, f)
       go (Sends request bytes f) = inr (rw f refl)
   responder_told (commands.Close (close.Responder q)) r told there e =
@@ -84,16 +84,20 @@ module _ (wire : Wire) (seqs : ℕ) (past : List Event) (seq : SeqId) where
   responder_told (commands.Join other) r told there e = absurd cc
   responder_told (commands.Mint sort) r told there e = absurd cc
   responder_told (commands.Bind handle side interface) r told there e = absurd cc
-  responder_told (commands.Call end id prepared handles) r told there e = absurd cc
+  responder_told (commands.Associate end side interface) r told there e = absurd cc
+  responder_told (commands.Attach pending sequence) r told there e = absurd cc
+  responder_told (commands.Call end id prepared handles pendings) r told there e = absurd cc
+  responder_told (commands.Raw handle bytes handles) r told there e = absurd cc
   responder_told (commands.Take end) r told there e = absurd cc
   responder_told (commands.Close (close.Handle handle)) r told there e = absurd cc
+  responder_told (commands.Close (close.Pending pending)) r told there e = absurd cc
   responder_told (commands.Close (close.Endpoint end id)) r told there e = absurd cc
   responder_told (commands.Skip line) r told there e = absurd cc
 
 -- a command without one spends none
 sent_none : (request : ℕ) (bytes : List ℕ) (command : core.Command) → responder_in command ≡ None
     → spends (tells.Sent request bytes) (asked_of command) ≡ false
-sent_none request bytes (commands.Answer q p hs) none = absurd cc
+sent_none request bytes (commands.Answer q p hs ps) none = absurd cc
 sent_none request bytes command none = refl
 
 closed_none : (gone : List Thing) (command : core.Command) → responder_in command ≡ None → spends (tells.Closed gone) (asked_of command) ≡ false
@@ -121,6 +125,9 @@ due_is autos seq (Got g) d e = go g.responder e
     go (Some r) f = found r (find (replies_to seq r) autos) f
 due_is autos seq (Made handles) d e = absurd cc
 due_is autos seq (Bound end) d e = absurd cc
+due_is autos seq (Associated pending) d e = absurd cc
+due_is autos seq (Attached id) d e = absurd cc
+due_is autos seq (Wrote handle) d e = absurd cc
 due_is autos seq (Sent request bytes) d e = absurd cc
 due_is autos seq (Dropped id gone) d e = absurd cc
 due_is autos seq (Control id) d e = absurd cc
@@ -131,8 +138,9 @@ due_is autos seq (No why command) d e = absurd cc
 
 -- as many names as before
 pub settled_length : (line : Command) (is_due : Bool) (comes : Comes) (named : Rights) → length (responders_settled line is_due comes named) ≡ length named
-settled_length line is_due (New handles responder) named = held_length (place_for is_due (sets line) handles) responder named
+settled_length line is_due (New handles responder pendings) named = held_length (place_for is_due (sets line) handles) responder named
 settled_length line is_due (Back command) named = held_length (responder_needed line) (responder_in command) named
+settled_length line is_due (Unasked reply) named = refl
 settled_length line is_due Nothing named = refl
 
 -- ## What is held then
@@ -226,6 +234,10 @@ module _ (wire : Wire) (seqs : ℕ) (past : List Event) (line : Line) (command :
       go (Bound end) e = quiet (ap responders_in e) (settled ∙ ap (λ (r : Reply). responders_settled line.command (is_some found) (comes_with r) mid) e)
       go (Sent request bytes) e =
           quiet (ap responders_in e) (settled ∙ ap (λ (r : Reply). responders_settled line.command (is_some found) (comes_with r) mid) e)
+      go (Associated pending) e =
+          quiet (ap responders_in e) (settled ∙ ap (λ (r : Reply). responders_settled line.command (is_some found) (comes_with r) mid) e)
+      go (Attached id) e = quiet (ap responders_in e) (settled ∙ ap (λ (r : Reply). responders_settled line.command (is_some found) (comes_with r) mid) e)
+      go (Wrote handle) e = quiet (ap responders_in e) (settled ∙ ap (λ (r : Reply). responders_settled line.command (is_some found) (comes_with r) mid) e)
       go (Dropped id gone) e = quiet (ap responders_in e) (settled ∙ ap (λ (r : Reply). responders_settled line.command (is_some found) (comes_with r) mid) e)
       go (Control id) e = quiet (ap responders_in e) (settled ∙ ap (λ (r : Reply). responders_settled line.command (is_some found) (comes_with r) mid) e)
       go (Bad why gone) e = quiet (ap responders_in e) (settled ∙ ap (λ (r : Reply). responders_settled line.command (is_some found) (comes_with r) mid) e)
@@ -238,6 +250,9 @@ module _ (wire : Wire) (seqs : ℕ) (past : List Event) (line : Line) (command :
   nothing_comes (Closed gone) s = (refl, refl)
   nothing_comes (Made handles) s = absurd (let f : false ≡ true = s in cc)
   nothing_comes (Bound end) s = absurd (let f : false ≡ true = s in cc)
+  nothing_comes (Associated pending) s = absurd (let f : false ≡ true = s in cc)
+  nothing_comes (Attached id) s = absurd (let f : false ≡ true = s in cc)
+  nothing_comes (Wrote handle) s = absurd (let f : false ≡ true = s in cc)
   nothing_comes (Got g) s = absurd (let f : false ≡ true = s in cc)
   nothing_comes (Dropped id gone) s = absurd (let f : false ≡ true = s in cc)
   nothing_comes (Control id) s = absurd (let f : false ≡ true = s in cc)
@@ -250,6 +265,9 @@ module _ (wire : Wire) (seqs : ℕ) (past : List Event) (line : Line) (command :
   refusal (No w c) why t b = (ap (λ (x : core.Command). comes_with (No w x)) b, refl)
   refusal (Made handles) why t b = absurd cc
   refusal (Bound end) why t b = absurd cc
+  refusal (Associated pending) why t b = absurd cc
+  refusal (Attached id) why t b = absurd cc
+  refusal (Wrote handle) why t b = absurd cc
   refusal (Sent request bytes) why t b = absurd cc
   refusal (Got g) why t b = absurd cc
   refusal (Dropped id gone) why t b = absurd cc

@@ -1,7 +1,7 @@
 -- What the desk of a core does, as its sequence's steps of the core.
 use Rattle.std.proofs.Common.{◌≡◌, ◌<◌, ◌+◌, ℕ, Bool, true, false, List, [], ◌∷◌, ◌++◌, length, refl, sym, ap, ◌∙◌, subst, arith, length-append}
-use Rattle.std.specs.Prelude.{Option, Some, None, Result, Ok, Err, IfOk, IfErr, OnOk, OnErr, is_some, map, reverse, if◌then◌else◌}
-use Rattle.std.proofs.lemmas.List.{map-append, reverse-append}
+use Rattle.std.specs.Prelude.{Option, Some, None, Result, Ok, Err, IfOk, IfErr, OnOk, OnErr, is_some, map, if◌then◌else◌}
+use Rattle.std.proofs.lemmas.List.{map-append}
 use Rattle.mj_base.specs.declared.ids.EndId.{EndId}
 use Rattle.mj_base.specs.declared.ids.SeqId.{SeqId}
 use Rattle.mj_base.specs.declared.limits.TheConstants.{MAX_EVENTS}
@@ -9,9 +9,10 @@ use Rattle.mj_schema.specs.declared.schema.Schema.{Schema}
 use Rattle.handle_table.specs.declared.thing.Thing.{Thing}
 use Rattle.wire_encoder.specs.declared.prepared.Prepared.{Prepared}
 use Rattle.bind_model.specs.declared.event.Event.{Event}
-use Rattle.bind_model.specs.Replies.{Legal, legal}
+use Rattle.bind_model.specs.Replies.{Legal}
 use Rattle.bind_model.specs.Wire.{Wire}
 use Rattle.bind_model.specs.WireOf.{wire_of}
+use Rattle.bind_model.specs.Pendings.{Half}
 use Rattle.bind_model.specs.Plain.{HandsBack, HandsResponders, IsSpentAt, asked_of, command_of, told_of}
 use Rattle.bind_core.specs.Play.{Play, told_at}
 use Rattle.bind_model.specs.Seen.{Saw, Waited, told_behind}
@@ -39,19 +40,20 @@ pub some_where : (b : Bool) → is_some (if b then Some plain else None) ≡ b
 some_where true = refl
 some_where false = refl
 
-pub job_for_call : (wire : Wire) (end : EndId) (id : ℕ) (prepared : Prepared) (handles : List Thing) (job : Option Plain)
-    → job ≡ job_of wire (asked_of (Call end id prepared handles)) → is_some job ≡ wire.responds prepared.target.interface prepared.target.method
-job_for_call wire end id prepared handles job is =
+pub job_for_call : (wire : Wire) (end : EndId) (id : ℕ) (prepared : Prepared) (handles : List Thing) (pendings : List Half) (job : Option Plain)
+    → job ≡ job_of wire (asked_of (Call end id prepared handles pendings)) → is_some job ≡ wire.responds prepared.target.interface prepared.target.method
+job_for_call wire end id prepared handles pendings job is =
     ap (λ (o : Option Plain). is_some o) is ∙ some_where (wire.responds prepared.target.interface prepared.target.method)
 
-pub is_other : (command : Command) → ((end : EndId) (id : ℕ) (prepared : Prepared) (handles : List Thing) → command ≡ Call end id prepared handles → ⊥)
+pub is_other : (command : Command)
+    → ((end : EndId) (id : ℕ) (prepared : Prepared) (handles : List Thing) (pendings : List Half) → command ≡ Call end id prepared handles pendings → ⊥)
     → ((end : EndId) → command ≡ Take end → ⊥) → IsOther command
-is_other (Call end id prepared handles) no_call no_take = no_call end id prepared handles refl
+is_other (Call end id prepared handles pendings) no_call no_take = no_call end id prepared handles pendings refl
 is_other (Take end) no_call no_take = no_take end refl
 is_other command no_call no_take = tt
 
 no_job : (wire : Wire) (command : Command) → IsOther command → job_of wire (asked_of command) ≡ None
-no_job wire (Call end id prepared handles) other = absurd other
+no_job wire (Call end id prepared handles pendings) other = absurd other
 no_job wire (Take end) other = absurd other
 no_job wire command other = refl
 
@@ -59,13 +61,15 @@ no_job wire command other = refl
 
 module _ (before after : Play) (old new : Kept Plain) (schema : after.schema ≡ before.schema) (seqs : after.seqs ≡ before.seqs) where
   -- a call; one that is refused changes nothing of what is kept
-  sent : (end : EndId) (id : ℕ) (prepared : Prepared) (handles : List Thing) (job : Option Plain) (result : Result Sent (CallRefused Plain))
-      → IfOk result (λ s. Saw before.schema before.seqs sole before.events after.events (Call end id prepared handles) (replies.Sent s.request s.bytes))
-      → IfOk result (λ s. Follows AnswersZero old (step_of (Call end id prepared handles) (replies.Sent s.request s.bytes) job) new)
-      → IfErr result (λ refused. NotSent before.schema before.seqs sole before.events after.events (Call end id prepared handles) job refused)
+  sent : (end : EndId) (id : ℕ) (prepared : Prepared) (handles : List Thing) (pendings : List Half) (job : Option Plain)
+      (result : Result Sent (CallRefused Plain))
+      → IfOk result (λ s. Saw before.schema before.seqs true sole before.events after.events
+      (Call end id prepared handles pendings) (replies.Sent s.request s.bytes))
+      → IfOk result (λ s. Follows AnswersZero old (step_of (Call end id prepared handles pendings) (replies.Sent s.request s.bytes) job) new)
+      → IfErr result (λ refused. NotSent before.schema before.seqs true sole before.events after.events (Call end id prepared handles pendings) job refused)
       → OnErr result (new ≡ old)
-      → Served before after (Call end id prepared handles) job old new (answered_as result)
-  sent end id prepared handles job (Ok s) saw follows unsent same = record {
+      → Served before after (Call end id prepared handles pendings) job old new (answered_as result)
+  sent end id prepared handles pendings job (Ok s) saw follows unsent same = record {
     schema = schema;
     seqs = seqs;
     event = saw;
@@ -73,16 +77,16 @@ module _ (before after : Play) (old new : Kept Plain) (schema : after.schema ≡
     refused = tt;
     unmoved = tt;
   }
-  sent end id prepared handles job (Err (No why back given)) saw follows unsent same = record {
+  sent end id prepared handles pendings job (Err (No why back given)) saw follows unsent same = record {
     schema = schema;
     seqs = seqs;
     event = unsent.0;
-    kept = subst (Follows AnswersZero old (step_of (Call end id prepared handles) (replies.No why back) job)) (sym same)
-        (follows_same AnswersZero (step_of (Call end id prepared handles) (replies.No why back) job) old refl (λ key. refl) (λ key. refl));
+    kept = subst (Follows AnswersZero old (step_of (Call end id prepared handles pendings) (replies.No why back) job)) (sym same)
+        (follows_same AnswersZero (step_of (Call end id prepared handles pendings) (replies.No why back) job) old refl (λ key. refl) (λ key. refl));
     refused = tt;
     unmoved = tt;
   }
-  sent end id prepared handles job (Err (Memory back given)) saw follows unsent same = record {
+  sent end id prepared handles pendings job (Err (Memory back given)) saw follows unsent same = record {
     schema = schema;
     seqs = seqs;
     event = tt;
@@ -90,7 +94,7 @@ module _ (before after : Play) (old new : Kept Plain) (schema : after.schema ≡
     refused = (unsent.0, unsent.1, tt);
     unmoved = same;
   }
-  sent end id prepared handles job (Err (Spent back given)) saw follows unsent same = record {
+  sent end id prepared handles pendings job (Err (Spent back given)) saw follows unsent same = record {
     schema = schema;
     seqs = seqs;
     event = tt;
@@ -99,16 +103,17 @@ module _ (before after : Play) (old new : Kept Plain) (schema : after.schema ≡
     unmoved = same;
   }
 
-  pub call_served : (command : Command) (end : EndId) (id : ℕ) (prepared : Prepared) (handles : List Thing) (job : Option Plain)
-      (result : Result Sent (CallRefused Plain)) → command ≡ Call end id prepared handles
-      → IfOk result (λ s. Saw before.schema before.seqs sole before.events after.events (Call end id prepared handles) (replies.Sent s.request s.bytes))
-      → IfOk result (λ s. Follows AnswersZero old (step_of (Call end id prepared handles) (replies.Sent s.request s.bytes) job) new)
-      → IfErr result (λ refused. NotSent before.schema before.seqs sole before.events after.events (Call end id prepared handles) job refused)
+  pub call_served : (command : Command) (end : EndId) (id : ℕ) (prepared : Prepared) (handles : List Thing) (pendings : List Half) (job : Option Plain)
+      (result : Result Sent (CallRefused Plain)) → command ≡ Call end id prepared handles pendings
+      → IfOk result (λ s. Saw before.schema before.seqs true sole before.events after.events
+      (Call end id prepared handles pendings) (replies.Sent s.request s.bytes))
+      → IfOk result (λ s. Follows AnswersZero old (step_of (Call end id prepared handles pendings) (replies.Sent s.request s.bytes) job) new)
+      → IfErr result (λ refused. NotSent before.schema before.seqs true sole before.events after.events (Call end id prepared handles pendings) job refused)
       → OnErr result (new ≡ old)
       → Served before after command job old new (answered_as result)
-  call_served command end id prepared handles job result is saw follows unsent same =
+  call_served command end id prepared handles pendings job result is saw follows unsent same =
       subst (λ (c : Command). Served before after c job old new (answered_as result)) (sym is)
-      (sent end id prepared handles job result saw follows unsent same)
+      (sent end id prepared handles pendings job result saw follows unsent same)
 
   spent_only : (n : ℕ) (refused : Refused) → IsSpentAt n refused → IsSpentOnly n refused
   spent_only n (refusals.Memory command) spent = tt
@@ -116,9 +121,9 @@ module _ (before after : Play) (old new : Kept Plain) (schema : after.schema ≡
 
   -- a command that no callback comes with
   served : (command : Command) (result : Result Reply Refused)
-      → IfOk result (λ reply. Saw before.schema before.seqs sole before.events after.events command reply)
+      → IfOk result (λ reply. Saw before.schema before.seqs true sole before.events after.events command reply)
       → IfOk result (λ reply. Follows AnswersZero old (step_of command reply None) new)
-      → IfErr result (λ refused. Waited before.schema before.seqs sole before.events after.events command refused)
+      → IfErr result (λ refused. Waited before.schema before.seqs true sole before.events after.events command refused)
       → OnErr result (new ≡ old)
       → Served before after command None old new result
   served command (Ok reply) saw follows waited same = record {
@@ -139,9 +144,9 @@ module _ (before after : Play) (old new : Kept Plain) (schema : after.schema ≡
   }
 
   without : (command : Command) (job : Option Plain) (result : Result Reply Refused) → job ≡ None
-      → IfOk result (λ reply. Saw before.schema before.seqs sole before.events after.events command reply)
+      → IfOk result (λ reply. Saw before.schema before.seqs true sole before.events after.events command reply)
       → IfOk result (λ reply. Follows AnswersZero old (step_of command reply None) new)
-      → IfErr result (λ refused. Waited before.schema before.seqs sole before.events after.events command refused)
+      → IfErr result (λ refused. Waited before.schema before.seqs true sole before.events after.events command refused)
       → OnErr result (new ≡ old)
       → Served before after command job old new result
   without command job result none saw follows waited same =
@@ -149,9 +154,9 @@ module _ (before after : Play) (old new : Kept Plain) (schema : after.schema ≡
 
   pub take_served : (command : Command) (end : EndId) (job : Option Plain) (result : Result Reply Refused) → command ≡ Take end
       → job ≡ job_of (wire_of before.schema) (asked_of command)
-      → IfOk result (λ reply. Saw before.schema before.seqs sole before.events after.events (Take end) reply)
+      → IfOk result (λ reply. Saw before.schema before.seqs true sole before.events after.events (Take end) reply)
       → IfOk result (λ reply. Follows AnswersZero old (step_of (Take end) reply None) new)
-      → IfErr result (λ refused. Waited before.schema before.seqs sole before.events after.events (Take end) refused)
+      → IfErr result (λ refused. Waited before.schema before.seqs true sole before.events after.events (Take end) refused)
       → OnErr result (new ≡ old)
       → Served before after command job old new result
   take_served command end job result is given saw follows waited same =
@@ -160,9 +165,9 @@ module _ (before after : Play) (old new : Kept Plain) (schema : after.schema ≡
 
   pub other_served : (command : Command) (job : Option Plain) (result : Result Reply Refused) → IsOther command
       → job ≡ job_of (wire_of before.schema) (asked_of command)
-      → IfOk result (λ reply. Saw before.schema before.seqs sole before.events after.events command reply)
+      → IfOk result (λ reply. Saw before.schema before.seqs true sole before.events after.events command reply)
       → IfOk result (λ reply. Follows AnswersZero old (step_of command reply None) new)
-      → IfErr result (λ refused. Waited before.schema before.seqs sole before.events after.events command refused)
+      → IfErr result (λ refused. Waited before.schema before.seqs true sole before.events after.events command refused)
       → OnErr result (new ≡ old)
       → Served before after command job old new result
   other_served command job result other given saw follows waited same =
@@ -175,16 +180,13 @@ abbrev event_by : Play → Command → Event
 event_by before command = record { seq = sole; asked = asked_of command; told = told_behind before.schema before.seqs sole before.events command }
 
 module _ (before after : Play) (of : Schema) (old : Kept Plain) (seated : IsSeated before of old) (command : Command) (reply : Reply)
-    (saw : Saw before.schema before.seqs sole before.events after.events command reply) where
+    (saw : Saw before.schema before.seqs true sole before.events after.events command reply) where
   new_legal : Legal (wire_of before.schema) before.seqs after.events
   new_legal = saw.legal seated.legal
 
   -- nothing stood between
   same_before : saw.before ≡ before.events
-  same_before =
-      let past = ap reverse saw.event ∙ reverse-append saw.before _ in
-      let was = (subst (λ (p : List Event). legal (wire_of before.schema) before.seqs p) past new_legal).2 in
-      continues_same (wire_of before.schema) before.seqs before.events saw.before seated.seqs was saw.others
+  same_before = continues_same before.events saw.before saw.others
 
   event_is : after.events ≡ before.events ++ event_by before command ∷ []
   event_is =
@@ -226,8 +228,7 @@ module _ (before after : Play) (of : Schema) (old : Kept Plain) (seated : IsSeat
 module _ (before after : Play) (of : Schema) (old : Kept Plain) (seated : IsSeated before of old) (command : Command) (refused : Refused)
     (idle : NotServed before after command refused) (schema : after.schema ≡ before.schema) (seqs : after.seqs ≡ before.seqs) where
   same_events : after.events ≡ before.events
-  same_events =
-      continues_same (wire_of before.schema) before.seqs before.events after.events seated.seqs (idle.0.1 seated.legal) idle.0.0
+  same_events = continues_same before.events after.events idle.0.0
 
   same_core : after ≡ before
   same_core = λ i. record { schema = schema i; seqs = seqs i; events = same_events i }

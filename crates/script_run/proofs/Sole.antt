@@ -1,5 +1,5 @@
--- All events of a legal history of one sequence are its own: others do nothing, and nothing stands between.
-use Rattle.std.proofs.Common.{◌≡◌, ◌<◌, ℕ, Bool, List, [], ◌∷◌, ◌++◌, length, refl, sym, ap, ◌∙◌, subst, arith}
+-- All events of a legal history of one sequence are its own, and nothing stands between.
+use Rattle.std.proofs.Common.{◌≡◌, ◌<◌, ℕ, Bool, true, List, [], ◌∷◌, ◌++◌, length, refl, sym, ap, ◌∙◌, subst, arith}
 use Rattle.std.specs.Prelude.{Result, Ok, Err, IfOk, OnOk, cond, reverse}
 use Rattle.std.specs.List.{AllByRecursion}
 use Rattle.std.proofs.lemmas.Bool.{eq-eqb}
@@ -11,7 +11,7 @@ use Rattle.bind_model.specs.declared.event.Event.{Event}
 use Rattle.bind_model.specs.Replies.{Legal, legal}
 use Rattle.bind_model.specs.Wire.{Wire}
 use Rattle.bind_model.specs.WireOf.{wire_of}
-use Rattle.bind_model.specs.Plain.{HandsBack, HandsResponders, asked_of, told_of}
+use Rattle.bind_model.specs.Plain.{HandsBack, HandsPendings, HandsResponders, asked_of, told_of}
 use Rattle.bind_model.specs.Seen.{Continues, KeepsLegal, Saw, own_of, told_behind}
 use Rattle.bind_model.specs.declared.commands.Command.{Command}
 use Rattle.bind_model.specs.declared.commands.Refused.{Refused}
@@ -47,10 +47,6 @@ turned : (xs : List Event) → AllByRecursion IsSoles xs → AllByRecursion IsSo
 turned [] a = tt
 turned (x ∷ xs) a = subst (AllByRecursion IsSoles) (sym (reverse-append (x ∷ []) xs)) (both (reverse xs) (x ∷ []) (turned xs a.1) (a.0, tt))
 
-behind : (xs ys : List Event) → AllByRecursion IsSoles (xs ++ ys) → AllByRecursion IsSoles ys
-behind [] ys a = a
-behind (x ∷ xs) ys a = behind xs ys a.1
-
 pub all_soles : (wire : Wire) (seqs : ℕ) (history : List Event) → seqs ≡ SEQUENCES → Legal wire seqs history → AllByRecursion IsSoles history
 all_soles wire seqs history one h =
     subst (AllByRecursion IsSoles) (reverse-reverse history) (turned (reverse history) (newest_first wire seqs (reverse history) one h))
@@ -61,12 +57,9 @@ own_all (event ∷ events) a =
     ap (λ (b : Bool). cond b (event ∷ own_of sole events) (own_of sole events)) (eq-eqb event.seq.0 0 a.0)
     ∙ ap (λ (es : List Event). event ∷ es) (own_all events a.1)
 
--- what continues it without an event of its own is the same
-pub continues_same : (wire : Wire) (seqs : ℕ) (seen now : List Event) → seqs ≡ SEQUENCES → Legal wire seqs now → Continues sole seen now → now ≡ seen
-continues_same wire seqs seen now one h more =
-    let soles = behind seen more.between (subst (AllByRecursion IsSoles) more.all (all_soles wire seqs now one h)) in
-    let none : more.between ≡ [] = sym (own_all more.between soles) ∙ more.none_own in
-    more.all ∙ ap (λ (es : List Event). seen ++ es) none ∙ append-nil seen
+-- what continues it without an event of its own is the same: nobody else steps it
+pub continues_same : (seen now : List Event) → Continues true sole seen now → now ≡ seen
+continues_same seen now more = more.all ∙ ap (λ (es : List Event). seen ++ es) (more.none refl) ∙ append-nil seen
 
 -- ---- the steps of a core that its only sequence steps
 
@@ -79,16 +72,18 @@ module _ (schema : Schema) (seqs : ℕ) (old new : List Event) (command : Comman
 
   pub saw_alone : (result : Result Reply Refused) → 0 < seqs → IfOk result (λ reply. new ≡ old ++ its_event ∷ [])
       → IfOk result (λ reply. told_of reply ≡ told_behind schema seqs sole old command) → IfOk result (λ reply. HandsBack command reply)
-      → IfOk result (λ reply. HandsResponders (wire_of schema) command reply) → OnOk result (length old < MAX_EVENTS)
-      → IfOk result (λ reply. Saw schema seqs sole old new command reply)
-  saw_alone (Ok reply) within event told back responders room = record {
+      → IfOk result (λ reply. HandsResponders (wire_of schema) command reply)
+      → IfOk result (λ reply. HandsPendings (wire_of schema) (reverse new) command reply) → OnOk result (length old < MAX_EVENTS)
+      → IfOk result (λ reply. Saw schema seqs true sole old new command reply)
+  saw_alone (Ok reply) within event told back responders pendings room = record {
     before = old;
-    others = record { between = []; none_own = refl; all = sym (append-nil old) };
+    others = record { between = []; none_own = refl; none = λ e. refl; all = sym (append-nil old) };
     event = event;
     room = room;
     legal = still_legal within event;
     told = told;
     back = back;
     responders = responders;
+    pendings = pendings;
   }
-  saw_alone (Err refused) within event told back responders room = tt
+  saw_alone (Err refused) within event told back responders pendings room = tt

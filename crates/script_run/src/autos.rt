@@ -40,6 +40,9 @@ pub fn due_after<'s>(autos: &'s [AutoReply], seq: SeqId, reply: &Reply) -> Optio
         },
         Reply::Made(_)
         | Reply::Bound(_)
+        | Reply::Associated(_)
+        | Reply::Attached(_)
+        | Reply::Wrote(_)
         | Reply::Sent(_, _)
         | Reply::Dropped(_, _)
         | Reply::Control(_)

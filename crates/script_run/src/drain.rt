@@ -13,10 +13,10 @@ ghost use Rattle.script_run.specs.steps.Responders.{EndsWith};
 
 use crate::autos::due_after;
 use crate::lines::copy;
-use crate::replies::{Comes, comes_with};
+use crate::replies::{Comes, Spare, comes_with};
 use crate::run::Run;
 use crate::runner::NoMemory;
-use bind_model::{Command, Reply};
+use bind_model::{Command, PendingList, Reply};
 use call_script::{AutoReply, SEQUENCES, Script};
 use handle_table::Handles;
 use mj_base::limits::{MAX_EVENTS, MAX_SCRIPT_LINES};
@@ -28,6 +28,7 @@ impl Run {
     fn keep(&mut self, reply: Reply) -> Result<(), NoMemory>
         requires kept { vec_len self.old.kept < vec_capacity self.old.kept }
         requires refused { vec_len self.old.refused < vec_capacity self.old.refused }
+        requires spare { vec_len self.old.held.spare < vec_capacity self.old.held.spare }
         requires responders { vec_len self.old.responders.others < vec_capacity self.old.responders.others }
         ensures core { self.new.core ≡ self.old.core }
         ensures slots { OnOk result (self.new.held.slots.items ≡ self.old.held.slots.items) }
@@ -35,8 +36,9 @@ impl Run {
         ensures last { (r : responder_id) → responder_with (comes_with reply) ≡ Some r → EndsWith r self.new.responders.others.items }
     {
         match comes_with(reply) {
-            Comes::New(handles, responder) => {
+            Comes::New(handles, responder, pendings) => {
                 self.responders.hold(None, responder);
+                self.held.keep_new(pendings);
                 match self.held.give_new(&[], handles) {
                     Ok(()) => Ok(()),
                     Err(handles) => {
@@ -47,6 +49,10 @@ impl Run {
             }
             Comes::Back(command) => {
                 self.refused.push_reserved(command);
+                Ok(())
+            }
+            Comes::Unasked(reply) => {
+                self.held.keep(Spare::Reply(reply));
                 Ok(())
             }
             Comes::Nothing => Ok(()),
@@ -68,7 +74,9 @@ impl Run {
         let Some(responder) = self.responders.others.pop() else {
             unreachable!()
         };
-        let command = Command::Answer(responder, prepared, Handles::from_vec(Vec::new(alloc)));
+        let handles = Handles::from_vec(Vec::new(alloc));
+        let pendings = PendingList::new(alloc);
+        let command = Command::Answer(responder, prepared, handles, pendings);
         let told = self.step(alloc, reply.seq, command)?;
         self.keep(told)
     }

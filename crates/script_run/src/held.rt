@@ -1,6 +1,7 @@
 //! All handles of a run: those that are held under names, and the others.
 
 ghost use Rattle.std.specs.Prelude.{◌≡◌, ◌+◌, ◌<◌, ◌≤◌, length, IfOk, OnOk, replicate, vec_len, vec_capacity};
+ghost use Rattle.bind_model.specs.declared.commands.Command.TheVariants.{Close};
 ghost use Rattle.call_script.specs.Sound.{sets};
 ghost use Rattle.script_run.specs.OfScript.{as_end};
 ghost use Rattle.script_run.specs.steps.Lines.{needed, things_in};
@@ -8,8 +9,9 @@ ghost use Rattle.script_run.specs.steps.Responders.{responder_in};
 ghost use Rattle.script_run.specs.steps.Slots.{IsSound, empty, thing_at, held_at, without_held, with_held, given, given_one, taken_from, left_where};
 
 use crate::lines::first_needed;
+use crate::replies::{Spare, retire_all};
 use crate::runner::NoMemory;
-use bind_model::{Command, Responder, ToClose};
+use bind_model::{Command, PendingList, Responder, ToClose};
 use call_script::{Command as Asked, NameId};
 use handle_table::{Ended, Handle, Handles, Thing};
 use mj_base::EndId;
@@ -59,10 +61,11 @@ impl Slot {
     }
 }
 
-/// The handles that are held under names, by the numbers of the names, and the others.
+/// The handles that are held under names, by the numbers of the names, the others, and what has no names.
 pub struct Held {
     pub slots: Vec<Slot>,
     pub others: Vec<Handle>,
+    pub spare: Vec<Spare>,
 }
 
 impl Held {
@@ -79,6 +82,7 @@ impl Held {
         Ok(Held {
             slots,
             others: Vec::new(alloc),
+            spare: Vec::new(alloc),
         })
     }
 
@@ -104,14 +108,51 @@ impl Held {
         self.slots[name.0].take()
     }
 
-    /// Makes room for so many handles more.
+    /// Makes room for so many handles more, and for something that has no name.
     pub fn make_room(&mut self, count: usize) -> Result<(), NoMemory>
         ensures same { self.new.slots ≡ self.old.slots }
         ensures room { OnOk result (count + vec_len self.new.others ≤ vec_capacity self.new.others) }
+        ensures spare { OnOk result (vec_len self.new.spare < vec_capacity self.new.spare) }
     {
+        if self.spare.reserve(1).is_err() {
+            return Err(NoMemory);
+        }
         match self.others.reserve(count) {
             Ok(()) => Ok(()),
             Err(_) => Err(NoMemory),
+        }
+    }
+
+    /// Keeps what has no name.
+    pub fn keep(&mut self, spare: Spare)
+        requires { vec_len self.old.spare < vec_capacity self.old.spare }
+        ensures slots { self.new.slots ≡ self.old.slots }
+        ensures others { self.new.others ≡ self.old.others }
+    {
+        self.spare.push_reserved(spare);
+    }
+
+    /// Keeps pendings, if there are some.
+    fn keep_pendings(&mut self, pendings: PendingList)
+        requires { vec_len self.old.spare < vec_capacity self.old.spare }
+        ensures slots { self.new.slots ≡ self.old.slots }
+        ensures others { self.new.others ≡ self.old.others }
+    {
+        let mut front = pendings.into_vec();
+        match front.pop() {
+            Some(last) => self.keep(Spare::Pendings(PendingList::from_vec(front), last)),
+            None => front.destroy_empty(),
+        }
+    }
+
+    /// Keeps the pendings that came with a reply which can have some.
+    pub fn keep_new(&mut self, pendings: Option<PendingList>)
+        requires { vec_len self.old.spare < vec_capacity self.old.spare }
+        ensures slots { self.new.slots ≡ self.old.slots }
+        ensures others { self.new.others ≡ self.old.others }
+    {
+        if let Some(pendings) = pendings {
+            self.keep_pendings(pendings);
         }
     }
 
@@ -207,10 +248,34 @@ impl Held {
         }
     }
 
-    /// Holds the handles of a command that came back under the names that its line took them from. Its
-    /// responder, if it has one, is the result.
+    /// Holds the handle that was to be closed under the name that its line took it from, and keeps a
+    /// pending. The responder that was is the result.
+    fn give_closed(&mut self, line: &Asked, closed: ToClose) -> Option<Responder>
+        requires room { length (things_in (Close closed)) + vec_len self.old.others ≤ vec_capacity self.old.others }
+        requires spare { vec_len self.old.spare < vec_capacity self.old.spare }
+        ensures slots { self.new.slots.items ≡ given (needed line.now) (things_in (Close closed)) self.old.slots.items }
+        ensures responder { result ≡ responder_in (Close closed) }
+    {
+        match closed {
+            ToClose::Handle(handle) => {
+                self.give_one(first_needed(line), handle);
+                None
+            }
+            ToClose::Pending(pending) => {
+                let back = Command::Close(ToClose::Pending(pending));
+                self.keep(Spare::Command(back));
+                None
+            }
+            ToClose::Responder(responder) => Some(responder),
+            ToClose::Endpoint(_, _) => None,
+        }
+    }
+
+    /// Holds the handles of a command that came back under the names that its line took them from, and
+    /// keeps what has no name. Its responder, if it has one, is the result.
     pub fn give_back(&mut self, line: &Asked, back: Command) -> Option<Responder>
-        requires { length (things_in back) + vec_len self.old.others ≤ vec_capacity self.old.others }
+        requires room { length (things_in back) + vec_len self.old.others ≤ vec_capacity self.old.others }
+        requires spare { vec_len self.old.spare < vec_capacity self.old.spare }
         ensures slots { self.new.slots.items ≡ given (needed line.now) (things_in back) self.old.slots.items }
         ensures responder { result ≡ responder_in back }
     {
@@ -219,25 +284,29 @@ impl Held {
                 self.give_one(first_needed(line), handle);
                 None
             }
-            Command::Call(_, _, _, handles) => {
+            Command::Call(_, _, _, handles, pendings) => {
+                self.keep_pendings(pendings);
                 self.give_needed(line, handles);
                 None
             }
-            Command::Answer(responder, _, handles) => {
+            Command::Answer(responder, _, handles, pendings) => {
+                self.keep_pendings(pendings);
                 self.give_needed(line, handles);
                 Some(responder)
             }
-            Command::Close(closed) => match closed {
-                ToClose::Handle(handle) => {
-                    self.give_one(first_needed(line), handle);
-                    None
-                }
-                ToClose::Responder(responder) => Some(responder),
-                ToClose::Endpoint(_, _) => None,
-            },
+            Command::Close(closed) => self.give_closed(line, closed),
+            Command::Attach(pending, seq) => {
+                self.keep(Spare::Command(Command::Attach(pending, seq)));
+                None
+            }
+            Command::Raw(handle, bytes, handles) => {
+                self.keep(Spare::Command(Command::Raw(handle, bytes, handles)));
+                None
+            }
             Command::Pipe
             | Command::Join(_)
             | Command::Mint(_)
+            | Command::Associate(_, _, _)
             | Command::Take(_)
             | Command::Skip(_) => None,
         }
@@ -268,11 +337,16 @@ impl Held {
 
     /// Lets all go, once all is over.
     pub fn retire(self, over: &Ended) {
-        let Held { mut slots, others } = self;
+        let Held {
+            mut slots,
+            others,
+            spare,
+        } = self;
         while let Some(slot) = slots.pop() {
             slot.retire(over);
         }
         slots.destroy_empty();
         Handles::from_vec(others).retire(over);
+        retire_all(spare, over);
     }
 }

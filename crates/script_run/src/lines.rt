@@ -16,7 +16,7 @@ use crate::held::Held;
 use crate::responders::Responders;
 use crate::runner::NoMemory;
 use bind_core::copy_value;
-use bind_model::{Command, ToClose};
+use bind_model::{Command, PendingList, ToClose};
 use call_script::{Command as Asked, Line, NameId};
 use mj_base::EndId;
 use std::alloc::{AllocError, Global};
@@ -94,7 +94,10 @@ fn call(
         return Err(NoMemory);
     };
     match held.take_all(alloc, names)? {
-        Some(handles) => Ok(Command::Call(end, id, prepared, handles)),
+        Some(handles) => {
+            let pendings = PendingList::new(alloc);
+            Ok(Command::Call(end, id, prepared, handles, pendings))
+        }
         None => Ok(Command::Skip(number)),
     }
 }
@@ -141,7 +144,10 @@ fn answer(
         return Ok(Command::Skip(number));
     };
     match responders.take(name) {
-        Some(responder) => Ok(Command::Answer(responder, prepared, handles)),
+        Some(responder) => {
+            let pendings = PendingList::new(alloc);
+            Ok(Command::Answer(responder, prepared, handles, pendings))
+        }
         // One is held there.
         None => {
             held.give(names, handles);

@@ -1,6 +1,6 @@
 //! The core of a run, and the desk of its only sequence.
 
-ghost use Rattle.std.specs.Prelude.{◌≡◌, ◌<◌, ◌++◌, [], ◌∷◌, length, map, reverse, IfOk, IfErr, OnOk};
+ghost use Rattle.std.specs.Prelude.{◌≡◌, ◌<◌, ◌++◌, [], ◌∷◌, true, length, map, reverse, IfOk, IfErr, OnOk};
 ghost use Rattle.std.specs.Arc.{arc_value};
 ghost use Rattle.bind_model.specs.Ready.{ready};
 ghost use Rattle.bind_model.specs.WireOf.{wire_of};
@@ -46,6 +46,8 @@ impl Stepper for Seat {
 
     ghost seqs = { λ seat. seat.core.seqs };
 
+    ghost alone = { λ seat. true };
+
     ghost me = { λ seat. sole };
 
     ghost seen = { λ seat. seat.core.events };
@@ -65,7 +67,7 @@ fn job_for(schema: &Schema, command: &Command) -> Option<Plain>
     ensures { result ≡ job_of (wire_of schema.now) (asked_of command.now) }
 {
     match command {
-        Command::Call(_, _, prepared, _) => {
+        Command::Call(_, _, prepared, _, _) => {
             let target = prepared.target;
             let _response = schema.method(target.interface, target.method)?.response?;
             Some(Plain)
@@ -99,8 +101,8 @@ fn serve(
     ensures { Served desk.old.stepper.core desk.new.stepper.core command job (kept_of desk.old.jobs) (kept_of desk.new.jobs) result }
 {
     match command {
-        Command::Call(end, id, prepared, handles) => {
-            answered_as(desk.call(alloc, end, id, prepared, handles, job))
+        Command::Call(end, id, prepared, handles, pendings) => {
+            answered_as(desk.call(alloc, end, id, prepared, handles, pendings, job))
         }
         Command::Take(end) => desk.take(alloc, end),
         other => desk.step(alloc, other),

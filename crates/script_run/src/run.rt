@@ -13,14 +13,14 @@ ghost use Rattle.script_run.specs.steps.Slots.{IsSound, given};
 ghost use Rattle.script_run.specs.steps.Lines.{things_in};
 ghost use Rattle.script_run.specs.steps.Responders.{EndsWith};
 ghost use Rattle.script_run.specs.steps.Replies.{comes_with, count_back, settled, responder_with, responders_settled};
-ghost use Rattle.script_run.specs.steps.Going.{past_in, IsGoing, told_next, Went, IsUnnamed, DidLine};
+ghost use Rattle.script_run.specs.steps.Going.{past_in, IsGoing, IsPlain, told_next, Went, IsUnnamed, DidLine};
 
 use crate::autos::due_after;
 use crate::callbacks::all_shown;
 use crate::held::Held;
 use crate::lines::{command_of, responder_needed};
 use crate::machine::Machine;
-use crate::replies::{Comes, comes_with, count_of};
+use crate::replies::{Comes, Spare, comes_with, count_of};
 use crate::responders::Responders;
 use crate::runner::NoMemory;
 use bind_model::{Command, History, Refused, Reply};
@@ -99,6 +99,7 @@ impl Run {
         requires going { IsGoing self.old.core }
         requires seq { seq.0 < SEQUENCES }
         requires prepared { IsOf self.old.core.schema command }
+        requires plain { IsPlain (asked_of command) }
         requires few { length self.old.core.events < MAX_EVENTS }
         requires refused { vec_len self.old.refused < vec_capacity self.old.refused }
         ensures went { OnOk result (Went self.old.core self.new.core seq (asked_of command)) }
@@ -106,6 +107,7 @@ impl Run {
         ensures back { IfOk result (λ reply. HandsBack command reply) }
         ensures handed { IfOk result (λ reply. HandsResponders (wire_of self.old.core.schema) command reply) }
         ensures room { OnOk result (length (things_in command) + vec_len self.new.held.others ≤ vec_capacity self.new.held.others) }
+        ensures spare { OnOk result (vec_len self.new.held.spare < vec_capacity self.new.held.spare) }
         ensures responders { OnOk result (vec_len self.new.responders.others < vec_capacity self.new.responders.others) }
         ensures refused { OnOk result (vec_len self.new.refused < vec_capacity self.new.refused) }
         ensures same { (self.new.held.slots ≡ self.old.held.slots) × (self.new.kept ≡ self.old.kept) }
@@ -150,10 +152,11 @@ impl Run {
     }
 
     /// Keeps what comes with a reply, under the names of its line; a responder that is to be answered by
-    /// itself has none.
+    /// itself has none, nor have pendings.
     fn settle(&mut self, line: &Asked, reply: Reply, is_due: bool) -> Result<(), NoMemory>
         requires kept { vec_len self.old.kept < vec_capacity self.old.kept }
         requires room { count_back (comes_with reply) + vec_len self.old.held.others ≤ vec_capacity self.old.held.others }
+        requires spare { vec_len self.old.held.spare < vec_capacity self.old.held.spare }
         requires responders { vec_len self.old.responders.others < vec_capacity self.old.responders.others }
         ensures slots { OnOk result (self.new.held.slots.items ≡ settled line.now (comes_with reply) self.old.held.slots.items) }
         ensures named { self.new.responders.named.items
@@ -162,18 +165,23 @@ impl Run {
         ensures core { self.new.core ≡ self.old.core }
     {
         match comes_with(reply) {
-            Comes::New(handles, responder) => {
+            Comes::New(handles, responder, pendings) => {
                 let name = if is_due {
                     None
                 } else {
                     name_behind(line, handles.as_slice().len())
                 };
                 self.responders.hold(name, responder);
+                self.held.keep_new(pendings);
                 self.name(line, handles)
             }
             Comes::Back(command) => {
                 let responder = self.held.give_back(line, command);
                 self.responders.hold(responder_needed(line), responder);
+                Ok(())
+            }
+            Comes::Unasked(reply) => {
+                self.held.keep(Spare::Reply(reply));
                 Ok(())
             }
             Comes::Nothing => Ok(()),

@@ -1,33 +1,60 @@
 -- What a call or an answer writes.
-use Rattle.std.specs.Prelude.{ℕ, ◌≡◌, ◌+◌, ◌==◌, List, [], false, length, if◌then◌else◌}
+use Rattle.std.specs.Prelude.{ℕ, ◌≡◌, ◌+◌, ◌==◌, ◌&&◌, not, List, false, length, if◌then◌else◌}
 use Rattle.mj_base.specs.declared.ids.EndId.{EndId}
-use Rattle.handle_table.specs.declared.thing.Thing.{Thing}
+use Rattle.handle_table.specs.Things.{same_end}
 use Rattle.wire_encoder.specs.declared.prepared.Prepared.{Prepared}
 use Rattle.wire_model.specs.Message.{message}
+use Rattle.wire_model.specs.Trees.{view}
 use Rattle.bind_model.specs.declared.event.Event.{Event}
 use Rattle.bind_model.specs.Replies.{drawn}
-use Rattle.bind_model.specs.Plain.{outgoing_of}
+use Rattle.bind_model.specs.declared.asked.Outgoing.{Outgoing}
+use Rattle.endpoint_router.specs.Changes.{with_request}
+use Rattle.endpoint_router.specs.Rows.{Contents, next_number, row_at}
+use Rattle.bind_core.specs.Routers.{Routers, router_at}
+use Rattle.bind_core.specs.steps.Turns.{CanSend, TurnsIf}
 use Rattle.bind_core.specs.declared.call.Request.{Request}
+use Rattle.bind_core.specs.declared.carried.CarriedNames.{CarriedNames}
 use Rattle.bind_core.specs.declared.writing.Writes.{Writes}
 use Rattle.bind_model.specs.declared.commands.Command.{Command}
 use Rattle.bind_model.specs.declared.commands.Command.TheVariants.{Call}
 
--- the command of a request with these handles
-abbrev pub command_with : Request → List Thing → Command
-command_with r handles = Call r.end r.id r.prepared handles
+-- the command that a request came with
+abbrev pub command_of : Request → Command
+command_of r = Call r.end r.id r.prepared r.carried.handles r.carried.pendings
 
 -- the request id of a call: one more than how many were sent there with a response, or 0 where none is expected
 abbrev pub request_id : List Event → EndId → ℕ → Prepared → ℕ
 request_id past y id prepared = if prepared.flags == 0 then 0 else length (drawn past y id) + 1
 
+-- as the router of the end has it
+abbrev pub number_of : Routers → EndId → ℕ → Prepared → ℕ
+number_of endpoints y id prepared = if prepared.flags == 0 then 0 else next_number (row_at (router_at endpoints y) id)
+
+-- a request of this number may be sent from the endpoint of an id
+abbrev pub MaySend : ℕ → Contents → ℕ → Type 0
+MaySend request c id = (request == 0) ≡ false → CanSend c id
+
+-- a request of this number and method was sent from the endpoint of an id; one of number 0 changes nothing
+abbrev pub SendsAt : EndId → ℕ → ℕ → ℕ → Routers → Routers → Type 0
+SendsAt x id request method old new = (y : EndId) → TurnsIf (with_request method) id (same_end x y && not (request == 0)) (router_at old y) (router_at new y)
+
 -- the bytes of a prepared message for the endpoint of an id
-abbrev pub sealed_bytes : ℕ → ℕ → Prepared → List ℕ
-sealed_bytes id request prepared =
-    message (record { interface = id; name = prepared.target.method; flags = prepared.flags; nonce = 0; request = request; ids = [] }) prepared.payload.items
+abbrev pub sealed_bytes : ℕ → ℕ → List ℕ → Prepared → List ℕ
+sealed_bytes id request ids prepared =
+    message (record { interface = id; name = prepared.target.method; flags = prepared.flags; nonce = 0; request = request; ids = ids }) prepared.payload.items
+
+-- what goes out with these names
+abbrev pub outgoing_named : Prepared → CarriedNames → Outgoing
+outgoing_named prepared names = record {
+  target = prepared.target;
+  parameters = view prepared.value;
+  handles = names.things;
+  pendings = names.pendings;
+}
 
 -- what goes out, the message, and the bytes twice more
-pub record AreOf (prepared : Prepared) (things : List Thing) (bytes : List ℕ) (writes : Writes) : Type 0 where
-  pub outgoing : writes.outgoing ≡ outgoing_of prepared things
-  pub message : writes.message ≡ record { bytes = bytes; handles = things; emitted = false }
+pub record AreOf (prepared : Prepared) (names : CarriedNames) (bytes : List ℕ) (writes : Writes) : Type 0 where
+  pub outgoing : writes.outgoing ≡ outgoing_named prepared names
+  pub message : writes.message ≡ record { bytes = bytes; handles = names.things; emitted = false }
   pub noted : writes.noted ≡ bytes
   pub told : writes.told ≡ bytes

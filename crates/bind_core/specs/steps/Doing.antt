@@ -5,7 +5,7 @@ use Rattle.mj_base.specs.declared.ids.SeqId.{SeqId}
 use Rattle.bind_model.specs.declared.asked.Asked.{Asked}
 use Rattle.bind_model.specs.declared.told.Told.{Told}
 use Rattle.bind_model.specs.Replies.{answer}
-use Rattle.bind_model.specs.Plain.{asked_of, told_of, HandsBack, HandsResponders, IsOf, command_of, IsSpentAt}
+use Rattle.bind_model.specs.Plain.{asked_of, told_of, HandsBack, HandsPendings, HandsResponders, IsOf, command_of, IsSpentAt}
 use Rattle.bind_model.specs.declared.commands.Command.{Command}
 use Rattle.bind_model.specs.declared.commands.Reply.{Reply}
 use Rattle.bind_model.specs.declared.commands.Refused.{Refused}
@@ -41,6 +41,7 @@ pub record Done (old new : State) (seq : SeqId) (command : Command) (reply : Rep
   pub told : told_of reply ≡ told_in old seq command
   pub back : HandsBack command reply
   pub responders : HandsResponders (wire_in old) command reply
+  pub pendings : HandsPendings (wire_in old) (past_of new) command reply
   pub few : length old.log.events < MAX_EVENTS
 
 -- no event

@@ -13,7 +13,7 @@ use Rattle.bind_model.specs.WireOf.{header_in}
 use Rattle.bind_model.specs.declared.endpoint.Endpoint.{Endpoint}
 use Rattle.bind_model.specs.declared.endpoint.State.{State as EndpointState}
 use Rattle.bind_model.specs.declared.endpoint.State.TheVariants as states
-use Rattle.bind_core.specs.Lines.{found_at}
+use Rattle.bind_core.specs.Routers.{found_at}
 use Rattle.bind_core.specs.declared.state.State.{State}
 
 -- the endpoint that a message of these bytes is for, where its header says one

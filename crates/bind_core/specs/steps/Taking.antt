@@ -2,21 +2,24 @@
 use Rattle.std.specs.Prelude.{ℕ, ◌≡◌, ◌≤◌, ◌&&◌, not, true, List, [], length, Option, Some, None, Result, Ok, Err, if◌then◌else◌, vec_capacity}
 use Rattle.mj_base.specs.declared.ids.EndId.{EndId}
 use Rattle.handle_table.specs.Places.{place_of, is_kept}
-use Rattle.handle_table.specs.Things.{has, is_distinct}
+use Rattle.handle_table.specs.Things.{has, is_distinct, same_end}
 use Rattle.handle_table.specs.declared.thing.Thing.{Thing}
 use Rattle.message_pipe.specs.Contents.{Contents}
 use Rattle.message_pipe.specs.Ends.{carried_in, end_of, is_closed, peer_of, spread, unread_at}
 use Rattle.message_pipe.specs.Mail.{front_of}
 use Rattle.message_pipe.specs.declared.message.Message.{Message}
+use Rattle.wire_model.specs.declared.target.MessageSide.{MessageSide}
 use Rattle.wire_model.specs.declared.target.Target.{Target}
-use Rattle.bind_model.specs.Replies.{is_response, same_responder}
+use Rattle.bind_model.specs.Replies.{is_response, pendings_at, same_responder}
 use Rattle.bind_model.specs.Wire.{Wire}
 use Rattle.bind_model.specs.declared.endpoint.Endpoint.{Endpoint}
 use Rattle.bind_model.specs.declared.endpoint.ResponderId.{ResponderId}
 use Rattle.bind_model.specs.declared.told.Why.{Why}
 use Rattle.bind_model.specs.declared.told.Why.TheVariants.{NoName, Disconnected, Empty, PeerClosed}
-use Rattle.bind_core.specs.Lines.{found_at}
-use Rattle.bind_core.specs.declared.endpoint_table.Line.{Line}
+use Rattle.endpoint_router.specs.Changes.{without_request}
+use Rattle.bind_core.specs.Routers.{Routers, found_at, router_at}
+use Rattle.bind_core.specs.steps.Founds.{pending_ids}
+use Rattle.bind_core.specs.steps.Turns.{TurnsIf}
 use Rattle.bind_core.specs.declared.reading.Arrived.{Arrived}
 use Rattle.bind_core.specs.declared.receive.Brings.{Brings}
 
@@ -36,7 +39,7 @@ front_bound pipes y None = Err NoName
 front_bound pipes y (Some main) = if is_closed (end_of pipes.ends y) then Err Disconnected else front_open pipes y (front_of (unread_at pipes.ends y))
 
 -- the oldest unread message at a bound end that is open, or why nothing is taken there
-abbrev pub front_found : Contents → List (List (List Line)) → EndId → Result Message Why
+abbrev pub front_found : Contents → Routers → EndId → Result Message Why
 front_found pipes endpoints y = front_bound pipes y (found_at endpoints y 0)
 
 -- the handles of these are kept, and none stands twice
@@ -55,6 +58,11 @@ abbrev pub times_in : Option ResponderId → ResponderId → ℕ
 times_in None r = 0
 times_in (Some q) r = if same_responder q r then 1 else 0
 
+-- what is got at the endpoint of an id ends the request of its number where it is a response
+abbrev pub AnswersAt : EndId → ℕ → ℕ → MessageSide → Routers → Routers → Type 0
+AnswersAt x id request side old new =
+    (y : EndId) → TurnsIf (without_request request) id (same_end x y && is_response side) (router_at old y) (router_at new y)
+
 -- all that a message at y brings was made
 pub record IsBrought (pipes : Contents) (y : EndId) (a : Arrived) (b : Brings) : Type 0 where
   pub noted : b.noted ≡ record {
@@ -63,10 +71,12 @@ pub record IsBrought (pipes : Contents) (y : EndId) (a : Arrived) (b : Brings) :
     parameters = a.parameters;
     request = a.request;
     handles = a.named;
-    pendings = [];
+    pendings = pendings_at y (pending_ids a.admitted.entries.items);
     gone = b.gone;
   }
   pub gone : b.gone ≡ spread (carried_in pipes.ends (Some y)) pipes.made a.left
   pub things : b.things ≡ a.named
   pub empty : b.room.items ≡ []
   pub room : length b.things ≤ vec_capacity b.room
+  pub none : b.pendings.items ≡ []
+  pub ample : length (pending_ids a.admitted.entries.items) ≤ vec_capacity b.pendings

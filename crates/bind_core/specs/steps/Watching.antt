@@ -10,15 +10,19 @@ use Rattle.bind_core.specs.EndSets.{has_end}
 use Rattle.bind_core.specs.Agreement.{past_of}
 use Rattle.bind_core.specs.steps.Takers.{taker_of}
 use Rattle.bind_model.specs.declared.commands.Command.{Command}
-use Rattle.bind_model.specs.declared.commands.Command.TheVariants.{Bind, Call, Answer, Take, Close}
+use Rattle.bind_model.specs.declared.commands.Command.TheVariants.{Associate, Attach, Bind, Call, Answer, Raw, Take, Close}
 use Rattle.bind_core.specs.declared.state.State.{State}
 
 -- the end that a command is about
 abbrev pub end_named : Command → Option EndId
 end_named (Bind (End x) side interface) = Some x
-end_named (Call x id prepared handles) = Some x
-end_named (Answer r prepared handles) = Some r.end
+end_named (Associate x side interface) = Some x
+end_named (Attach pending t) = Some pending.name.end
+end_named (Call x id prepared handles pendings) = Some x
+end_named (Answer r prepared handles pendings) = Some r.end
+end_named (Raw (End x) bytes handles) = Some x
 end_named (Take x) = Some x
+end_named (Close (close.Pending pending)) = Some pending.name.end
 end_named (Close (close.Endpoint x id)) = Some x
 end_named command = None
 

@@ -4,7 +4,7 @@ use Rattle.std.specs.FinMap.{get, insert, remove, retain_keys}
 use Rattle.mj_base.specs.declared.ids.EndId.{EndId}
 use Rattle.bind_model.specs.declared.commands.Command.{Command}
 use Rattle.bind_model.specs.declared.commands.Command.TheVariants.{Close}
-use Rattle.bind_model.specs.declared.commands.ToClose.TheVariants.{Endpoint}
+use Rattle.bind_model.specs.declared.commands.ToClose.TheVariants.{Endpoint, Pending}
 use Rattle.bind_model.specs.Replies.{is_response}
 use Rattle.bind_model.specs.declared.told.Told.{Told}
 use Rattle.bind_model.specs.declared.told.Told.TheVariants.{Taken, Control, Bad, Closed, No}
@@ -14,13 +14,20 @@ use Rattle.response_map.specs.declared.key.Key.{Key}
 use Rattle.remote_receiver.specs.declared.job.Answered.{Answered}
 use Rattle.remote_receiver.specs.declared.jobs.Waiting.{Waiting}
 use Rattle.remote_receiver.specs.declared.note.Note.{Note}
+use Rattle.remote_receiver.specs.declared.told.Ends.{Ends}
+use Rattle.remote_receiver.specs.declared.told.Ends.TheVariants.{All, One}
 use Rattle.remote_receiver.specs.Notes.{Kept, unrun}
 use Rattle.remote_receiver.specs.Stepped.{answered, key_of}
 
--- the endpoint that a command would close
-abbrev pub closed_endpoint : Command → Option (EndId × ℕ)
-closed_endpoint (Close (Endpoint end id)) = Some (end, id)
-closed_endpoint command = None
+-- what closing the endpoint of this id would end
+abbrev pub ends_with : EndId → ℕ → Ends
+ends_with end id = if id == 0 then All end else One end id
+
+-- what a command would end: the endpoint that it closes, or whose other half it does
+abbrev pub ended_by : Command → Option Ends
+ended_by (Close (Endpoint end id)) = Some (ends_with end id)
+ended_by (Close (Pending pending)) = Some (One pending.name.end pending.name.id)
+ended_by command = None
 
 module _ {C : Type 0} where
   -- the jobs under these requests are dropped, and no note changes
@@ -33,9 +40,14 @@ module _ {C : Type 0} where
   Keeps key (Some job) old new =
       (new.waiting ≡ insert old.waiting key (record { job = job; at = length old.notes })) × (new.notes ≡ old.notes ++ unrun key ∷ [])
 
-  abbrev pub AfterClose : Option (EndId × ℕ) → Told → Kept C → Kept C → Type 0
-  AfterClose (Some (end, id)) (Closed gone) old new = Dropped (λ key. if id == 0 then is_of_end end key else is_of_endpoint end id key) old new
-  AfterClose closed told old new = new ≡ old
+  -- the jobs of what ends are dropped
+  abbrev pub AfterEnds : Ends → Kept C → Kept C → Type 0
+  AfterEnds (All end) old new = Dropped (is_of_end end) old new
+  AfterEnds (One end id) old new = Dropped (is_of_endpoint end id) old new
+
+  abbrev pub AfterClose : Option Ends → Told → Kept C → Kept C → Type 0
+  AfterClose (Some ends) (Closed gone) old new = AfterEnds ends old new
+  AfterClose ends told old new = new ≡ old
 
   -- a take that shows the end of an endpoint, or of all of an end
   abbrev pub AfterEnd : EndId → Told → Kept C → Kept C → Type 0

@@ -48,11 +48,11 @@ needed (Answer responder prepared names) = names
 needed (CloseToken name) = name ∷ []
 needed command = []
 
--- what the handles that go with a command are of
+-- what the handles that go with a command of a line are of
 abbrev pub things_in : core.Command → List Thing
 things_in (commands.Bind handle side interface) = handle ∷ []
-things_in (commands.Call end id prepared handles) = handles
-things_in (commands.Answer responder prepared handles) = handles
+things_in (commands.Call end id prepared handles pendings) = handles
+things_in (commands.Answer responder prepared handles pendings) = handles
 things_in (commands.Close (close.Handle handle)) = handle ∷ []
 things_in command = []
 

@@ -33,7 +33,7 @@ EndsWith r rs = (front : List ResponderId) × (rs ≡ front ++ r ∷ [])
 
 -- the responder that goes with a command
 abbrev pub responder_in : core.Command → Option ResponderId
-responder_in (commands.Answer responder prepared handles) = Some responder
+responder_in (commands.Answer responder prepared handles pendings) = Some responder
 responder_in (commands.Close (close.Responder responder)) = Some responder
 responder_in command = None
 

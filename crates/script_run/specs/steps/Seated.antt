@@ -1,5 +1,5 @@
 -- A core at the desk of its only sequence, where each call with a response has a callback.
-use Rattle.std.specs.Prelude.{ℕ, ◌≡◌, ◌≤◌, List, map, length, Option, Some, None, Result, Ok, Err, IfOk, IfErr, OnErr, if◌then◌else◌}
+use Rattle.std.specs.Prelude.{ℕ, true, ◌≡◌, ◌≤◌, List, map, length, Option, Some, None, Result, Ok, Err, IfOk, IfErr, OnErr, if◌then◌else◌}
 use Rattle.mj_base.specs.declared.ids.SeqId.{SeqId}
 use Rattle.mj_base.specs.declared.limits.TheConstants.{MAX_EVENTS}
 use Rattle.mj_schema.specs.declared.schema.Schema.{Schema}
@@ -66,13 +66,13 @@ IsSpentOnly events (refusals.Spent command) = MAX_EVENTS ≤ events
 -- there is no event of the sequence, and the command comes back
 abbrev pub NotServed : Play → Play → Command → Refused → Type 0
 NotServed before after command refused =
-    Stays before.schema before.seqs sole before.events after.events × (command_of refused ≡ command) × IsSpentOnly (length after.events) refused
+    Stays before.schema before.seqs true sole before.events after.events × (command_of refused ≡ command) × IsSpentOnly (length after.events) refused
 
 -- what a desk did with a command that a callback or none came with
 pub record Served (before after : Play) (command : Command) (job : Option Plain) (old new : Kept Plain) (result : Result Reply Refused) : Type 0 where
   pub schema : after.schema ≡ before.schema
   pub seqs : after.seqs ≡ before.seqs
-  pub event : IfOk result (λ reply. Saw before.schema before.seqs sole before.events after.events command reply)
+  pub event : IfOk result (λ reply. Saw before.schema before.seqs true sole before.events after.events command reply)
   pub kept : IfOk result (λ reply. Follows AnswersZero old (step_of command reply job) new)
   pub refused : IfErr result (NotServed before after command)
   pub unmoved : OnErr result (new ≡ old)

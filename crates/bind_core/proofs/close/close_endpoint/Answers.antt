@@ -1,16 +1,18 @@
-use Rattle.std.proofs.Common.{◌≡◌, ℕ, [], ◌∷◌, sym, ap, ◌∙◌, subst}
-use Rattle.std.specs.Prelude.{◌==◌, if◌then◌else◌, Ok, Err}
+use Rattle.std.proofs.Common.{◌≡◌, ℕ, [], ◌∷◌, sym, ◌∙◌, subst}
+use Rattle.std.specs.Prelude.{◌==◌, if◌then◌else◌, Some, IsSome, Ok, Err}
 use Rattle.handle_table.specs.declared.thing.Thing.TheVariants.{End}
 use Rattle.message_pipe.specs.Ends.{is_closed, end_of}
 use Rattle.bind_model.specs.declared.asked.Asked.TheVariants as asks
 use Rattle.bind_model.specs.declared.asked.Closing.TheVariants as closings
 use Rattle.bind_model.specs.declared.told.Told.TheVariants as tells
 use Rattle.bind_model.specs.Machine.{goes_with}
-use Rattle.bind_core.specs.Lines.{found_at}
+use Rattle.endpoint_router.specs.Rows.{row_at}
+use Rattle.bind_core.specs.Routers.{found_at, router_at}
 use Rattle.bind_core.specs.Agreement.{past_of, wire_in}
 use Rattle.bind_core.specs.steps.Doing.{told_to}
 use Rattle.bind_core.proofs.Closed.{endpoint_told}
 use Rattle.bind_core.proofs.Opening.{opened_there}
+use Rattle.bind_core.proofs.Turned.{found_row}
 use Rattle.bind_core.proofs.close.close_endpoint.Goals as goal
 
 pub refuse-requires-clause-why : goal.refuse-requires-clause-why
@@ -22,9 +24,11 @@ refuse-requires-clause-why c =
 pub close_end-requires-clause-here : goal.close_end-requires-clause-here
 close_end-requires-clause-here c =
     let state = c.args.state.now in
-    sym (ap (λ (n : ℕ). found_at state.endpoints c.args.end n) c.if-id-eq0.true)
-    ∙ opened_there c.args.seq (is_closed (end_of state.pipes.ends c.args.end)) c.args.id (found_at state.endpoints c.args.end c.args.id) c.in-Ok.endpoint
-    (sym c.open_at.ensures ∙ c.in-Ok.is)
+    let there : found_at state.endpoints c.args.end c.args.id ≡ Some c.in-Ok._endpoint =
+    opened_there c.args.seq (is_closed (end_of state.pipes.ends c.args.end)) c.args.id (found_at state.endpoints c.args.end c.args.id) c.in-Ok._endpoint
+    (sym c.open_at.ensures ∙ c.in-Ok.is) in
+    subst (λ (n : ℕ). IsSome (row_at (router_at state.endpoints c.args.end) n)) c.if-id-eq0.true
+    (found_row (router_at state.endpoints c.args.end) c.args.id c.in-Ok._endpoint there)
 
 pub close_end-requires-clause-told : goal.close_end-requires-clause-told
 close_end-requires-clause-told c =
@@ -34,4 +38,4 @@ close_end-requires-clause-told c =
     ≡ tells.Closed (if n == 0 then goes_with (wire_in state) (past_of state) (End c.args.end ∷ []) else []))
     c.if-id-eq0.true
     (endpoint_told (wire_in state) state.seqs (past_of state) c.requires.able.holds.legal c.args.seq c.requires.able.within state.pipes state.endpoints
-    c.requires.able.holds.agrees c.args.end c.args.id (Ok c.in-Ok.endpoint) (sym c.in-Ok.is ∙ c.open_at.ensures))
+    c.requires.able.holds.agrees c.args.end c.args.id (Ok c.in-Ok._endpoint) (sym c.in-Ok.is ∙ c.open_at.ensures))

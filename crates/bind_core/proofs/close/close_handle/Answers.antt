@@ -20,6 +20,6 @@ returns-clause-done c =
     (ap (λ (z : Thing). is_out (place_of state.pipes.table z)) (sym c.thing-thing.ensures) ∙ (sym c.is_out.ensures ∙ c.if-not-is_out.false))
     (c.in-Ok.ensures.noted ∙ ap (λ (z : Thing). spread (carried_in state.pipes.ends None) state.pipes.made (z ∷ [])) c.thing-thing.ensures)
     refl
-    (c.push_reserved.ensures ∙ ap (λ (z : Thing). state.log.events ++ event z ∷ []) c.thing-thing.ensures)
+    (c.push_reserved.ensures.events ∙ ap (λ (z : Thing). state.log.events ++ event z ∷ []) c.thing-thing.ensures)
     c.put.ensures
     (subst (λ (things : List Thing). Closes things c.put.new.self c.close.new.self) c.as_slice.ensures c.close.ensures)

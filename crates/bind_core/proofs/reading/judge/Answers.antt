@@ -13,7 +13,8 @@ use Rattle.bind_model.specs.WireOf.{content_in}
 use Rattle.bind_model.specs.declared.told.Told.{Told}
 use Rattle.bind_core.specs.Agreement.{past_of, schema_of, wire_in}
 use Rattle.bind_core.specs.steps.Founds.{Tells, header_of}
-use Rattle.bind_core.proofs.Arriving.{asked_told, unasked_told}
+use Rattle.bind_core.proofs.Arrives.{content_stands}
+use Rattle.bind_core.proofs.Arriving.{asked_told, unasked_is, unasked_told}
 use Rattle.bind_core.proofs.WireReads.{failed, passed}
 use Rattle.bind_core.proofs.reading.judge.Goals as goal
 
@@ -47,7 +48,8 @@ returns-then-is_unasked c = λ read.
     ∙ unasked_told (wire_in s) (past_of s) c.args.end m (header_of m c.args.header.now) e
     (content_in checked.schema.now checked.expected m.bytes checked.number) checked.request checked.method checked.expected.side
     (checked.asked ∙ ap request_read same) (checked.named ∙ ap (λ (bytes : List ℕ). number32 bytes 12) same) refl
-    (sym c.is_unasked.ensures ∙ c.if-is_unasked.true)
+    (unasked_is s c.requires.holds c.args.end c.args.header.now.interface_id e c.requires.there c.requires.alive checked.expected.side
+    checked.request checked.method ∙ (sym c.is_unasked.ensures ∙ c.if-is_unasked.true))
 
 pub returns : goal.returns
 returns c =
@@ -68,6 +70,8 @@ returns c =
     ∙ asked_told (wire_in s) (past_of s) c.args.end m (header_of m c.args.header.now) e
     (content_in checked.schema.now checked.expected m.bytes checked.number) checked.request checked.method checked.expected.side
     (checked.asked ∙ ap request_read same) (checked.named ∙ ap (λ (bytes : List ℕ). number32 bytes 12) same) refl
-    (sym c.is_unasked.ensures ∙ c.if-is_unasked.false)))
-    (told (wire_in s) (past_of s) c.args.end read))
+    (unasked_is s c.requires.holds c.args.end c.args.header.now.interface_id e c.requires.there c.requires.alive checked.expected.side
+    checked.request checked.method ∙ (sym c.is_unasked.ensures ∙ c.if-is_unasked.false))))
+    (told read (content_stands (wire_in s) (past_of s) c.args.end c.args.header.now.interface_id e m
+    (content_in checked.schema.now checked.expected m.bytes checked.number) c.requires.there stands)))
     c.arrive.ensures

@@ -8,7 +8,7 @@ call-requires-clause-prepared c = rw c.in-Call.is at c.requires.prepared
 
 pub call-requires-clause-job : goal.call-requires-clause-job
 call-requires-clause-job c =
-    job_for_call (wire_of c.args.desk.now.stepper.core.schema) c.in-Call.end c.in-Call.id c.in-Call.prepared c.in-Call.handles c.args.job
+    job_for_call (wire_of c.args.desk.now.stepper.core.schema) c.in-Call.end c.in-Call.id c.in-Call.prepared c.in-Call.handles c.in-Call.pendings c.args.job
     (rw c.in-Call.is at c.requires.job)
 
 pub step-requires-clause-other : goal.step-requires-clause-other
@@ -18,8 +18,8 @@ pub returns-in-Call : goal.returns-in-Call
 returns-in-Call c =
     rw c.answered_as.ensures
     (call_served c.args.desk.now.stepper.core c.call.new.self.stepper.core (kept_of c.args.desk.now.jobs) (kept_of c.call.new.self.jobs)
-    c.call.ensures.same.0 c.call.ensures.same.1 c.args.command c.in-Call.end c.in-Call.id c.in-Call.prepared c.in-Call.handles c.args.job c.call.result
-    c.in-Call.is c.call.ensures.event c.call.ensures.kept c.call.ensures.refused c.call.ensures.unsent)
+    c.call.ensures.same.0 c.call.ensures.same.1 c.args.command c.in-Call.end c.in-Call.id c.in-Call.prepared c.in-Call.handles c.in-Call.pendings
+    c.args.job c.call.result c.in-Call.is c.call.ensures.event c.call.ensures.kept c.call.ensures.refused c.call.ensures.unsent)
 
 pub returns-in-Take : goal.returns-in-Take
 returns-in-Take c =

@@ -5,4 +5,4 @@ pub returns-clause-event : goal.returns-clause-event
 returns-clause-event c =
     saw_alone c.args.self.now.core.now.schema c.args.self.now.core.now.seqs c.args.self.now.seq c.args.self.now.core.now.events
     c.step.new.self.events c.args.command c.step.result c.requires.seq c.step.ensures.event c.step.ensures.told c.step.ensures.back
-    c.step.ensures.responders c.step.ensures.room
+    c.step.ensures.responders c.step.ensures.pendings c.step.ensures.room

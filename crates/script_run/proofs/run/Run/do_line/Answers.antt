@@ -1,10 +1,14 @@
-use Rattle.std.proofs.Common.{◌≡◌, refl, ap, ◌∙◌, Bool, Bor, Vec, Global, Option, Some, None}
+use Rattle.std.proofs.Common.{◌≡◌, refl, sym, ap, subst, ◌∙◌, Bool, Bor, Vec, Global, Option, Some, None}
 use Rattle.std.specs.Option.{option_copied}
 use Rattle.std.specs.Prelude.{is_some}
 use Rattle.call_script.specs.declared.script.AutoReply.{AutoReply}
 use Rattle.script_run.specs.declared.held.Slot.{Slot}
+use Rattle.script_run.specs.steps.Going.{IsPlain}
+use Rattle.script_run.specs.steps.Responders.{responder_at}
+use Rattle.script_run.specs.steps.Slots.{thing_at, held_at}
 use Rattle.script_run.specs.steps.Replies.{comes_with, settled, responders_settled}
 use Rattle.script_run.proofs.LineDone.{line_done}
+use Rattle.script_run.proofs.Steps.{plain_asked}
 use Rattle.script_run.proofs.run.Run.do_line.Goals as goal
 
 -- whether there is one, behind a reference
@@ -15,6 +19,13 @@ copied_some (Some x) = refl
 pub step-requires-clause-prepared : goal.step-requires-clause-prepared
 step-requires-clause-prepared c =
     c.in_ok-command.ensures.prepared c.room.new.self.core.schema (rw c.room.ensures.same.0 c.requires.line.read)
+
+pub step-requires-clause-plain : goal.step-requires-clause-plain
+step-requires-clause-plain c =
+    let held = c.room.new.self.held.slots.items in
+    let line = c.args.line.now in
+    subst IsPlain (sym c.in_ok-command.ensures.asked)
+    (plain_asked (thing_at held) (held_at held) (responder_at c.room.new.self.responders.named.items) line.number line.command)
 
 pub returns : goal.returns
 returns c =
