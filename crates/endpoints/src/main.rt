@@ -1,0 +1,81 @@
+//! Does worked examples of what no script leads to yet, command by command, and prints their histories:
+//! associated endpoints on three sequences, their ends, and messages that are written raw.
+#![tactic(auto)]
+
+mod came;
+mod commands;
+mod examples;
+mod held;
+mod play;
+
+use crate::examples::{Example, examples};
+use crate::play::history_of;
+use mj_base::{Items, Text};
+use mj_io::{Fetched, Files, RealFiles};
+use mj_schema::Schema;
+use mojom_compile::{Source, compile};
+use std::alloc::{AllocError, Global};
+use std::env::Env;
+use std::io::Print;
+use std::sync::Arc;
+use std::{env, io};
+
+/// The bytes that a file has at most.
+const MOST_BYTES: u64 = 1_048_576;
+
+/// The bytes of a file; none where it can't be read.
+fn bytes_of<F: Files>(alloc: Global, files: &mut F, name: &str) -> Option<Vec<u8>> {
+    let mut bytes = Vec::new(alloc);
+    match files.fetch(alloc, name, MOST_BYTES, &mut bytes) {
+        Ok(Fetched::Whole) => Some(bytes),
+        Ok(Fetched::Longer) | Err(_) => None,
+    }
+}
+
+/// The schema of a file's bytes; none where it is refused.
+fn schema_of(alloc: Global, name: &str, bytes: Vec<u8>) -> Result<Option<Schema>, AllocError> {
+    let source = Source {
+        name: Text::from_str(alloc, name)?,
+        bytes: Items::from_vec(bytes),
+    };
+    Ok(compile(alloc, &[source]).ok())
+}
+
+/// Prints the name and the history of each example.
+fn print_all<R: Print + AllocGlobal>(
+    rt: &R,
+    schema: Schema,
+    examples: &[Example],
+) -> io::Result<()> {
+    let schema = Arc::new(rt.alloc(), schema)?;
+    for example in examples {
+        let history = history_of(rt.alloc(), &schema, example.lines.as_slice())?;
+        let text = str::from_utf8(&history).unwrap_or("");
+        print!(rt; "{}:\n{text}", example.name)?;
+    }
+    Ok(())
+}
+
+/// Does the examples of the second file that the words name, over the schema of the first.
+fn run<R: std::rt::Files + Env + Print + AllocGlobal>(rt: &R) -> io::Result<()> {
+    let mut files = RealFiles::new(rt);
+    let mut words = env::args(rt)?.skip(1);
+    let (Some(mojom), Some(name)) = (words.next(), words.next()) else {
+        return println!(rt; "usage: endpoints MOJOM EXAMPLES");
+    };
+    let definitions = bytes_of(rt.alloc(), &mut files, mojom.as_str());
+    let text = bytes_of(rt.alloc(), &mut files, name.as_str());
+    let (Some(definitions), Some(text)) = (definitions, text) else {
+        return println!(rt; "a file can't be read");
+    };
+    let Some(schema) = schema_of(rt.alloc(), mojom.as_str(), definitions)? else {
+        return println!(rt; "{mojom}: it is refused");
+    };
+    let text = str::from_utf8(&text).unwrap_or("");
+    let examples = examples(rt.alloc(), text)?;
+    print_all(rt, schema, examples.as_slice())
+}
+
+fn main(rt: HostRuntime) -> io::Result<()> {
+    run(&rt)
+}
