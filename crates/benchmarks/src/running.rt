@@ -1,6 +1,6 @@
 //! How long runs take: scripts are read, run, and their histories written.
 
-ghost use Rattle.std.specs.Prelude.{IfSome};
+ghost use Rattle.std.specs.Prelude.{◌≤◌, IfSome};
 ghost use Rattle.std.specs.Arc.{arc_value};
 ghost use Rattle.call_script.specs.Sound.{IsScript};
 
@@ -10,7 +10,7 @@ use crate::running::scripts::{FILE, Shape};
 use crate::schemas::schema_of;
 use crate::timing::{ROUNDS, least, now};
 use call_script::{Script, read_script, render};
-use mj_base::limits::MAX_SCRIPT_LINES;
+use mj_base::limits::{MAX_FILE_BYTES, MAX_SCRIPT_LINES};
 use mj_schema::Schema;
 use script_run::{Ran, run_alone};
 use std::alloc::Global;
@@ -19,24 +19,29 @@ use std::io::Print;
 use std::sync::Arc;
 use std::time::{CpuClock, Duration};
 
-/// The script of a text; none where a line is refused.
+/// The order of the runs: each script has one sequence, so it changes nothing.
+const ORDER: u64 = 0;
+
+/// The script of a text; none where a line is refused, or where no file has room for it.
 fn script_of(alloc: Global, schema: &Schema, text: &str) -> Option<Script>
-    ensures { IfSome result (IsScript schema.now) }
+    ensures script { IfSome result (IsScript schema.now) }
+    ensures short { IfSome result (λ script. script.bytes ≤ MAX_FILE_BYTES) }
 {
     match read_script(alloc, schema, text.as_bytes()) {
-        Ok(script) => Some(script),
-        Err(_) => None,
+        Ok(script) if script.bytes as u64 <= MAX_FILE_BYTES => Some(script),
+        Ok(_) | Err(_) => None,
     }
 }
 
 /// What the run of a script leaves; none without memory.
 fn ran_of(alloc: Global, schema: &Arc<Schema>, script: &Script) -> Option<Ran>
-    requires { IsScript (arc_value schema.now) script.now }
+    requires script { IsScript (arc_value schema.now) script.now }
+    requires short { script.now.bytes ≤ MAX_FILE_BYTES }
 {
     let Ok(shared) = Arc::try_clone(schema) else {
         return None;
     };
-    match run_alone(alloc, shared, script) {
+    match run_alone(alloc, shared, script, ORDER) {
         Ok(ran) => Some(ran),
         Err(_) => None,
     }
@@ -63,7 +68,8 @@ fn time_run<R: AllocGlobal + CpuClock>(
     schema: &Arc<Schema>,
     script: &Script,
 ) -> io::Result<Option<Duration>>
-    requires { IsScript (arc_value schema.now) script.now }
+    requires script { IsScript (arc_value schema.now) script.now }
+    requires short { script.now.bytes ≤ MAX_FILE_BYTES }
 {
     let mut best = None;
     for _ in 0..ROUNDS {
@@ -154,7 +160,8 @@ fn time<R: Print + AllocGlobal + CpuClock>(
     show(rt, shape, lines, ran.history.len(), times)
 }
 
-/// Times scripts of 1,000, 10,000 and 60,000 lines of three shapes, and three of the most lines.
+/// Times scripts of 1,000, 10,000 and 40,000 lines of three shapes, three of about as many as a file has room
+/// for, one of associated endpoints in two sizes, and one of raw messages of the most lines.
 pub fn time_all<R: Print + AllocGlobal + CpuClock>(rt: &R) -> io::Result<()> {
     let alloc = rt.alloc();
     let Some(schema) = schema_of(alloc, FILE)? else {
@@ -162,12 +169,19 @@ pub fn time_all<R: Print + AllocGlobal + CpuClock>(rt: &R) -> io::Result<()> {
     };
     let schema = Arc::new(alloc, schema)?;
     for shape in [Shape::Calls, Shape::Pipes, Shape::Moves] {
-        for most in [1000, 10_000, 60_000] {
+        for most in [1000, 10_000, 40_000] {
             time(rt, &schema, shape, most)?;
         }
     }
-    for shape in [Shape::ManyPipes, Shape::Nested, Shape::Unread] {
-        time(rt, &schema, shape, MAX_SCRIPT_LINES as u32)?;
+    for (shape, most) in [
+        (Shape::ManyPipes, 38_000),
+        (Shape::Nested, 36_010),
+        (Shape::Unread, 34_000),
+    ] {
+        time(rt, &schema, shape, most)?;
     }
-    Ok(())
+    for most in [10_000, 40_000] {
+        time(rt, &schema, Shape::Endpoints, most)?;
+    }
+    time(rt, &schema, Shape::Raw, MAX_SCRIPT_LINES as u32)
 }

@@ -1,14 +1,13 @@
 //! The reply to an answer.
 
-use crate::call::{has_tokens, is_owned};
-use crate::mail::{endpoint_at, unread};
-use crate::past::{is_gone, peer};
+use crate::mail::Mail;
+use crate::past::is_gone;
 use crate::replies::{elsewhere, first_of, unless};
 use crate::responders::is_responder_out;
+use crate::sending::{cannot_write, has_tokens, is_owned, wrong_pipe};
 use crate::wire::sealed;
-use bind_model::{Endpoint, Event, Outgoing, ResponderId, State, Told, Why};
+use bind_model::{Endpoint, Outgoing, ResponderId, State, Told, Why};
 use handle_table::Thing;
-use mj_base::limits::MAX_UNREAD_MESSAGES;
 use mj_base::{Items, SeqId};
 use mj_schema::Schema;
 use std::alloc::{AllocError, Global};
@@ -26,28 +25,27 @@ fn is_response_of(responder: ResponderId, outgoing: &Outgoing) -> bool {
 fn refusal(
     alloc: Global,
     schema: &Schema,
-    past: &[Event],
+    mail: &Mail<'_>,
     seq: SeqId,
     responder: ResponderId,
     endpoint: Endpoint,
     outgoing: &Outgoing,
 ) -> Result<Option<Why>, AllocError> {
     let end = responder.end;
-    let other = peer(past, end);
-    let is_own = is_responder_out(alloc, schema, past, responder)? && is_owned(past, outgoing);
-    let is_closed = is_gone(past, Thing::End(end)) || endpoint.state == State::Closed;
-    let is_back = outgoing.handles.as_slice().contains(&Thing::End(other));
-    let is_lost = is_gone(past, Thing::End(other)) || endpoint.peer_closed;
-    let waiting = unread(alloc, past, other)?.len();
+    let is_out = is_responder_out(alloc, schema, mail.past, responder)?;
+    let is_closed = is_gone(mail.past, Thing::End(end)) || endpoint.state == State::Closed;
+    let handles = outgoing.handles.as_slice();
+    let [back, lost, full] = cannot_write(alloc, mail, end, endpoint.peer_closed, handles)?;
     Ok(first_of(&[
-        unless(is_own, Why::NoName),
+        unless(is_out && is_owned(mail, outgoing), Why::NoName),
         unless(!is_closed, Why::Disconnected),
         elsewhere(seq, endpoint),
         unless(is_response_of(responder, outgoing), Why::WrongMethod),
-        unless(has_tokens(alloc, outgoing)?, Why::WrongTokens),
-        unless(!is_back, Why::SelfSend),
-        unless(!is_lost, Why::Disconnected),
-        unless(waiting < MAX_UNREAD_MESSAGES, Why::Full),
+        unless(has_tokens(alloc, schema, mail, outgoing)?, Why::WrongTokens),
+        wrong_pipe(mail, end, outgoing.pendings.as_slice()),
+        back,
+        lost,
+        full,
     ]))
 }
 
@@ -55,15 +53,15 @@ fn refusal(
 pub fn answered(
     alloc: Global,
     schema: &Schema,
-    past: &[Event],
+    mail: &Mail<'_>,
     seq: SeqId,
     responder: ResponderId,
     outgoing: &Outgoing,
 ) -> Result<Told, AllocError> {
-    let Some(endpoint) = endpoint_at(past, responder.end, responder.id) else {
+    let Some(endpoint) = mail.endpoint(responder.end, responder.id) else {
         return Ok(Told::No(Why::NoName));
     };
-    match refusal(alloc, schema, past, seq, responder, endpoint, outgoing)? {
+    match refusal(alloc, schema, mail, seq, responder, endpoint, outgoing)? {
         Some(why) => Ok(Told::No(why)),
         None => {
             let request = responder.request;

@@ -1,33 +1,44 @@
 //! The reply to a closing.
 
-use crate::mail::{endpoint_at, goes};
+use crate::goes::goes;
+use crate::mail::Mail;
 use crate::past::{is_gone, is_out};
+use crate::pendings::is_pending_out;
 use crate::replies::{elsewhere, first_of, unbound, unless};
 use crate::responders::is_responder_out;
-use bind_model::{Closing, Event, State, Told, Why};
+use bind_model::{Closing, State, Told, Why};
 use handle_table::Thing;
 use mj_base::{EndId, Items, SeqId};
 use mj_schema::Schema;
 use std::alloc::{AllocError, Global};
 
 /// What is told where a thing is closed: all that goes with it.
-fn closed_with(alloc: Global, past: &[Event], thing: Thing) -> Result<Told, AllocError> {
-    let things = goes(alloc, past, None, vec![in alloc; thing]?)?;
+fn closed_with(alloc: Global, mail: &Mail<'_>, thing: Thing) -> Result<Told, AllocError> {
+    let things = goes(alloc, mail, None, vec![in alloc; thing]?)?;
     Ok(Told::Closed(Items::from_vec(things)))
+}
+
+/// What is told where nothing goes with what is closed, if it is there.
+fn closed_alone(alloc: Global, is_there: bool) -> Told {
+    if is_there {
+        Told::Closed(Items::new(alloc))
+    } else {
+        Told::No(Why::NoName)
+    }
 }
 
 /// The reply to a closing of the endpoint of an id at an end.
 fn closed_at(
     alloc: Global,
-    past: &[Event],
+    mail: &Mail<'_>,
     seq: SeqId,
     end: EndId,
     id: u32,
 ) -> Result<Told, AllocError> {
-    let Some(endpoint) = endpoint_at(past, end, id) else {
+    let Some(endpoint) = mail.endpoint(end, id) else {
         return Ok(Told::No(Why::NoName));
     };
-    let is_closed = is_gone(past, Thing::End(end)) || endpoint.state == State::Closed;
+    let is_closed = is_gone(mail.past, Thing::End(end)) || endpoint.state == State::Closed;
     let refusal = first_of(&[
         unless(!is_closed, Why::Disconnected),
         unbound(id, endpoint),
@@ -35,29 +46,27 @@ fn closed_at(
     ]);
     match refusal {
         Some(why) => Ok(Told::No(why)),
-        None if id == 0 => closed_with(alloc, past, Thing::End(end)),
-        None => Ok(Told::Closed(Items::new(alloc))),
+        None if id == 0 => closed_with(alloc, mail, Thing::End(end)),
+        None => Ok(closed_alone(alloc, true)),
     }
 }
 
-/// The reply to a closing; none where scripts don't ask it.
+/// The reply to a closing.
 pub fn closed(
     alloc: Global,
     schema: &Schema,
-    past: &[Event],
+    mail: &Mail<'_>,
     seq: SeqId,
     closing: Closing,
-) -> Result<Option<Told>, AllocError> {
+) -> Result<Told, AllocError> {
     match closing {
-        Closing::Handle(thing) if is_out(past, thing) => {
-            Ok(Some(closed_with(alloc, past, thing)?))
+        Closing::Handle(thing) if is_out(mail.past, thing) => closed_with(alloc, mail, thing),
+        Closing::Handle(_) => Ok(Told::No(Why::NoName)),
+        Closing::Endpoint(end, id) => closed_at(alloc, mail, seq, end, id),
+        Closing::Responder(responder) => {
+            let is_out = is_responder_out(alloc, schema, mail.past, responder)?;
+            Ok(closed_alone(alloc, is_out))
         }
-        Closing::Handle(_) => Ok(Some(Told::No(Why::NoName))),
-        Closing::Endpoint(end, id) => Ok(Some(closed_at(alloc, past, seq, end, id)?)),
-        Closing::Responder(responder) if is_responder_out(alloc, schema, past, responder)? => {
-            Ok(Some(Told::Closed(Items::new(alloc))))
-        }
-        Closing::Responder(_) => Ok(Some(Told::No(Why::NoName))),
-        Closing::Pending(_) => Ok(None),
+        Closing::Pending(pending) => { Ok(closed_alone(alloc, is_pending_out(mail.past, pending))) }
     }
 }

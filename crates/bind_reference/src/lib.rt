@@ -1,21 +1,29 @@
 //! The machine on small inputs, computed literally: what was made, where it is, what lies unread, the one
-//! reply to a command, the events of a script and what they leave are read off the list of the events
-//! before, anew each time. Plain, slow, and apart from the code that is proved of the definitions. It knows
-//! what scripts ask: no message carries an id, and none is written by the machine. The program `runs` compares
-//! the two.
+//! reply to a command, which end is ready, the events of a script and what they leave are read off the list of
+//! the events before, anew each time. Plain, slow, and apart from the code that is proved of the definitions.
+//! The programs `runs` and `cores` compare the two.
 #![tactic(auto)]
 
 mod answering;
 mod call;
 mod close;
+mod endpoints;
+mod entering;
+mod goes;
+mod kinds;
 mod mail;
 mod names;
+mod needs;
 mod past;
+mod pendings;
+mod raw;
 mod remaining;
 mod replies;
 mod replying;
 mod responders;
+mod same;
 mod script;
+mod sending;
 mod take;
 mod turns;
 mod values;
@@ -23,5 +31,6 @@ mod wire;
 
 pub use remaining::left;
 pub use replies::answer;
+pub use same::{are_same_events, are_same_told};
 pub use script::events_of;
 pub use turns::ready;

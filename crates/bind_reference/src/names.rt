@@ -1,27 +1,35 @@
 //! What the names of a script stand for, and what is held under them.
 
 use crate::past::{handed, is_out};
+use crate::pendings::is_pending_out;
 use crate::replying::reply_to;
 use crate::responders::{handed as handed_responder, is_responder_out};
-use bind_model::{Event, ResponderId};
+use bind_model::{Event, PendingId, ResponderId, Told};
 use call_script::{AutoReply, Command, Line, NameId, Script};
 use handle_table::Thing;
-use mj_base::EndId;
+use mj_base::{EndId, SeqId};
 use mj_schema::Schema;
 use std::alloc::{AllocError, Global};
 
-/// What is held under a name: the handle of a thing, or a responder.
+/// What is held under a name: the handle of a thing, a pending, or a responder.
 #[derive(Clone, Copy, PartialEq, Eq)]
 pub enum Held {
     Thing(Thing),
+    Pending(PendingId),
     Responder(ResponderId),
 }
 
-/// What was handed out, and the name that it came under, where its line had one for it.
+/// What was handed out, to whom, and the name that it came under, where its line had one for it.
 #[derive(Clone, Copy)]
 struct Label {
+    seq: SeqId,
     held: Held,
     name: Option<NameId>,
+}
+
+/// Whether a line joins.
+pub fn is_join(line: &Line) -> bool {
+    matches!(line.command, Command::Join(_, _, _))
 }
 
 /// The names that a line sets.
@@ -30,12 +38,16 @@ fn set_by(alloc: Global, line: Option<&Line>) -> Result<Vec<NameId>, AllocError>
         Some(Command::Join(_, first, second) | Command::Pipe(first, second)) => {
             Ok(vec![in alloc; *first, *second]?)
         }
-        Some(Command::Mint(_, name)) => Ok(vec![in alloc; *name]?),
+        Some(Command::Mint(_, name) | Command::Associate(_, _, _, name)) => {
+            Ok(vec![in alloc; *name]?)
+        }
         Some(Command::Take(_, names)) => Ok(Vec::from_slice(alloc, names.as_slice())?),
         Some(
             Command::Bind(_, _, _)
+            | Command::Attach(_, _)
             | Command::Call(_, _, _, _)
             | Command::Answer(_, _, _)
+            | Command::Raw(_, _, _)
             | Command::CloseToken(_)
             | Command::CloseEndpoint(_, _),
         )
@@ -43,8 +55,17 @@ fn set_by(alloc: Global, line: Option<&Line>) -> Result<Vec<NameId>, AllocError>
     }
 }
 
-/// What an event hands to its line: the handles, and then the responder, unless that is answered
-/// automatically.
+/// The pendings that an event handed out.
+fn handed_pendings(alloc: Global, event: &Event) -> Result<Vec<PendingId>, AllocError> {
+    match &event.told {
+        Told::Associated(pending) => Ok(vec![in alloc; *pending]?),
+        Told::Taken(got) => Ok(Vec::from_slice(alloc, got.pendings.as_slice())?),
+        _ => Ok(Vec::new(alloc)),
+    }
+}
+
+/// What an event hands to its line: the handles, the pendings, and then the responder, unless that is
+/// answered automatically.
 fn handed_to_line(
     alloc: Global,
     schema: &Schema,
@@ -54,6 +75,9 @@ fn handed_to_line(
     let mut all = Vec::new(alloc);
     for thing in handed(&event.told) {
         all.push(Held::Thing(*thing))?;
+    }
+    for pending in &handed_pendings(alloc, event)? {
+        all.push(Held::Pending(*pending))?;
     }
     if reply_to(autos, event).is_none() {
         if let Some(responder) = handed_responder(schema, event) {
@@ -71,8 +95,44 @@ fn is_automatic(autos: &[AutoReply], past: &[Event], place: usize) -> bool {
     }
 }
 
-/// What names stand for behind some events: those that are no automatic replies are those of the lines, in
-/// order.
+/// How many events of a sequence before this place are of lines behind the joins.
+fn lines_before(script: &Script, past: &[Event], joins: usize, place: usize, seq: SeqId) -> usize {
+    let autos = script.autos.as_slice();
+    let before = past.iter().enumerate().take(place).skip(joins);
+    before
+        .filter(|(at, event)| event.seq == seq && !is_automatic(autos, past, *at))
+        .count()
+}
+
+/// The line whose event stands at a place of a past: the joins in order, then of each sequence its own lines
+/// in order; none for an automatic reply.
+fn line_of<'s>(script: &'s Script, past: &[Event], place: usize) -> Option<&'s Line> {
+    let lines = script.lines.as_slice();
+    let joins = lines.iter().filter(|line| is_join(*line)).count();
+    if place < joins {
+        return lines.iter().filter(|line| is_join(*line)).nth(place);
+    }
+    if is_automatic(script.autos.as_slice(), past, place) {
+        return None;
+    }
+    let seq = past.get(place)?.seq;
+    let done = lines_before(script, past, joins, place, seq);
+    lines
+        .iter()
+        .filter(|line| line.seq == seq && !is_join(*line))
+        .nth(done)
+}
+
+/// Whose is what an event handed out at a place of its list: the second end of a join is the other
+/// sequence's, all else that of the one that asked.
+fn owner(line: Option<&Line>, event: &Event, place: usize) -> SeqId {
+    match line.map(|line| &line.command) {
+        Some(Command::Join(other, _, _)) if place == 1 => *other,
+        _ => event.seq,
+    }
+}
+
+/// What names stand for behind some events.
 #[derive(Drop)]
 pub struct Names<'a> {
     schema: &'a Schema,
@@ -88,17 +148,18 @@ impl<'a> Names<'a> {
         script: &Script,
         past: &'a [Event],
     ) -> Result<Names<'a>, AllocError> {
-        let autos = script.autos.as_slice();
         let mut labels = Vec::new(alloc);
-        let mut lines = 0;
         for (place, event) in past.iter().enumerate() {
-            if is_automatic(autos, past, place) {
-                continue;
+            let line = line_of(script, past, place);
+            let names = set_by(alloc, line)?;
+            let handed = handed_to_line(alloc, schema, script.autos.as_slice(), event)?;
+            for (k, held) in handed.iter().enumerate() {
+                labels.push(Label {
+                    seq: owner(line, event, k),
+                    held: *held,
+                    name: names.get(k).copied(),
+                })?;
             }
-            let names = set_by(alloc, script.lines.as_slice().get(lines))?;
-            let handed = handed_to_line(alloc, schema, autos, event)?;
-            add_labels(&names, &handed, &mut labels)?;
-            lines = lines.saturating_add(1);
         }
         Ok(Names {
             schema,
@@ -121,83 +182,47 @@ impl<'a> Names<'a> {
     pub fn end(&self, name: NameId) -> Option<EndId> {
         match self.meant(name) {
             Some(Held::Thing(Thing::End(end))) => Some(end),
-            Some(Held::Thing(Thing::Token(_)) | Held::Responder(_)) | None => None,
+            Some(Held::Thing(Thing::Token(_)) | Held::Pending(_) | Held::Responder(_)) | None => {
+                None
+            }
         }
     }
 
-    /// The name that something came under last.
-    fn name_of(&self, held: Held) -> Option<NameId> {
-        let label = self.labels.iter().rev().find(|label| label.held == held)?;
-        label.name
+    /// Whether a name stands for an end or a token.
+    pub fn is_thing(&self, name: NameId) -> bool {
+        matches!(self.meant(name), Some(Held::Thing(_)))
+    }
+
+    /// Whether something came last to this sequence, under this name.
+    fn came_last(&self, held: Held, seq: SeqId, name: NameId) -> bool {
+        match self.labels.iter().rev().find(|label| label.held == held) {
+            Some(label) => label.seq == seq && label.name == Some(name),
+            None => false,
+        }
     }
 
     /// Whether it is with a caller.
     fn is_out(&self, alloc: Global, held: Held) -> Result<bool, AllocError> {
         match held {
             Held::Thing(thing) => Ok(is_out(self.past, thing)),
+            Held::Pending(pending) => Ok(is_pending_out(self.past, pending)),
             Held::Responder(name) => is_responder_out(alloc, self.schema, self.past, name),
         }
     }
 
-    /// What is held under a name: what it stands for, where that is out and came under no other name since.
-    pub fn held(&self, alloc: Global, name: NameId) -> Result<Option<Held>, AllocError> {
+    /// What a sequence holds under a name: what it stands for, where that is out and came last to this
+    /// sequence under this name.
+    pub fn held(
+        &self,
+        alloc: Global,
+        seq: SeqId,
+        name: NameId,
+    ) -> Result<Option<Held>, AllocError> {
         match self.meant(name) {
-            Some(held) if self.is_out(alloc, held)? && self.name_of(held) == Some(name) => {
+            Some(held) if self.is_out(alloc, held)? && self.came_last(held, seq, name) => {
                 Ok(Some(held))
             }
             Some(_) | None => Ok(None),
         }
     }
-
-    /// The thing whose handle is held under a name.
-    pub fn handle(&self, alloc: Global, name: NameId) -> Result<Option<Thing>, AllocError> {
-        match self.held(alloc, name)? {
-            Some(Held::Thing(thing)) => Ok(Some(thing)),
-            Some(Held::Responder(_)) | None => Ok(None),
-        }
-    }
-
-    /// The responder that is held under a name.
-    pub fn responder(
-        &self,
-        alloc: Global,
-        name: NameId,
-    ) -> Result<Option<ResponderId>, AllocError> {
-        match self.held(alloc, name)? {
-            Some(Held::Responder(responder)) => Ok(Some(responder)),
-            Some(Held::Thing(_)) | None => Ok(None),
-        }
-    }
-
-    /// The things whose handles are held under these names, in order; none where one of them holds none or
-    /// stands twice.
-    pub fn all_handles(
-        &self,
-        alloc: Global,
-        names: &[NameId],
-    ) -> Result<Option<Vec<Thing>>, AllocError> {
-        let mut things = Vec::new(alloc);
-        for (k, name) in names.iter().enumerate() {
-            match self.handle(alloc, *name)? {
-                Some(thing) if !names[..k].contains(name) => things.push(thing)?,
-                Some(_) | None => return Ok(None),
-            }
-        }
-        Ok(Some(things))
-    }
-}
-
-/// Adds a label for each, with the names in order; those left over have no name.
-fn add_labels(
-    names: &[NameId],
-    handed: &[Held],
-    labels: &mut Vec<Label>,
-) -> Result<(), AllocError> {
-    for (k, held) in handed.iter().enumerate() {
-        labels.push(Label {
-            held: *held,
-            name: names.get(k).copied(),
-        })?;
-    }
-    Ok(())
 }

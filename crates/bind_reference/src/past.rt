@@ -70,6 +70,7 @@ fn is_given(event: &Event, thing: Thing) -> bool {
         (Told::Sent(_, _), Asked::Call(_, _, outgoing) | Asked::Answer(_, outgoing)) => {
             outgoing.handles.as_slice().contains(&thing)
         }
+        (Told::Wrote(_), Asked::Raw(_, _, handles)) => handles.as_slice().contains(&thing),
         (Told::Closed(_), Asked::Close(Closing::Handle(closed))) => *closed == thing,
         _ => false,
     }
@@ -101,7 +102,7 @@ pub fn is_out(past: &[Event], thing: Thing) -> bool {
 /// Whether an event is a take at an end that consumed a message.
 fn consumes(event: &Event, x: EndId) -> bool {
     match (&event.told, &event.asked) {
-        (Told::Taken(_) | Told::Dropped(_, _), Asked::Take(end)) => *end == x,
+        (Told::Taken(_) | Told::Dropped(_, _) | Told::Control(_), Asked::Take(end)) => *end == x,
         _ => false,
     }
 }

@@ -3,7 +3,10 @@
 use crate::answering::answered;
 use crate::call::called;
 use crate::close::closed;
+use crate::endpoints::{associated, attached};
+use crate::mail::Mail;
 use crate::past::{ends_made, is_out, tokens_made};
+use crate::raw::wrote;
 use crate::take::took;
 use bind_model::{Asked, Endpoint, Event, State, Told, Why};
 use handle_table::{Thing, TokenId};
@@ -78,7 +81,7 @@ fn bind(schema: &Schema, past: &[Event], thing: Thing, interface: u32) -> Told {
     }
 }
 
-/// The one reply to a command of a sequence, of so many; none where scripts don't ask it.
+/// The one reply to a command of a sequence, of so many.
 pub fn answer(
     alloc: Global,
     schema: &Schema,
@@ -86,22 +89,25 @@ pub fn answer(
     past: &[Event],
     seq: SeqId,
     asked: &Asked,
-) -> Result<Option<Told>, AllocError> {
+) -> Result<Told, AllocError> {
+    let mail = Mail::new(alloc, schema, past)?;
     match asked {
-        Asked::Pipe => Ok(Some(join(alloc, past, seq, seq)?)),
-        Asked::Join(other) if other.0 < seqs => Ok(Some(join(alloc, past, seq, *other)?)),
-        Asked::Join(_) => Ok(Some(Told::No(Why::NoName))),
-        Asked::Mint(_) => Ok(Some(mint(alloc, past, seq)?)),
-        Asked::Bind(thing, _, interface) => Ok(Some(bind(schema, past, *thing, *interface))),
-        Asked::Call(end, id, outgoing) => {
-            Ok(Some(called(alloc, schema, past, seq, *end, *id, outgoing)?))
+        Asked::Pipe => join(alloc, past, seq, seq),
+        Asked::Join(other) if other.0 < seqs => join(alloc, past, seq, *other),
+        Asked::Join(_) => Ok(Told::No(Why::NoName)),
+        Asked::Mint(_) => mint(alloc, past, seq),
+        Asked::Bind(thing, _, interface) => Ok(bind(schema, past, *thing, *interface)),
+        Asked::Associate(end, _, interface) => Ok(associated(schema, &mail, *end, *interface)),
+        Asked::Attach(pending, on) => Ok(attached(seqs, &mail, *pending, *on)),
+        Asked::Call(end, id, outgoing) => { called(alloc, schema, &mail, seq, *end, *id, outgoing) }
+        Asked::Answer(responder, outgoing) => {
+            answered(alloc, schema, &mail, seq, *responder, outgoing)
         }
-        Asked::Take(end) => Ok(Some(took(alloc, schema, past, seq, *end)?)),
-        Asked::Answer(responder, outgoing) => Ok(Some(answered(
-            alloc, schema, past, seq, *responder, outgoing,
-        )?)),
-        Asked::Close(closing) => closed(alloc, schema, past, seq, *closing),
-        Asked::Skip(_) => Ok(Some(Told::Skipped)),
-        Asked::Associate(_, _, _) | Asked::Attach(_, _) | Asked::Raw(_, _, _) => Ok(None),
+        Asked::Raw(thing, bytes, handles) => {
+            wrote(alloc, &mail, *thing, bytes.as_slice(), handles.as_slice())
+        }
+        Asked::Take(end) => took(alloc, schema, &mail, seq, *end),
+        Asked::Close(closing) => closed(alloc, schema, &mail, seq, *closing),
+        Asked::Skip(_) => Ok(Told::Skipped),
     }
 }

@@ -1,100 +1,19 @@
-//! The events of a script: one for each of its lines, in order, and then a take wherever a message is ready,
-//! until none is; and directly behind each take of a request that has an automatic reply, that reply.
+//! The events of a script: one for each join, in order; one for each line of the sequences, of which the one
+//! whose turn it is does its next; and then a take wherever a message is ready, until none is. Directly behind
+//! each take of a request that has an automatic reply comes that reply.
 
-use crate::names::{Held, Names};
+use crate::names::{Names, is_join};
+use crate::needs::{asks, outgoing};
 use crate::replies::answer;
 use crate::replying::reply_to;
 use crate::responders::handed;
 use crate::turns::ready;
-use crate::values::copied;
-use bind_model::{Asked, Closing, Event, Outgoing, Parameters, Told};
-use call_script::{Command, Line, SEQUENCES, Script};
-use handle_table::Thing;
+use bind_model::{Asked, Event};
+use call_script::{Line, Script};
+use mj_base::limits::MAX_EVENTS;
 use mj_base::{Items, SeqId};
 use mj_schema::Schema;
 use std::alloc::{AllocError, Global};
-use wire_encoder::Prepared;
-
-/// What is sent, with these handles.
-fn outgoing(
-    alloc: Global,
-    prepared: &Prepared,
-    handles: Vec<Thing>,
-) -> Result<Outgoing, AllocError> {
-    Ok(Outgoing {
-        target: prepared.target,
-        parameters: Parameters::new(copied(alloc, &prepared.value)?),
-        handles: Items::from_vec(handles),
-        pendings: Items::new(alloc),
-    })
-}
-
-/// What a call or an answer asks, where all that it needs is there.
-fn sending_asks(
-    alloc: Global,
-    names: &Names<'_>,
-    command: &Command,
-) -> Result<Option<Asked>, AllocError> {
-    match command {
-        Command::Call(name, id, prepared, tokens) => {
-            let handles = names.all_handles(alloc, tokens.as_slice())?;
-            let (Some(end), Some(handles)) = (names.end(*name), handles) else {
-                return Ok(None);
-            };
-            let outgoing = outgoing(alloc, prepared, handles)?;
-            Ok(Some(Asked::Call(end, *id, outgoing)))
-        }
-        Command::Answer(name, prepared, tokens) => {
-            let handles = names.all_handles(alloc, tokens.as_slice())?;
-            let (Some(responder), Some(handles)) = (names.responder(alloc, *name)?, handles) else {
-                return Ok(None);
-            };
-            let outgoing = outgoing(alloc, prepared, handles)?;
-            Ok(Some(Asked::Answer(responder, outgoing)))
-        }
-        _ => Ok(None),
-    }
-}
-
-/// How what is held is closed.
-fn closing(held: Held) -> Closing {
-    match held {
-        Held::Thing(thing) => Closing::Handle(thing),
-        Held::Responder(responder) => Closing::Responder(responder),
-    }
-}
-
-/// What a command asks, where all that it needs is there.
-fn command_asks(
-    alloc: Global,
-    names: &Names<'_>,
-    command: &Command,
-) -> Result<Option<Asked>, AllocError> {
-    match command {
-        Command::Join(other, _, _) => Ok(Some(Asked::Join(*other))),
-        Command::Pipe(_, _) => Ok(Some(Asked::Pipe)),
-        Command::Mint(sort, _) => Ok(Some(Asked::Mint(*sort))),
-        Command::Bind(name, side, interface) => Ok(
-            names
-                .handle(alloc, *name)?
-                .map(|thing| Asked::Bind(thing, *side, *interface)),
-        ),
-        Command::Call(_, _, _, _) | Command::Answer(_, _, _) => {
-            sending_asks(alloc, names, command)
-        }
-        Command::Take(name, _) => Ok(names.end(*name).map(|end| Asked::Take(end))),
-        Command::CloseToken(name) => Ok(
-            names
-                .held(alloc, *name)?
-                .map(|held| Asked::Close(closing(held))),
-        ),
-        Command::CloseEndpoint(name, id) => Ok(
-            names
-                .end(*name)
-                .map(|end| Asked::Close(Closing::Endpoint(end, *id))),
-        ),
-    }
-}
 
 /// What a line asks behind these events: to skip its number where something that it needs isn't there.
 fn line_asks(
@@ -105,7 +24,7 @@ fn line_asks(
     line: &Line,
 ) -> Result<Asked, AllocError> {
     let names = Names::new(alloc, schema, script, past)?;
-    match command_asks(alloc, &names, &line.command)? {
+    match asks(alloc, &names, line.seq, &line.command)? {
         Some(asked) => Ok(asked),
         None => Ok(Asked::Skip(line.number)),
     }
@@ -115,17 +34,13 @@ fn line_asks(
 fn ask(
     alloc: Global,
     schema: &Schema,
+    script: &Script,
     events: &mut Vec<Event>,
     seq: SeqId,
     asked: Asked,
 ) -> Result<(), AllocError> {
-    let told = answer(alloc, schema, SEQUENCES, events, seq, &asked)?;
-    events.push(Event {
-        seq,
-        asked,
-        // Each command of a script has a reply.
-        told: told.unwrap_or(Told::Skipped),
-    })?;
+    let told = answer(alloc, schema, script.seqs, events, seq, &asked)?;
+    events.push(Event { seq, asked, told })?;
     Ok(())
 }
 
@@ -145,8 +60,8 @@ fn automatic(
     ) else {
         return Ok(None);
     };
-    let outgoing = outgoing(alloc, &reply.prepared, Vec::new(alloc))?;
-    Ok(Some((event.seq, Asked::Answer(responder, outgoing))))
+    let sent = outgoing(alloc, &reply.prepared, Vec::new(alloc), Vec::new(alloc))?;
+    Ok(Some((event.seq, Asked::Answer(responder, sent))))
 }
 
 /// Adds the event of a command, and that of an automatic reply to what it got.
@@ -158,22 +73,96 @@ fn ask_on(
     seq: SeqId,
     asked: Asked,
 ) -> Result<(), AllocError> {
-    ask(alloc, schema, events, seq, asked)?;
+    ask(alloc, schema, script, events, seq, asked)?;
     match automatic(alloc, schema, script, events)? {
-        Some((seq, reply)) => ask(alloc, schema, events, seq, reply),
+        Some((seq, reply)) => ask(alloc, schema, script, events, seq, reply),
         None => Ok(()),
     }
 }
 
-/// Adds takes until no end is ready. Each takes a message, or closes its end with all that lies there: a
-/// message that an event before wrote, or the automatic reply to one. So there are fewer than twice the events.
+/// Adds the event of a line, and that of an automatic reply to what it got.
+fn do_line(
+    alloc: Global,
+    schema: &Schema,
+    script: &Script,
+    events: &mut Vec<Event>,
+    line: &Line,
+) -> Result<(), AllocError> {
+    let asked = line_asks(alloc, schema, script, events, line)?;
+    ask_on(alloc, schema, script, events, line.seq, asked)
+}
+
+/// The number that is drawn after another.
+fn next_draw(draw: u64) -> u64 {
+    draw.wrapping_mul(6_364_136_223_846_793_005)
+        .wrapping_add(1_442_695_040_888_963_407)
+}
+
+/// The sequences that have lines left, in rising order.
+fn with_lines(alloc: Global, seqs: u32, left: &[&Line]) -> Result<Vec<SeqId>, AllocError> {
+    let mut all = Vec::new(alloc);
+    for seq in 0..seqs {
+        if left.iter().any(|line| line.seq.0 == seq) {
+            all.push(SeqId(seq))?;
+        }
+    }
+    Ok(all)
+}
+
+/// The sequence whose turn it is by a number that was drawn: of those that have lines left the one of this
+/// number, counted round.
+fn next_seq(
+    alloc: Global,
+    seqs: u32,
+    left: &[&Line],
+    draw: u64,
+) -> Result<Option<SeqId>, AllocError> {
+    let all = with_lines(alloc, seqs, left)?;
+    match (draw >> 32).checked_rem(all.len() as u64) {
+        Some(place) => Ok(all.get(place as usize).copied()),
+        None => Ok(None),
+    }
+}
+
+/// Takes out the next line of a sequence.
+fn take_line<'s>(left: &mut Vec<&'s Line>, seq: SeqId) -> Option<&'s Line> {
+    let place = left.iter().position(|line| line.seq == seq)?;
+    Some(left.remove(place))
+}
+
+/// Adds the events of the lines behind the joins, for each of which a number is drawn.
+fn do_lines(
+    alloc: Global,
+    schema: &Schema,
+    script: &Script,
+    order: u64,
+    events: &mut Vec<Event>,
+) -> Result<(), AllocError> {
+    let mut left = Vec::new(alloc);
+    for line in script.lines.as_slice() {
+        if !is_join(line) {
+            left.push(line)?;
+        }
+    }
+    let mut draw = order;
+    for _ in 0..left.len() {
+        draw = next_draw(draw);
+        let seq = next_seq(alloc, script.seqs, &left, draw)?;
+        if let Some(line) = seq.and_then(|seq| take_line(&mut left, seq)) {
+            do_line(alloc, schema, script, events, line)?;
+        }
+    }
+    Ok(())
+}
+
+/// Adds takes until no end is ready; there are never more events than a history has.
 fn drain(
     alloc: Global,
     schema: &Schema,
     script: &Script,
     events: &mut Vec<Event>,
 ) -> Result<(), AllocError> {
-    for _ in 0..events.len().saturating_mul(2) {
+    for _ in 0..MAX_EVENTS {
         let Some((seq, end)) = ready(alloc, schema, events)? else {
             return Ok(());
         };
@@ -182,17 +171,20 @@ fn drain(
     Ok(())
 }
 
-/// All events of a script, in order.
+/// All events of a script, in order, where its sequences do their lines in turns by this order.
 pub fn events_of(
     alloc: Global,
     schema: &Schema,
     script: &Script,
+    order: u64,
 ) -> Result<Vec<Event>, AllocError> {
     let mut events = Vec::new(alloc);
     for line in script.lines.as_slice() {
-        let asked = line_asks(alloc, schema, script, &events, line)?;
-        ask_on(alloc, schema, script, &mut events, line.seq, asked)?;
+        if is_join(line) {
+            do_line(alloc, schema, script, &mut events, line)?;
+        }
     }
+    do_lines(alloc, schema, script, order, &mut events)?;
     drain(alloc, schema, script, &mut events)?;
     Ok(events)
 }

@@ -1,33 +1,35 @@
 //! The reply to a take.
 
-use crate::mail::{Letter, endpoint_at, goes, unread};
+use crate::entering::{ids_in, is_strange};
+use crate::goes::goes;
+use crate::kinds::endpoints_named;
+use crate::mail::{Letter, Mail, Text};
 use crate::past::{is_asked, is_gone, peer};
-use crate::values::named_by;
-use crate::wire::{Content, stands};
-use bind_model::{BadWhy, Endpoint, Event, Got, Parameters, State, Told, Why};
+use crate::values::handles_named;
+use crate::wire::{Content, Whom, meant_for, stands};
+use bind_model::{BadWhy, Endpoint, Got, Parameters, PendingId, State, Told, Why};
 use handle_table::Thing;
-use message_header::read_header;
 use mj_base::{EndId, Items, SeqId};
 use mj_schema::Schema;
 use std::alloc::{AllocError, Global};
 use wire_model::MessageSide;
 
 /// What is told of a bad message: all that goes with its end.
-fn bad(alloc: Global, past: &[Event], end: EndId, why: BadWhy) -> Result<Told, AllocError> {
-    let things = goes(alloc, past, None, vec![in alloc; Thing::End(end)]?)?;
+fn bad(alloc: Global, mail: &Mail<'_>, end: EndId, why: BadWhy) -> Result<Told, AllocError> {
+    let things = goes(alloc, mail, None, vec![in alloc; Thing::End(end)]?)?;
     Ok(Told::Bad(why, Items::from_vec(things)))
 }
 
 /// What is told of a message whose endpoint isn't there or is closed: all that goes with its handles.
 fn dropped(
     alloc: Global,
-    past: &[Event],
+    mail: &Mail<'_>,
     end: EndId,
     id: u32,
     letter: Letter<'_>,
 ) -> Result<Told, AllocError> {
     let handles = Vec::from_slice(alloc, letter.handles)?;
-    let things = goes(alloc, past, Some(end), handles)?;
+    let things = goes(alloc, mail, Some(end), handles)?;
     Ok(Told::Dropped(id, Items::from_vec(things)))
 }
 
@@ -48,58 +50,123 @@ fn picked(
     Ok(picked)
 }
 
-/// What is told of a message that stands: what it stands for, the things that its parameters name, and what
-/// goes with the others.
+/// The pendings of the ids that got parameters name, in order.
+fn pendings_of(
+    alloc: Global,
+    schema: &Schema,
+    end: EndId,
+    ids: &[u32],
+    content: &Content,
+) -> Result<Vec<PendingId>, AllocError> {
+    let mut pendings = Vec::new(alloc);
+    let named = endpoints_named(alloc, schema, content.target, &content.parameters)?;
+    for (k, id) in ids.iter().enumerate() {
+        if named.iter().any(|one| one.place as usize == k) {
+            pendings.push(PendingId { end, id: *id })?;
+        }
+    }
+    Ok(pendings)
+}
+
+/// What is told of a message that stands: what it stands for, the things and the endpoints that its parameters
+/// name, and what goes with the other things.
 fn accept(
     alloc: Global,
-    past: &[Event],
+    schema: &Schema,
+    mail: &Mail<'_>,
     end: EndId,
     id: u32,
     letter: Letter<'_>,
     content: Content,
 ) -> Result<Told, AllocError> {
+    let ids = ids_in(alloc, letter)?;
+    let pendings = pendings_of(alloc, schema, end, &ids, &content)?;
+    let named = handles_named(alloc, &content.parameters)?;
+    let handles = picked(alloc, &named, letter.handles, true)?;
+    let others = picked(alloc, &named, letter.handles, false)?;
+    let gone = goes(alloc, mail, Some(end), others)?;
     let Content {
         target,
         request,
         parameters,
     } = content;
-    let named = named_by(alloc, &parameters)?;
-    let handles = picked(alloc, &named.handles, letter.handles, true)?;
-    let others = picked(alloc, &named.handles, letter.handles, false)?;
-    let gone = goes(alloc, past, Some(end), others)?;
     Ok(Told::Taken(Got {
         id,
         target,
         parameters: Parameters::new(parameters),
         request,
         handles: Items::from_vec(handles),
-        pendings: Items::new(alloc),
+        pendings: Items::from_vec(pendings),
         gone: Items::from_vec(gone),
     }))
 }
 
-/// Whether it is a response that nobody waits for.
-fn is_unasked(past: &[Event], end: EndId, id: u32, content: &Content) -> bool {
-    content.target.side == MessageSide::Response
-        && !is_asked(past, end, id, content.request, content.target.method)
+/// Whether it is a response that nobody waits for: the endpoint knows that its peer is closed, or there is no such
+/// request that waits.
+fn is_unasked(mail: &Mail<'_>, end: EndId, id: u32, endpoint: Endpoint, content: &Content) -> bool {
+    let is_asked = is_asked(mail.past, end, id, content.request, content.target.method);
+    content.target.side == MessageSide::Response && (endpoint.peer_closed || !is_asked)
+}
+
+/// The first id of a message that is strange.
+fn strange_in(
+    alloc: Global,
+    mail: &Mail<'_>,
+    end: EndId,
+    letter: Letter<'_>,
+) -> Result<Option<u32>, AllocError> {
+    let ids = ids_in(alloc, letter)?;
+    for (k, id) in ids.iter().enumerate() {
+        if is_strange(mail, end, &ids[..k], *id) {
+            return Ok(Some(*id));
+        }
+    }
+    Ok(None)
 }
 
 /// What is told of a message for an endpoint that is bound on the sequence which takes.
 fn judged(
     alloc: Global,
     schema: &Schema,
-    past: &[Event],
+    mail: &Mail<'_>,
     end: EndId,
     id: u32,
     endpoint: Endpoint,
     letter: Letter<'_>,
+    bytes: &[u8],
 ) -> Result<Told, AllocError> {
-    match stands(alloc, schema, endpoint, letter)? {
-        Ok(content) if is_unasked(past, end, id, &content) => {
-            bad(alloc, past, end, BadWhy::Unasked(content.request))
-        }
-        Ok(content) => accept(alloc, past, end, id, letter, content),
-        Err(fault) => bad(alloc, past, end, BadWhy::Message(fault)),
+    let content = match stands(alloc, schema, endpoint, bytes, letter.handles.len())? {
+        Ok(content) => content,
+        Err(fault) => return bad(alloc, mail, end, BadWhy::Message(fault)),
+    };
+    if is_unasked(mail, end, id, endpoint, &content) {
+        return bad(alloc, mail, end, BadWhy::Unasked(content.request));
+    }
+    match strange_in(alloc, mail, end, letter)? {
+        Some(strange) => bad(alloc, mail, end, BadWhy::StrangeId(strange)),
+        None => accept(alloc, schema, mail, end, id, letter, content),
+    }
+}
+
+/// What is told of a message for the endpoint of an id.
+fn meant(
+    alloc: Global,
+    schema: &Schema,
+    mail: &Mail<'_>,
+    seq: SeqId,
+    end: EndId,
+    id: u32,
+    letter: Letter<'_>,
+    bytes: &[u8],
+) -> Result<Told, AllocError> {
+    let Some(endpoint) = mail.endpoint(end, id) else {
+        return dropped(alloc, mail, end, id, letter);
+    };
+    match endpoint.state {
+        State::Closed => dropped(alloc, mail, end, id, letter),
+        State::Pending => Ok(Told::No(Why::Unbound(id))),
+        State::Bound(other) if other != seq => Ok(Told::No(Why::Elsewhere(other))),
+        State::Bound(_) => judged(alloc, schema, mail, end, id, endpoint, letter, bytes),
     }
 }
 
@@ -107,23 +174,19 @@ fn judged(
 fn headed(
     alloc: Global,
     schema: &Schema,
-    past: &[Event],
+    mail: &Mail<'_>,
     seq: SeqId,
     end: EndId,
     letter: Letter<'_>,
 ) -> Result<Told, AllocError> {
-    let id = match read_header(letter.bytes) {
-        Ok(header) => header.interface_id,
-        Err(fault) => return bad(alloc, past, end, BadWhy::Message(fault)),
+    let bytes = match letter.text {
+        Text::Bytes(bytes) => bytes,
+        Text::Control(id) => return Ok(Told::Control(id)),
     };
-    let Some(endpoint) = endpoint_at(past, end, id) else {
-        return dropped(alloc, past, end, id, letter);
-    };
-    match endpoint.state {
-        State::Closed => dropped(alloc, past, end, id, letter),
-        State::Pending => Ok(Told::No(Why::Unbound(id))),
-        State::Bound(other) if other != seq => Ok(Told::No(Why::Elsewhere(other))),
-        State::Bound(_) => judged(alloc, schema, past, end, id, endpoint, letter),
+    match meant_for(bytes, letter.handles.len()) {
+        Ok(Whom::For(id)) => meant(alloc, schema, mail, seq, end, id, letter, bytes),
+        Ok(Whom::Closed(id)) => Ok(Told::Control(id)),
+        Err(fault) => bad(alloc, mail, end, BadWhy::Message(fault)),
     }
 }
 
@@ -131,19 +194,21 @@ fn headed(
 pub fn took(
     alloc: Global,
     schema: &Schema,
-    past: &[Event],
+    mail: &Mail<'_>,
     seq: SeqId,
     end: EndId,
 ) -> Result<Told, AllocError> {
-    if endpoint_at(past, end, 0).is_none() {
+    if mail.endpoint(end, 0).is_none() {
         return Ok(Told::No(Why::NoName));
     }
-    if is_gone(past, Thing::End(end)) {
+    if is_gone(mail.past, Thing::End(end)) {
         return Ok(Told::No(Why::Disconnected));
     }
-    match unread(alloc, past, end)?.first().copied() {
-        Some(letter) => headed(alloc, schema, past, seq, end, letter),
-        None if is_gone(past, Thing::End(peer(past, end))) => Ok(Told::No(Why::PeerClosed)),
+    match mail.unread(alloc, end)?.first().copied() {
+        Some(letter) => headed(alloc, schema, mail, seq, end, letter),
+        None if is_gone(mail.past, Thing::End(peer(mail.past, end))) => {
+            Ok(Told::No(Why::PeerClosed))
+        }
         None => Ok(Told::No(Why::Empty)),
     }
 }

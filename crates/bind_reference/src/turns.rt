@@ -1,11 +1,11 @@
 //! Which end is taken from next when nobody asks, and by whom.
 
-use crate::mail::{endpoint_at, unread};
+use crate::mail::{Mail, Text};
 use crate::past::made;
 use crate::take::took;
+use crate::wire::{Whom, meant_for};
 use bind_model::{Endpoint, Event, State, Told};
 use handle_table::Thing;
-use message_header::read_header;
 use mj_base::{EndId, SeqId};
 use mj_schema::Schema;
 use std::alloc::{AllocError, Global};
@@ -19,26 +19,29 @@ fn on_of(endpoint: Option<Endpoint>) -> Option<SeqId> {
 }
 
 /// The endpoint that the oldest unread message at an end is for, where its header says one.
-fn meant(alloc: Global, past: &[Event], end: EndId) -> Result<Option<u32>, AllocError> {
-    let letters = unread(alloc, past, end)?;
+fn meant(alloc: Global, mail: &Mail<'_>, end: EndId) -> Result<Option<u32>, AllocError> {
+    let letters = mail.unread(alloc, end)?;
     let Some(letter) = letters.first() else {
         return Ok(None);
     };
-    match read_header(letter.bytes) {
-        Ok(header) => Ok(Some(header.interface_id)),
-        Err(_) => Ok(None),
+    let Text::Bytes(bytes) = letter.text else {
+        return Ok(None);
+    };
+    match meant_for(bytes, letter.handles.len()) {
+        Ok(Whom::For(id)) => Ok(Some(id)),
+        Ok(Whom::Closed(_)) | Err(_) => Ok(None),
     }
 }
 
 /// Who takes at an end: the sequence of the endpoint that the oldest message is for, where that is bound, and
 /// else that of endpoint 0.
-fn taker(alloc: Global, past: &[Event], end: EndId) -> Result<Option<SeqId>, AllocError> {
-    if let Some(id) = meant(alloc, past, end)? {
-        if let Some(seq) = on_of(endpoint_at(past, end, id)) {
+fn taker(alloc: Global, mail: &Mail<'_>, end: EndId) -> Result<Option<SeqId>, AllocError> {
+    if let Some(id) = meant(alloc, mail, end)? {
+        if let Some(seq) = on_of(mail.endpoint(end, id)) {
             return Ok(Some(seq));
         }
     }
-    Ok(on_of(endpoint_at(past, end, 0)))
+    Ok(on_of(mail.endpoint(end, 0)))
 }
 
 /// Whether a take consumed a message, or found it bad.
@@ -54,16 +57,16 @@ fn is_settled(told: &Told) -> bool {
 fn turn_at(
     alloc: Global,
     schema: &Schema,
-    past: &[Event],
+    mail: &Mail<'_>,
     thing: Thing,
 ) -> Result<Option<(SeqId, EndId)>, AllocError> {
     let Thing::End(end) = thing else {
         return Ok(None);
     };
-    let Some(seq) = taker(alloc, past, end)? else {
+    let Some(seq) = taker(alloc, mail, end)? else {
         return Ok(None);
     };
-    if is_settled(&took(alloc, schema, past, seq, end)?) {
+    if is_settled(&took(alloc, schema, mail, seq, end)?) {
         Ok(Some((seq, end)))
     } else {
         Ok(None)
@@ -85,9 +88,10 @@ pub fn ready(
     schema: &Schema,
     past: &[Event],
 ) -> Result<Option<(SeqId, EndId)>, AllocError> {
+    let mail = Mail::new(alloc, schema, past)?;
     let mut least = None;
     for thing in &made(alloc, past)? {
-        least = lesser(least, turn_at(alloc, schema, past, *thing)?);
+        least = lesser(least, turn_at(alloc, schema, &mail, *thing)?);
     }
     Ok(least)
 }

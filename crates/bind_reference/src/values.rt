@@ -1,4 +1,4 @@
-//! Values: copies, and the indexes that they name.
+//! Values: copies, and the indexes of handles that they name.
 
 use std::alloc::{AllocError, Global};
 use wire_model::Value;
@@ -48,48 +48,39 @@ fn all_copied(alloc: Global, values: &[Value]) -> Result<Vec<Value>, AllocError>
     Ok(copies)
 }
 
-/// The indexes that a value names, of handles and of ids.
-#[derive(Drop)]
-pub struct Indexes {
-    pub handles: Vec<u32>,
-    pub ids: Vec<u32>,
-}
-
-/// Adds the indexes that a value names.
+/// Adds the indexes of handles that a value names.
 #[cycle(names)]
-fn add_named(value: &Value, indexes: &mut Indexes) -> Result<(), AllocError> {
+fn add_named(value: &Value, handles: &mut Vec<u32>) -> Result<(), AllocError> {
     match value {
-        Value::Handle(index) | Value::Remote { index, .. } => Ok(indexes.handles.push(*index)?),
-        Value::Endpoint(index) | Value::EndpointRemote { index, .. } => {
-            Ok(indexes.ids.push(*index)?)
-        }
-        Value::List(items) | Value::Struct(items) => add_all_named(items, indexes),
+        Value::Handle(index) | Value::Remote { index, .. } => Ok(handles.push(*index)?),
+        Value::List(items) | Value::Struct(items) => add_all_named(items, handles),
         Value::Map { keys, values } => {
-            add_all_named(keys, indexes)?;
-            add_all_named(values, indexes)
+            add_all_named(keys, handles)?;
+            add_all_named(values, handles)
         }
-        Value::Union { value, .. } => add_named(value, indexes),
-        Value::Bool(_) | Value::Whole(_) | Value::Text(_) | Value::Unknown(_) | Value::Null => {
-            Ok(())
-        }
+        Value::Union { value, .. } => add_named(value, handles),
+        Value::Bool(_)
+        | Value::Whole(_)
+        | Value::Text(_)
+        | Value::Unknown(_)
+        | Value::Endpoint(_)
+        | Value::EndpointRemote { .. }
+        | Value::Null => Ok(()),
     }
 }
 
-/// Adds the indexes that values name.
+/// Adds the indexes of handles that values name.
 #[cycle(names)]
-fn add_all_named(values: &[Value], indexes: &mut Indexes) -> Result<(), AllocError> {
+fn add_all_named(values: &[Value], handles: &mut Vec<u32>) -> Result<(), AllocError> {
     for value in values {
-        add_named(value, indexes)?;
+        add_named(value, handles)?;
     }
     Ok(())
 }
 
-/// The indexes that a value names.
-pub fn named_by(alloc: Global, value: &Value) -> Result<Indexes, AllocError> {
-    let mut indexes = Indexes {
-        handles: Vec::new(alloc),
-        ids: Vec::new(alloc),
-    };
-    add_named(value, &mut indexes)?;
-    Ok(indexes)
+/// The indexes of handles that a value names.
+pub fn handles_named(alloc: Global, value: &Value) -> Result<Vec<u32>, AllocError> {
+    let mut handles = Vec::new(alloc);
+    add_named(value, &mut handles)?;
+    Ok(handles)
 }

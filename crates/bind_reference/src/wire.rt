@@ -1,18 +1,18 @@
-//! Messages: their bytes, and what these stand for. The crates of the wire are asked, since the wire is not
-//! what is computed here.
+//! Messages: their bytes, and what these stand for. The crates of the wire are asked for payloads, headers and
+//! values, since these are not what is computed here.
 
 ghost use Rattle.std.specs.Prelude.{IfSome};
 ghost use Rattle.wire_encoder.specs.Prepared.{HasTarget};
 
-use crate::mail::Letter;
 use crate::values::copied;
 use bind_model::{Endpoint, Outgoing};
+use message_header::{CONTROL_ID, read_control, read_header};
 use message_validator::check;
-use mj_base::Fault;
+use mj_base::{Fault, FaultKind};
 use mj_schema::Schema;
 use std::alloc::{AllocError, Global};
 use wire_decoder::decode;
-use wire_encoder::{EndpointSide, Head, PrepareError, Prepared, prepare, seal};
+use wire_encoder::{EndpointSide, PrepareError, Prepared, prepare};
 use wire_model::{Expected, MessageSide, Target, Value};
 
 /// What a message stands for.
@@ -23,12 +23,37 @@ pub struct Content {
     pub parameters: Value,
 }
 
-/// What a message stands for at an endpoint, or its first fault.
+/// Whom a message is for: the endpoint of an id, or the machine, which is told that the peer of an endpoint is
+/// closed.
+#[derive(Clone, Copy)]
+pub enum Whom {
+    For(u32),
+    Closed(u32),
+}
+
+/// Whom the bytes of a message are for, which came with so many handles, or their first fault. A control has none.
+pub fn meant_for(bytes: &[u8], handles: usize) -> Result<Whom, Fault> {
+    let header = read_header(bytes)?;
+    if header.interface_id != CONTROL_ID {
+        return Ok(Whom::For(header.interface_id));
+    }
+    let id = read_control(bytes, &header)?;
+    if handles != 0 {
+        return Err(Fault {
+            kind: FaultKind::IllegalHandle,
+            at: 0,
+        });
+    }
+    Ok(Whom::Closed(id))
+}
+
+/// What a message of these bytes stands for at an endpoint, or its first fault.
 pub fn stands(
     alloc: Global,
     schema: &Schema,
     endpoint: Endpoint,
-    letter: Letter<'_>,
+    bytes: &[u8],
+    handles: usize,
 ) -> Result<Result<Content, Fault>, AllocError> {
     let side = match endpoint.side {
         EndpointSide::Receiver => MessageSide::Request,
@@ -38,8 +63,8 @@ pub fn stands(
         interface: endpoint.interface,
         side,
     };
-    let handles = u32::try_from(letter.handles.len()).unwrap_or(u32::MAX);
-    match check(schema, expected, letter.bytes, handles) {
+    let handles = u32::try_from(handles).unwrap_or(u32::MAX);
+    match check(schema, expected, bytes, handles) {
         Err(fault) => Ok(Err(fault)),
         Ok(checked) => Ok(Ok(Content {
             target: Target {
@@ -75,22 +100,87 @@ fn known(schema: &Schema, target: Target) -> Option<Target>
     }
 }
 
-/// The bytes of what was prepared, for the endpoint of an id; none where it carries ids.
-fn sealed_plain(
+/// Adds a number of 32 bits.
+fn push32(out: &mut Vec<u8>, number: u32) -> Result<(), AllocError> {
+    out.extend_from_slice(&number.to_le_bytes())
+}
+
+/// Adds a number of 64 bits.
+fn push64(out: &mut Vec<u8>, number: u64) -> Result<(), AllocError> {
+    out.extend_from_slice(&number.to_le_bytes())
+}
+
+/// The version and the size of the header of a message with these flags and so many ids.
+fn version_of(flags: u32, ids: usize) -> (u32, u32) {
+    if ids != 0 {
+        (2, 48)
+    } else if flags != 0 {
+        (1, 32)
+    } else {
+        (0, 24)
+    }
+}
+
+/// Adds the header of a message for the endpoint of an id: behind the payload, where there are ids, these are at
+/// 48 and the payload's bytes.
+fn push_header(
+    out: &mut Vec<u8>,
+    prepared: &Prepared,
+    id: u32,
+    request: u64,
+    ids: usize,
+) -> Result<(), AllocError> {
+    let (version, size) = version_of(prepared.flags, ids);
+    push32(out, size)?;
+    push32(out, version)?;
+    push32(out, id)?;
+    push32(out, prepared.target.method)?;
+    push32(out, prepared.flags)?;
+    push32(out, 0)?;
+    if version >= 1 {
+        push64(out, request)?;
+    }
+    if version >= 2 {
+        push64(out, 16)?;
+        push64(out, (prepared.payload.len() as u64).saturating_add(8))?;
+    }
+    Ok(())
+}
+
+/// Adds the array of ids, where there are some.
+fn push_ids(out: &mut Vec<u8>, ids: &[u32]) -> Result<(), AllocError> {
+    if ids.is_empty() {
+        return Ok(());
+    }
+    let count = u32::try_from(ids.len()).unwrap_or(u32::MAX);
+    push32(out, count.saturating_mul(4).saturating_add(8))?;
+    push32(out, count)?;
+    for id in ids {
+        push32(out, *id)?;
+    }
+    if count % 2 == 1 {
+        push32(out, 0)?;
+    }
+    Ok(())
+}
+
+/// The bytes of what was prepared, for the endpoint of an id.
+fn joined(
     alloc: Global,
     prepared: &Prepared,
     id: u32,
     request: u64,
+    outgoing: &Outgoing,
 ) -> Result<Vec<u8>, AllocError> {
-    if !prepared.endpoints.is_empty() {
-        return Ok(Vec::new(alloc));
+    let mut ids = Vec::new(alloc);
+    for pending in outgoing.pendings.as_slice() {
+        ids.push(pending.id)?;
     }
-    let head = Head {
-        interface_id: id,
-        request_id: request,
-        ids: &[],
-    };
-    seal(alloc, prepared, &head)
+    let mut out = Vec::new(alloc);
+    push_header(&mut out, prepared, id, request, ids.len())?;
+    out.extend_from_slice(&prepared.payload)?;
+    push_ids(&mut out, &ids)?;
+    Ok(out)
 }
 
 /// The bytes of a request or a response for the endpoint of an id; none where what is sent is neither.
@@ -106,7 +196,7 @@ pub fn sealed(
     };
     let value = copied(alloc, outgoing.parameters.value())?;
     match prepare(alloc, schema, target, value) {
-        Ok(prepared) => sealed_plain(alloc, &prepared, id, request),
+        Ok(prepared) => joined(alloc, &prepared, id, request, outgoing),
         Err((error, _value)) => match error {
             PrepareError::Memory => Err(AllocError),
             _ => Ok(Vec::new(alloc)),

@@ -4,6 +4,7 @@ pub mod LineWords
 pub mod Parts
 pub mod Dots
 pub mod Endpoints
+pub mod Hexes
 pub mod NameBytes
 pub mod WordBytes
 pub mod Interfaces
@@ -16,8 +17,10 @@ pub mod LineLemmas
 pub mod LoopLemmas
 pub mod OneForm
 pub mod OneName
+pub mod OwnNames
 pub mod OneValue
 pub mod AutoLemmas
 pub mod OneAnswer
 pub mod OneScript
+pub mod Sending
 pub mod SoundLemmas

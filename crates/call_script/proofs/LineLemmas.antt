@@ -1,14 +1,11 @@
 -- One line more.
-use Rattle.std.proofs.Common.{◌≡◌, ◌<◌, ◌≤◌, ℕ, List, [], ◌∷◌, ◌++◌, append-nil, refl, sym, ◌∙◌, ap, subst, lit<}
-use Rattle.std.specs.Prelude.{Bool, true, false, ◌||◌, ◌&&◌, ◌↔◌, IsTrue, codes, decimal, not, reverse, Result, Ok, Err}
+use Rattle.std.proofs.Common.{◌≡◌, ◌<◌, ◌≤◌, ℕ, List, [], ◌∷◌, ◌++◌, append-nil, refl, sym, ◌∙◌, ap, subst}
+use Rattle.std.specs.Prelude.{Bool, true, false, ◌||◌, ◌&&◌, ◌^◌, not, reverse, Result, Ok, Err}
+use Rattle.call_script.proofs.OneForm.{form_one}
 use Rattle.std.specs.List.{list_all}
-use Rattle.std.specs.Str.{bytes_eq}
-use Rattle.std.proofs.lemmas.Slice.Eq.{bytes_eq-Decides}
-use Rattle.std.proofs.lemmas.Fmt.{decimal_digit}
 use Rattle.std.proofs.lemmas.List.{reverse-append}
 use Rattle.mj_base.specs.declared.limits.TheConstants.{MAX_SCRIPT_LINES}
 use Rattle.mj_schema.specs.declared.schema.Schema.{Schema}
-use Rattle.call_script.specs.declared.script.TheConstants.{SEQUENCES}
 use Rattle.call_script.specs.declared.script.AutoReply.{AutoReply}
 use Rattle.call_script.specs.declared.script_error.LineRefusal.{LineRefusal}
 use Rattle.call_script.specs.declared.script_error.LineRefusal.TheVariants.{BadLine, DoubleName, UnknownName, BadValue, TooManyLines}
@@ -17,37 +14,15 @@ use Rattle.call_script.specs.declared.name_table.NameTable.{NameTable}
 use Rattle.call_script.specs.declared.additions.Part.{Part as WrittenPart}
 use Rattle.call_script.specs.declared.additions.Part.TheVariants as parts
 use Rattle.call_script.specs.declared.reading.Reader.{Reader}
-use Rattle.call_script.specs.Forms.{Form, Auto, IsForm, form_words, header_words, is_setup, sets, answers}
-use Rattle.call_script.specs.Script.{is_placed, names_set, methods_answered, line_number, doubled, doubles, finds, knows, IsFormOf, IsReply, IsTaken, IsRefused}
+use Rattle.call_script.specs.Forms.{Form, Auto, IsForm, form_words, is_setup, sequences, AreThere, sets, answers}
+use Rattle.call_script.specs.Script.{is_placed, names_set, methods_answered, line_number, sets_again, doubles, finds, knows}
+use Rattle.call_script.specs.Script.{IsFormOf, IsReply, IsTaken, IsRefused}
 use Rattle.call_script.specs.Script.{Part, OfLine, OfReply, lines_in, replies_in}
-use Rattle.call_script.specs.steps.Names.{IsTable, Adds}
+use Rattle.call_script.specs.steps.Names.{IsTable, Adds, Sets}
 use Rattle.call_script.specs.steps.Commands.{Gives, Parts, part_view}
 use Rattle.indexmap.specs.IndexMap.{index_map_len}
 use Rattle.call_script.specs.declared.commands.Stop.{Stop}
 use Rattle.call_script.specs.steps.Lines.{HasRead, Holds, Pushes, TakesForm}
-
--- the number of sequences in decimal
-one_is : decimal SEQUENCES ≡ codes "1"
-one_is = decimal_digit 1 (lit< tt)
-
--- the words of the first line
-pub header_is : (words : List (List ℕ)) (a b : List ℕ) (result : Bool) → words ≡ a ∷ b ∷ [] → true ≡ bytes_eq a (codes "seqs") → result ≡ bytes_eq b (codes "1")
-    → IsTrue result ↔ (words ≡ header_words)
-header_is words a b result are first second = (from, to)
-  where
-    a_is : a ≡ codes "seqs"
-    a_is = (bytes_eq-Decides a (codes "seqs")).0 (sym first)
-
-    from : IsTrue result → words ≡ header_words
-    from h =
-        let b_is : b ≡ codes "1" = (bytes_eq-Decides b (codes "1")).0 (sym second ∙ h) in
-        are ∙ (ap (λ x. x ∷ b ∷ []) a_is ∙ ap (λ x. codes "seqs" ∷ x ∷ []) (b_is ∙ sym one_is))
-
-    to : words ≡ header_words → IsTrue result
-    to e =
-        let same : a ∷ b ∷ [] ≡ header_words = sym are ∙ e in
-        let b_is : b ≡ codes "1" = cc one_is in
-        second ∙ (bytes_eq-Decides b (codes "1")).1 b_is
 
 -- ## Parts, one more
 
@@ -85,14 +60,14 @@ holds_replies old new parts (OfReply reply) held before = held.0 ∙ (ap (λ rs.
 -- its names are set and its method noted, and the first so many of the table are those before it
 pub record IsNoted (old : Reader) (table methods : NameTable) (form : Form) (count : ℕ) : Type 0 where
   pub sound : IsForm form
-  pub added : Adds old.names table (sets form) true
+  pub added : Sets old.names table form true
   pub noted : Adds old.methods methods (answers form) true
   pub counted : count ≡ index_map_len old.names.numbers
 
 -- neither is there again
-single : (schema : Schema) (old : Reader) (table methods : NameTable) (form : Form) (count : ℕ) (past : List Form)
-    → IsNoted old table methods form count → HasRead schema old past → doubles past form ≡ false
-single schema old table methods form count past is read =
+single : (schema : Schema) (seqs : ℕ) (old : Reader) (table methods : NameTable) (form : Form) (count : ℕ) (past : List Form)
+    → IsNoted old table methods form count → HasRead schema seqs old past → doubles past form ≡ false
+single schema seqs old table methods form count past is read =
     rw ((is.added (names_set past) read.table).0, (is.noted (methods_answered past) read.methods).0) refl
 
 -- a method that has a response is all that an automatic reply names
@@ -102,32 +77,34 @@ reply_known schema names (Auto seq method word) reply found is = rw found refl
 reply_known schema names form reply found is = absurd is
 
 -- it is taken
-taken_by : (schema : Schema) (old : Reader) (table methods : NameTable) (form : Form) (count number : ℕ) (part : WrittenPart) (past : List Form)
-    → IsNoted old table methods form count → Parts schema table count number form (Ok part) → HasRead schema old past → is_placed past form ≡ true
-    → number ≡ line_number past → IsTaken schema past form (part_view part)
-taken_by schema old table methods form count number (parts.Line line) past is gives read placed numbered =
+taken_by : (schema : Schema) (seqs : ℕ) (old : Reader) (table methods : NameTable) (form : Form) (count number : ℕ) (part : WrittenPart) (past : List Form)
+    → IsNoted old table methods form count → Parts schema table count number form (Ok part) → HasRead schema seqs old past → is_placed past form ≡ true
+    → number ≡ line_number past → AreThere seqs (sequences form) → IsTaken schema seqs past form (part_view part)
+taken_by schema seqs old table methods form count number (parts.Line line) past is gives read placed numbered there =
     let asked = gives.2 (names_set past) (is.added (names_set past) read.table).1 (is.counted ∙ read.table.count) in
     record {
       placed = placed;
       sound = is.sound;
-      single = single schema old table methods form count past is read;
+      there = there;
+      single = single schema seqs old table methods form count past is read;
       known = asked.0;
       means = record { number = gives.0 ∙ numbered; seq = gives.1; command = asked.1 };
     }
-taken_by schema old table methods form count number (parts.Reply reply) past is gives read placed numbered = record {
+taken_by schema seqs old table methods form count number (parts.Reply reply) past is gives read placed numbered there = record {
   placed = placed;
   sound = is.sound;
-  single = single schema old table methods form count past is read;
+  there = there;
+  single = single schema seqs old table methods form count past is read;
   known = reply_known schema (names_set past) form reply gives.0 gives.1;
   means = gives.1;
 }
 
 -- what has been read with it
-read_on : (schema : Schema) (past : List Form) (form : Form) (old new : Reader) (table methods : NameTable) (count : ℕ) (part : Part)
-    → is_placed past form ≡ true → IsNoted old table methods form count → HasRead schema old past → IsTaken schema past form part
+read_on : (schema : Schema) (seqs : ℕ) (past : List Form) (form : Form) (old new : Reader) (table methods : NameTable) (count : ℕ) (part : Part)
+    → is_placed past form ≡ true → IsNoted old table methods form count → HasRead schema seqs old past → IsTaken schema seqs past form part
     → new.names ≡ table → new.methods ≡ methods → Holds (record old { names = table; methods = methods }) new part → new.started ≡ not (is_setup form)
-    → HasRead schema new (form ∷ past)
-read_on schema past form old new table methods count part placed is read taken names noted held started = record {
+    → HasRead schema seqs new (form ∷ past)
+read_on schema seqs past form old new table methods count part placed is read taken names noted held started = record {
   parts = part ∷ read.parts;
   taken = (taken, read.taken);
   autos = holds_replies (record old { names = table; methods = methods }) new read.parts part held read.autos;
@@ -150,53 +127,64 @@ pub takes : (schema : Schema) (old new : Reader) (table methods : NameTable) (fo
     → TakesForm schema old new form number result
 takes schema old new table methods form count number part (Ok done) is gives few pushed = (few, on)
   where
-    on : (past : List Form) → HasRead schema old past → is_placed past form ≡ true → number ≡ line_number past → HasRead schema new (form ∷ past)
-    on past read placed numbered =
-        read_on schema past form old new table methods count (part_view part) placed is read
-        (taken_by schema old table methods form count number part past is gives read placed numbered) pushed.0 pushed.1 pushed.2 pushed.3
+    on : (seqs : ℕ) (past : List Form) → AreThere seqs (sequences form) → HasRead schema seqs old past → is_placed past form ≡ true
+        → number ≡ line_number past → HasRead schema seqs new (form ∷ past)
+    on seqs past there read placed numbered =
+        read_on schema seqs past form old new table methods count (part_view part) placed is read
+        (taken_by schema seqs old table methods form count number part past is gives read placed numbered there) pushed.0 pushed.1 pushed.2 pushed.3
 takes schema old new table methods form count number part (Err (stops.Refused why)) is gives few pushed = absurd pushed
 takes schema old new table methods form count number part (Err stops.Memory) is gives few pushed = tt
 
 -- it is one too many
-pub too_many : (schema : Schema) (old : Reader) (table methods : NameTable) (form : Form) (count number : ℕ) (part : WrittenPart) (past : List Form)
-    → IsNoted old table methods form count → Parts schema table count number form (Ok part) → HasRead schema old past → is_placed past form ≡ true
-    → number ≡ line_number past → MAX_SCRIPT_LINES < number → IsRefused schema past (form_words form) TooManyLines
-too_many schema old table methods form count number part past is gives read placed numbered many = (
+pub too_many : (schema : Schema) (seqs : ℕ) (old : Reader) (table methods : NameTable) (form : Form) (count number : ℕ) (part : WrittenPart) (past : List Form)
+    → IsNoted old table methods form count → Parts schema table count number form (Ok part) → HasRead schema seqs old past → is_placed past form ≡ true
+    → number ≡ line_number past → AreThere seqs (sequences form) → MAX_SCRIPT_LINES < number → IsRefused schema seqs past (form_words form) TooManyLines
+too_many schema seqs old table methods form count number part past is gives read placed numbered there many = (
   form,
   part_view part,
   refl,
-  taken_by schema old table methods form count number part past is gives read placed numbered,
+  taken_by schema seqs old table methods form count number part past is gives read placed numbered there,
   subst (λ n. MAX_SCRIPT_LINES < n) numbered many,
 )
 
 -- it is refused
-module _ (schema : Schema) (old : Reader) (form : Form) (sound : IsForm form) (past : List Form) (read : HasRead schema old past)
-    (placed : is_placed past form ≡ true) where
-  has_form : IsFormOf past (form_words form) form
-  has_form = record { sound = sound; placed = placed; spelled = refl }
+module _ (schema : Schema) (seqs : ℕ) (old : Reader) (form : Form) (sound : IsForm form) (there : AreThere seqs (sequences form)) (past : List Form)
+    (read : HasRead schema seqs old past) (placed : is_placed past form ≡ true) where
+  has_form : IsFormOf seqs past (form_words form) form
+  has_form = record { sound = sound; there = there; placed = placed; spelled = refl }
 
-  pub named_again : (table : NameTable) → Adds old.names table (sets form) false → IsRefused schema past (form_words form) DoubleName
+  pub named_again : (table : NameTable) → Sets old.names table form false → IsRefused schema seqs past (form_words form) DoubleName
   named_again table again = let twice = again (names_set past) read.table in (form, has_form, rw twice refl)
 
-  pub answered_again : (table : NameTable) → Adds old.methods table (answers form) false → IsRefused schema past (form_words form) DoubleName
+  pub answered_again : (table : NameTable) → Adds old.methods table (answers form) false → IsRefused schema seqs past (form_words form) DoubleName
   answered_again table again =
-      let twice = again (methods_answered past) read.methods in (form, has_form, rw twice (either (doubled (names_set past) (sets form))))
+      let twice = again (methods_answered past) read.methods in (form, has_form, rw twice (either (sets_again (names_set past) form)))
     where
       either : (a : Bool) → (a || true) ≡ true
       either true = refl
       either false = refl
 
   refused_with : (table methods : NameTable) (count : ℕ) (why : LineRefusal) → IsNoted old table methods form count
-      → Gives schema (names_set past) form (Err (stops.Refused why)) → IsRefused schema past (form_words form) why
+      → Gives schema (names_set past) form (Err (stops.Refused why)) → IsRefused schema seqs past (form_words form) why
   refused_with table methods count BadLine is gives = absurd gives
   refused_with table methods count DoubleName is gives = absurd gives
-  refused_with table methods count UnknownName is gives = (form, has_form, single schema old table methods form count past is read, gives)
-  refused_with table methods count BadValue is gives = (form, has_form, single schema old table methods form count past is read, gives.0, gives.1)
+  refused_with table methods count UnknownName is gives = (form, has_form, single schema seqs old table methods form count past is read, gives)
+  refused_with table methods count BadValue is gives = (form, has_form, single schema seqs old table methods form count past is read, gives.0, gives.1)
   refused_with table methods count TooManyLines is gives = absurd gives
 
 pub refuses : (schema : Schema) (old new : Reader) (table methods : NameTable) (form : Form) (count number : ℕ) (stop : Stop)
     → IsNoted old table methods form count → Parts schema table count number form (Err stop) → TakesForm schema old new form number (Err stop)
-refuses schema old new table methods form count number (stops.Refused why) is gives = λ past read placed numbered.
-    refused_with schema old form is.sound past read placed table methods count why is
+refuses schema old new table methods form count number (stops.Refused why) is gives = λ seqs past there read placed numbered.
+    refused_with schema seqs old form is.sound there past read placed table methods count why is
     (gives (names_set past) (is.added (names_set past) read.table).1 (is.counted ∙ read.table.count))
 refuses schema old new table methods form count number stops.Memory is gives = tt
+
+-- a line of the setup that stands behind another has no form that may stand there
+pub misplaced : (schema : Schema) (seqs : ℕ) (old : Reader) (past : List Form) (words : List (List ℕ)) (form : Form) → seqs < 2 ^ 64
+    → IsForm form × AreThere seqs (sequences form) × (words ≡ form_words form) → is_setup form ≡ true → old.started ≡ true
+    → HasRead schema seqs old past → (other : Form) → IsFormOf seqs past words other → ⊥
+misplaced schema seqs old past words form few is setup started read other at =
+    let same : other ≡ form = form_one seqs few other form at.sound is.0 at.there is.1 (sym at.spelled ∙ is.2) in
+    let may : is_placed past form ≡ true = subst (λ f. is_placed past f ≡ true) same at.placed in
+    let none : list_all is_setup past ≡ false = read.setup ∙ ap not started in
+    let never : is_placed past form ≡ false = rw (setup, none) refl in cc

@@ -13,7 +13,7 @@ use Rattle.call_script.specs.declared.script.Script.{Script}
 use Rattle.call_script.specs.declared.script_error.LineRefusal.{LineRefusal}
 use Rattle.call_script.specs.declared.script_error.ScriptError.{ScriptError}
 use Rattle.call_script.specs.declared.reading.Reader.{Reader}
-use Rattle.call_script.specs.Forms.{Form, form_words, header_words}
+use Rattle.call_script.specs.Forms.{Form, form_words, header_words, AreSequences}
 use Rattle.call_script.specs.Script.{line_number, AreScript, IsRefusedBehind}
 use Rattle.call_script.specs.declared.split.Words.{Words}
 use Rattle.call_script.specs.steps.Pieces.{words_now}
@@ -24,17 +24,17 @@ pub forms_more : (past : List Form) (form : Form) → map form_words (reverse (f
 forms_more past form = ap (map form_words) (reverse-append (form ∷ []) past) ∙ map-append form_words (reverse past) (form ∷ [])
 
 -- so many lines have been read, and the next has this number
-pub record IsAt (schema : Schema) (reader : Reader) (done : List (List (List ℕ))) (number : ℕ) : Type 0 where
+pub record IsAt (schema : Schema) (seqs : ℕ) (reader : Reader) (done : List (List (List ℕ))) (number : ℕ) : Type 0 where
   pub past : List Form
-  pub read : HasRead schema reader past
+  pub read : HasRead schema seqs reader past
   pub words : map form_words (reverse past) ≡ done
   pub next : number ≡ line_number past
   pub few : number ≤ suc MAX_SCRIPT_LINES
 
 -- one line more
-pub goes_on : (schema : Schema) (old new : Reader) (done : List (List (List ℕ))) (words : List (List ℕ)) (number : ℕ)
-    → IsAt schema old done number → ReadsOn schema old new words number (Ok tt) → IsAt schema new (done ++ words ∷ []) (number + 1)
-goes_on schema old new done words number at (small, on) =
+pub goes_on : (schema : Schema) (seqs : ℕ) (old new : Reader) (done : List (List (List ℕ))) (words : List (List ℕ)) (number : ℕ)
+    → IsAt schema seqs old done number → ReadsOn schema seqs old new words number (Ok tt) → IsAt schema seqs new (done ++ words ∷ []) (number + 1)
+goes_on schema seqs old new done words number at (small, on) =
     let more = on at.past at.read at.next in
     record {
       past = more.0 ∷ at.past;
@@ -45,15 +45,17 @@ goes_on schema old new done words number at (small, on) =
     }
 
 -- a line that is refused
-stops_at : (schema : Schema) (old new : Reader) (done rest : List (List (List ℕ))) (words : List (List ℕ)) (number : ℕ) (why : LineRefusal)
-    → IsAt schema old done number → ReadsOn schema old new words number (Err (reasons.Refused why))
-    → IsRefusedBehind schema (header_words ∷ (done ++ words ∷ rest)) number why
-stops_at schema old new done rest words number why at refuses = record {
+stops_at : (schema : Schema) (seqs : ℕ) (old new : Reader) (done rest : List (List (List ℕ))) (words : List (List ℕ)) (number : ℕ) (why : LineRefusal)
+    → AreSequences seqs → IsAt schema seqs old done number → ReadsOn schema seqs old new words number (Err (reasons.Refused why))
+    → IsRefusedBehind schema (header_words seqs ∷ (done ++ words ∷ rest)) number why
+stops_at schema seqs old new done rest words number why count at refuses = record {
+  seqs = seqs;
   forms = at.past;
   parts = at.read.parts;
   words = words;
   rest = rest;
-  spelled = ap (λ d. header_words ∷ (d ++ words ∷ rest)) (sym at.words);
+  count = count;
+  spelled = ap (λ d. header_words seqs ∷ (d ++ words ∷ rest)) (sym at.words);
   taken = at.read.taken;
   few = let n = at.next in let f = at.few in omega (arith, n, f);
   number = at.next;
@@ -61,24 +63,27 @@ stops_at schema old new done rest words number why at refuses = record {
 }
 
 -- a line that isn't taken
-pub stops : (schema : Schema) (old new : Reader) (texts done rest : List (List (List ℕ))) (words : List (List ℕ)) (number : ℕ) (stop : Stop)
+pub stops : (schema : Schema) (seqs : ℕ) (old new : Reader) (texts done rest : List (List (List ℕ))) (words : List (List ℕ)) (number : ℕ) (stop : Stop)
     (error : ScriptError)
-    → IsAt schema old done number → ReadsOn schema old new words number (Err stop) → texts ≡ done ++ words ∷ rest → error ≡ error_of number stop
-    → AnswersBehind schema texts (Err error)
-stops schema old new texts done rest words number (reasons.Refused why) error at refuses whole is =
-    subst (λ e. AnswersBehind schema texts (Err e)) (sym is)
-    (subst (λ t. IsRefusedBehind schema (header_words ∷ t) number why) (sym whole) (stops_at schema old new done rest words number why at refuses))
-stops schema old new texts done rest words number reasons.Memory error at refuses whole is = subst (λ e. AnswersBehind schema texts (Err e)) (sym is) tt
+    → AreSequences seqs → IsAt schema seqs old done number → ReadsOn schema seqs old new words number (Err stop) → texts ≡ done ++ words ∷ rest
+    → error ≡ error_of number stop → AnswersBehind schema seqs texts (Err error)
+stops schema seqs old new texts done rest words number (reasons.Refused why) error count at refuses whole is =
+    subst (λ e. AnswersBehind schema seqs texts (Err e)) (sym is)
+    (subst (λ t. IsRefusedBehind schema (header_words seqs ∷ t) number why) (sym whole)
+    (stops_at schema seqs old new done rest words number why count at refuses))
+stops schema seqs old new texts done rest words number reasons.Memory error count at refuses whole is =
+    subst (λ e. AnswersBehind schema seqs texts (Err e)) (sym is) tt
 
 -- all lines have been read
 pub ends : (schema : Schema) (reader : Reader) (done : List (List (List ℕ))) (number : ℕ) (script : Script)
-    → IsAt schema reader done number → script.autos ≡ reader.autos.items → script.lines ≡ reader.lines.items
+    → AreSequences script.seqs → IsAt schema script.seqs reader done number → script.autos ≡ reader.autos.items → script.lines ≡ reader.lines.items
     → script.names ≡ index_map_len reader.names.numbers
-    → AreScript schema (header_words ∷ done) script
-ends schema reader done number script at autos lines names = record {
+    → AreScript schema (header_words script.seqs ∷ done) script
+ends schema reader done number script count at autos lines names = record {
   forms = at.past;
   parts = at.read.parts;
-  spelled = ap (λ d. header_words ∷ d) (sym at.words);
+  count = count;
+  spelled = ap (λ d. header_words script.seqs ∷ d) (sym at.words);
   taken = at.read.taken;
   autos = autos ∙ at.read.autos;
   lines = lines ∙ at.read.lines;

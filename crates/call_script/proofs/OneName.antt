@@ -2,13 +2,14 @@
 use Rattle.std.proofs.Common.{◌≡◌, ◌+◌, ℕ, zero, suc, List, [], ◌∷◌, ◌++◌, length, refl, sym, ◌∙◌, ap, subst, append_assoc, append-nil}
 use Rattle.std.specs.Prelude.{Bool, true, false, ◌||◌, Some, None, if◌then◌else◌, slice_get, ◌⊎◌}
 use Rattle.std.proofs.Common.{inl, inr}
+use Rattle.std.specs.List.{list_any}
 use Rattle.std.specs.Option.{option_map, option_or}
 use Rattle.std.specs.Str.{bytes_eq}
 use Rattle.std.proofs.lemmas.Slice.Eq.{bytes_eq-Decides}
 use Rattle.mj_schema.specs.declared.schema.Schema.{Schema}
 use Rattle.call_script.specs.declared.script.NameId.{NameId}
-use Rattle.call_script.specs.Forms.{Form, sets}
-use Rattle.call_script.specs.Script.{has_name, doubled, names_set, IsNamed, AreNamed, Part, AreTaken}
+use Rattle.call_script.specs.Forms.{Form, sets, sets_own}
+use Rattle.call_script.specs.Script.{has_name, doubled, sets_again, names_set, IsNamed, AreNamed, Part, AreTaken}
 use Rattle.call_script.specs.steps.Names.{number_of}
 use Rattle.call_script.proofs.NameLemmas.{number_more}
 
@@ -64,13 +65,18 @@ either_way : (a b : Bool) → (a || b) ≡ false → a ≡ false
 either_way true b h = absurd cc
 either_way false b h = refl
 
+other_way : (a b : Bool) → (a || b) ≡ false → b ≡ false
+other_way true b h = absurd cc
+other_way false b h = h
+
 -- the names of a script
-pub numbered : (schema : Schema) (forms : List Form) (parts : List Part) → AreTaken schema forms parts → Numbered (names_set forms)
-numbered schema [] parts taken n q e = absurd cc
-numbered schema (form ∷ past) [] taken n q e = absurd taken
-numbered schema (form ∷ past) (part ∷ parts) taken n q e =
-    let single = either_way (doubled (names_set past) (sets form)) _ taken.0.single in
-    numbered_more (names_set past) (sets form) (numbered schema past parts taken.1) single n q e
+pub numbered : (schema : Schema) (seqs : ℕ) (forms : List Form) (parts : List Part) → AreTaken schema seqs forms parts → Numbered (names_set forms)
+numbered schema seqs [] parts taken n q e = absurd cc
+numbered schema seqs (form ∷ past) [] taken n q e = absurd taken
+numbered schema seqs (form ∷ past) (part ∷ parts) taken n q e =
+    let new = either_way (sets_again (names_set past) form) _ taken.0.single in
+    let single = other_way (list_any (has_name (names_set past)) (sets_own form)) (doubled (names_set past) (sets form)) new in
+    numbered_more (names_set past) (sets form) (numbered schema seqs past parts taken.1) single n q e
 
 -- one number, and the same numbers
 pub id_one : (names : List (List ℕ)) → Numbered names → (a b : NameId) (q : List ℕ) → IsNamed names a q → IsNamed names b q → a ≡ b

@@ -8,70 +8,89 @@ use Rattle.call_script.specs.declared.script.Command.{Command}
 use Rattle.call_script.specs.declared.script.Command.TheVariants as commands
 use Rattle.call_script.specs.declared.script.Script.{Script}
 use Rattle.call_script.specs.Pieces.{text_words}
-use Rattle.call_script.specs.Forms.{Form, Join, Auto, Of, Pipe, Mint, Bind, Call, Take, Answer, CloseToken, CloseEndpoint}
+use Rattle.call_script.specs.Forms.{Form, Join, Auto, Of, Pipe, Mint, Bind, Associate, Attach, Call, Take, Answer, Raw, CloseToken, CloseEndpoint}
 use Rattle.call_script.specs.Same.{SameCommand, SameLine, SameLines, SameReply, SameReplies, SameScript}
 use Rattle.call_script.specs.Script.{names_set, IsValueOf, Asks, IsAuto, Part, OfLine, OfReply, IsPart, lines_in, replies_in, AreTaken, AreScript, IsScriptOf}
+use Rattle.call_script.proofs.Hexes.{hex_one}
 use Rattle.call_script.proofs.OneName.{Numbered, numbered, id_one, ids_one}
 use Rattle.call_script.proofs.OneValue.{one_found, prepared_one}
 use Rattle.call_script.proofs.OneAnswer.{same_forms}
 
 -- a form asks one thing
-module _ (schema : Schema) (names : List (List ℕ)) (all : Numbered names) where
-  same_command : (form : Form) (a b : Command) → Asks schema names form a → Asks schema names form b → SameCommand a b
+module _ (schema : Schema) (before names : List (List ℕ)) (all : Numbered names) where
+  same_command : (form : Form) (a b : Command) → Asks schema before names form a → Asks schema before names form b → SameCommand a b
   same_command (Join seq other x y) (commands.Join o f g) (commands.Join o' f' g') one also =
-      let first = id_one names all f f' x one.1 also.1 in
-      let second = id_one names all g g' y one.2 also.2 in
+      let first = id_one names all f f' _ one.1 also.1 in
+      let second = id_one names all g g' _ one.2 also.2 in
       let seqs : o ≡ o' = ap (λ (n : ℕ). record { 0 = n }) (one.0 ∙ sym also.0) in cc
   same_command (Join seq other x y) (commands.Join o f g) b one also = absurd also
   same_command (Join seq other x y) a b one also = absurd one
   same_command (Auto seq method word) a b one also = absurd one
   same_command (Of seq (Pipe x y)) (commands.Pipe f g) (commands.Pipe f' g') one also =
-      let first = id_one names all f f' x one.0 also.0 in
-      let second = id_one names all g g' y one.1 also.1 in cc
+      let first = id_one names all f f' _ one.0 also.0 in
+      let second = id_one names all g g' _ one.1 also.1 in cc
   same_command (Of seq (Pipe x y)) (commands.Pipe f g) b one also = absurd also
   same_command (Of seq (Pipe x y)) a b one also = absurd one
   same_command (Of seq (Mint sort x)) (commands.Mint s i) (commands.Mint s' i') one also =
-      let id = id_one names all i i' x one.1 also.1 in
+      let id = id_one names all i i' _ one.1 also.1 in
       let sorts = one.0 ∙ sym also.0 in cc
   same_command (Of seq (Mint sort x)) (commands.Mint s i) b one also = absurd also
   same_command (Of seq (Mint sort x)) a b one also = absurd one
   same_command (Of seq (Bind x side word)) (commands.Bind i s n) (commands.Bind i' s' n') one also =
-      let id = id_one names all i i' x one.0 also.0 in
+      let id = id_one names all i i' _ one.0 also.0 in
       let sides = one.1 ∙ sym also.1 in
       let numbers : Some n ≡ Some n' = sym one.2 ∙ also.2 in cc
   same_command (Of seq (Bind x side word)) (commands.Bind i s n) b one also = absurd also
   same_command (Of seq (Bind x side word)) a b one also = absurd one
+  same_command (Of seq (Associate x side word y)) (commands.Associate i s n j) (commands.Associate i' s' n' j') one also =
+      let id = id_one names all i i' _ one.0 also.0 in
+      let sides = one.1 ∙ sym also.1 in
+      let numbers : Some n ≡ Some n' = sym one.2 ∙ also.2 in
+      let pending = id_one names all j j' _ one.3 also.3 in cc
+  same_command (Of seq (Associate x side word y)) (commands.Associate i s n j) b one also = absurd also
+  same_command (Of seq (Associate x side word y)) a b one also = absurd one
+  same_command (Of seq (Attach x other)) (commands.Attach i o) (commands.Attach i' o') one also =
+      let id = id_one names all i i' _ one.0 also.0 in
+      let seqs : o ≡ o' = ap (λ (n : ℕ). record { 0 = n }) (one.1 ∙ sym also.1) in cc
+  same_command (Of seq (Attach x other)) (commands.Attach i o) b one also = absurd also
+  same_command (Of seq (Attach x other)) a b one also = absurd one
+  same_command (Of seq (Raw x word ts)) (commands.Raw i bytes tokens) (commands.Raw i' bytes' tokens') one also =
+      let id = id_one names all i i' _ one.0 also.0 in
+      let same = hex_one bytes bytes' one.1.0 also.1.0 (sym one.1.1 ∙ also.1.1) in
+      let ids = ids_one names all tokens tokens' _ one.2 also.2 in cc
+  same_command (Of seq (Raw x word ts)) (commands.Raw i bytes tokens) b one also = absurd also
+  same_command (Of seq (Raw x word ts)) a b one also = absurd one
   same_command (Of seq (Call x id method word ts)) (commands.Call i n p tokens) (commands.Call i' n' p' tokens') one also =
       let value = one.3 in
       let other = also.3 in
       let found = one_found p.target p'.target value.0 other.0 (sym value.1 ∙ other.1) in (
-        id_one names all i i' x one.0 also.0,
+        id_one names all i i' _ one.0 also.0,
         one.1 ∙ sym also.1,
         prepared_one schema value.0 word p p' found.0 value.2 (subst (λ (n : ℕ). IsValueOf schema n word p') (sym found.1) other.2),
-        ids_one names all tokens tokens' ts one.2 also.2,
+        ids_one names all tokens tokens' _ one.2 also.2,
       )
   same_command (Of seq (Call x id method word ts)) (commands.Call i n p tokens) b one also = absurd also
   same_command (Of seq (Call x id method word ts)) a b one also = absurd one
   same_command (Of seq (Take x ns)) (commands.Take i got) (commands.Take i' got') one also =
-      let id = id_one names all i i' x one.0 also.0 in
-      let ids = ids_one names all got got' ns one.1 also.1 in cc
+      let id = id_one names all i i' _ one.0 also.0 in
+      let ids = ids_one names all got got' _ one.1 also.1 in cc
   same_command (Of seq (Take x ns)) (commands.Take i got) b one also = absurd also
   same_command (Of seq (Take x ns)) a b one also = absurd one
   same_command (Of seq (Answer x method word ts)) (commands.Answer i p tokens) (commands.Answer i' p' tokens') one also =
       let value = one.2 in
       let other = also.2 in
       let found = one_found p.target p'.target value.0 other.0 (sym value.1 ∙ other.1) in (
-        id_one names all i i' x one.0 also.0,
+        id_one names all i i' _ one.0 also.0,
         prepared_one schema value.0 word p p' found.0 value.2 (subst (λ (n : ℕ). IsValueOf schema n word p') (sym found.1) other.2),
-        ids_one names all tokens tokens' ts one.1 also.1,
+        ids_one names all tokens tokens' _ one.1 also.1,
       )
   same_command (Of seq (Answer x method word ts)) (commands.Answer i p tokens) b one also = absurd also
   same_command (Of seq (Answer x method word ts)) a b one also = absurd one
-  same_command (Of seq (CloseToken x)) (commands.CloseToken i) (commands.CloseToken i') one also = let id = id_one names all i i' x one also in cc
+  same_command (Of seq (CloseToken x)) (commands.CloseToken i) (commands.CloseToken i') one also = let id = id_one names all i i' _ one also in cc
   same_command (Of seq (CloseToken x)) (commands.CloseToken i) b one also = absurd also
   same_command (Of seq (CloseToken x)) a b one also = absurd one
   same_command (Of seq (CloseEndpoint x n)) (commands.CloseEndpoint i m) (commands.CloseEndpoint i' m') one also =
-      let id = id_one names all i i' x one.0 also.0 in
+      let id = id_one names all i i' _ one.0 also.0 in
       let ids = one.1 ∙ sym also.1 in cc
   same_command (Of seq (CloseEndpoint x n)) (commands.CloseEndpoint i m) b one also = absurd also
   same_command (Of seq (CloseEndpoint x n)) a b one also = absurd one
@@ -99,7 +118,7 @@ same_part : (schema : Schema) (past : List Form) (form : Form) (a b : Part) → 
 same_part schema past form (OfLine a) (OfLine b) all one also = record {
   number = one.number ∙ sym also.number;
   seq = ap (λ (n : ℕ). record { 0 = n }) (one.seq ∙ sym also.seq);
-  command = same_command schema (names_set (form ∷ past)) all form a.command b.command one.command also.command;
+  command = same_command schema (names_set past) (names_set (form ∷ past)) all form a.command b.command one.command also.command;
 }
 same_part schema past (Auto seq method word) (OfReply a) (OfReply b) all one also = same_auto schema seq method word a b one also
 same_part schema past form (OfReply a) (OfReply b) all one also = absurd one
@@ -114,15 +133,16 @@ SameParts [] [] = Unit {0}
 SameParts (part ∷ parts) (part' ∷ parts') = SamePart part part' × SameParts parts parts'
 SameParts _ _ = ⊥
 
-parts_same : (schema : Schema) (forms : List Form) (xs ys : List Part) → AreTaken schema forms xs → AreTaken schema forms ys → SameParts xs ys
-parts_same schema [] [] [] one other = tt
-parts_same schema [] [] (y ∷ ys) one other = absurd other
-parts_same schema [] (x ∷ xs) ys one other = absurd one
-parts_same schema (form ∷ past) [] ys one other = absurd one
-parts_same schema (form ∷ past) (x ∷ xs) [] one other = absurd other
-parts_same schema (form ∷ past) (x ∷ xs) (y ∷ ys) one other = (
-  same_part schema past form x y (numbered schema (form ∷ past) (x ∷ xs) one) one.0.means other.0.means,
-  parts_same schema past xs ys one.1 other.1,
+parts_same : (schema : Schema) (seqs : ℕ) (forms : List Form) (xs ys : List Part) → AreTaken schema seqs forms xs → AreTaken schema seqs forms ys
+    → SameParts xs ys
+parts_same schema seqs [] [] [] one other = tt
+parts_same schema seqs [] [] (y ∷ ys) one other = absurd other
+parts_same schema seqs [] (x ∷ xs) ys one other = absurd one
+parts_same schema seqs (form ∷ past) [] ys one other = absurd one
+parts_same schema seqs (form ∷ past) (x ∷ xs) [] one other = absurd other
+parts_same schema seqs (form ∷ past) (x ∷ xs) (y ∷ ys) one other = (
+  same_part schema past form x y (numbered schema seqs (form ∷ past) (x ∷ xs) one) one.0.means other.0.means,
+  parts_same schema seqs past xs ys one.1 other.1,
 )
 
 -- one by one in the other order
@@ -163,10 +183,14 @@ same_replies (OfReply a ∷ xs) (OfLine b ∷ ys) s = absurd s.0
 same_script : (schema : Schema) (texts : List (List (List ℕ))) (one other : Script) → AreScript schema texts one → AreScript schema texts other
     → SameScript one other
 same_script schema texts one other is also =
-    let forms : also.forms ≡ is.forms = sym (same_forms schema texts one other is also) in
-    let taken : AreTaken schema is.forms also.parts = subst (λ (l : List Form). AreTaken schema l also.parts) forms also.taken in
-    let parts = same_reverse is.parts also.parts (parts_same schema is.forms is.parts also.parts is.taken taken) in
+    let same = same_forms schema texts one other is also in
+    let forms : also.forms ≡ is.forms = sym same.1 in
+    let so_many : AreTaken schema one.seqs also.forms also.parts =
+    subst (λ (n : ℕ). AreTaken schema n also.forms also.parts) (sym same.0) also.taken in
+    let taken : AreTaken schema one.seqs is.forms also.parts = subst (λ (l : List Form). AreTaken schema one.seqs l also.parts) forms so_many in
+    let parts = same_reverse is.parts also.parts (parts_same schema one.seqs is.forms is.parts also.parts is.taken taken) in
     record {
+      seqs = same.0;
       names = is.names ∙ (ap (λ (l : List Form). length (names_set l)) (sym forms) ∙ sym also.names);
       autos = rw (is.autos, also.autos) (same_replies (reverse is.parts) (reverse also.parts) parts);
       lines = rw (is.lines, also.lines) (same_lines (reverse is.parts) (reverse also.parts) parts);

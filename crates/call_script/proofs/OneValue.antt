@@ -75,19 +75,20 @@ wants_some schema target number word prepared same value wants tree spells =
     ))
 
 -- a line with a value has one
-command_value : (schema : Schema) (names : List (List ℕ)) (form : Form) (command : Command) → HasNoValue schema form → Asks schema names form command → ⊥
-command_value schema names (Of seq (Call x id method word ts)) (commands.Call end id' prepared tokens) none asks =
+command_value : (schema : Schema) (before names : List (List ℕ)) (form : Form) (command : Command) → HasNoValue schema form
+    → Asks schema before names form command → ⊥
+command_value schema before names (Of seq (Call x id method word ts)) (commands.Call end id' prepared tokens) none asks =
     let value = asks.3 in
     let refused = none prepared.target value.0 value.1 (view prepared.value) value.2.0 in
     not_refused schema prepared refused.0 value.2.1 refused.1 refused.2
-command_value schema names (Of seq (Call x id method word ts)) command none asks = absurd asks
-command_value schema names (Of seq (Answer x method word ts)) (commands.Answer responder prepared tokens) none asks =
+command_value schema before names (Of seq (Call x id method word ts)) command none asks = absurd asks
+command_value schema before names (Of seq (Answer x method word ts)) (commands.Answer responder prepared tokens) none asks =
     let value = asks.2 in
     let refused = none prepared.target value.0 value.1 (view prepared.value) value.2.0 in
     not_refused schema prepared refused.0 value.2.1 refused.1 refused.2
-command_value schema names (Of seq (Answer x method word ts)) command none asks = absurd asks
-command_value schema names (Auto seq method word) command none asks = absurd asks
-command_value schema names form command none asks = absurd none
+command_value schema before names (Of seq (Answer x method word ts)) command none asks = absurd asks
+command_value schema before names (Auto seq method word) command none asks = absurd asks
+command_value schema before names form command none asks = absurd none
 
 -- and so has an automatic reply
 reply_value : (schema : Schema) (seq : ℕ) (method word : List ℕ) (reply : AutoReply) → HasNoValue schema (Auto seq method word)
@@ -101,7 +102,7 @@ reply_value schema seq method word reply none is =
     go (inr wants) = wants_none schema reply.prepared is.value.1 is.handles is.endpoints wants
 
 pub has_value : (schema : Schema) (past : List Form) (form : Form) (part : Part) → HasNoValue schema form → IsPart schema past form part → ⊥
-has_value schema past form (OfLine line) none means = command_value schema (names_set (form ∷ past)) form line.command none means.command
+has_value schema past form (OfLine line) none means = command_value schema (names_set past) (names_set (form ∷ past)) form line.command none means.command
 has_value schema past (Auto seq method word) (OfReply reply) none means = reply_value schema seq method word reply none means
 has_value schema past form (OfReply reply) none means = absurd means
 

@@ -3,6 +3,7 @@ use Rattle.std.proofs.Common.{◌≡◌, ◌+◌, ℕ, List, [], ◌∷◌, refl
 use Rattle.mj_schema.specs.declared.schema.Schema.{Schema}
 use Rattle.call_script.specs.declared.commands.Stop.{Stop}
 use Rattle.call_script.specs.declared.name_table.NameTable.{NameTable}
+use Rattle.call_script.specs.declared.name_table.Scope.{Scope}
 use Rattle.call_script.specs.declared.script.Command.TheVariants as commands
 use Rattle.call_script.specs.Forms.{Said, Form, Join, Auto, Of}
 use Rattle.call_script.specs.steps.Commands.{Gives, Commands, Says, Replies, Parts}
@@ -21,7 +22,7 @@ reply_stops schema table count number form seq method word stop is refused =
     λ names t k. subst (λ (f : Form). Gives schema names f (Err stop)) (sym is) (refused names)
 
 -- a line of a sequence that is refused
-pub said_stops : (schema : Schema) (table : NameTable) (count number : ℕ) (form : Form) (seq : ℕ) (said : Said) (stop : Stop)
-    → form ≡ Of seq said → Says schema table count said (Err stop) → Parts schema table count number form (Err stop)
-said_stops schema table count number form seq said stop is refused =
-    subst (λ (f : Form). Commands schema table count f (Err stop)) (sym is) (refused seq)
+pub said_stops : (schema : Schema) (scope : Scope) (number : ℕ) (form : Form) (said : Said) (stop : Stop)
+    → form ≡ Of scope.seq said → Says schema scope said (Err stop) → Parts schema scope.table.now scope.count number form (Err stop)
+said_stops schema scope number form said stop is refused =
+    subst (λ (f : Form). Commands schema scope.table.now scope.count f (Err stop)) (sym is) refused

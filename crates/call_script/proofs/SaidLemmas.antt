@@ -1,21 +1,39 @@
--- What a take asks.
-use Rattle.std.proofs.Common.{◌≡◌, ℕ, List, length, refl, ◌∙◌, ap, Ok}
-use Rattle.std.specs.Prelude.{map}
+-- What is said by words, and what a take asks.
+use Rattle.std.proofs.Common.{◌≡◌, ℕ, List, length, refl, sym, ◌∙◌, ap, subst, true, Ok}
+use Rattle.std.proofs.lemmas.List.{length-map}
+use Rattle.std.specs.Prelude.{map, Option}
+use Rattle.std.specs.Str.{bytes_eq}
+use Rattle.std.proofs.lemmas.Slice.Eq.{bytes_eq-Decides}
 use Rattle.std.specs.List.{range_with_len}
 use Rattle.mj_schema.specs.declared.schema.Schema.{Schema}
-use Rattle.call_script.specs.declared.name_table.NameTable.{NameTable}
+use Rattle.call_script.specs.declared.form.Said.{Said as WrittenSaid}
+use Rattle.call_script.specs.steps.Forms.{SpellsBehind, SpellsSaid}
+use Rattle.call_script.specs.declared.name_table.Scope.{Scope}
 use Rattle.call_script.specs.declared.script.NameId.{NameId}
 use Rattle.call_script.specs.declared.script.Command.TheVariants as commands
+use Rattle.call_script.specs.Letters.{own_word}
 use Rattle.call_script.specs.Forms.{Take}
 use Rattle.call_script.specs.steps.Names.{FindsAt}
 use Rattle.call_script.specs.steps.Commands.{Says}
 use Rattle.call_script.proofs.TableLemmas.{named_range}
 
--- its names are those that follow
-pub says_take : (schema : Schema) (table : NameTable) (count : ℕ) (x : List ℕ) (ns : List (List ℕ)) (id : NameId) (ids : List NameId)
-    → FindsAt table count x id → map (λ (id : NameId). id.0) ids ≡ range_with_len count (length ns)
-    → Says schema table count (Take x ns) (Ok (commands.Take id ids))
-says_take schema table count x ns id ids at range seq names t k =
-    let f = at names ns t k in
+-- what stands behind a command, by its word
+pub said_as : (seqs : ℕ) (command word : List ℕ) (words : List (List ℕ)) (found : Option WrittenSaid) → true ≡ bytes_eq command word
+    → SpellsSaid word words found → SpellsBehind seqs command words found
+said_as seqs command word words found same said =
+    subst (λ c. SpellsBehind seqs c words found) (sym ((bytes_eq-Decides command word).0 (sym same))) (said seqs)
+
+-- the names of a take are those that follow
+pub says_take : (schema : Schema) (scope : Scope) (x : List ℕ) (ns : List (List ℕ)) (id : NameId) (ids : List NameId) → FindsAt scope x id
+    → map (λ (id : NameId). id.0) ids ≡ range_with_len scope.count (length ns) → Says schema scope (Take x ns) (Ok (commands.Take id ids))
+says_take schema scope x ns id ids at range names t k =
+    let f = at names (map (own_word scope.seq) ns) t k in
     let h = f.0 in
-    (rw h refl, (f.1, named_range names ns ids (range ∙ ap (λ n. range_with_len n (length ns)) k)))
+    let many : length ns ≡ length (map (own_word scope.seq) ns) = sym (length-map ns (own_word scope.seq)) in (
+      rw h refl,
+      (
+        f.1,
+        named_range names (map (own_word scope.seq) ns) ids
+            (range ∙ (ap (λ n. range_with_len n (length ns)) k ∙ ap (range_with_len (length names)) many)),
+      ),
+    )

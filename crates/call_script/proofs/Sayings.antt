@@ -1,12 +1,13 @@
 -- What a command's words can be.
 use Rattle.std.proofs.Common.{◌≡◌, ◌<◌, ◌^◌, ℕ, List, [], ◌∷◌, length, refl, ap, true, false}
-use Rattle.std.specs.Prelude.{codes}
+use Rattle.std.specs.Prelude.{codes, decimal}
 use Rattle.std.specs.Str.{bytes_eq}
 use Rattle.std.proofs.lemmas.Slice.Eq.{bytes_eq-Decides}
 use Rattle.handle_table.specs.declared.thing.TokenSort.{TokenSort}
 use Rattle.wire_encoder.specs.declared.endpoint.EndpointSide.{EndpointSide}
-use Rattle.call_script.specs.Forms.{Said, Pipe, Mint, Bind, Call, Take, Answer, CloseToken, CloseEndpoint, IsSaid, said_words, sort_word, side_word}
-use Rattle.call_script.specs.Letters.{is_name, are_names, endpoint_word, is_interface_word, is_method_word}
+use Rattle.call_script.specs.Forms.{Said, Pipe, Mint, Bind, Associate, Attach, Call, Take, Answer, Raw, CloseToken, CloseEndpoint}
+use Rattle.call_script.specs.Forms.{IsSaid, said_words, sort_word, side_word}
+use Rattle.call_script.specs.Letters.{is_name, are_names, endpoint_word, is_interface_word, is_method_word, IsHexWord}
 
 -- what is behind the first of two equal lists
 abbrev rest : {A : Type 0} → List A → List A
@@ -45,6 +46,9 @@ pipe_only words (Take x ns) h e = absurd (apart _ _ _ _ refl e)
 pipe_only words (Answer r m v ts) h e = absurd (apart _ _ _ _ refl e)
 pipe_only words (CloseToken x) h e = absurd (apart _ _ _ _ refl e)
 pipe_only words (CloseEndpoint x n) h e = absurd (apart _ _ _ _ refl e)
+pipe_only words (Associate x s i p) h e = absurd (apart _ _ _ _ refl e)
+pipe_only words (Attach x n) h e = absurd (apart _ _ _ _ refl e)
+pipe_only words (Raw x b ts) h e = absurd (apart _ _ _ _ refl e)
 
 pub record IsMint (words : List (List ℕ)) (said : Said) : Type 0 where
   pub sort : TokenSort
@@ -62,6 +66,9 @@ mint_only words (Take x ns) h e = absurd (apart _ _ _ _ refl e)
 mint_only words (Answer r m v ts) h e = absurd (apart _ _ _ _ refl e)
 mint_only words (CloseToken x) h e = absurd (apart _ _ _ _ refl e)
 mint_only words (CloseEndpoint x n) h e = absurd (apart _ _ _ _ refl e)
+mint_only words (Associate x s i p) h e = absurd (apart _ _ _ _ refl e)
+mint_only words (Attach x n) h e = absurd (apart _ _ _ _ refl e)
+mint_only words (Raw x b ts) h e = absurd (apart _ _ _ _ refl e)
 
 pub record IsBind (words : List (List ℕ)) (said : Said) : Type 0 where
   pub end : List ℕ
@@ -81,6 +88,9 @@ bind_only words (Take x ns) h e = absurd (apart _ _ _ _ refl e)
 bind_only words (Answer r m v ts) h e = absurd (apart _ _ _ _ refl e)
 bind_only words (CloseToken x) h e = absurd (apart _ _ _ _ refl e)
 bind_only words (CloseEndpoint x n) h e = absurd (apart _ _ _ _ refl e)
+bind_only words (Associate x s i p) h e = absurd (apart _ _ _ _ refl e)
+bind_only words (Attach x n) h e = absurd (apart _ _ _ _ refl e)
+bind_only words (Raw x b ts) h e = absurd (apart _ _ _ _ refl e)
 
 pub record IsTake (words : List (List ℕ)) (said : Said) : Type 0 where
   pub end : List ℕ
@@ -99,6 +109,9 @@ take_only words (Call x n m v ts) h e = absurd (apart _ _ _ _ refl e)
 take_only words (Answer r m v ts) h e = absurd (apart _ _ _ _ refl e)
 take_only words (CloseToken x) h e = absurd (apart _ _ _ _ refl e)
 take_only words (CloseEndpoint x n) h e = absurd (apart _ _ _ _ refl e)
+take_only words (Associate x s i p) h e = absurd (apart _ _ _ _ refl e)
+take_only words (Attach x n) h e = absurd (apart _ _ _ _ refl e)
+take_only words (Raw x b ts) h e = absurd (apart _ _ _ _ refl e)
 
 pub record IsCall (words : List (List ℕ)) (said : Said) : Type 0 where
   pub end : List ℕ
@@ -136,6 +149,9 @@ call_only words (Take x ns) h e = absurd (apart _ _ _ _ refl e)
 call_only words (Answer r m v ts) h e = absurd (apart _ _ _ _ refl e)
 call_only words (CloseToken x) h e = absurd (apart _ _ _ _ refl e)
 call_only words (CloseEndpoint x n) h e = absurd (apart _ _ _ _ refl e)
+call_only words (Associate x s i p) h e = absurd (apart _ _ _ _ refl e)
+call_only words (Attach x n) h e = absurd (apart _ _ _ _ refl e)
+call_only words (Raw x b ts) h e = absurd (apart _ _ _ _ refl e)
 
 pub record IsAnswer (words : List (List ℕ)) (said : Said) : Type 0 where
   pub responder : List ℕ
@@ -169,6 +185,9 @@ answer_only words (Call x n m v ts) h e = absurd (apart _ _ _ _ refl e)
 answer_only words (Take x ns) h e = absurd (apart _ _ _ _ refl e)
 answer_only words (CloseToken x) h e = absurd (apart _ _ _ _ refl e)
 answer_only words (CloseEndpoint x n) h e = absurd (apart _ _ _ _ refl e)
+answer_only words (Associate x s i p) h e = absurd (apart _ _ _ _ refl e)
+answer_only words (Attach x n) h e = absurd (apart _ _ _ _ refl e)
+answer_only words (Raw x b ts) h e = absurd (apart _ _ _ _ refl e)
 
 -- a close is of a token, or of an endpoint
 pub data Closes (words : List (List ℕ)) (said : Said) : Type 0 where
@@ -184,3 +203,92 @@ close_only words (Bind x s i) h e = absurd (apart _ _ _ _ refl e)
 close_only words (Take x ns) h e = absurd (apart _ _ _ _ refl e)
 close_only words (Answer r m v ts) h e = absurd (apart _ _ _ _ refl e)
 close_only words (Call x n m v ts) h e = absurd (apart _ _ _ _ refl e)
+close_only words (Associate x s i p) h e = absurd (apart _ _ _ _ refl e)
+close_only words (Attach x n) h e = absurd (apart _ _ _ _ refl e)
+close_only words (Raw x b ts) h e = absurd (apart _ _ _ _ refl e)
+
+pub record IsAssociate (words : List (List ℕ)) (said : Said) : Type 0 where
+  pub end : List ℕ
+  pub side : EndpointSide
+  pub interface : List ℕ
+  pub pending : List ℕ
+  pub is : said ≡ Associate end side interface pending
+  pub are : words ≡ end ∷ side_word side ∷ interface ∷ pending ∷ []
+  pub one : is_name end ≡ true
+  pub two : is_interface_word interface ≡ true
+  pub three : is_name pending ≡ true
+
+pub associate_only : (words : List (List ℕ)) (said : Said) → IsSaid said → codes "associate" ∷ words ≡ said_words said → IsAssociate words said
+associate_only words (Associate x s i p) h e = record {
+  end = x;
+  side = s;
+  interface = i;
+  pending = p;
+  is = refl;
+  are = rest_is _ _ _ _ e;
+  one = h.0;
+  two = h.1;
+  three = h.2;
+}
+associate_only words (Pipe x y) h e = absurd (apart _ _ _ _ refl e)
+associate_only words (Mint s x) h e = absurd (apart _ _ _ _ refl e)
+associate_only words (Bind x s i) h e = absurd (apart _ _ _ _ refl e)
+associate_only words (Attach x n) h e = absurd (apart _ _ _ _ refl e)
+associate_only words (Call x n m v ts) h e = absurd (apart _ _ _ _ refl e)
+associate_only words (Take x ns) h e = absurd (apart _ _ _ _ refl e)
+associate_only words (Answer r m v ts) h e = absurd (apart _ _ _ _ refl e)
+associate_only words (Raw x b ts) h e = absurd (apart _ _ _ _ refl e)
+associate_only words (CloseToken x) h e = absurd (apart _ _ _ _ refl e)
+associate_only words (CloseEndpoint x n) h e = absurd (apart _ _ _ _ refl e)
+
+pub record IsAttach (words : List (List ℕ)) (said : Said) : Type 0 where
+  pub pending : List ℕ
+  pub seq : ℕ
+  pub is : said ≡ Attach pending seq
+  pub are : words ≡ pending ∷ decimal seq ∷ []
+  pub one : is_name pending ≡ true
+
+pub attach_only : (words : List (List ℕ)) (said : Said) → IsSaid said → codes "attach" ∷ words ≡ said_words said → IsAttach words said
+attach_only words (Attach x n) h e = record { pending = x; seq = n; is = refl; are = rest_is _ _ _ _ e; one = h }
+attach_only words (Pipe x y) h e = absurd (apart _ _ _ _ refl e)
+attach_only words (Mint s x) h e = absurd (apart _ _ _ _ refl e)
+attach_only words (Bind x s i) h e = absurd (apart _ _ _ _ refl e)
+attach_only words (Associate x s i p) h e = absurd (apart _ _ _ _ refl e)
+attach_only words (Call x n m v ts) h e = absurd (apart _ _ _ _ refl e)
+attach_only words (Take x ns) h e = absurd (apart _ _ _ _ refl e)
+attach_only words (Answer r m v ts) h e = absurd (apart _ _ _ _ refl e)
+attach_only words (Raw x b ts) h e = absurd (apart _ _ _ _ refl e)
+attach_only words (CloseToken x) h e = absurd (apart _ _ _ _ refl e)
+attach_only words (CloseEndpoint x n) h e = absurd (apart _ _ _ _ refl e)
+
+pub record IsRaw (words : List (List ℕ)) (said : Said) : Type 0 where
+  pub end : List ℕ
+  pub bytes : List ℕ
+  pub tokens : List (List ℕ)
+  pub is : said ≡ Raw end bytes tokens
+  pub are : words ≡ end ∷ bytes ∷ tokens
+  pub one : is_name end ≡ true
+  pub two : IsHexWord bytes
+  pub three : are_names tokens ≡ true
+
+pub raw_only : (words : List (List ℕ)) (said : Said) → IsSaid said → codes "raw" ∷ words ≡ said_words said → IsRaw words said
+raw_only words (Raw x b ts) h e = record {
+  end = x;
+  bytes = b;
+  tokens = ts;
+  is = refl;
+  are = rest_is _ _ _ _ e;
+  one = h.0;
+  two = h.1;
+  three = h.2;
+}
+raw_only words (Pipe x y) h e = absurd (apart _ _ _ _ refl e)
+raw_only words (Mint s x) h e = absurd (apart _ _ _ _ refl e)
+raw_only words (Bind x s i) h e = absurd (apart _ _ _ _ refl e)
+raw_only words (Associate x s i p) h e = absurd (apart _ _ _ _ refl e)
+raw_only words (Attach x n) h e = absurd (apart _ _ _ _ refl e)
+raw_only words (Call x n m v ts) h e = absurd (apart _ _ _ _ refl e)
+raw_only words (Take x ns) h e = absurd (apart _ _ _ _ refl e)
+raw_only words (Answer r m v ts) h e = absurd (apart _ _ _ _ refl e)
+raw_only words (CloseToken x) h e = absurd (apart _ _ _ _ refl e)
+raw_only words (CloseEndpoint x n) h e = absurd (apart _ _ _ _ refl e)

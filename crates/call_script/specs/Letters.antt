@@ -1,6 +1,7 @@
--- What names, and the words for interfaces, methods and endpoints, are written with.
-use Rattle.std.specs.Prelude.{ℕ, ◌==◌, ◌++◌, ◌&&◌, ◌||◌, Bool, false, nat_le, List, [], ◌∷◌, length, codes, decimal}
+-- What names, and the words for interfaces, methods, endpoints and bytes, are written with.
+use Rattle.std.specs.Prelude.{ℕ, ◌≡◌, ◌==◌, ◌++◌, ◌&&◌, ◌||◌, Bool, false, nat_le, List, [], ◌∷◌, length, codes, decimal}
 use Rattle.std.specs.List.{list_all}
+use Rattle.hex.specs.Hex.{encode_lower, IsBytes}
 use Rattle.call_script.specs.Pieces.{pieces}
 
 -- one of a to z
@@ -48,3 +49,20 @@ is_method_word word = is_interface_word word && nat_le 2 (length (pieces 46 word
 -- an endpoint as `x#0`: the name of its end, and its id there
 abbrev pub endpoint_word : List ℕ → ℕ → List ℕ
 endpoint_word name id = name ++ (codes "#" ++ decimal id)
+
+-- what is a sequence's own has the sequence before it, as `0:x`
+abbrev pub own_word : ℕ → List ℕ → List ℕ
+own_word seq word = decimal seq ++ (codes ":" ++ word)
+
+-- bytes in hexadecimal, two digits each, and `-` for no bytes
+abbrev pub hex_word : List ℕ → List ℕ
+hex_word [] = codes "-"
+hex_word (b ∷ bytes) = encode_lower (b ∷ bytes)
+
+-- the word is that of these bytes
+abbrev pub IsHexOf : List ℕ → List ℕ → Type 0
+IsHexOf word bytes = IsBytes bytes × (word ≡ hex_word bytes)
+
+-- the word is that of some bytes
+abbrev pub IsHexWord : List ℕ → Type 0
+IsHexWord word = (bytes : List ℕ) × IsHexOf word bytes

@@ -48,8 +48,9 @@ SameLines [] [] = Unit {0}
 SameLines (line ∷ lines) (line' ∷ lines') = SameLine line line' × SameLines lines lines'
 SameLines _ _ = ⊥
 
--- as many names, the same automatic replies, and the same lines
+-- as many sequences and names, the same automatic replies, and the same lines
 pub record SameScript (one other : Script) : Type 0 where
+  pub seqs : one.seqs ≡ other.seqs
   pub names : one.names ≡ other.names
   pub autos : SameReplies one.autos other.autos
   pub lines : SameLines one.lines other.lines

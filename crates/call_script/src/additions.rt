@@ -10,7 +10,7 @@ ghost use Rattle.call_script.specs.steps.Commands.{Replies, Parts};
 use crate::commands::{Stop, said_command, value_of};
 use crate::form::Form;
 use crate::indexed_schema::IndexedSchema;
-use crate::name_table::NameTable;
+use crate::name_table::{NameTable, Scope};
 use crate::script::{AutoReply, Command, Line, NameId};
 use crate::script_error::LineRefusal;
 use crate::targets::message_named;
@@ -79,7 +79,12 @@ pub(crate) fn part_of(
             Ok(Part::Reply(reply))
         }
         Form::Of(seq, said) => {
-            let command = said_command(alloc, indexed, table, count, said)?;
+            let scope = Scope {
+                table,
+                count,
+                seq: *seq,
+            };
+            let command = said_command(alloc, indexed, &scope, said)?;
             Ok(Part::Line(Line {
                 number,
                 seq: SeqId(*seq),

@@ -4,19 +4,20 @@ ghost use Rattle.std.specs.Prelude.{◌≡◌, ◌<◌, ◌^◌, ◌+◌, IfOk, 
 ghost use Rattle.std.specs.List.{range_with_len};
 ghost use Rattle.wire_encoder.specs.Prepared.{parameters_of};
 ghost use Rattle.call_script.specs.declared.script.NameId.{NameId};
-ghost use Rattle.call_script.specs.Forms.{Bind, Call, Take, Answer, CloseToken, CloseEndpoint, IsSaid};
-ghost use Rattle.call_script.specs.Letters.{is_name, are_names, is_interface_word, is_method_word};
+ghost use Rattle.call_script.specs.Forms.{Bind, Associate, Attach, Call, Take, Answer, Raw, CloseToken, CloseEndpoint, IsSaid};
+ghost use Rattle.call_script.specs.Letters.{is_name, are_names, is_interface_word, is_method_word, IsHexWord};
 ghost use Rattle.call_script.specs.steps.Forms.{said_view};
 ghost use Rattle.call_script.specs.steps.Interfaces.{IsIndexed};
-ghost use Rattle.call_script.specs.steps.Commands.{FindsAll, StopsFor, Values, Says};
+ghost use Rattle.call_script.specs.steps.Commands.{FindsAll, Named, AllNamed, StopsFor, Values, Says};
 
 use crate::form::Said;
 use crate::indexed_schema::{IndexedSchema, interface_named};
-use crate::name_table::{NameTable, find};
+use crate::name_table::{Scope, find_name};
+use crate::numbers::hex_bytes;
 use crate::script::{Command, NameId};
 use crate::script_error::LineRefusal;
 use crate::targets::{message_named, parameters_kind};
-use mj_base::Items;
+use mj_base::{Items, SeqId};
 use mj_schema::Schema;
 use std::alloc::{AllocError, Global};
 use value_text::{TextError, read_value};
@@ -42,24 +43,49 @@ fn ids_from(alloc: Global, first: usize, count: usize) -> Result<Items<NameId>, 
     Ok(Items::from_vec(ids))
 }
 
-/// The numbers of these names among the first so many; none where one isn't there.
+/// The numbers of what these names mean; none where one isn't there.
 fn find_all(
     alloc: Global,
-    table: &NameTable,
-    count: usize,
+    scope: &Scope,
     names: &[&[u8]],
 ) -> Result<Option<Items<NameId>>, AllocError>
     requires { are_names (map (λ name. name.now) names.now) ≡ true }
-    ensures { IfOk result (λ found. FindsAll table.now count (map (λ name. name.now) names.now) found) }
+    ensures { IfOk result (λ found. FindsAll scope.now (map (λ name. name.now) names.now) found) }
 {
     let mut ids = Vec::new(alloc);
     for name in names {
-        match find(table, count, name) {
+        match find_name(alloc, scope, name)? {
             Some(id) => ids.push(id)?,
             None => return Ok(None),
         }
     }
     Ok(Some(Items::from_vec(ids)))
+}
+
+/// The number of what a name means.
+fn named(alloc: Global, scope: &Scope, name: &[u8]) -> Result<NameId, Stop>
+    requires { is_name name.now ≡ true }
+    ensures { Named scope.now name.now result }
+{
+    match find_name(alloc, scope, name) {
+        Ok(Some(id)) => Ok(id),
+        Ok(None) => Err(Stop::Refused(LineRefusal::UnknownName)),
+        Err(_) => Err(Stop::Memory),
+    }
+}
+
+/// The numbers of what these names mean.
+fn all_named(alloc: Global, scope: &Scope, names: &[&[u8]]) -> Result<Items<NameId>, Stop>
+    requires { are_names (map (λ name. name.now) names.now) ≡ true }
+    ensures { AllNamed scope.now (map (λ name. name.now) names.now) result }
+{
+    let Ok(found) = find_all(alloc, scope, names) else {
+        return Err(Stop::Memory);
+    };
+    match found {
+        Some(ids) => Ok(ids),
+        None => Err(Stop::Refused(LineRefusal::UnknownName)),
+    }
 }
 
 /// The stop for a value that is not prepared.
@@ -100,9 +126,9 @@ pub(crate) fn value_of(
 
 /// What a binding asks.
 fn bind_command(
+    alloc: Global,
     indexed: &IndexedSchema,
-    table: &NameTable,
-    count: usize,
+    scope: &Scope,
     end: &[u8],
     side: EndpointSide,
     interface: &[u8],
@@ -110,15 +136,51 @@ fn bind_command(
     requires indexed { IsIndexed indexed.now }
     requires end { is_name end.now ≡ true }
     requires interface { is_interface_word interface.now ≡ true }
-    ensures { Says indexed.now.schema.now table.now count (Bind end.now side interface.now) result }
+    ensures { Says indexed.now.schema.now scope.now (Bind end.now side interface.now) result }
 {
     let Some(number) = interface_named(indexed, interface) else {
         return Err(Stop::Refused(LineRefusal::UnknownName));
     };
-    match find(table, count, end) {
-        Some(end) => Ok(Command::Bind(end, side, number)),
-        None => Err(Stop::Refused(LineRefusal::UnknownName)),
-    }
+    let end = named(alloc, scope, end)?;
+    Ok(Command::Bind(end, side, number))
+}
+
+/// What an association asks, which sets one name.
+fn associate_command(
+    alloc: Global,
+    indexed: &IndexedSchema,
+    scope: &Scope,
+    end: &[u8],
+    side: EndpointSide,
+    interface: &[u8],
+    pending: &[u8],
+) -> Result<Command, Stop>
+    requires indexed { IsIndexed indexed.now }
+    requires end { is_name end.now ≡ true }
+    requires interface { is_interface_word interface.now ≡ true }
+    ensures { Says indexed.now.schema.now scope.now (Associate end.now side interface.now pending.now) result }
+{
+    let number = match interface_named(indexed, interface) {
+        Some(number) => number,
+        None => return Err(Stop::Refused(LineRefusal::UnknownName)),
+    };
+    let end = named(alloc, scope, end)?;
+    Ok(Command::Associate(end, side, number, NameId(scope.count)))
+}
+
+/// What it asks to bind the pending endpoint of a name on another sequence.
+fn attach_command(
+    alloc: Global,
+    schema: &Schema,
+    scope: &Scope,
+    pending: &[u8],
+    other: u32,
+) -> Result<Command, Stop>
+    requires { is_name pending.now ≡ true }
+    ensures { Says schema.now scope.now (Attach pending.now other) result }
+{
+    let pending = named(alloc, scope, pending)?;
+    Ok(Command::Attach(pending, SeqId(other)))
 }
 
 /// The words of a call.
@@ -135,28 +197,21 @@ struct CallWords<'w, 'a> {
 fn call_command(
     alloc: Global,
     indexed: &IndexedSchema,
-    table: &NameTable,
-    count: usize,
+    scope: &Scope,
     call: &CallWords,
 ) -> Result<Command, Stop>
     requires indexed { IsIndexed indexed.now }
     requires end { is_name call.now.end.now ≡ true }
     requires method { is_method_word call.now.method.now ≡ true }
     requires tokens { are_names (map (λ name. name.now) call.now.tokens.now) ≡ true }
-    ensures { Says indexed.now.schema.now table.now count (Call call.now.end.now call.now.id call.now.method.now call.now.value.now
+    ensures { Says indexed.now.schema.now scope.now (Call call.now.end.now call.now.id call.now.method.now call.now.value.now
         (map (λ name. name.now) call.now.tokens.now)) result }
 {
     let Some((target, number)) = message_named(indexed, MessageSide::Request, call.method) else {
         return Err(Stop::Refused(LineRefusal::UnknownName));
     };
-    let Some(end) = find(table, count, call.end) else {
-        return Err(Stop::Refused(LineRefusal::UnknownName));
-    };
-    let tokens = match find_all(alloc, table, count, call.tokens) {
-        Ok(Some(tokens)) => tokens,
-        Ok(None) => return Err(Stop::Refused(LineRefusal::UnknownName)),
-        Err(_) => return Err(Stop::Memory),
-    };
+    let end = named(alloc, scope, call.end)?;
+    let tokens = all_named(alloc, scope, call.tokens)?;
     let prepared = value_of(alloc, indexed.schema, target, number, call.value)?;
     Ok(Command::Call(end, call.id, prepared, tokens))
 }
@@ -174,29 +229,21 @@ struct AnswerWords<'w, 'a> {
 fn answer_command(
     alloc: Global,
     indexed: &IndexedSchema,
-    table: &NameTable,
-    count: usize,
+    scope: &Scope,
     answer: &AnswerWords,
 ) -> Result<Command, Stop>
     requires indexed { IsIndexed indexed.now }
     requires responder { is_name answer.now.responder.now ≡ true }
     requires method { is_method_word answer.now.method.now ≡ true }
     requires tokens { are_names (map (λ name. name.now) answer.now.tokens.now) ≡ true }
-    ensures { Says indexed.now.schema.now table.now count (Answer answer.now.responder.now answer.now.method.now answer.now.value.now
+    ensures { Says indexed.now.schema.now scope.now (Answer answer.now.responder.now answer.now.method.now answer.now.value.now
         (map (λ name. name.now) answer.now.tokens.now)) result }
 {
     let Some((target, number)) = message_named(indexed, MessageSide::Response, answer.method) else {
         return Err(Stop::Refused(LineRefusal::UnknownName));
     };
-    let Some(responder) = find(table, count, answer.responder) else {
-        return Err(Stop::Refused(LineRefusal::UnknownName));
-    };
-    let Ok(found) = find_all(alloc, table, count, answer.tokens) else {
-        return Err(Stop::Memory);
-    };
-    let Some(tokens) = found else {
-        return Err(Stop::Refused(LineRefusal::UnknownName));
-    };
+    let responder = named(alloc, scope, answer.responder)?;
+    let tokens = all_named(alloc, scope, answer.tokens)?;
     let prepared = value_of(alloc, indexed.schema, target, number, answer.value)?;
     Ok(Command::Answer(responder, prepared, tokens))
 }
@@ -205,77 +252,96 @@ fn answer_command(
 fn take_command(
     alloc: Global,
     schema: &Schema,
-    table: &NameTable,
-    count: usize,
+    scope: &Scope,
     end: &[u8],
     names: &[&[u8]],
 ) -> Result<Command, Stop>
     requires end { is_name end.now ≡ true }
-    requires room { count < 2 ^ 63 }
-    ensures { Says schema.now table.now count (Take end.now (map (λ name. name.now) names.now)) result }
+    requires room { scope.now.count < 2 ^ 63 }
+    ensures { Says schema.now scope.now (Take end.now (map (λ name. name.now) names.now)) result }
 {
-    let Some(end) = find(table, count, end) else {
-        return Err(Stop::Refused(LineRefusal::UnknownName));
-    };
-    match ids_from(alloc, count, names.len()) {
+    let end = named(alloc, scope, end)?;
+    match ids_from(alloc, scope.count, names.len()) {
         Ok(ids) => Ok(Command::Take(end, ids)),
+        Err(_) => Err(Stop::Memory),
+    }
+}
+
+/// What it asks to send bytes, with tokens.
+fn raw_command(
+    alloc: Global,
+    schema: &Schema,
+    scope: &Scope,
+    end: &[u8],
+    word: &[u8],
+    tokens: &[&[u8]],
+) -> Result<Command, Stop>
+    requires end { is_name end.now ≡ true }
+    requires word { IsHexWord word.now }
+    requires tokens { are_names (map (λ name. name.now) tokens.now) ≡ true }
+    ensures { Says schema.now scope.now (Raw end.now word.now (map (λ name. name.now) tokens.now)) result }
+{
+    let end = named(alloc, scope, end)?;
+    let tokens = all_named(alloc, scope, tokens)?;
+    match hex_bytes(alloc, word) {
+        Ok(Some(bytes)) => Ok(Command::Raw(end, bytes, tokens)),
+        Ok(None) => unreachable!(),
         Err(_) => Err(Stop::Memory),
     }
 }
 
 /// What is asked of the thing of this name.
 fn close_command(
+    alloc: Global,
     schema: &Schema,
-    table: &NameTable,
-    count: usize,
+    scope: &Scope,
     token: &[u8],
 ) -> Result<Command, Stop>
     requires { is_name token.now ≡ true }
-    ensures { Says schema.now table.now count (CloseToken token.now) result }
+    ensures { Says schema.now scope.now (CloseToken token.now) result }
 {
-    match find(table, count, token) {
-        Some(token) => Ok(Command::CloseToken(token)),
-        None => Err(Stop::Refused(LineRefusal::UnknownName)),
-    }
+    let token = named(alloc, scope, token)?;
+    Ok(Command::CloseToken(token))
 }
 
 /// What is asked of an endpoint of the end of this name.
 fn close_endpoint_command(
+    alloc: Global,
     schema: &Schema,
-    table: &NameTable,
-    count: usize,
+    scope: &Scope,
     end: &[u8],
     id: u32,
 ) -> Result<Command, Stop>
     requires { is_name end.now ≡ true }
-    ensures { Says schema.now table.now count (CloseEndpoint end.now id) result }
+    ensures { Says schema.now scope.now (CloseEndpoint end.now id) result }
 {
-    match find(table, count, end) {
-        Some(end) => Ok(Command::CloseEndpoint(end, id)),
-        None => Err(Stop::Refused(LineRefusal::UnknownName)),
-    }
+    let end = named(alloc, scope, end)?;
+    Ok(Command::CloseEndpoint(end, id))
 }
 
-/// What is asked by what is said to a sequence. Its own names are set behind the first `count` of the
-/// table, and only those are looked up.
+/// What is asked by what is said to a sequence.
 pub(crate) fn said_command(
     alloc: Global,
     indexed: &IndexedSchema,
-    table: &NameTable,
-    count: usize,
+    scope: &Scope,
     said: &Said,
 ) -> Result<Command, Stop>
     requires indexed { IsIndexed indexed.now }
     requires sound { IsSaid (said_view said.now) }
-    requires room { count < 2 ^ 63 }
-    ensures { Says indexed.now.schema.now table.now count (said_view said.now) result }
+    requires room { scope.now.count < 2 ^ 63 }
+    ensures { Says indexed.now.schema.now scope.now (said_view said.now) result }
 {
+    let schema = indexed.schema;
     match said {
-        Said::Pipe(_, _) => Ok(Command::Pipe(NameId(count), NameId(count + 1))),
-        Said::Mint(sort, _) => Ok(Command::Mint(*sort, NameId(count))),
-        Said::Bind(end, side, interface) => bind_command(
-            indexed, table, count, *end, *side, *interface,
-        ),
+        Said::Pipe(_, _) => Ok(Command::Pipe(NameId(scope.count), NameId(scope.count + 1))),
+        Said::Mint(sort, _) => Ok(Command::Mint(*sort, NameId(scope.count))),
+        Said::Bind(end, side, interface) => {
+            bind_command(alloc, indexed, scope, *end, *side, *interface)
+        }
+        Said::Associate(end, side, interface, pending) => {
+            associate_command(alloc, indexed, scope, *end, *side, *interface, *pending)
+        }
+        Said::Attach(pending, other) => { attach_command(alloc, schema, scope, *pending, *other) }
         Said::Call(end, id, method, value, tokens) => {
             let call = CallWords {
                 end: *end,
@@ -284,9 +350,9 @@ pub(crate) fn said_command(
                 value: *value,
                 tokens: *tokens,
             };
-            call_command(alloc, indexed, table, count, &call)
+            call_command(alloc, indexed, scope, &call)
         }
-        Said::Take(end, names) => take_command(alloc, indexed.schema, table, count, *end, *names),
+        Said::Take(end, names) => take_command(alloc, schema, scope, *end, *names),
         Said::Answer(responder, method, value, tokens) => {
             let answer = AnswerWords {
                 responder: *responder,
@@ -294,15 +360,10 @@ pub(crate) fn said_command(
                 value: *value,
                 tokens: *tokens,
             };
-            answer_command(alloc, indexed, table, count, &answer)
+            answer_command(alloc, indexed, scope, &answer)
         }
-        Said::CloseToken(token) => close_command(indexed.schema, table, count, *token),
-        Said::CloseEndpoint(end, id) => close_endpoint_command(
-            indexed.schema,
-            table,
-            count,
-            *end,
-            *id,
-        ),
+        Said::Raw(end, word, tokens) => { raw_command(alloc, schema, scope, *end, *word, *tokens) }
+        Said::CloseToken(token) => close_command(alloc, schema, scope, *token),
+        Said::CloseEndpoint(end, id) => { close_endpoint_command(alloc, schema, scope, *end, *id) }
     }
 }

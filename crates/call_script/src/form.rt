@@ -2,13 +2,12 @@
 
 ghost use Rattle.std.specs.Prelude.{◌≡◌, ◌&&◌, ◌∷◌, ◌++◌, IfOk, map, codes, decimal};
 ghost use Rattle.call_script.specs.Letters.{is_name, are_names};
-ghost use Rattle.call_script.specs.steps.Forms.{SpellsForm, SpellsBehind, SpellsOf, SpellsSequence, SpellsSort};
+ghost use Rattle.call_script.specs.steps.Forms.{SpellsForm, SpellsBehind, SpellsSaid, SpellsOf, SpellsSequence, SpellsSort};
 ghost use Rattle.call_script.specs.steps.Forms.{SpellsSide};
 
 use crate::few_words::{first_word, four_words, one_word, three_words, two_words};
 use crate::letters::{are_names, is_interface_word, is_method_word, is_name};
-use crate::numbers::{endpoint, number};
-use crate::script::SEQUENCES;
+use crate::numbers::{endpoint, hex_bytes, number};
 use handle_table::TokenSort;
 use std::alloc::{AllocError, Global};
 use wire_encoder::EndpointSide;
@@ -19,11 +18,16 @@ pub(crate) enum Said<'w, 'a> {
     Pipe(&'a [u8], &'a [u8]),
     Mint(TokenSort, &'a [u8]),
     Bind(&'a [u8], EndpointSide, &'a [u8]),
+    /// The name of an end, a side of an interface, and the name of the pending other half.
+    Associate(&'a [u8], EndpointSide, &'a [u8], &'a [u8]),
+    Attach(&'a [u8], u32),
     /// The name of an end, an id there, a method, a value and names of tokens.
     Call(&'a [u8], u32, &'a [u8], &'a [u8], &'w [&'a [u8]]),
     Take(&'a [u8], &'w [&'a [u8]]),
     /// The name of a responder, a method, a value and names of tokens.
     Answer(&'a [u8], &'a [u8], &'a [u8], &'w [&'a [u8]]),
+    /// The name of an end, bytes in hexadecimal and names of tokens.
+    Raw(&'a [u8], &'a [u8], &'w [&'a [u8]]),
     CloseToken(&'a [u8]),
     CloseEndpoint(&'a [u8], u32),
 }
@@ -38,22 +42,22 @@ pub(crate) enum Form<'w, 'a> {
     Of(u32, Said<'w, 'a>),
 }
 
-/// The number of a sequence that is there.
-fn sequence_number(alloc: Global, word: &[u8]) -> Result<Option<u32>, AllocError>
-    ensures { IfOk result (λ found. SpellsSequence decimal word.now found) }
+/// The number of a sequence among so many.
+fn sequence_number(alloc: Global, seqs: u32, word: &[u8]) -> Result<Option<u32>, AllocError>
+    ensures { IfOk result (λ found. SpellsSequence seqs decimal word.now found) }
 {
     match number(alloc, word)? {
-        Some(seq) if seq < SEQUENCES => Ok(Some(seq)),
+        Some(seq) if seq < seqs => Ok(Some(seq)),
         _ => Ok(None),
     }
 }
 
-/// The sequence of a line, as `0:`.
-fn sequence_of(alloc: Global, word: &[u8]) -> Result<Option<u32>, AllocError>
-    ensures { IfOk result (λ found. SpellsSequence (λ n. decimal n ++ codes ":") word.now found) }
+/// The sequence of a line, as `0:`, among so many.
+fn sequence_of(alloc: Global, seqs: u32, word: &[u8]) -> Result<Option<u32>, AllocError>
+    ensures { IfOk result (λ found. SpellsSequence seqs (λ n. decimal n ++ codes ":") word.now found) }
 {
     match word {
-        [digits @ .., b':'] => sequence_number(alloc, digits),
+        [digits @ .., b':'] => sequence_number(alloc, seqs, digits),
         _ => Ok(None),
     }
 }
@@ -100,7 +104,7 @@ fn is_named_list(first: &[u8], rest: &[&[u8]]) -> bool
 
 /// What stands behind `pipe`.
 fn pipe_of<'w, 'a>(words: &'w [&'a [u8]]) -> Option<Said<'w, 'a>>
-    ensures { SpellsBehind (codes "pipe") (map (λ word. word.now) words.now) result }
+    ensures { SpellsSaid (codes "pipe") (map (λ word. word.now) words.now) result }
 {
     let Some((first, second)) = two_words(words) else {
         return None;
@@ -114,7 +118,7 @@ fn pipe_of<'w, 'a>(words: &'w [&'a [u8]]) -> Option<Said<'w, 'a>>
 
 /// What stands behind `mint`.
 fn mint_of<'w, 'a>(words: &'w [&'a [u8]]) -> Option<Said<'w, 'a>>
-    ensures { SpellsBehind (codes "mint") (map (λ word. word.now) words.now) result }
+    ensures { SpellsSaid (codes "mint") (map (λ word. word.now) words.now) result }
 {
     let Some((word, name)) = two_words(words) else {
         return None;
@@ -131,7 +135,7 @@ fn mint_of<'w, 'a>(words: &'w [&'a [u8]]) -> Option<Said<'w, 'a>>
 
 /// What stands behind `bind`.
 fn bind_of<'w, 'a>(alloc: Global, words: &'w [&'a [u8]]) -> Result<Option<Said<'w, 'a>>, AllocError>
-    ensures { IfOk result (λ found. SpellsBehind (codes "bind") (map (λ word. word.now) words.now) found) }
+    ensures { IfOk result (λ found. SpellsSaid (codes "bind") (map (λ word. word.now) words.now) found) }
 {
     let Some((end, word, interface)) = three_words(words) else {
         return Ok(None);
@@ -149,9 +153,53 @@ fn bind_of<'w, 'a>(alloc: Global, words: &'w [&'a [u8]]) -> Result<Option<Said<'
     }
 }
 
+/// What stands behind `associate`.
+fn associate_of<'w, 'a>(
+    alloc: Global,
+    words: &'w [&'a [u8]],
+) -> Result<Option<Said<'w, 'a>>, AllocError>
+    ensures { IfOk result (λ found. SpellsSaid (codes "associate") (map (λ word. word.now) words.now) found) }
+{
+    let Some((end, word, interface, pending)) = four_words(words) else {
+        return Ok(None);
+    };
+    let Some(side) = side_of(word) else {
+        return Ok(None);
+    };
+    if !are_two_names(end, pending) {
+        return Ok(None);
+    }
+    if is_interface_word(alloc, interface)? {
+        Ok(Some(Said::Associate(end, side, interface, pending)))
+    } else {
+        Ok(None)
+    }
+}
+
+/// What stands behind `attach`.
+fn attach_of<'w, 'a>(
+    alloc: Global,
+    seqs: u32,
+    words: &'w [&'a [u8]],
+) -> Result<Option<Said<'w, 'a>>, AllocError>
+    ensures { IfOk result (λ found. SpellsBehind seqs (codes "attach") (map (λ word. word.now) words.now) found) }
+{
+    let Some((pending, word)) = two_words(words) else {
+        return Ok(None);
+    };
+    let Some(seq) = sequence_number(alloc, seqs, word)? else {
+        return Ok(None);
+    };
+    if is_name(pending) {
+        Ok(Some(Said::Attach(pending, seq)))
+    } else {
+        Ok(None)
+    }
+}
+
 /// What stands behind `call`.
 fn call_of<'w, 'a>(alloc: Global, words: &'w [&'a [u8]]) -> Result<Option<Said<'w, 'a>>, AllocError>
-    ensures { IfOk result (λ found. SpellsBehind (codes "call") (map (λ word. word.now) words.now) found) }
+    ensures { IfOk result (λ found. SpellsSaid (codes "call") (map (λ word. word.now) words.now) found) }
 {
     let Some((end, rest)) = first_word(words) else {
         return Ok(None);
@@ -177,7 +225,7 @@ fn call_of<'w, 'a>(alloc: Global, words: &'w [&'a [u8]]) -> Result<Option<Said<'
 
 /// What stands behind `take`.
 fn take_of<'w, 'a>(words: &'w [&'a [u8]]) -> Option<Said<'w, 'a>>
-    ensures { SpellsBehind (codes "take") (map (λ word. word.now) words.now) result }
+    ensures { SpellsSaid (codes "take") (map (λ word. word.now) words.now) result }
 {
     let Some((end, names)) = first_word(words) else {
         return None;
@@ -194,7 +242,7 @@ fn answer_of<'w, 'a>(
     alloc: Global,
     words: &'w [&'a [u8]],
 ) -> Result<Option<Said<'w, 'a>>, AllocError>
-    ensures { IfOk result (λ found. SpellsBehind (codes "answer") (map (λ word. word.now) words.now) found) }
+    ensures { IfOk result (λ found. SpellsSaid (codes "answer") (map (λ word. word.now) words.now) found) }
 {
     let Some((responder, rest)) = first_word(words) else {
         return Ok(None);
@@ -215,12 +263,32 @@ fn answer_of<'w, 'a>(
     }
 }
 
+/// What stands behind `raw`.
+fn raw_of<'w, 'a>(alloc: Global, words: &'w [&'a [u8]]) -> Result<Option<Said<'w, 'a>>, AllocError>
+    ensures { IfOk result (λ found. SpellsSaid (codes "raw") (map (λ word. word.now) words.now) found) }
+{
+    let Some((end, rest)) = first_word(words) else {
+        return Ok(None);
+    };
+    let Some((word, tokens)) = first_word(rest) else {
+        return Ok(None);
+    };
+    let Some(_bytes) = hex_bytes(alloc, word)? else {
+        return Ok(None);
+    };
+    if is_named_list(end, tokens) {
+        Ok(Some(Said::Raw(end, word, tokens)))
+    } else {
+        Ok(None)
+    }
+}
+
 /// What stands behind `close`.
 fn close_of<'w, 'a>(
     alloc: Global,
     words: &'w [&'a [u8]],
 ) -> Result<Option<Said<'w, 'a>>, AllocError>
-    ensures { IfOk result (λ found. SpellsBehind (codes "close") (map (λ word. word.now) words.now) found) }
+    ensures { IfOk result (λ found. SpellsSaid (codes "close") (map (λ word. word.now) words.now) found) }
 {
     let Some(word) = one_word(words) else {
         return Ok(None);
@@ -237,10 +305,11 @@ fn close_of<'w, 'a>(
 /// What is said by a command and the words behind it.
 fn behind_command<'w, 'a>(
     alloc: Global,
+    seqs: u32,
     command: &[u8],
     words: &'w [&'a [u8]],
 ) -> Result<Option<Said<'w, 'a>>, AllocError>
-    ensures { IfOk result (λ found. SpellsBehind command.now (map (λ word. word.now) words.now) found) }
+    ensures { IfOk result (λ found. SpellsBehind seqs command.now (map (λ word. word.now) words.now) found) }
 {
     if command == b"pipe".as_slice() {
         return Ok(pipe_of(words));
@@ -251,6 +320,12 @@ fn behind_command<'w, 'a>(
     if command == b"bind".as_slice() {
         return bind_of(alloc, words);
     }
+    if command == b"associate".as_slice() {
+        return associate_of(alloc, words);
+    }
+    if command == b"attach".as_slice() {
+        return attach_of(alloc, seqs, words);
+    }
     if command == b"call".as_slice() {
         return call_of(alloc, words);
     }
@@ -260,6 +335,9 @@ fn behind_command<'w, 'a>(
     if command == b"answer".as_slice() {
         return answer_of(alloc, words);
     }
+    if command == b"raw".as_slice() {
+        return raw_of(alloc, words);
+    }
     if command == b"close".as_slice() {
         return close_of(alloc, words);
     }
@@ -267,16 +345,20 @@ fn behind_command<'w, 'a>(
 }
 
 /// The join of these words.
-fn join_of<'w, 'a>(alloc: Global, words: &'w [&'a [u8]]) -> Result<Option<Form<'w, 'a>>, AllocError>
-    ensures { IfOk result (λ found. SpellsForm (codes "join" ∷ map (λ word. word.now) words.now) found) }
+fn join_of<'w, 'a>(
+    alloc: Global,
+    seqs: u32,
+    words: &'w [&'a [u8]],
+) -> Result<Option<Form<'w, 'a>>, AllocError>
+    ensures { IfOk result (λ found. SpellsForm seqs (codes "join" ∷ map (λ word. word.now) words.now) found) }
 {
     let Some((seq, other, first, second)) = four_words(words) else {
         return Ok(None);
     };
-    let Some(seq) = sequence_number(alloc, seq)? else {
+    let Some(seq) = sequence_number(alloc, seqs, seq)? else {
         return Ok(None);
     };
-    let Some(other) = sequence_number(alloc, other)? else {
+    let Some(other) = sequence_number(alloc, seqs, other)? else {
         return Ok(None);
     };
     if are_two_names(first, second) {
@@ -287,13 +369,17 @@ fn join_of<'w, 'a>(alloc: Global, words: &'w [&'a [u8]]) -> Result<Option<Form<'
 }
 
 /// The automatic reply of these words.
-fn auto_of<'w, 'a>(alloc: Global, words: &'w [&'a [u8]]) -> Result<Option<Form<'w, 'a>>, AllocError>
-    ensures { IfOk result (λ found. SpellsForm (codes "auto" ∷ map (λ word. word.now) words.now) found) }
+fn auto_of<'w, 'a>(
+    alloc: Global,
+    seqs: u32,
+    words: &'w [&'a [u8]],
+) -> Result<Option<Form<'w, 'a>>, AllocError>
+    ensures { IfOk result (λ found. SpellsForm seqs (codes "auto" ∷ map (λ word. word.now) words.now) found) }
 {
     let Some((seq, method, value)) = three_words(words) else {
         return Ok(None);
     };
-    let Some(seq) = sequence_number(alloc, seq)? else {
+    let Some(seq) = sequence_number(alloc, seqs, seq)? else {
         return Ok(None);
     };
     if is_method_word(alloc, method)? && !value.is_empty() {
@@ -306,38 +392,40 @@ fn auto_of<'w, 'a>(alloc: Global, words: &'w [&'a [u8]]) -> Result<Option<Form<'
 /// The line of a sequence of these words.
 fn of_sequence<'w, 'a>(
     alloc: Global,
+    seqs: u32,
     start: &[u8],
     words: &'w [&'a [u8]],
 ) -> Result<Option<Form<'w, 'a>>, AllocError>
-    ensures { IfOk result (λ found. SpellsOf start.now (map (λ word. word.now) words.now) found) }
+    ensures { IfOk result (λ found. SpellsOf seqs start.now (map (λ word. word.now) words.now) found) }
 {
-    let Some(seq) = sequence_of(alloc, start)? else {
+    let Some(seq) = sequence_of(alloc, seqs, start)? else {
         return Ok(None);
     };
     let Some((command, rest)) = first_word(words) else {
         return Ok(None);
     };
-    match behind_command(alloc, command, rest)? {
+    match behind_command(alloc, seqs, command, rest)? {
         Some(said) => Ok(Some(Form::Of(seq, said))),
         None => Ok(None),
     }
 }
 
-/// The form of these words; none where they have none.
+/// The form of these words where there are so many sequences; none where they have none.
 pub(crate) fn read_form<'w, 'a>(
     alloc: Global,
+    seqs: u32,
     words: &'w [&'a [u8]],
 ) -> Result<Option<Form<'w, 'a>>, AllocError>
-    ensures { IfOk result (λ found. SpellsForm (map (λ word. word.now) words.now) found) }
+    ensures { IfOk result (λ found. SpellsForm seqs (map (λ word. word.now) words.now) found) }
 {
     let Some((start, rest)) = first_word(words) else {
         return Ok(None);
     };
     if start == b"join".as_slice() {
-        return join_of(alloc, rest);
+        return join_of(alloc, seqs, rest);
     }
     if start == b"auto".as_slice() {
-        return auto_of(alloc, rest);
+        return auto_of(alloc, seqs, rest);
     }
-    of_sequence(alloc, start, rest)
+    of_sequence(alloc, seqs, start, rest)
 }

@@ -1,9 +1,10 @@
 //! What holds of scripts whoever reads them: these functions do nothing.
 
-ghost use Rattle.std.specs.Prelude.{◌≡◌, ℕ, List};
+ghost use Rattle.std.specs.Prelude.{◌≡◌, ◌<◌, ◌^◌, ℕ, List, true};
 ghost use Rattle.mj_schema.specs.declared.schema.Schema.{Schema};
 ghost use Rattle.call_script.specs.declared.script.Script.{Script};
 ghost use Rattle.call_script.specs.declared.script_error.LineRefusal.{LineRefusal};
+ghost use Rattle.call_script.specs.Letters.{is_name, own_word};
 ghost use Rattle.call_script.specs.Same.{SameScript};
 ghost use Rattle.call_script.specs.Script.{IsScriptOf, IsFirstRefusal};
 
@@ -23,4 +24,11 @@ pub fn one_refusal()
 pub fn one_script()
     ensures { (schema : Schema) (bytes : List ℕ) (one other : Script)
         → IsScriptOf schema bytes one → IsScriptOf schema bytes other → SameScript one other }
+{}
+
+/// A law: a name of a sequence's own is none of a join's, and none of another sequence's.
+pub fn own_names_are_apart()
+    ensures joins { (seq : ℕ) (name other : List ℕ) → is_name other ≡ true → own_word seq name ≡ other → ⊥ }
+    ensures sequences { (seq seq' : ℕ) (name name' : List ℕ) → seq < 2 ^ 64 → seq' < 2 ^ 64
+        → own_word seq name ≡ own_word seq' name' → (seq ≡ seq') × (name ≡ name') }
 {}

@@ -1,11 +1,16 @@
-//! Numbers, each in its one spelling.
+//! Numbers and bytes, each in its one spelling.
 
-ghost use Rattle.std.specs.Prelude.{◌≡◌, ◌<◌, IfOk, MatchOption};
-ghost use Rattle.call_script.specs.steps.Numbers.{SpellsNumber, IsEndpoint, NoEndpoint};
+ghost use Rattle.std.specs.Prelude.{◌≡◌, ◌<◌, ◌↔◌, IsTrue, IfOk, MatchOption, map};
+ghost use Rattle.hex.specs.declared.error.FromHexError.TheVariants.{OutOfMemory};
+ghost use Rattle.call_script.specs.Forms.{AreSequences};
+ghost use Rattle.call_script.specs.steps.Numbers.{SpellsNumber, SpellsBytes, SpellsCount, SpellsHeader, IsEndpoint, NoEndpoint};
 
 use crate::few_words::two_words;
 use crate::letters::is_name;
+use crate::script::MAX_SEQUENCES;
 use crate::split::split;
+use hex::FromHexError;
+use mj_base::Items;
 use std::alloc::{AllocError, Global};
 
 /// The number that the word spells in decimal, with no sign and no leading zero; none where it spells
@@ -53,5 +58,79 @@ pub(crate) fn endpoint<'a>(
     match number(alloc, digits)? {
         Some(id) => Ok(Some(EndpointParts { name, id })),
         None => Ok(None),
+    }
+}
+
+/// Whether a script may have so many sequences.
+fn are_sequences(seqs: u32) -> bool
+    ensures { IsTrue result ↔ AreSequences seqs }
+{
+    0 < seqs && seqs <= MAX_SEQUENCES
+}
+
+/// How many sequences the word says that a script has; none where it says no number that a script may
+/// have.
+fn count_of(alloc: Global, word: &[u8]) -> Result<Option<u32>, AllocError>
+    ensures { IfOk result (λ found. SpellsCount word.now found) }
+{
+    match number(alloc, word)? {
+        Some(seqs) if are_sequences(seqs) => Ok(Some(seqs)),
+        _ => Ok(None),
+    }
+}
+
+/// How many sequences a script has whose first line is of these words; none where they don't say so.
+pub(crate) fn sequences_of(alloc: Global, words: &[&[u8]]) -> Result<Option<u32>, AllocError>
+    ensures { IfOk result (λ found. SpellsHeader (map (λ word. word.now) words.now) found) }
+{
+    let Some((command, count)) = two_words(words) else {
+        return Ok(None);
+    };
+    if command == b"seqs".as_slice() {
+        count_of(alloc, count)
+    } else {
+        Ok(None)
+    }
+}
+
+/// Whether memory ran out.
+fn is_memory(error: FromHexError) -> bool
+    ensures { IsTrue result ↔ (error ≡ OutOfMemory) }
+{
+    match error {
+        FromHexError::OutOfMemory => true,
+        FromHexError::InvalidHexCharacter { .. }
+        | FromHexError::OddLength
+        | FromHexError::InvalidStringLength => false,
+    }
+}
+
+/// The bytes that the word spells in hexadecimal, in lower case and `-` for no bytes; none where it
+/// spells none so.
+pub(crate) fn hex_bytes(alloc: Global, word: &[u8]) -> Result<Option<Items<u8>>, AllocError>
+    ensures { IfOk result (λ found. SpellsBytes word.now found) }
+{
+    if word == b"-".as_slice() {
+        return Ok(Some(Items::new(alloc)));
+    }
+    if word.is_empty() {
+        return Ok(None);
+    }
+    match hex::decode(alloc, word) {
+        Ok(bytes) => {
+            let spelled = hex::encode(alloc, bytes.as_slice())?;
+            if spelled.as_bytes() == word {
+                Ok(Some(Items::from_vec(bytes)))
+            } else {
+                Ok(None)
+            }
+        }
+        Err(error) => {
+            if is_memory(error) {
+                Err(AllocError)
+            } else {
+                Ok(None)
+            }
+        }
     }
 }

@@ -1,7 +1,7 @@
 //! Reads a whole script.
 
-ghost use Rattle.std.specs.Prelude.{◌≡◌, IfOk, Err, map, IsTrue, ◌↔◌, ℕ};
-ghost use Rattle.call_script.specs.Forms.{IsForm, header_words, is_setup, sets, answers};
+ghost use Rattle.std.specs.Prelude.{◌≡◌, ◌∷◌, IfOk, Err, length, map, ℕ};
+ghost use Rattle.call_script.specs.Forms.{IsForm, AreSequences, is_setup, answers};
 ghost use Rattle.call_script.specs.Script.{IsScriptOf, IsFirstRefusal};
 ghost use Rattle.call_script.specs.Sound.{IsScript};
 ghost use Rattle.call_script.specs.declared.script_error.LineRefusal.{LineRefusal};
@@ -10,16 +10,16 @@ ghost use Rattle.call_script.specs.steps.Commands.{part_view};
 ghost use Rattle.call_script.specs.steps.Forms.{form_view};
 ghost use Rattle.call_script.specs.steps.Interfaces.{IsIndexed};
 ghost use Rattle.call_script.specs.steps.Pieces.{words_now};
-ghost use Rattle.call_script.specs.steps.Names.{Adds};
+ghost use Rattle.call_script.specs.steps.Names.{Adds, Sets};
 ghost use Rattle.call_script.specs.steps.Lines.{Pushes, TakesForm, ReadsOn, AnswersBehind, AnswersAll, error_of};
 
 use crate::additions::{Part, part_of};
 use crate::commands::Stop;
-use crate::few_words::two_words;
 use crate::form::{Form, Said, read_form};
 use crate::indexed_schema::{IndexedSchema, index};
-use crate::name_table::{NameTable, add_all, add_method, no_names};
-use crate::script::{AutoReply, Line, SEQUENCES, Script};
+use crate::name_table::{NameTable, add_all, add_method, add_own, no_names};
+use crate::numbers::sequences_of;
+use crate::script::{AutoReply, Line, Script};
 use crate::script_error::{LineRefusal, ScriptError};
 use crate::split::{Words, text_words};
 use mj_base::Items;
@@ -48,27 +48,30 @@ fn is_setup(form: &Form) -> bool
     }
 }
 
-/// Adds the names that a line sets, in order; false where one is set again.
+/// Adds the names that a line sets, in order; false where one is set already.
 fn set_names(alloc: Global, table: &mut NameTable, form: &Form) -> Result<bool, AllocError>
     requires { IsForm (form_view form.now) }
-    ensures { IfOk result (λ added. Adds table.old table.new (sets (form_view form.now)) added) }
+    ensures { IfOk result (λ added. Sets table.old table.new (form_view form.now) added) }
 {
     match form {
         Form::Join(_, _, first, second) => add_all(alloc, table, &[*first, *second]),
-        Form::Of(_, Said::Pipe(first, second)) => add_all(alloc, table, &[*first, *second]),
-        Form::Of(_, Said::Mint(_, name)) => add_all(alloc, table, &[*name]),
-        Form::Of(_, Said::Take(_, names)) => add_all(alloc, table, *names),
+        Form::Of(seq, Said::Pipe(first, second)) => {
+            add_own(alloc, table, *seq, &[*first, *second])
+        }
+        Form::Of(seq, Said::Mint(_, name)) => add_own(alloc, table, *seq, &[*name]),
+        Form::Of(seq, Said::Associate(_, _, _, name)) => add_own(alloc, table, *seq, &[*name]),
+        Form::Of(seq, Said::Take(_, names)) => add_own(alloc, table, *seq, *names),
         Form::Auto(_, _, _) | Form::Of(_, _) => Ok(true),
     }
 }
 
-/// Notes the method that a line lets be answered; false where it is answered already.
+/// Notes the method that a line lets be answered; false where its sequence answers it already.
 fn note_method(alloc: Global, table: &mut NameTable, form: &Form) -> Result<bool, AllocError>
     requires { IsForm (form_view form.now) }
     ensures { IfOk result (λ added. Adds table.old table.new (answers (form_view form.now)) added) }
 {
     match form {
-        Form::Auto(_, method, _) => add_method(alloc, table, *method),
+        Form::Auto(seq, method, _) => add_method(alloc, table, *seq, *method),
         Form::Join(_, _, _, _) | Form::Of(_, _) => Ok(true),
     }
 }
@@ -122,14 +125,15 @@ fn take_form(
 fn read_line(
     alloc: Global,
     indexed: &IndexedSchema,
+    seqs: u32,
     reader: &mut Reader,
     number: u32,
     words: &[&[u8]],
 ) -> Result<(), Stop>
     requires { IsIndexed indexed.now }
-    ensures { ReadsOn indexed.now.schema.now reader.old reader.new (map (λ word. word.now) words.now) number result }
+    ensures { ReadsOn indexed.now.schema.now seqs reader.old reader.new (map (λ word. word.now) words.now) number result }
 {
-    let form = match read_form(alloc, words) {
+    let form = match read_form(alloc, seqs, words) {
         Ok(Some(form)) => form,
         Ok(None) => return Err(Stop::Refused(LineRefusal::BadLine)),
         Err(_) => return Err(Stop::Memory),
@@ -150,14 +154,19 @@ fn error_of(number: u32, stop: Stop) -> ScriptError
     }
 }
 
-/// The script of these lines behind the first, by numbered interfaces.
+/// The script of these lines behind the first, of so many sequences, by numbered interfaces. All lines
+/// have so many bytes.
 fn read_numbered(
     alloc: Global,
     indexed: &IndexedSchema,
+    seqs: u32,
     lines: &[Words],
+    bytes: usize,
 ) -> Result<Script, ScriptError>
-    requires { IsIndexed indexed.now }
-    ensures { AnswersBehind indexed.now.schema.now (map words_now lines.now) result }
+    requires indexed { IsIndexed indexed.now }
+    requires count { AreSequences seqs }
+    ensures answers { AnswersBehind indexed.now.schema.now seqs (map words_now lines.now) result }
+    ensures counted { IfOk result (λ script. script.bytes ≡ bytes) }
 {
     let mut reader = Reader {
         names: no_names(alloc),
@@ -168,54 +177,83 @@ fn read_numbered(
     };
     let mut number = 2;
     for line in lines {
-        if let Err(stop) = read_line(alloc, indexed, &mut reader, number, line.words.as_slice()) {
+        let words = line.words.as_slice();
+        if let Err(stop) = read_line(alloc, indexed, seqs, &mut reader, number, words) {
             return Err(error_of(number, stop));
         }
         number += 1;
     }
     Ok(Script {
+        seqs,
         names: reader.names.numbers.len(),
+        bytes,
         autos: Items::from_vec(reader.autos),
         lines: Items::from_vec(reader.lines),
     })
 }
 
-/// The script of these lines behind the first, which is right.
-fn read_lines(alloc: Global, schema: &Schema, lines: &[Words]) -> Result<Script, ScriptError>
-    ensures { AnswersBehind schema.now (map words_now lines.now) result }
+/// The script of these lines behind the first, of so many sequences. All lines have so many bytes.
+fn read_lines(
+    alloc: Global,
+    schema: &Schema,
+    seqs: u32,
+    lines: &[Words],
+    bytes: usize,
+) -> Result<Script, ScriptError>
+    requires { AreSequences seqs }
+    ensures answers { AnswersBehind schema.now seqs (map words_now lines.now) result }
+    ensures counted { IfOk result (λ script. script.bytes ≡ bytes) }
 {
     match index(alloc, schema) {
-        Ok(indexed) => read_numbered(alloc, &indexed, lines),
+        Ok(indexed) => read_numbered(alloc, &indexed, seqs, lines, bytes),
         Err(_) => Err(ScriptError::Memory),
     }
 }
 
-/// Whether the line says how many sequences there are.
-fn is_header(words: &[&[u8]]) -> bool
-    ensures { IsTrue result ↔ (map (λ word. word.now) words.now ≡ header_words) }
+/// The script of these lines behind the first, which is of these words. All lines have so many bytes.
+fn read_with(
+    alloc: Global,
+    schema: &Schema,
+    first: &[&[u8]],
+    lines: &[Words],
+    bytes: usize,
+) -> Result<Script, ScriptError>
+    ensures answers { AnswersAll schema.now (map (λ word. word.now) first.now ∷ map words_now lines.now) result }
+    ensures counted { IfOk result (λ script. script.bytes ≡ bytes) }
 {
-    match two_words(words) {
-        Some((command, count)) => command == b"seqs".as_slice() && count == b"1".as_slice(),
-        None => false,
+    match sequences_of(alloc, first) {
+        Ok(Some(seqs)) => read_lines(alloc, schema, seqs, lines, bytes),
+        Ok(None) => Err(ScriptError::Refused {
+            line: 1,
+            why: LineRefusal::BadLine,
+        }),
+        Err(_) => Err(ScriptError::Memory),
     }
 }
 
-/// The script of these lines.
-fn read_all(alloc: Global, schema: &Schema, lines: &[Words]) -> Result<Script, ScriptError>
-    ensures { AnswersAll schema.now (map words_now lines.now) result }
+/// The script of these lines, which have so many bytes.
+fn read_all(
+    alloc: Global,
+    schema: &Schema,
+    lines: &[Words],
+    bytes: usize,
+) -> Result<Script, ScriptError>
+    ensures answers { AnswersAll schema.now (map words_now lines.now) result }
+    ensures counted { IfOk result (λ script. script.bytes ≡ bytes) }
 {
     match lines.split_first() {
-        Some((first, rest)) if is_header(first.words.as_slice()) => read_lines(alloc, schema, rest),
-        _ => Err(ScriptError::Refused {
+        Some((first, rest)) => read_with(alloc, schema, first.words.as_slice(), rest, bytes),
+        None => Err(ScriptError::Refused {
             line: 1,
             why: LineRefusal::BadLine,
         }),
     }
 }
 
-/// Reads a script for this schema: the first line says that there is one sequence, then lines join
-/// pipes and let methods be answered, and then lines of the sequence follow; 65,536 lines at most in all. Takes time in proportion
-/// to the text and the interfaces, times the methods of an interface that a call's word is compared with.
+/// Reads a script for this schema: the first line says how many sequences there are, from 1 to 16; then
+/// lines join pipes and let methods be answered; and then lines of the sequences follow, in any order;
+/// 65,536 lines at most in all. The script keeps how many bytes the text has. Takes time in proportion to the text and the interfaces, times the
+/// methods of an interface that a call's word is compared with.
 ///
 /// # Errors
 ///
@@ -223,11 +261,12 @@ fn read_all(alloc: Global, schema: &Schema, lines: &[Words]) -> Result<Script, S
 pub fn read_script(alloc: Global, schema: &Schema, bytes: &[u8]) -> Result<Script, ScriptError>
     ensures ok { IfOk result (IsScriptOf schema.now bytes.now) }
     ensures sound { IfOk result (IsScript schema.now) }
+    ensures counted { IfOk result (λ script. script.bytes ≡ length bytes.now) }
     ensures refused { (line : ℕ) (why : LineRefusal) → result ≡ Err (errors.Refused line why)
         → IsFirstRefusal schema.now bytes.now line why }
 {
     match text_words(alloc, bytes) {
-        Ok(lines) => read_all(alloc, schema, lines.as_slice()),
+        Ok(lines) => read_all(alloc, schema, lines.as_slice(), bytes.len()),
         Err(_) => Err(ScriptError::Memory),
     }
 }

@@ -4,10 +4,13 @@ use handle_table::TokenSort;
 use mj_base::{Items, SeqId};
 use wire_encoder::{EndpointSide, Prepared};
 
-/// How many sequences a script has.
-pub const SEQUENCES: u32 = 1;
+/// The most sequences that a script has; it has one at least.
+pub const MAX_SEQUENCES: u32 = 16;
 
-/// A name of a script, by its number: names are numbered from 0 in the order in which lines set them.
+/// A name of a script, by its number: names are numbered from 0 in the order in which lines set them,
+/// those of joins and all sequences' own in one row. So a name that two sequences set has two numbers,
+/// each of which stands for what is that sequence's own, and a join's name has the same number in the
+/// lines of all sequences.
 #[derive(Clone, Copy, Debug, PartialEq, Eq)]
 pub struct NameId(pub usize);
 
@@ -22,12 +25,19 @@ pub enum Command {
     Mint(TokenSort, NameId),
     /// To bind an end as a side of an interface, by its number in the schema.
     Bind(NameId, EndpointSide, u32),
+    /// A new endpoint of an end, as a side of an interface by its number in the schema, and the name of
+    /// its pending other half.
+    Associate(NameId, EndpointSide, u32, NameId),
+    /// To bind the pending endpoint of this name on that sequence.
+    Attach(NameId, SeqId),
     /// A request from the endpoint of this id at an end, with these handles and endpoints.
     Call(NameId, u32, Prepared, Items<NameId>),
     /// The oldest unread message at an end, and names for what comes with it.
     Take(NameId, Items<NameId>),
     /// The response of the responder of this name, with these handles and endpoints.
     Answer(NameId, Prepared, Items<NameId>),
+    /// These bytes as a message from an end that isn't bound, with these handles.
+    Raw(NameId, Items<u8>, Items<NameId>),
     /// To close what has this name.
     CloseToken(NameId),
     /// To close the endpoint of this id at an end.
@@ -49,11 +59,14 @@ pub struct AutoReply {
     pub prepared: Prepared,
 }
 
-/// A script: how many names its lines set; and what its lines behind the first say, in order: the
-/// automatic replies, and the lines that ask, the joins before all others.
+/// A script: how many sequences it has, from 1 to 16; how many names its lines set; how many bytes it was
+/// read from; and what its lines behind the first say, in order: the automatic replies, and the lines that
+/// ask, the joins before all others.
 #[derive(Drop)]
 pub struct Script {
+    pub seqs: u32,
     pub names: usize,
+    pub bytes: usize,
     pub autos: Items<AutoReply>,
     pub lines: Items<Line>,
 }

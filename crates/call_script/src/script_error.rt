@@ -7,10 +7,11 @@ use thiserror::Error;
 pub enum LineRefusal {
     /// It has none of the forms, or a number that is out of its range.
     BadLine,
-    /// It sets a name that is set already, or lets a method be answered that is answered already.
+    /// It sets a name that a join or a line of its sequence has set already, or lets a method be
+    /// answered that its sequence answers already.
     DoubleName,
-    /// It names an interface, a method or a response that the schema lacks, or a name that no line
-    /// before it sets.
+    /// It names an interface, a method or a response that the schema lacks, or a name that no join and
+    /// no line of its sequence before it sets.
     UnknownName,
     /// Its value is none of the method's parameters, or isn't one that can be sent; or an automatic
     /// reply's is to carry handles or endpoints.

@@ -1,1 +1,2 @@
 pub mod NoHelp
+pub mod Orders

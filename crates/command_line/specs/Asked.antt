@@ -1,9 +1,11 @@
 -- What the words of the command line ask for.
 use Rattle.std.specs.Prelude.{ℕ, List, [], ◌∷◌, map, Option, Some, None, unwrap_or, option_and_then, option_map, codes, if◌then◌else◌}
-use Rattle.std.specs.Prelude.{◌≡◌, ◌&&◌, nat_le}
+use Rattle.std.specs.Prelude.{◌≡◌, ◌⊎◌, ◌^◌, ◌&&◌, nat_le, nat_lt}
 use Rattle.std.specs.Borrow.{Bor}
 use Rattle.std.specs.Fmt.{decimal}
+use Rattle.std.specs.Option.{option_map_or}
 use Rattle.std.specs.Str.{bytes_eq}
+use Rattle.std.specs.Str.Parse.{digits_value}
 use Rattle.clap.specs.Walk.{byte_or_zero}
 use Rattle.clap.specs.Words.{Kinds, Row, Text, all_of, fault_of, first_of, subcommand_of}
 use Rattle.command_line.specs.Definition.{tool}
@@ -14,14 +16,15 @@ use Rattle.command_line.specs.declared.asked.Side.TheVariants.{Request, Response
 use Rattle.command_line.specs.declared.asked.WordsError.{WordsError}
 use Rattle.command_line.specs.declared.asked.WordsError.TheVariants.{WrongUse, Memory}
 
--- the names in `run --script SCRIPT FILE..`
+-- the names, and the number that decides which sequence goes on, in `run --script SCRIPT [--order ORDER] FILE..`
 pub record RunWords : Type 0 where
   pub script : List ℕ
+  pub order : ℕ
   pub files : List (List ℕ)
 
--- these names
-abbrev pub run_words : List ℕ → List (List ℕ) → RunWords
-run_words script files = record { script = script; files = files }
+-- these words of `run`
+abbrev pub run_words : List ℕ → ℕ → List (List ℕ) → RunWords
+run_words script order files = record { script = script; order = order; files = files }
 
 -- the method, which of its messages, and the names of files in `encode --method METHOD [--response] --value VALUE FILE..`
 pub record EncodeWords : Type 0 where
@@ -69,6 +72,22 @@ texts_at name rows = unwrap_or (all_of name rows) []
 abbrev pub side_in : List Row → Side
 side_in rows = if bytes_eq (text_at (codes "response") rows) (codes "true") then Response else Request
 
+-- the number of 64 bits whose decimal digits, with no sign and no leading zero, are the text
+abbrev pub order_of : Text → Option ℕ
+order_of text = let n = digits_value 10 text in if bytes_eq (decimal n) text && nat_lt n (2 ^ 64) then Some n else None
+
+-- the order among these values, where it is one: 0 where none is given
+abbrev pub order_in : List Row → Option ℕ
+order_in rows = option_map_or order_of (first_of (codes "order") rows) (Some 0)
+
+-- `run` with these values and this order
+abbrev pub run_with : List Row → ℕ → Command
+run_with rows order = Run (run_words (text_at (codes "script") rows) order (texts_at (codes "FILE") rows))
+
+-- `run` with these values, where the order is one
+abbrev pub run_in : List Row → Option Command
+run_in rows = option_map (run_with rows) (order_in rows)
+
 -- the number from 0 to 64 whose decimal digits, with no sign and no leading zero, are the text
 abbrev pub handles_of : Text → Option ℕ
 handles_of text = let n = byte_or_zero text in if bytes_eq (decimal n) text && nat_le n 64 then Some n else None
@@ -92,10 +111,10 @@ decode_with rows handles =
 abbrev pub decode_in : List Row → Option Command
 decode_in rows = option_map (decode_with rows) (handles_in rows)
 
--- the command of this name with these values; there are five, and `decode` alone can be none, by its number of handles
+-- the command of this name with these values; there are five, and `run` and `decode` alone can be none, by their numbers
 abbrev pub command_in : Text × List Row → Option Command
 command_in (name, rows) =
-    if bytes_eq name (codes "run") then Some (Run (run_words (text_at (codes "script") rows) (texts_at (codes "FILE") rows)))
+    if bytes_eq name (codes "run") then run_in rows
     else if bytes_eq name (codes "print") then Some (Print (text_at (codes "FILE") rows))
     else if bytes_eq name (codes "check") then Some (Check (texts_at (codes "FILE") rows))
     else if bytes_eq name (codes "encode") then Some (encode_in rows)
@@ -110,10 +129,11 @@ unless_fault (fault ∷ faults) asked = None
 abbrev pub command_of : List (List ℕ) → Option Command
 command_of words = unless_fault (fault_of tool words) (option_and_then command_in (subcommand_of tool words))
 
--- the words are `decode` with a number of handles that is no number from 0 to 64
+-- the words are `run` with an order that is no number of 64 bits, or `decode` with a number of handles that is no number from 0 to 64
 abbrev pub HasWrongNumber : Option (Text × List Row) → Type 0
 HasWrongNumber None = ⊥
-HasWrongNumber (Some (name, rows)) = (name ≡ codes "decode") × (handles_in rows ≡ None)
+HasWrongNumber (Some (name, rows)) =
+    ((name ≡ codes "run") × (order_in rows ≡ None)) ⊎ ((name ≡ codes "decode") × (handles_in rows ≡ None))
 
 -- what these borrowed texts say
 abbrev pub texts : List (Bor Text) → List Text
@@ -121,7 +141,7 @@ texts = map (λ text. text.now)
 
 -- what the command that was read asks for
 abbrev pub asked_of : Read → Command
-asked_of (read.Run script files) = Run (run_words script.now (texts files.items))
+asked_of (read.Run script order files) = Run (run_words script.now order (texts files.items))
 asked_of (read.Print file) = Print file.now
 asked_of (read.Check files) = Check (texts files.items)
 asked_of (read.Encode method side value files) = Encode (encode_words method.now side value.now (texts files.items))

@@ -11,6 +11,10 @@ long name = record (new_rule name) { long = Some name }
 abbrev pub option : Text → Rule
 option name = record (long name) { required = true; action = Some Set }
 
+-- the same, once or not at all
+abbrev pub free_option : Text → Rule
+free_option name = record (long name) { action = Some Set }
+
 -- `--name`, once or not at all
 abbrev pub flag : Text → Rule
 flag name = record (long name) { action = Some SetTrue }
@@ -23,9 +27,9 @@ one_file = record (new_rule (codes "FILE")) { required = true; action = Some Set
 abbrev pub files : Rule
 files = record (new_rule (codes "FILE")) { required = true; action = Some Append }
 
--- `run --script SCRIPT FILE..`
+-- `run --script SCRIPT [--order ORDER] FILE..`
 abbrev pub run : App
-run = with_rule (with_rule (new_app (codes "run")) (option (codes "script"))) files
+run = with_rule (with_rule (with_rule (new_app (codes "run")) (option (codes "script"))) (free_option (codes "order"))) files
 
 -- `print FILE`
 abbrev pub print : App

@@ -17,9 +17,10 @@ pub enum Side {
 /// What the words ask for.
 #[derive(Drop)]
 pub enum Command<'a> {
-    /// To run a script over Mojom files.
+    /// To run a script over Mojom files, with the number that decides which sequence goes on.
     Run {
         script: &'a str,
+        order: u64,
         files: Vec<&'a str>,
     },
     /// The canonical text of a Mojom file.

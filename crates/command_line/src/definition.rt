@@ -3,7 +3,7 @@
 ghost use Rattle.std.specs.Prelude.{◌≡◌, IfOk, false};
 ghost use Rattle.clap.specs.Words.{app_of, rule_of};
 ghost use Rattle.clap.specs.declared.builder.command.Command.TheViews.{out-Command};
-ghost use Rattle.command_line.specs.Definition.{long, option, flag, one_file, files, run, print, check, encode, decode, tool};
+ghost use Rattle.command_line.specs.Definition.{long, option, free_option, flag, one_file, files, run, print, check, encode, decode, tool};
 
 use clap::{Arg, ArgAction, Command};
 use std::alloc::{AllocError, Global};
@@ -29,6 +29,14 @@ fn option_arg<'a>(alloc: Global, name: &'a str, help: &'a str) -> Arg<'a>
     long_arg(alloc, name, help)
         .required(true)
         .action(ArgAction::Set)
+}
+
+/// An option that stands once, with its value, or not at all.
+fn free_option_arg<'a>(alloc: Global, name: &'a str, help: &'a str) -> Arg<'a>
+    ensures rule { rule_of result ≡ free_option name.entry.now }
+    ensures local { result.global ≡ false }
+{
+    long_arg(alloc, name, help).action(ArgAction::Set)
 }
 
 /// A flag, which stands once or not at all.
@@ -61,7 +69,7 @@ fn files_arg<'a>(alloc: Global, help: &'a str) -> Arg<'a>
         .help(help)
 }
 
-/// `run --script SCRIPT FILE..`.
+/// `run --script SCRIPT [--order ORDER] FILE..`.
 fn run_command<'a>(alloc: Global) -> Result<Command<'a>, AllocError>
     ensures app { IfOk result (λ command. app_of command ≡ run) }
     ensures local { IfOk result (λ command. (out-Command command).has_globals ≡ false) }
@@ -69,6 +77,11 @@ fn run_command<'a>(alloc: Global) -> Result<Command<'a>, AllocError>
     Command::new(alloc, "run")
         .about("Runs a script over Mojom files, and prints its history")
         .arg(option_arg(alloc, "script", "The script"))?
+        .arg(free_option_arg(
+            alloc,
+            "order",
+            "The number that decides which sequence goes on, 0 where none is given",
+        ))?
         .arg(files_arg(alloc, "The Mojom files, with the script's interfaces"))
 }
 

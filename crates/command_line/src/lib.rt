@@ -9,5 +9,5 @@ mod read;
 mod tests;
 
 pub use asked::{Command, Side, WordsError};
-pub use law::{handles_are_digits, taken_words_have_a_command};
+pub use law::{handles_are_digits, orders_are_digits, taken_words_have_a_command};
 pub use read::read_words;

@@ -2,8 +2,8 @@
 
 ghost use Rattle.std.specs.Prelude.{◌≡◌, IfErr, IfOk, None, Some, map, option_and_then, string_bytes};
 ghost use Rattle.clap.specs.Words.{found_of, kind_of, rows_of, subcommand_rows_of};
-ghost use Rattle.command_line.specs.Asked.{OnWrongUse, asked_of, command_in, command_of, decode_in, encode_in};
-ghost use Rattle.command_line.specs.Asked.{handles_of, side_in, text_at, texts, texts_at};
+ghost use Rattle.command_line.specs.Asked.{OnWrongUse, asked_of, command_in, command_of, decode_in, encode_in, run_in};
+ghost use Rattle.command_line.specs.Asked.{handles_of, order_in, order_of, side_in, text_at, texts, texts_at};
 
 use crate::asked::{Command, Side, WordsError};
 use crate::definition::tool_command;
@@ -44,6 +44,19 @@ fn side_of(matches: &ArgMatches<'_>) -> Side
     }
 }
 
+/// The number of 64 bits that the text is, in decimal digits without a sign or a leading zero.
+fn read_order(alloc: Global, text: &str) -> Result<Option<u64>, AllocError>
+    ensures { IfOk result (λ order. order ≡ order_of text.now) }
+{
+    let number = text.parse::<u64>().unwrap_or(0);
+    let spelled = format!(in alloc; "{number}")?;
+    if spelled.as_str() == text {
+        Ok(Some(number))
+    } else {
+        Ok(None)
+    }
+}
+
 /// The number from 0 to 64 that the text is, in decimal digits without a sign or a leading zero.
 ///
 /// The integers that `clap` reads may have both, so it takes any text here.
@@ -60,15 +73,47 @@ fn read_handles(alloc: Global, text: &str) -> Result<Option<u32>, AllocError>
     }
 }
 
-/// The refusal of a number of handles.
-fn wrong_handles(alloc: Global, text: &str) -> Result<WordsError, AllocError> {
+/// The refusal of the number behind an option, which is 0 or more and at most another one.
+fn wrong_number(
+    alloc: Global,
+    text: &str,
+    option: &str,
+    most: u64,
+) -> Result<WordsError, AllocError> {
     let line = format!(in alloc;
-        "error: invalid value '{text}' for '--handles <handles>': a number from 0 to 64
+        "error: invalid value '{text}' for '--{option} <{option}>': a number from 0 to {most}
 
 For more information, try '--help'.
 "
     )?;
     Ok(WordsError::WrongUse(line))
+}
+
+/// The order that is asked for: 0 where none is given.
+fn found_order(alloc: Global, found: &ArgMatches<'_>) -> Result<u64, WordsError>
+    ensures ok { IfOk result (λ order. Some order ≡ order_in (rows_of (found_of found.now))) }
+    ensures wrong_use { IfErr result (OnWrongUse (order_in (rows_of (found_of found.now)) ≡ None)) }
+{
+    let Some(text) = found.get_str("order") else {
+        return Ok(0);
+    };
+    match read_order(alloc, text)? {
+        Some(order) => Ok(order),
+        None => Err(wrong_number(alloc, text, "order", u64::MAX)?),
+    }
+}
+
+/// `run` with the values that `clap` found.
+fn found_run<'a>(alloc: Global, found: &ArgMatches<'a>) -> Result<Command<'a>, WordsError>
+    ensures ok { IfOk result (λ command. Some (asked_of command) ≡ run_in (rows_of (found_of found.now))) }
+    ensures wrong_use { IfErr result (OnWrongUse (run_in (rows_of (found_of found.now)) ≡ None)) }
+{
+    let order = found_order(alloc, found)?;
+    Ok(Command::Run {
+        script: text_of(found, "script"),
+        order,
+        files: texts_of(alloc, found, "FILE")?,
+    })
 }
 
 /// `encode` with the values that `clap` found.
@@ -90,7 +135,7 @@ fn found_decode<'a>(alloc: Global, found: &ArgMatches<'a>) -> Result<Command<'a>
 {
     let text = text_of(found, "handles");
     let Some(handles) = read_handles(alloc, text)? else {
-        return Err(wrong_handles(alloc, text)?);
+        return Err(wrong_number(alloc, text, "handles", 64)?);
     };
     Ok(Command::Decode {
         interface: text_of(found, "interface"),
@@ -111,10 +156,7 @@ fn found_command<'a>(alloc: Global, matches: &ArgMatches<'a>) -> Result<Command<
         return Err(WordsError::WrongUse(String::new(alloc)));
     };
     if name == "run" {
-        return Ok(Command::Run {
-            script: text_of(found, "script"),
-            files: texts_of(alloc, found, "FILE")?,
-        });
+        return found_run(alloc, found);
     }
     if name == "print" {
         return Ok(Command::Print {
@@ -145,10 +187,11 @@ fn refusal(alloc: Global, error: Error) -> WordsError
     }
 }
 
-/// The command in the words, which begin with the program's name: `run --script SCRIPT FILE..`,
+/// The command in the words, which begin with the program's name: `run --script SCRIPT [--order ORDER] FILE..`,
 /// `print FILE`, `check FILE..`, `encode --method METHOD [--response] --value VALUE FILE..` or
 /// `decode --interface INTERFACE [--response] --handles HANDLES --message MESSAGE FILE..`, in each
-/// spelling that `clap` takes, where HANDLES is a number from 0 to 64 without a sign or a leading zero.
+/// spelling that `clap` takes, where ORDER is a number of 64 bits, and HANDLES one from 0 to 64, without a sign
+/// or a leading zero.
 ///
 /// Words that are no command, or ask for help, are a wrong use, with the text for it, `clap`'s own but
 /// for a wrong number, which only tests look at. The other error is want of memory.

@@ -47,6 +47,12 @@ Usage: mojo encode --method <method> --value <value> <FILE>...
 For more information, try '--help'.
 ";
 
+const NO_ORDER: &str =
+    "error: invalid value '01' for '--order <order>': a number from 0 to 18446744073709551615
+
+For more information, try '--help'.
+";
+
 const NO_NUMBER: &str = "error: invalid value '65' for '--handles <handles>': a number from 0 to 64
 
 For more information, try '--help'.
@@ -72,9 +78,14 @@ fn side_word(side: Side) -> &'static str {
 /// What the command asks for.
 fn command_line(alloc: Global, command: Command<'_>) -> Result<String, AllocError> {
     match command {
-        Command::Run { script, files } => {
-            with_files(format!(in alloc; "run {script}")?, files.as_slice())
-        }
+        Command::Run {
+            script,
+            order,
+            files,
+        } => with_files(
+            format!(in alloc; "run {script} by {order}")?,
+            files.as_slice(),
+        ),
         Command::Print { file } => format!(in alloc; "print {file}"),
         Command::Check { files } => {
             with_files(String::from_str(alloc, "check")?, files.as_slice())
@@ -126,7 +137,19 @@ fn each_spelling_is_taken(rt: HostRuntime) -> Result<(), Fail> {
         "mojo run g --script s f",
         "mojo run --script s g -- f",
     ] {
-        assert_eq!(rt; answer(rt.alloc(), line)?.as_str(), "run s then g then f");
+        assert_eq!(rt;
+            answer(rt.alloc(), line)?.as_str(),
+            "run s by 0 then g then f"
+        );
+    }
+    for line in [
+        "mojo run --script s --order 18446744073709551615 g f",
+        "mojo run g --order=18446744073709551615 f --script=s",
+    ] {
+        assert_eq!(rt;
+            answer(rt.alloc(), line)?.as_str(),
+            "run s by 18446744073709551615 then g then f"
+        );
     }
     assert_eq!(rt;
         answer(rt.alloc(), "mojo print -- -f")?.as_str(),
@@ -198,6 +221,15 @@ fn other_words_are_refused(rt: HostRuntime) -> Result<(), Fail> {
         "mojo run --scr s f",
         "mojo run --script -- f",
         "mojo run --script s --script s f",
+        "mojo run --script s --order 1 --order 1 f",
+        "mojo run --script s f --order",
+        "mojo run --script s --order= f",
+        "mojo run --script s --order 07 f",
+        "mojo run --script s --order +7 f",
+        "mojo run --script s --order -1 f",
+        "mojo run --script s --order=-1 f",
+        "mojo run --script s --order 0x7 f",
+        "mojo run --script s --order 18446744073709551616 f",
         "mojo print f f",
         "mojo print --script s f",
         "mojo check",
@@ -240,6 +272,8 @@ fn the_texts_are_those_of_clap(rt: HostRuntime) -> Result<(), Fail> {
         answer(rt.alloc(), "mojo encode --method t.A.Add f")?.as_str(),
         NO_VALUE
     );
+    let line = "mojo run --script s --order 01 f";
+    assert_eq!(rt; answer(rt.alloc(), line)?.as_str(), NO_ORDER);
     let line = "mojo decode --interface t.A --handles 65 --message m f";
     assert_eq!(rt; answer(rt.alloc(), line)?.as_str(), NO_NUMBER);
     Ok(())

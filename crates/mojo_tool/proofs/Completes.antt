@@ -78,7 +78,7 @@ message_doable BadHex text is = absurd is
 message_doable (Faulty fault) text is = absurd is
 message_doable (Checks schema) text is = absurd is
 message_doable (Prints tree) text is = absurd is
-message_doable (Runs schema script) text is = absurd is
+message_doable (Runs schema script order) text is = absurd is
 message_doable (Encodes message) text is = tt
 message_doable (Decodes interface method request value) text is = tt
 
@@ -87,7 +87,7 @@ text_work : (command : Option Command) (held : Option (List Named)) (files : Lis
     → IsRightText command held ask text → (work : Work) × IsDoable work × ask files work
 text_work None held files ask text e right = absurd right
 text_work (Some (Run words)) held files ask text e right =
-    (Runs right.schema right.bytes, tt, asked_of held files ask (Runs right.schema right.bytes) e right.asked)
+    (Runs right.schema right.bytes words.order, tt, asked_of held files ask (Runs right.schema right.bytes words.order) e right.asked)
 text_work (Some (Print file)) held files ask text e right = (Prints right.tree, tt, asked_of held files ask (Prints right.tree) e right.asked)
 text_work (Some (Check names)) held files ask text e right = (Checks right.schema, tt, asked_of held files ask (Checks right.schema) e right.asked)
 text_work (Some (Encode words)) held files ask text e right =
@@ -110,7 +110,7 @@ line_of BadHex = codes "BadHex"
 line_of (Faulty fault) = fault_name fault.kind ++ (codes " " ++ decimal fault.at)
 line_of (Checks schema) = []
 line_of (Prints tree) = []
-line_of (Runs schema script) = []
+line_of (Runs schema script order) = []
 line_of (Encodes message) = []
 line_of (Decodes interface method request value) = []
 

@@ -45,16 +45,17 @@ parsing name bytes w v (inl a) (inr b) = absurd ((one_tree bytes).never_both a.0
 parsing name bytes w v (inr a) (inl b) = absurd ((one_tree bytes).never_both b.0 a.0 b.1 a.1)
 parsing name bytes w v (inr a) (inr b) = a.2 ∙ ap (Refuses name) ((one_tree bytes).one_refusal a.0 b.0 a.1 b.1) ∙ sym b.2
 
-reading : (s : Schema) (bytes : List ℕ) (w v : Work) → Reading s bytes w → Reading s bytes v → w ≡ v
-reading s bytes w v (inl a) (inl b) = a.2 ∙ sym b.2
-reading s bytes w v (inl a) (inr b) = absurd (never_both s bytes a.0 b.0 b.1 a.1 b.2)
-reading s bytes w v (inr a) (inl b) = absurd (never_both s bytes b.0 a.0 a.1 b.1 a.2)
-reading s bytes w v (inr a) (inr b) =
+reading : (s : Schema) (order : ℕ) (bytes : List ℕ) (w v : Work) → Reading s order bytes w → Reading s order bytes v → w ≡ v
+reading s order bytes w v (inl a) (inl b) = a.2 ∙ sym b.2
+reading s order bytes w v (inl a) (inr b) = absurd (never_both s bytes a.0 b.0 b.1 a.1 b.2)
+reading s order bytes w v (inr a) (inl b) = absurd (never_both s bytes b.0 a.0 a.1 b.1 a.2)
+reading s order bytes w v (inr a) (inr b) =
     let one = one_refusal s bytes a.0 b.0 a.1 b.1 a.2 b.2 in
     a.3 ∙ ap (λ (line : ℕ). RefusesLine line a.1) one.0 ∙ ap (RefusesLine b.0) one.1 ∙ sym b.3
 
-scripting : (files : List Named) (name : List ℕ) (s : Schema) (w v : Work) → Scripting files name s w → Scripting files name s v → w ≡ v
-scripting files name s w v = leads name (Reading s) (find_file files name) w v (λ bytes. reading s bytes w v)
+scripting : (files : List Named) (name : List ℕ) (order : ℕ) (s : Schema) (w v : Work) → Scripting files name order s w
+    → Scripting files name order s v → w ≡ v
+scripting files name order s w v = leads name (Reading s order) (find_file files name) w v (λ bytes. reading s order bytes w v)
 
 tabling : (next : Schema → Work → Type 0) (sources : List Source) (w v : Work) → ((schema : Schema) → next schema w → next schema v → w ≡ v)
     → Tabling next sources w → Tabling next sources v → w ≡ v
@@ -158,7 +159,7 @@ decoding files words schema w v =
 pub one_work : (command : Option Command) (files : List Named) (w v : Work) → IsWork command files w → IsWork command files v → w ≡ v
 one_work None files w v a b = a ∙ sym b
 one_work (Some (Run words)) files w v a b =
-    gathering files words.files (Scripting files words.script) w v (λ schema. scripting files words.script schema w v) a b
+    gathering files words.files (Scripting files words.script words.order) w v (λ schema. scripting files words.script words.order schema w v) a b
 one_work (Some (Print file)) files w v a b = leads file (Parsing file) (find_file files file) w v (λ bytes. parsing file bytes w v) a b
 one_work (Some (Check names)) files w v a b = gathering files names Listing w v (λ schema x y. x ∙ sym y) a b
 one_work (Some (Encode words)) files w v a b =

@@ -1,7 +1,7 @@
 -- What a run leaves is the text of its script.
-use Rattle.std.proofs.Common.{◌≡◌, ◌≤◌, ◌*◌, ℕ, List, length, reverse, Ok, sym, ap, ◌∙◌, subst, arith}
+use Rattle.std.proofs.Common.{◌≡◌, ◌≤◌, ℕ, List, length, reverse, Ok, sym, ap, ◌∙◌, subst}
 use Rattle.std.proofs.lemmas.List.{length-reverse}
-use Rattle.mj_base.specs.declared.limits.TheConstants.{MAX_EVENTS, MAX_SCRIPT_LINES}
+use Rattle.mj_base.specs.declared.limits.TheConstants.{MAX_EVENTS}
 use Rattle.mj_schema.specs.declared.schema.Schema.{Schema}
 use Rattle.handle_table.specs.declared.thing.Thing.{Thing}
 use Rattle.bind_model.specs.declared.event.Event.{Event}
@@ -16,7 +16,6 @@ use Rattle.mojom_compile.specs.Schemas.{IsSchemaOfFiles}
 use Rattle.mojom_compile.specs.declared.source.Source.{Source}
 use Rattle.call_script.specs.Script.{IsScriptOf}
 use Rattle.call_script.specs.declared.script.Script.{Script}
-use Rattle.call_script.specs.declared.script.TheConstants.{SEQUENCES}
 use Rattle.callback_laws.specs.Callbacks.{callbacks}
 use Rattle.history_laws.proofs.Owners.{one_owner}
 use Rattle.reply_laws.proofs.Once.{all_first}
@@ -50,23 +49,23 @@ keeps_laws law schema seqs past is few fit = record {
 }
 
 -- the text of a legal history that is the script's, over the schema of files
-pub text_of_run : PassedIsEncodable → (schema : Schema) (script : Script) (history : List Event) (notes : List Note) (things : List Thing)
+pub text_of_run : PassedIsEncodable → (schema : Schema) (script : Script) (order : ℕ) (history : List Event) (notes : List Note) (things : List Thing)
     (text : List ℕ) → ((sources : List Source) × IsSchemaOfFiles sources schema) → ((bytes : List ℕ) × IsScriptOf schema bytes script)
-    → Legal (wire_of schema) SEQUENCES history → OfScript schema script history → length history ≤ 4 * MAX_SCRIPT_LINES
-    → notes ≡ callbacks SEQUENCES history → things ≡ left SEQUENCES (reverse history) → text ≡ history_text schema history notes things
-    → IsTextOf schema script text
-text_of_run law schema script history notes things text compiled read lawful events few told is whole =
-    let same : text ≡ run_text schema history = whole
+    → Legal (wire_of schema) script.seqs history → OfScript schema script order history → length history ≤ MAX_EVENTS
+    → notes ≡ callbacks script.seqs history → things ≡ left script.seqs (reverse history) → text ≡ history_text schema history notes things
+    → IsTextOf schema script order text
+text_of_run law schema script order history notes things text compiled read lawful events few told is whole =
+    let same : text ≡ run_text schema script.seqs history = whole
     ∙ ap (λ (n : List Note). history_text schema history n things) told
-    ∙ ap (λ (l : List Thing). history_text schema history (callbacks SEQUENCES history) l) is in
-    let short : length history ≤ 262144 = few in
+    ∙ ap (λ (l : List Thing). history_text schema history (callbacks script.seqs history) l) is in
+    let short : length (reverse history) ≤ MAX_EVENTS = subst (λ (n : ℕ). n ≤ MAX_EVENTS) (sym (length-reverse history)) few in
     record {
       history = history;
       legal = lawful;
       events = events;
-      laws = keeps_laws law schema SEQUENCES (reverse history) lawful (omega (arith, short, length-reverse history))
-          (run_fits law compiled.0 schema read.0 script history compiled.1 read.1 events);
+      laws = keeps_laws law schema script.seqs (reverse history) lawful short
+          (run_fits law compiled.0 schema read.0 script order history compiled.1 read.1 events);
       whole = same;
-      one = subst (λ (t : List ℕ). Tells (texts.history schema) t (Ok (run_said history))) (sym same)
-          (run_read_back law compiled.0 schema read.0 script history compiled.1 read.1 lawful events few);
+      one = subst (λ (t : List ℕ). Tells (texts.history schema) t (Ok (run_said script.seqs history))) (sym same)
+          (run_read_back law compiled.0 schema read.0 script order history compiled.1 read.1 lawful events few);
     }

@@ -1,5 +1,5 @@
 -- What a run asks for: first the Mojom files, and then the script.
-use Rattle.std.proofs.Common.{◌≡◌, ◌≤◌, ℕ, List, length, slice_get, refl, sym, subst, ap, ◌∙◌, inl, inr, Some, None}
+use Rattle.std.proofs.Common.{◌≡◌, ◌≤◌, ℕ, List, length, refl, subst, inl, inr, Some, None}
 use Rattle.std.specs.Prelude.{Option}
 use Rattle.mj_base.specs.declared.limits.TheConstants.{MAX_FILE_BYTES}
 use Rattle.mj_io.specs.Outside.{Named, FilesState, FilesGoOn}
@@ -20,33 +20,34 @@ use Rattle.mojo_tool.proofs.Messages.{passed, later, stops_at, bytes_lead, of_st
 -- ## The script
 
 -- a line that is refused
-script_refused : (schema : Schema) (bytes : List ℕ) (stop : Stop) → NoScript schema bytes stop → StopsAt (Reading schema bytes) stop
-script_refused schema bytes (Refused refusal) not = inr not
-script_refused schema bytes (ReadFault name) not = absurd not
-script_refused schema bytes NoMemory not = tt
+script_refused : (schema : Schema) (order : ℕ) (bytes : List ℕ) (stop : Stop) → NoScript schema bytes stop → StopsAt (Reading schema order bytes) stop
+script_refused schema order bytes (Refused refusal) not = inr not
+script_refused schema order bytes (ReadFault name) not = absurd not
+script_refused schema order bytes NoMemory not = tt
 
 -- a file that is no script
-pub no_script : (before now : FilesState) (name : List ℕ) (schema : Schema) (bytes : List ℕ) (stop : Stop) → HasBytes before.held name bytes
-    → length bytes ≤ MAX_FILE_BYTES → NoScript schema bytes stop → Stops before now (λ files w. Scripting files name schema w) stop
-no_script before now name schema bytes stop has short not =
-    stops_at before now (Reading schema bytes) (λ files w. Scripting files name schema w) stop
-    (bytes_lead before.held name bytes (Reading schema) has short) (script_refused schema bytes stop not)
+pub no_script : (before now : FilesState) (name : List ℕ) (order : ℕ) (schema : Schema) (bytes : List ℕ) (stop : Stop)
+    → HasBytes before.held name bytes → length bytes ≤ MAX_FILE_BYTES → NoScript schema bytes stop
+    → Stops before now (λ files w. Scripting files name order schema w) stop
+no_script before now name order schema bytes stop has short not =
+    stops_at before now (Reading schema order bytes) (λ files w. Scripting files name order schema w) stop
+    (bytes_lead before.held name bytes (Reading schema order) has short) (script_refused schema order bytes stop not)
 
--- the text of a run of the script
-pub script_text : (held : Option (List Named)) (name bytes text : List ℕ) (schema : Schema) (script : Script) → HasBytes held name bytes
-    → length bytes ≤ MAX_FILE_BYTES → IsScriptOf schema bytes script → IsTextOf schema script text
-    → IsRunText held (λ files w. Scripting files name schema w) text
-script_text held name bytes text schema script has short is text_of = record {
+-- the text of a run of the script in an order
+pub script_text : (held : Option (List Named)) (name bytes text : List ℕ) (order : ℕ) (schema : Schema) (script : Script) → HasBytes held name bytes
+    → length bytes ≤ MAX_FILE_BYTES → IsScriptOf schema bytes script → IsTextOf schema script order text
+    → IsRunText order held (λ files w. Scripting files name order schema w) text
+script_text held name bytes text order schema script has short is text_of = record {
   schema = schema;
   bytes = bytes;
   script = script;
-  asked = passed held (λ files w. Reading schema bytes w) (λ files w. Scripting files name schema w) (Runs schema bytes)
-      (bytes_lead held name bytes (Reading schema) has short) (reads held);
+  asked = passed held (λ files w. Reading schema order bytes w) (λ files w. Scripting files name order schema w) (Runs schema bytes order)
+      (bytes_lead held name bytes (Reading schema order) has short) (reads held);
   read = is;
   text_of = text_of;
 }
   where
-    reads : (o : Option (List Named)) → AskedFor o (λ files w. Reading schema bytes w) (Runs schema bytes)
+    reads : (o : Option (List Named)) → AskedFor o (λ files w. Reading schema order bytes w) (Runs schema bytes order)
     reads None = tt
     reads (Some files) = inl (script, is, refl)
 
@@ -55,7 +56,7 @@ script_text held name bytes text schema script has short is text_of = record {
 module _ (words : RunWords) where
   -- what files that have a schema lead on to
   abbrev scripted : List Named → Schema → Work → Type 0
-  scripted files schema work = Scripting files words.script schema work
+  scripted files schema work = Scripting files words.script words.order schema work
 
   -- files that have none
   pub no_files : (before now : FilesState) (stop : Stop) → NoSchema before now words.files stop → Stops before now (λ files w. Running files words w) stop
@@ -63,24 +64,26 @@ module _ (words : RunWords) where
 
   -- those that have one lead on to the script
   script_leads : (held : Option (List Named)) (schema : Schema) → HaveSchemaOver held words.files schema
-      → Passes held (λ files w. Scripting files words.script schema w) (λ files w. Running files words w)
+      → Passes held (λ files w. Scripting files words.script words.order schema w) (λ files w. Running files words w)
   script_leads held schema have = schema_leads held words.files schema scripted have
 
   pub run_stops : (before mid now : FilesState) (schema : Schema) (stop : Stop) → FilesGoOn before mid → HaveSchemaOver before.held words.files schema
-      → Stops mid now (λ files w. Scripting files words.script schema w) stop → Stops before now (λ files w. Running files words w) stop
+      → Stops mid now (λ files w. Scripting files words.script words.order schema w) stop → Stops before now (λ files w. Running files words w) stop
   run_stops before mid now schema stop on have stops =
-      later before mid now (λ files w. Scripting files words.script schema w) (λ files w. Running files words w) stop on
+      later before mid now (λ files w. Scripting files words.script words.order schema w) (λ files w. Running files words w) stop on
       (script_leads before.held schema have) stops
 
   pub right_text : (before mid : FilesState) (schema : Schema) (text : List ℕ) → FilesGoOn before mid → HaveSchemaOver before.held words.files schema
-      → IsRunText mid.held (λ files w. Scripting files words.script schema w) text → IsRunText before.held (λ files w. Running files words w) text
+      → IsRunText words.order mid.held (λ files w. Scripting files words.script words.order schema w) text
+      → IsRunText words.order before.held (λ files w. Running files words w) text
   right_text before mid schema text on have right = record {
     schema = right.schema;
     bytes = right.bytes;
     script = right.script;
-    asked = passed before.held (λ files w. Scripting files words.script schema w) (λ files w. Running files words w) (Runs right.schema right.bytes)
+    asked = passed before.held (λ files w. Scripting files words.script words.order schema w) (λ files w. Running files words w)
+        (Runs right.schema right.bytes words.order)
         (script_leads before.held schema have)
-        (subst (λ (held : Option (List Named)). AskedFor held (λ files w. Scripting files words.script schema w) (Runs right.schema right.bytes))
+        (subst (λ (held : Option (List Named)). AskedFor held (λ files w. scripted files schema w) (Runs right.schema right.bytes words.order))
         on.same right.asked);
     read = right.read;
     text_of = right.text_of;

@@ -15,7 +15,6 @@ use Rattle.mojom_ast.specs.declared.file.File.{File}
 use Rattle.mojom_print.specs.FileText.{file_text}
 use Rattle.schema_text.specs.Listing.{listing}
 use Rattle.call_script.specs.declared.script.Script.{Script}
-use Rattle.call_script.specs.declared.script.TheConstants.{SEQUENCES}
 use Rattle.call_script.specs.Script.{IsScriptOf}
 use Rattle.script_run.specs.OfScript.{OfScript}
 use Rattle.history_reader.specs.Texts.{Tells}
@@ -75,25 +74,25 @@ pub record KeepsLaws (schema : Schema) (seqs : ℕ) (past : List Event) : Type 0
   -- each is left at the end or has gone, once, and nothing is made twice
   pub one_owner : OneOwner seqs past
 
--- the text is that of one history, which is legal for the schema, is of the script's events, and keeps the laws, of what became of each
--- callback, and of what is left
-pub record IsTextOf (schema : Schema) (script : Script) (text : List ℕ) : Type 0 where
+-- the text is that of one history, which is legal for the schema, is of the script's events in turns by this order, and keeps the laws, of
+-- what became of each callback, and of what is left
+pub record IsTextOf (schema : Schema) (script : Script) (order : ℕ) (text : List ℕ) : Type 0 where
   pub history : List Event
-  pub legal : Legal (wire_of schema) SEQUENCES history
-  pub events : OfScript schema script history
-  pub laws : KeepsLaws schema SEQUENCES (reverse history)
-  pub whole : text ≡ run_text schema history
+  pub legal : Legal (wire_of schema) script.seqs history
+  pub events : OfScript schema script order history
+  pub laws : KeepsLaws schema script.seqs (reverse history)
+  pub whole : text ≡ run_text schema script.seqs history
   -- it says this history, what became of its callbacks and what is left, and nothing else
-  pub one : Tells (texts.history schema) text (Ok (run_said history))
+  pub one : Tells (texts.history schema) text (Ok (run_said script.seqs history))
 
--- the text is that of a run that is asked for, of the script that the bytes are
-pub record IsRunText (held : Option (List Named)) (ask : List Named → Work → Type 0) (text : List ℕ) : Type 0 where
+-- the text is that of a run in this order that is asked for, of the script that the bytes are
+pub record IsRunText (order : ℕ) (held : Option (List Named)) (ask : List Named → Work → Type 0) (text : List ℕ) : Type 0 where
   pub schema : Schema
   pub bytes : List ℕ
   pub script : Script
-  pub asked : AskedFor held ask (Runs schema bytes)
+  pub asked : AskedFor held ask (Runs schema bytes order)
   pub read : IsScriptOf schema bytes script
-  pub text_of : IsTextOf schema script text
+  pub text_of : IsTextOf schema script order text
 
 -- the text is the canonical one of a tree that is asked for
 pub record IsPrintText (held : Option (List Named)) (ask : List Named → Work → Type 0) (text : List ℕ) : Type 0 where
@@ -122,7 +121,7 @@ pub record IsMessageText (held : Option (List Named)) (ask : List Named → Work
 -- the text is one that the words and the files ask for
 abbrev pub IsRightText : Option Command → Option (List Named) → (List Named → Work → Type 0) → List ℕ → Type 0
 IsRightText None held ask text = ⊥
-IsRightText (Some (Run words)) held ask text = IsRunText held ask text
+IsRightText (Some (Run words)) held ask text = IsRunText words.order held ask text
 IsRightText (Some (Print file)) held ask text = IsPrintText held ask text
 IsRightText (Some (Check names)) held ask text = IsCheckText held ask text
 IsRightText (Some (Encode words)) held ask text = IsMessageText held ask text

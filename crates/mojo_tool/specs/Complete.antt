@@ -35,7 +35,7 @@ pub record CanBeDone (s : Seen) : Type 0 where
 
 -- a run, a text, tables, a message or its value
 abbrev pub IsDoable : Work → Type 0
-IsDoable (Runs schema script) = Unit {0}
+IsDoable (Runs schema script order) = Unit {0}
 IsDoable (Prints tree) = Unit {0}
 IsDoable (Checks schema) = Unit {0}
 IsDoable (Encodes message) = Unit {0}

@@ -118,8 +118,8 @@ pub data Work : Type 0 where
   Checks : (schema : Schema) → Work
   -- the text of this tree
   Prints : (tree : File) → Work
-  -- a run of the script that these bytes are
-  Runs : (schema : Schema) → (script : List ℕ) → Work
+  -- a run of the script that these bytes are, whose sequences do their lines in turns by this order
+  Runs : (schema : Schema) → (script : List ℕ) → (order : ℕ) → Work
   -- the bytes of this message
   Encodes : (message : List ℕ) → Work
   -- the method, the request id and the text of the value of a message
@@ -140,15 +140,15 @@ Parsing name bytes work =
     ((tree : File) × IsParsed bytes tree × (work ≡ Prints tree))
     ⊎ ((refusal : FileRefusal) × IsUnread bytes refusal × (work ≡ Refuses name refusal))
 
--- the bytes are a script, which is run, or have a first line that is refused
-abbrev pub Reading : Schema → List ℕ → Work → Type 0
-Reading schema bytes work =
-    ((script : Script) × IsScriptOf schema bytes script × (work ≡ Runs schema bytes))
+-- the bytes are a script, which is run in this order, or have a first line that is refused
+abbrev pub Reading : Schema → ℕ → List ℕ → Work → Type 0
+Reading schema order bytes work =
+    ((script : Script) × IsScriptOf schema bytes script × (work ≡ Runs schema bytes order))
     ⊎ ((line : ℕ) × (why : LineRefusal) × IsFirstRefusal schema bytes line why × (work ≡ RefusesLine line why))
 
 -- the script's file comes after the Mojom files
-abbrev pub Scripting : List Named → List ℕ → Schema → Work → Type 0
-Scripting files name schema work = Fetching files name (Reading schema) work
+abbrev pub Scripting : List Named → List ℕ → ℕ → Schema → Work → Type 0
+Scripting files name order schema work = Fetching files name (Reading schema order) work
 
 -- the Mojom file alone
 abbrev pub Printing : List Named → List ℕ → Work → Type 0
@@ -182,7 +182,7 @@ Gathering files names next work = FetchingAll files names [] (λ sources w. Tabl
 
 -- all Mojom files come before the script
 abbrev pub Running : List Named → RunWords → Work → Type 0
-Running files words work = Gathering files words.files (Scripting files words.script) work
+Running files words work = Gathering files words.files (Scripting files words.script words.order) work
 
 -- a schema's tables are printed
 abbrev pub Listing : Schema → Work → Type 0

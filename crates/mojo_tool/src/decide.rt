@@ -108,8 +108,9 @@ pub fn decide<'a, F: Files>(
     match command {
         Command::Run {
             script,
+            order,
             files: names,
-        } => decide_run(alloc, script, names.as_slice(), files),
+        } => decide_run(alloc, script, order, names.as_slice(), files),
         Command::Print { file } => decide_print(alloc, file, files),
         Command::Check { files: names } => decide_check(alloc, names.as_slice(), files),
         Command::Encode {

@@ -1,6 +1,6 @@
-//! From a script and the files to the text of its history, or to why there is none.
+//! From a script, an order and the files to the text of its history, or to why there is none.
 
-ghost use Rattle.std.specs.Prelude.{ℕ, ◌≡◌, List, Some, map, IfOk, IfErr};
+ghost use Rattle.std.specs.Prelude.{ℕ, ◌≡◌, ◌≤◌, List, Some, length, map, IfOk, IfErr};
 ghost use Rattle.std.specs.Arc.{arc_value};
 ghost use Rattle.mj_io.specs.Outside.{FilesGoOn};
 ghost use Rattle.call_script.specs.Script.{IsScriptOf};
@@ -17,6 +17,7 @@ use crate::decide::{Stop, fetch};
 use crate::refusal::ToolRefusal;
 use call_script::{Script, ScriptError, render};
 use mj_base::Items;
+use mj_base::limits::MAX_FILE_BYTES;
 use mj_io::Files;
 use mj_schema::Schema;
 use std::alloc::Global;
@@ -27,6 +28,7 @@ use wire_encoder::laws::passed_is_encodable;
 fn read_script<'a>(alloc: Global, schema: &Schema, bytes: &[u8]) -> Result<Script, Stop<'a>>
     ensures script { IfOk result (IsScriptOf schema.now bytes.now) }
     ensures sound { IfOk result (IsScript schema.now) }
+    ensures counted { IfOk result (λ script. script.bytes ≡ length bytes.now) }
     ensures stop { IfErr result (NoScript schema.now bytes.now) }
     ensures named { IfErr result (IsOf (λ named. ⊥)) }
 {
@@ -39,13 +41,19 @@ fn read_script<'a>(alloc: Global, schema: &Schema, bytes: &[u8]) -> Result<Scrip
     }
 }
 
-/// The text of the script's history. The error is want of memory.
+/// The text of the script's history, where its sequences go on by this order. The error is want of memory.
 #[tactic(auto, using(crate::proofs::Ran::text_of_run))]
-fn run<'a>(alloc: Global, schema: Schema, script: &Script) -> Result<Items<u8>, Stop<'a>>
+fn run<'a>(
+    alloc: Global,
+    schema: Schema,
+    script: &Script,
+    order: u64,
+) -> Result<Items<u8>, Stop<'a>>
     requires sound { IsScript schema script.now }
+    requires short { script.now.bytes ≤ MAX_FILE_BYTES }
     requires read { (bytes : List ℕ) × IsScriptOf schema bytes script.now }
     requires compiled { (sources : List source) × IsSchemaOfFiles sources schema }
-    ensures text { IfOk result (IsTextOf schema script.now) }
+    ensures text { IfOk result (IsTextOf schema script.now order) }
     ensures memory { IfErr result (λ stop. stop ≡ Stop.NoMemory) }
 {
     // A law, on which those of texts and replies rest: it does nothing.
@@ -56,7 +64,7 @@ fn run<'a>(alloc: Global, schema: Schema, script: &Script) -> Result<Items<u8>, 
     let Ok(shared) = Arc::try_clone(&schema) else {
         return Err(Stop::NoMemory);
     };
-    let Ok(ran) = script_run::run_alone(alloc, shared, script) else {
+    let Ok(ran) = script_run::run_alone(alloc, shared, script, order) else {
         return Err(Stop::NoMemory);
     };
     let (notes, left) = (ran.notes.as_slice(), ran.left.as_slice());
@@ -66,44 +74,46 @@ fn run<'a>(alloc: Global, schema: Schema, script: &Script) -> Result<Items<u8>, 
     }
 }
 
-/// The text that a script's name asks for.
+/// The text that a script's name and an order ask for.
 fn decide_script<'a, F: Files>(
     alloc: Global,
     name: &'a str,
+    order: u64,
     schema: Schema,
     files: &mut F,
 ) -> Result<Items<u8>, Stop<'a>>
     requires compiled { (sources : List source) × IsSchemaOfFiles sources schema }
     ensures on { FilesGoOn (F.state files.old) (F.state files.new) }
-    ensures text { IfOk result (IsRunText (F.state files.old).held (λ files work. Scripting files name.now schema work)) }
-    ensures stop { IfErr result (Stops (F.state files.old) (F.state files.new) (λ files work. Scripting files name.now schema work)) }
+    ensures text { IfOk result (IsRunText order (F.state files.old).held (λ files work. Scripting files name.now order schema work)) }
+    ensures stop { IfErr result (Stops (F.state files.old) (F.state files.new) (λ files work. Scripting files name.now order schema work)) }
     ensures named { IfErr result (IsOf (λ named. named ≡ name.now)) }
 {
     match fetch(alloc, files, name) {
         Err(stop) => Err(stop),
         Ok(bytes) => match read_script(alloc, &schema, bytes.as_slice()) {
             Err(stop) => Err(stop),
-            Ok(script) => run(alloc, schema, &script),
+            Ok(script) => run(alloc, schema, &script, order),
         },
     }
 }
 
-/// The text of a run that the names and the files ask for.
+/// The text of a run that the names, the order and the files ask for.
 pub fn decide_run<'a, F: Files>(
     alloc: Global,
     script: &'a str,
+    order: u64,
     names: &[&'a str],
     files: &mut F,
 ) -> Result<Items<u8>, Stop<'a>>
     ensures on { FilesGoOn (F.state files.old) (F.state files.new) }
-    ensures text { IfOk result (IsRunText (F.state files.old).held
-        (λ files work. Running files (run_words script.now (map (λ name. name.now) names.now)) work)) }
+    ensures text { IfOk result (IsRunText order (F.state files.old).held
+        (λ files work. Running files (run_words script.now order (map (λ name. name.now) names.now)) work)) }
     ensures stop { IfErr result (Stops (F.state files.old) (F.state files.new)
-        (λ files work. Running files (run_words script.now (map (λ name. name.now) names.now)) work)) }
-    ensures reached { IfErr result (IsOf (ComesTo (Some (Run (run_words script.now (map (λ name. name.now) names.now)))) (F.state files.old).held)) }
+        (λ files work. Running files (run_words script.now order (map (λ name. name.now) names.now)) work)) }
+    ensures reached { IfErr result (IsOf (ComesTo (Some (Run (run_words script.now order (map (λ name. name.now) names.now)))) (F.state files.old).held)) }
 {
     match fetch_schema(alloc, names, files) {
         Err(stop) => Err(stop),
-        Ok(schema) => decide_script(alloc, script, schema, files),
+        Ok(schema) => decide_script(alloc, script, order, schema, files),
     }
 }

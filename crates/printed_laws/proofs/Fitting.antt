@@ -129,7 +129,7 @@ module _ (schema : Schema) (small : AllByRecursion AreSmall schema.interfaces) w
   all_fit (event ∷ past) all = (asked_fits event.asked all.0, all_fit past all.1)
 
 -- what a script's run sends fits its methods
-pub run_fits : PassedIsEncodable → (sources : List Source) (schema : Schema) (bytes : List ℕ) (script : Script) (history : List Event)
-    → IsSchemaOfFiles sources schema → IsScriptOf schema bytes script → OfScript schema script history → AllFit schema (reverse history)
-run_fits law sources schema bytes script history compiled read of =
-    all_fit schema (ordinals_of_files sources schema compiled) (reverse history) (script_asks law schema bytes script (reverse history) read of)
+pub run_fits : PassedIsEncodable → (sources : List Source) (schema : Schema) (bytes : List ℕ) (script : Script) (order : ℕ) (history : List Event)
+    → IsSchemaOfFiles sources schema → IsScriptOf schema bytes script → OfScript schema script order history → AllFit schema (reverse history)
+run_fits law sources schema bytes script order history compiled read of =
+    all_fit schema (ordinals_of_files sources schema compiled) (reverse history) (script_asks law schema bytes script order (reverse history) read of)

@@ -22,11 +22,13 @@ mod SmallFaults
 mod SmallRows
 mod SmallPlaces
 mod SmallWireOf
+mod OwnEvents
 mod SmallRun
 pub mod Printable
 pub mod ValueBytes
 pub mod ValueSent
 pub mod ValueGot
+mod ValueTurns
 pub mod ValueScript
 pub mod ValueSaid
 pub mod ValueDefaults

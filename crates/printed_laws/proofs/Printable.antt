@@ -1,16 +1,15 @@
 -- The history of a script's run can be printed, given that its messages can.
-use Rattle.std.proofs.Common.{◌≡◌, ◌<◌, ◌≤◌, ℕ, ◌+◌, ◌*◌, ◌^◌, List, [], ◌∷◌, length, refl, sym, subst, arith}
+use Rattle.std.proofs.Common.{◌<◌, ◌≤◌, ℕ, ◌+◌, ◌^◌, List, [], ◌∷◌, length, refl, arith}
 use Rattle.std.specs.Prelude.{map, reverse}
 use Rattle.std.specs.List.{AllByRecursion}
 use Rattle.std.proofs.lemmas.List.{length-reverse}
-use Rattle.mj_base.specs.declared.limits.TheConstants.{MAX_SCRIPT_LINES}
+use Rattle.mj_base.specs.declared.limits.TheConstants.{MAX_EVENTS}
 use Rattle.mj_schema.specs.declared.schema.Schema.{Schema}
 use Rattle.wire_model.specs.declared.target.MessageSide.TheVariants.{Request, Response}
 use Rattle.bind_model.specs.declared.asked.Asked.{Asked}
 use Rattle.bind_model.specs.declared.asked.Asked.TheVariants as asks
 use Rattle.bind_model.specs.declared.asked.Closing.{Closing}
 use Rattle.bind_model.specs.declared.asked.Closing.TheVariants as closings
-use Rattle.bind_model.specs.declared.endpoint.PendingId.{PendingId}
 use Rattle.bind_model.specs.declared.endpoint.ResponderId.{ResponderId}
 use Rattle.bind_model.specs.declared.event.Event.{Event}
 use Rattle.bind_model.specs.declared.told.Told.{Told}
@@ -19,9 +18,8 @@ use Rattle.bind_model.specs.WireOf.{wire_of}
 use Rattle.bind_model.specs.Left.{left}
 use Rattle.call_script.specs.Script.{IsScriptOf}
 use Rattle.call_script.specs.declared.script.Script.{Script}
-use Rattle.call_script.specs.declared.script.TheConstants.{SEQUENCES}
 use Rattle.callback_laws.specs.Callbacks.{callbacks}
-use Rattle.history_reader.specs.Printable.{IsPending, IsResponder, AreAll, IsInterface, IsMessage, IsClosing, IsAsked, IsEvent, AreEvents, IsPrintable}
+use Rattle.history_reader.specs.Printable.{IsResponder, AreAll, IsInterface, IsMessage, IsClosing, IsAsked, IsEvent, AreEvents, IsPrintable}
 use Rattle.history_reader.specs.Said.{said_responder, said_closing, said_asked, said_event, said}
 use Rattle.printed_laws.proofs.SmallLists.{all_reversed, all_back, all_of}
 use Rattle.printed_laws.proofs.SmallMail.{all_made, small_past}
@@ -39,6 +37,7 @@ use Rattle.script_run.specs.OfScript.{OfScript}
 -- the messages and interfaces that an asked command names are ones that a text can say
 abbrev pub SaysAsked : Schema → Asked → Type 0
 SaysAsked schema (asks.Bind x side interface) = IsInterface schema interface
+SaysAsked schema (asks.Associate x side interface) = IsInterface schema interface
 SaysAsked schema (asks.Call x id o) = IsMessage schema Request o.target o.parameters
 SaysAsked schema (asks.Answer r o) = IsMessage schema Response o.target o.parameters
 SaysAsked schema asked = Unit {0}
@@ -50,12 +49,9 @@ Says schema asked told = SaysAsked schema asked × IsGotMessage schema told
 responder_said : (r : ResponderId) → IsSmallResponder r → IsResponder (said_responder r)
 responder_said r i = (i.0, i.1, i.2, i.3, refl)
 
-none_pending : (ps : List PendingId) → ps ≡ [] → AreAll IsPending ps
-none_pending ps none = subst (λ (qs : List PendingId). AreAll IsPending qs) (sym none) tt
-
 closing_said : (closing : Closing) → IsSmallClosing closing → IsClosing (said_closing closing)
 closing_said (closings.Handle x) i = i
-closing_said (closings.Pending p) i = absurd i
+closing_said (closings.Pending p) i = i
 closing_said (closings.Responder r) i = responder_said r i
 closing_said (closings.Endpoint y id) i = i
 
@@ -65,11 +61,11 @@ module _ (schema : Schema) where
   asked_said (asks.Join t) i m = i
   asked_said (asks.Mint sort) i m = tt
   asked_said (asks.Bind x side interface) i m = (i, m)
-  asked_said (asks.Associate y side interface) i m = absurd i
-  asked_said (asks.Attach p t) i m = absurd i
-  asked_said (asks.Call y id o) i m = (i.0, i.1, (m, i.2.0, none_pending o.pendings i.2.1))
-  asked_said (asks.Answer r o) i m = (responder_said r i.0, (m, i.1.0, none_pending o.pendings i.1.1))
-  asked_said (asks.Raw x bytes handles) i m = absurd i
+  asked_said (asks.Associate y side interface) i m = (i, m)
+  asked_said (asks.Attach p t) i m = i
+  asked_said (asks.Call y id o) i m = (i.0, i.1, (m, i.2.0, i.2.1))
+  asked_said (asks.Answer r o) i m = (responder_said r i.0, (m, i.1.0, i.1.1))
+  asked_said (asks.Raw x bytes handles) i m = i
   asked_said (asks.Take y) i m = i
   asked_said (asks.Close closing) i m = closing_said closing i
   asked_said (asks.Skip line) i m = i
@@ -80,18 +76,18 @@ module _ (schema : Schema) where
   abbrev SaysEvent : Event → Type 0
   SaysEvent event = Says schema event.asked event.told
 
-  all_said : (past : List Event) → legal (wire_of schema) SEQUENCES past → AreAll (IsSmallEvent (BecomeBytes schema)) past → AreAll SaysEvent past
+  all_said : (seqs : ℕ) (past : List Event) → legal (wire_of schema) seqs past → AreAll (IsSmallEvent (BecomeBytes schema)) past → AreAll SaysEvent past
       → AreAll IsSaid past
-  all_said [] h a m = tt
-  all_said (event ∷ past) h a m =
+  all_said seqs [] h a m = tt
+  all_said seqs (event ∷ past) h a m =
       let things = (all_made (BecomeBytes schema) (wire_of schema) (event ∷ past) a).0 in (
         (
           a.0.0,
           asked_said event.asked a.0.1 m.0.0,
-          told_said schema event.told a.0.2 m.0.1 (all_handed (wire_of schema) SEQUENCES event past h things)
-              (all_gone (wire_of schema) SEQUENCES event past h things),
+          told_said schema event.told a.0.2 m.0.1 (all_handed (wire_of schema) seqs event past h things)
+              (all_gone (wire_of schema) seqs event past h things),
         ),
-        all_said past h.2 a.1 m.1,
+        all_said seqs past h.2 a.1 m.1,
       )
 
   events_said : (k : ℕ) (events : List Event) → k + length events < 2 ^ 32 → AreAll IsSaid events → AreEvents schema k (map said_event events)
@@ -99,23 +95,24 @@ module _ (schema : Schema) where
   events_said k (event ∷ events) few a = (omega (arith, few), a.0, events_said (k + 1) events (omega (arith, few)) a.1)
 
 -- the history of a script's run can be printed where its messages can
-pub printable : (schema : Schema) (bytes : List ℕ) (script : Script) (history : List Event) → IsScriptOf schema bytes script
-    → Legal (wire_of schema) SEQUENCES history → OfScript schema script history → length history ≤ 4 * MAX_SCRIPT_LINES
+pub printable : (schema : Schema) (bytes : List ℕ) (script : Script) (order : ℕ) (history : List Event) → IsScriptOf schema bytes script
+    → Legal (wire_of schema) script.seqs history → OfScript schema script order history → length history ≤ MAX_EVENTS
     → AllByRecursion (λ (event : Event). Says schema event.asked event.told) history
-    → IsPrintable schema (said history (callbacks SEQUENCES history) (left SEQUENCES (reverse history)))
-printable schema bytes script history is h of few m =
-    let short : length history ≤ 262144 = few in
-    let one : 1 < 2 ^ 32 = omega arith in
+    → IsPrintable schema (said history (callbacks script.seqs history) (left script.seqs (reverse history)))
+printable schema bytes script order history is h of few m =
+    let short : length history ≤ 16777216 = few in
+    let most : script.seqs ≤ 16 = is.count.1 in
+    let some : script.seqs < 2 ^ 32 = omega (arith, most) in
     let back : length (reverse history) < 2 ^ 30 = omega (arith, short, length-reverse history) in
     let low = low_slots schema in
     let small : AreAll (IsSmallEvent (BecomeBytes schema)) (reverse history) =
-    run_small schema low script (small_script schema bytes script is) (reverse history) of h back in
+    run_small schema low script order (small_script schema bytes script is) some (reverse history) of h back in
     let past : IsSmallPast (wire_of schema) (reverse history) =
     small_past (BecomeBytes schema) (wire_of schema) (small_wire schema low) (reverse history) back small in
     let says = all_reversed (SaysEvent schema) history (all_of (SaysEvent schema) history m) in
-    let said_all = all_back (IsSaid schema) history (all_said schema (reverse history) h small says) in (
+    let said_all = all_back (IsSaid schema) history (all_said schema script.seqs (reverse history) h small says) in (
       events_said schema 0 history (omega (arith, short)) said_all,
-      notes_small (BecomeBytes schema) SEQUENCES history (all_back (IsSmallEvent (BecomeBytes schema)) history small),
-      left_small (reverse history) (λ seq. let n = past.serials seq in omega (arith, n)) past.tokens SEQUENCES one,
+      notes_small (BecomeBytes schema) script.seqs history (all_back (IsSmallEvent (BecomeBytes schema)) history small),
+      left_small (reverse history) (λ seq. let n = past.serials seq in omega (arith, n)) past.tokens script.seqs some,
       omega (arith, short),
     )

@@ -1,8 +1,8 @@
 -- What a script's run over the schema of files makes can be printed.
-use Rattle.std.proofs.Common.{◌≤◌, ◌*◌, ℕ, List, [], ◌∷◌, Ok, length, reverse, subst}
+use Rattle.std.proofs.Common.{◌≤◌, ℕ, List, [], ◌∷◌, Ok, length, reverse, subst}
 use Rattle.std.specs.List.{AllByRecursion}
 use Rattle.std.proofs.lemmas.List.{reverse-reverse}
-use Rattle.mj_base.specs.declared.limits.TheConstants.{MAX_SCRIPT_LINES}
+use Rattle.mj_base.specs.declared.limits.TheConstants.{MAX_EVENTS}
 use Rattle.mj_schema.specs.declared.schema.Schema.{Schema}
 use Rattle.bind_model.specs.Replies.{Legal}
 use Rattle.bind_model.specs.WireOf.{wire_of}
@@ -16,7 +16,6 @@ use Rattle.mojom_compile.specs.Schemas.{IsSchemaOfFiles}
 use Rattle.mojom_compile.specs.declared.source.Source.{Source}
 use Rattle.call_script.specs.Script.{IsScriptOf}
 use Rattle.call_script.specs.declared.script.Script.{Script}
-use Rattle.call_script.specs.declared.script.TheConstants.{SEQUENCES}
 use Rattle.callback_laws.specs.Callbacks.{callbacks}
 use Rattle.history_reader.specs.Printable.{IsPrintable}
 use Rattle.history_reader.specs.Texts.{Tells}
@@ -44,7 +43,7 @@ module _ (schema : Schema) (plain : HasPlainNames schema) where
   asked_says (asks.Join t) is m = tt
   asked_says (asks.Mint sort) is m = tt
   asked_says (asks.Bind x side interface) is m = named_interface_means schema plain is.0 interface is.1
-  asked_says (asks.Associate x side interface) is m = tt
+  asked_says (asks.Associate x side interface) is m = named_interface_means schema plain is.0 interface is.1
   asked_says (asks.Attach p t) is m = tt
   asked_says (asks.Call y id o) is m = m
   asked_says (asks.Answer r o) is m = m
@@ -79,23 +78,23 @@ module _ (schema : Schema) (plain : HasPlainNames schema) where
   )
 
 -- the history of a script's run, what became of its callbacks and what it leaves
-pub printable_run : PassedIsEncodable → (sources : List Source) (schema : Schema) (bytes : List ℕ) (script : Script) (history : List Event)
-    → IsSchemaOfFiles sources schema → IsScriptOf schema bytes script → Legal (wire_of schema) SEQUENCES history → OfScript schema script history
-    → length history ≤ 4 * MAX_SCRIPT_LINES → IsPrintable schema (run_said history)
-printable_run law sources schema bytes script history compiled read lawful of few =
+pub printable_run : PassedIsEncodable → (sources : List Source) (schema : Schema) (bytes : List ℕ) (script : Script) (order : ℕ) (history : List Event)
+    → IsSchemaOfFiles sources schema → IsScriptOf schema bytes script → Legal (wire_of schema) script.seqs history → OfScript schema script order history
+    → length history ≤ MAX_EVENTS → IsPrintable schema (run_said script.seqs history)
+printable_run law sources schema bytes script order history compiled read lawful of few =
     let plain = names_of_files sources schema compiled in
-    let asked = script_asks law schema bytes script (reverse history) read of in
-    let messages = script_messages schema (means schema plain) law (filled_of_files sources schema compiled) SEQUENCES bytes script (reverse history)
+    let asked = script_asks law schema bytes script order (reverse history) read of in
+    let messages = script_messages schema (means schema plain) law (filled_of_files sources schema compiled) script.seqs bytes script order (reverse history)
     lawful read of in
     let back : AllByRecursion (SaysEvent schema plain) (reverse (reverse history)) =
     turned (SaysEvent schema plain) (reverse history) (all_say schema plain (reverse history) asked messages) in
-    printable schema bytes script history read lawful of few
+    printable schema bytes script order history read lawful of few
     (subst (AllByRecursion (SaysEvent schema plain)) (reverse-reverse history) back)
 
 -- its text says it, and nothing else
-pub run_read_back : PassedIsEncodable → (sources : List Source) (schema : Schema) (bytes : List ℕ) (script : Script) (history : List Event)
-    → IsSchemaOfFiles sources schema → IsScriptOf schema bytes script → Legal (wire_of schema) SEQUENCES history → OfScript schema script history
-    → length history ≤ 4 * MAX_SCRIPT_LINES → Tells (texts.history schema) (run_text schema history) (Ok (run_said history))
-run_read_back law sources schema bytes script history compiled read lawful of few =
-    just_said schema history (callbacks SEQUENCES history) (left SEQUENCES (reverse history))
-    (printable_run law sources schema bytes script history compiled read lawful of few)
+pub run_read_back : PassedIsEncodable → (sources : List Source) (schema : Schema) (bytes : List ℕ) (script : Script) (order : ℕ) (history : List Event)
+    → IsSchemaOfFiles sources schema → IsScriptOf schema bytes script → Legal (wire_of schema) script.seqs history → OfScript schema script order history
+    → length history ≤ MAX_EVENTS → Tells (texts.history schema) (run_text schema script.seqs history) (Ok (run_said script.seqs history))
+run_read_back law sources schema bytes script order history compiled read lawful of few =
+    just_said schema history (callbacks script.seqs history) (left script.seqs (reverse history))
+    (printable_run law sources schema bytes script order history compiled read lawful of few)

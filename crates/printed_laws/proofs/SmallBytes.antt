@@ -1,7 +1,8 @@
 -- What was prepared becomes bytes: a value that passes its checks has texts in UTF-8.
 use Rattle.std.proofs.Common.{◌≡◌, ◌<◌, ℕ, zero, suc, ◌+◌, ◌-◌, Bool, true, false, List, [], ◌∷◌, ◌++◌, length, map, replicate, refl, sym, ap, subst, ◌≤◌, ◌^◌, arith}
-use Rattle.std.specs.Prelude.{Option, Some, None, Result, Ok, Err}
-use Rattle.std.proofs.lemmas.Bool.{eqb-true}
+use Rattle.std.specs.Prelude.{Option, Some, None, Result, Ok, Err, ◌==◌, nat_lt, if◌then◌else◌}
+use Rattle.std.proofs.lemmas.Bool.{eqb-true, ltb-true}
+use Rattle.std.proofs.lemmas.List.{length-append}
 use Rattle.mj_base.specs.Bytes.{rounded8}
 use Rattle.mj_schema.specs.KindTrees as kinds
 use Rattle.mj_schema.specs.KindTrees.{KindTree}
@@ -12,9 +13,11 @@ use Rattle.mj_schema.specs.declared.rows.StructRow.{StructRow}
 use Rattle.mj_schema.specs.declared.schema.Schema.{Schema}
 use Rattle.wire_encoder.specs.Alone.{takes_text}
 use Rattle.wire_encoder.specs.Checks.{Check, Test, HandleAt, EndpointAt, all_under, checks, list_checks, struct_checks, member_checks}
-use Rattle.wire_encoder.specs.FirstFailed.{Met, Refusal, counted, first_failed, next, nothing, step}
+use Rattle.wire_encoder.specs.FirstFailed.{MAX_HANDLES, Met, Refusal, counted, first_failed, next, nothing, refusal, step}
 use Rattle.wire_encoder.specs.Prepared.{IsPrepared, kind_for, parameters_of}
 use Rattle.wire_encoder.specs.declared.prepared.Prepared.{Prepared}
+use Rattle.wire_encoder.specs.declared.refusal.Flaw.TheVariants.{Misfit, TooManyHandles}
+use Rattle.bind_model.specs.WireOf.{endpoints_met}
 use Rattle.wire_model.specs.Bytes.{bytes32}
 use Rattle.wire_model.specs.Cells.{UNION_BYTES, put, put_cell, zeros}
 use Rattle.wire_model.specs.Depth.{deeper}
@@ -25,10 +28,10 @@ use Rattle.wire_model.specs.Texts.{valid_len}
 use Rattle.wire_model.specs.Trees as values
 use Rattle.wire_model.specs.Trees.{Tree, Trees, none, more, count, view}
 use Rattle.history_reader.specs.Printable.{AreAll, AreBytes}
-use Rattle.printed_laws.proofs.SmallCells.{zeros_fine, put_cell_fine, put_fine}
+use Rattle.printed_laws.proofs.SmallCells.{put_cell_fine, put_fine}
 use Rattle.printed_laws.proofs.SmallLists.{all_both}
 use Rattle.printed_laws.proofs.SmallTexts.{text_bytes}
-use Rattle.printed_laws.proofs.SmallWire.{BecomeBytes, IsByte, before}
+use Rattle.printed_laws.proofs.SmallWire.{BecomeBytes, IsByte, before, zeros_fine}
 
 -- ## Tests that hold
 
@@ -207,6 +210,45 @@ mutual
       (value_fine t schema above true s.kind (inside number first (fronts (all_under number first) rest a)))
       (all_fine ts schema above (number + 1) ss (rests (all_under number first) rest a))
 
+-- ## How many endpoints are met
+
+counted_few : (index before : ℕ) (path : List ℕ) (met m : Met) → counted index before path met ≡ Ok m → (m ≡ met) × (before < 64)
+counted_few index before path met m e = first (index == before) e
+  where
+    second : (b : Bool) → nat_lt before 64 ≡ b → (if b then Ok met else Err (refusal TooManyHandles path)) ≡ Ok m → (m ≡ met) × (before < 64)
+    second true f g = (cc, ltb-true before 64 f)
+    second false f g = absurd cc
+
+    first : (b : Bool) → (if b then (if nat_lt before MAX_HANDLES then Ok met else Err (refusal TooManyHandles path)) else Err (refusal Misfit path)) ≡ Ok m
+        → (m ≡ met) × (before < 64)
+    first true f = second (nat_lt before 64) refl f
+    first false f = absurd cc
+
+-- where all went on, one step did
+ended : (cs : List Check) (after : Met) (r : Result Met Refusal) → ((m : Met) → r ≡ Ok m → length m.endpoints ≤ 64)
+    → ((m : Met) → length m.endpoints ≤ 64 → first_failed m cs ≡ Ok after → length after.endpoints ≤ 64)
+    → next r (λ m. first_failed m cs) ≡ Ok after → length after.endpoints ≤ 64
+ended cs after (Ok m) h rest ok = rest m (h m refl) ok
+ended cs after (Err wrong) h rest ok = absurd cc
+
+few_met : (cs : List Check) (m after : Met) → length m.endpoints ≤ 64 → first_failed m cs ≡ Ok after → length after.endpoints ≤ 64
+unfolding first_failed step
+few_met [] m after few ok = let same : m ≡ after = cc in subst (λ (n : Met). length n.endpoints ≤ 64) same few
+few_met (Test true flaw path ∷ cs) m after few ok = few_met cs m after few ok
+few_met (Test false flaw path ∷ cs) m after few ok = absurd cc
+few_met (HandleAt index path ∷ cs) m after few ok =
+    let met : Met = record { handles = m.handles + 1; endpoints = m.endpoints } in
+    ended cs after (counted index m.handles path met)
+    (λ n e. subst (λ (k : Met). length k.endpoints ≤ 64) (sym (counted_few index m.handles path met n e).0) few)
+    (λ n f e. few_met cs n after f e) ok
+few_met (EndpointAt index wanted path ∷ cs) m after few ok =
+    let met : Met = record { handles = m.handles; endpoints = m.endpoints ++ wanted ∷ [] } in
+    ended cs after (counted index (length m.endpoints) path met)
+    (λ n e. let is = counted_few index (length m.endpoints) path met n e in
+    let less = is.1 in
+    subst (λ (k : Met). length k.endpoints ≤ 64) (sym is.0) (omega (arith, less, length-append m.endpoints (wanted ∷ []))))
+    (λ n f e. few_met cs n after f e) ok
+
 pub prepared_bytes : (schema : Schema) (prepared : Prepared) → IsPrepared schema prepared → BecomeBytes schema prepared.target (view prepared.value)
 prepared_bytes schema prepared is =
     let k = kind_for (parameters_of schema prepared.target) in
@@ -214,4 +256,7 @@ prepared_bytes schema prepared is =
       value_fine (view prepared.value) schema 0 false k (passed (checks schema 0 false k (view prepared.value)) nothing
           (record { handles = prepared.handles; endpoints = prepared.endpoints.items }) is.passes),
       subst (λ (bytes : List ℕ). length bytes < 2 ^ 61) is.payload (omega (arith, few)),
+      subst (λ (o : Result Met Refusal). length (endpoints_met o) ≤ 64) (sym is.passes)
+          (few_met (checks schema 0 false k (view prepared.value)) nothing (record { handles = prepared.handles; endpoints = prepared.endpoints.items })
+          (omega arith) is.passes),
     )

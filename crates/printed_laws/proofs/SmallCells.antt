@@ -9,16 +9,12 @@ use Rattle.mj_schema.specs.declared.kind.Width.{Width}
 use Rattle.mj_schema.specs.declared.kind.Width.TheVariants.{Bits8, Bits16, Bits32, Bits64}
 use Rattle.mj_schema.specs.declared.schema.Schema.{Schema}
 use Rattle.wire_model.specs.Bytes.{bytes16, bytes32, over, write, with_bit}
-use Rattle.wire_model.specs.Cells.{NO_INDEX, UNION_BYTES, int_bytes, whole_bytes, index_bytes, pointer_bytes, remote_bytes, cell_bytes, put_flag, put_cell, put_member, put, zeros}
+use Rattle.wire_model.specs.Cells.{NO_INDEX, UNION_BYTES, int_bytes, whole_bytes, index_bytes, pointer_bytes, remote_bytes, cell_bytes, put_flag, put_cell, put_member, put}
 use Rattle.wire_model.specs.Rows.{member_kind}
 use Rattle.wire_model.specs.Trees as values
 use Rattle.wire_model.specs.Trees.{Tree}
 use Rattle.history_reader.specs.Printable.{AreBytes}
 use Rattle.printed_laws.proofs.SmallWire.{bytes32_fine, bytes64_fine, before, byte_at}
-
-pub zeros_fine : (n : ℕ) → AreBytes (zeros n)
-zeros_fine zero = tt
-zeros_fine (suc n) = (omega arith, zeros_fine n)
 
 over_fine : (xs bs : List ℕ) → AreBytes xs → AreBytes bs → AreBytes (over xs bs)
 over_fine [] [] a b = tt

@@ -1,5 +1,5 @@
 -- Lists of which all have a property.
-use Rattle.std.proofs.Common.{◌≡◌, ◌<◌, ℕ, zero, suc, ◌+◌, Bool, true, false, List, [], ◌∷◌, ◌++◌, drop, subst, arith, inl, inr}
+use Rattle.std.proofs.Common.{◌≡◌, ◌<◌, ℕ, zero, suc, ◌+◌, Bool, true, false, List, [], ◌∷◌, ◌++◌, take, drop, subst, arith, inl, inr}
 use Rattle.std.specs.Prelude.{map, filter, if◌then◌else◌, reverse, Option, Some, None, option_and_then, find, slice_get}
 use Rattle.std.specs.Option.{option_map}
 use Rattle.std.proofs.lemmas.List.{reverse-reverse}
@@ -28,6 +28,11 @@ pub all_dropped : {A : Type 0} (P : A → Type 0) (n : ℕ) (xs : List A) → Ar
 all_dropped P zero xs a = a
 all_dropped P (suc n) [] a = tt
 all_dropped P (suc n) (x ∷ xs) a = all_dropped P n xs a.1
+
+pub all_taken : {A : Type 0} (P : A → Type 0) (n : ℕ) (xs : List A) → AreAll P xs → AreAll P (take n xs)
+all_taken P zero xs a = tt
+all_taken P (suc n) [] a = tt
+all_taken P (suc n) (x ∷ xs) a = (a.0, all_taken P n xs a.1)
 
 pub all_filtered : {A : Type 0} (P : A → Type 0) (p : A → Bool) (xs : List A) → AreAll P xs → AreAll P (filter p xs)
 all_filtered P p [] a = tt

@@ -1,6 +1,6 @@
 -- What small events put into mail and tables, and how many numbers they used.
-use Rattle.std.proofs.Common.{◌≡◌, ◌<◌, ◌≤◌, ℕ, suc, ◌*◌, ◌^◌, Bool, true, false, List, [], ◌∷◌, length, drop, refl, ap, ◌∙◌, arith}
-use Rattle.std.specs.Prelude.{Option, Some, None, if◌then◌else◌, not, ◌&&◌, ◌==◌, map, filter}
+use Rattle.std.proofs.Common.{◌≡◌, ◌<◌, ◌≤◌, ℕ, suc, ◌+◌, ◌*◌, ◌^◌, Bool, true, false, List, [], ◌∷◌, length, drop, refl, ap, ◌∙◌, arith}
+use Rattle.std.specs.Prelude.{Option, Some, None, if◌then◌else◌, not, ◌&&◌, ◌||◌, ◌==◌, map, filter}
 use Rattle.std.specs.Option.{option_map}
 use Rattle.std.proofs.lemmas.List.{length-append}
 use Rattle.std.proofs.lemmas.List.Sums.{count_by-le-length}
@@ -19,15 +19,17 @@ use Rattle.bind_model.specs.declared.asked.Closing.TheVariants as closings
 use Rattle.bind_model.specs.declared.endpoint.Endpoint.{Endpoint}
 use Rattle.bind_model.specs.declared.endpoint.State.TheVariants as states
 use Rattle.bind_model.specs.declared.event.Event.{Event}
+use Rattle.bind_model.specs.declared.limits.TheConstants.{REMOTE_IDS}
 use Rattle.bind_model.specs.declared.told.Told.{Told}
 use Rattle.bind_model.specs.declared.told.Told.TheVariants.{Made, Bound, Associated, Attached, Sent, Wrote, Taken, Dropped, Control, Closed}
-use Rattle.bind_model.specs.Machine.{Endpoints, Entry, made, made_by, peer, is_gone, is_peer_closed, is_strange, written, endpoint_at, unread, consumed, puts, lands, emits, changes, enters, enters_from, entries_of, entry_in, endpoint_named, closed_endpoint, pending_as, named_in, content_at, ids_in, closed_ids, bound_on, with_state, with_peer_closed, front_of}
-use Rattle.bind_model.specs.Replies.{Drawn, drawn, draws}
+use Rattle.bind_model.specs.Machine.{Endpoints, Entry, associated, made, made_by, peer, is_gone, is_local, is_peer_closed, is_remote, is_strange, written, endpoint_at, unread, consumed, puts, lands, emits, changes, enters, enters_from, entries_of, entry_in, endpoint_named, closed_endpoint, pending_as, named_in, content_at, ids_in, closed_ids, bound_on, with_state, with_peer_closed, front_of}
+use Rattle.bind_model.specs.Replies.{Drawn, drawn, draws, next_id}
 use Rattle.bind_model.specs.Wire.{Wire, Named}
-use Rattle.history_reader.specs.Printable.{IsSequence, IsThing, AreAll}
+use Rattle.bind_model.proofs.TurnOf.{associated_few}
+use Rattle.history_reader.specs.Printable.{IsSmall, IsSequence, IsThing, AreAll}
 use Rattle.printed_laws.proofs.SmallLists.{all_both, all_dropped}
 use Rattle.printed_laws.proofs.SmallReplies.{IsWithin, IsSmallPast}
-use Rattle.printed_laws.proofs.SmallSaid.{IsSmallAsked, IsSmallTold, IsSmallEvent, IsFine, IsFineMessage, IsSmallWire}
+use Rattle.printed_laws.proofs.SmallSaid.{IsSmallAsked, IsSmallTold, IsSmallEvent, IsShort, IsFine, IsFineMessage, IsSmallWire}
 
 -- ## What was made, and how many requests were sent
 
@@ -80,25 +82,27 @@ module _ (F : Target → Tree → Type 0) (wire : Wire) (w : IsSmallWire F wire)
   unless_fine true ms a = tt
   unless_fine false ms a = a
 
-  puts_fine : (past : List Event) (told : Told) (asked : Asked) → IsSmallAsked F asked → IsSmallTold told → (x : EndId)
+  puts_fine : (past : List Event) (told : Told) (asked : Asked) → IsSmallAsked F asked → IsSmallTold told → IsShort asked told → (x : EndId)
       → AreAll IsFineMessage (puts wire past (written wire past) (endpoint_at wire past) told asked x)
-  puts_fine past (Sent request bytes) (Call y id o) i t x = lands_fine past y bytes o.handles x t.1
-  puts_fine past (Sent request bytes) (Answer r o) i t x = lands_fine past r.end bytes o.handles x t.1
-  puts_fine past (Wrote z) (Raw y bytes handles) i t x = absurd t
-  puts_fine past (Taken g) (Take y) i t x = emits_fine past y (endpoint_at wire past y)
+  puts_fine past (Sent request bytes) (Call y id o) i t s x = lands_fine past y bytes o.handles x t.1
+  puts_fine past (Sent request bytes) (Answer r o) i t s x = lands_fine past r.end bytes o.handles x t.1
+  puts_fine past (Wrote z) (Raw y bytes handles) i t s x = lands_fine past z bytes handles x (i.1, s)
+  puts_fine past (Taken g) (Take y) i t s x = emits_fine past y (endpoint_at wire past y)
       (closed_ids (enters wire past y (written wire past y) (endpoint_at wire past y) (Taken g))) x
-  puts_fine past (Dropped id gone) (Take y) i t x = emits_fine past y (endpoint_at wire past y)
+  puts_fine past (Dropped id gone) (Take y) i t s x = emits_fine past y (endpoint_at wire past y)
       (closed_ids (enters wire past y (written wire past y) (endpoint_at wire past y) (Dropped id gone))) x
-  puts_fine past (Closed gone) (Close (closings.Endpoint y id)) i t x =
+  puts_fine past (Closed gone) (Close (closings.Endpoint y id)) i t s x =
       unless_fine (id == 0) (emits wire past y (endpoint_at wire past y) (id ∷ []) x) (emits_fine past y (endpoint_at wire past y) (id ∷ []) x)
-  puts_fine past (Closed gone) (Close (closings.Pending p)) i t x = absurd i
-  puts_fine past told asked i t x = tt
+  puts_fine past (Closed gone) (Close (closings.Pending p)) i t s x =
+      unless_fine (is_gone past p.end || is_local past p) (emits wire past p.end (endpoint_at wire past p.end) (p.id ∷ []) x)
+      (emits_fine past p.end (endpoint_at wire past p.end) (p.id ∷ []) x)
+  puts_fine past told asked i t s x = tt
 
   written_fine : (past : List Event) → AreAll (IsSmallEvent F) past → (x : EndId) → AreAll IsFineMessage (written wire past x)
   written_fine [] a x = tt
   written_fine (event ∷ past) a x = all_both IsFineMessage (written wire past x)
       (puts wire past (written wire past) (endpoint_at wire past) event.told event.asked x)
-      (written_fine past a.1 x) (puts_fine past event.told event.asked a.0.1 a.0.2 x)
+      (written_fine past a.1 x) (puts_fine past event.told event.asked a.0.1 a.0.2 a.0.3 x)
 
   unread_fine : (past : List Event) → AreAll (IsSmallEvent F) past → (x : EndId) → AreAll IsFineMessage (unread wire past x)
   unread_fine past a x = go (is_gone past x)
@@ -117,6 +121,14 @@ new_within : (seq : SeqId) (side : EndpointSide) (interface : ℕ) → IsSequenc
 new_within seq side interface within r t e f =
     let same : bound_on seq side interface ≡ r = cc in
     let state : states.Bound seq ≡ states.Bound t = ap (λ (q : Endpoint). q.state) same ∙ f in
+    let who : seq ≡ t = cc in
+    rw (← who) within
+
+attached_within : (seq : SeqId) (o : Option Endpoint) → IsSequence seq → IsWithin (option_map (with_state (states.Bound seq)) o)
+attached_within seq None within r t e f = absurd cc
+attached_within seq (Some q) within r t e f =
+    let same : with_state (states.Bound seq) q ≡ r = cc in
+    let state : states.Bound seq ≡ states.Bound t = ap (λ (p : Endpoint). p.state) same ∙ f in
     let who : seq ≡ t = cc in
     rw (← who) within
 
@@ -198,8 +210,11 @@ module _ (F : Target → Tree → Type 0) (wire : Wire) where
       → IsWithin (changes wire past (written wire past) (endpoint_at wire past) seq told asked x id)
   step_within past seq s (Bound z) (Bind y side interface) i x id v =
       either_within (same_end z x && (0 == id)) (Some (bound_on seq side interface)) (endpoint_at wire past x id) (new_within seq side interface s) v
-  step_within past seq s (Associated q) (Associate y side interface) i x id v = absurd i
-  step_within past seq s (Attached n) (Attach q t) i x id v = absurd i
+  step_within past seq s (Associated q) (Associate y side interface) i x id v =
+      either_within (same_end q.end x && (q.id == id)) (Some (bound_on seq side interface)) (endpoint_at wire past x id) (new_within seq side interface s) v
+  step_within past seq s (Attached n) (Attach q t) i x id v =
+      either_within (same_end q.end x && (q.id == id)) (option_map (with_state (states.Bound t)) (endpoint_at wire past x id)) (endpoint_at wire past x id)
+      (attached_within t (endpoint_at wire past x id) i.1) v
   step_within past seq s (Taken g) (Take y) i x id v = take_within past (Taken g) y x id v
   step_within past seq s (Dropped n gone) (Take y) i x id v = take_within past (Dropped n gone) y x id v
   step_within past seq s (Control n) (Take y) i x id v =
@@ -208,7 +223,14 @@ module _ (F : Target → Tree → Type 0) (wire : Wire) where
   step_within past seq s (Closed gone) (Close (closings.Endpoint y n)) i x id v =
       either_within (same_end y x && (n == id)) (option_map (with_state states.Closed) (endpoint_at wire past x id)) (endpoint_at wire past x id)
       (closed_within (endpoint_at wire past x id)) v
-  step_within past seq s (Closed gone) (Close (closings.Pending q)) i x id v = absurd i
+  step_within past seq s (Closed gone) (Close (closings.Pending q)) i x id v =
+      either_within (same_end q.end x && (q.id == id))
+      (if is_local past q then option_map with_peer_closed (endpoint_at wire past x id) else option_map (with_state states.Closed) (endpoint_at wire past x id))
+      (endpoint_at wire past x id)
+      (either_within (is_local past q) (option_map with_peer_closed (endpoint_at wire past x id))
+      (option_map (with_state states.Closed) (endpoint_at wire past x id))
+      (marked_within (endpoint_at wire past x id) v) (closed_within (endpoint_at wire past x id)))
+      v
   step_within past seq s told asked i x id v = v
 
   all_within : (past : List Event) → AreAll (IsSmallEvent F) past → (x : EndId) (id : ℕ) → IsWithin (endpoint_at wire past x id)
@@ -226,6 +248,13 @@ module _ (F : Target → Tree → Type 0) (wire : Wire) where
         let m = before.1 in let n = new.1 in omega (arith, m, n, length-append (made past) (made_by event.told)),
       )
 
+  next_small : (past : List Event) → length past < 2 ^ 30 → (y : EndId) → IsSmall (next_id wire past y)
+  next_small past few y = go (is_remote (endpoint_at wire past y 0))
+    where
+      go : (b : Bool) → length (associated past y) + 1 + (if b then REMOTE_IDS else 0) < 2 ^ 32
+      go true = omega (arith, few, associated_few past y)
+      go false = omega (arith, few, associated_few past y)
+
   pub small_past : IsSmallWire F wire → (past : List Event) → length past < 2 ^ 30 → AreAll (IsSmallEvent F) past → IsSmallPast wire past
   small_past w past few a =
       let m = (all_made past a).1 in
@@ -235,4 +264,5 @@ module _ (F : Target → Tree → Type 0) (wire : Wire) where
         serials = λ seq. omega (arith, few, m, count_by-le-length (λ x. is_end x && (seq_of x == seq)) (made past));
         tokens = λ seq. omega (arith, few, m, count_by-le-length (λ x. not (is_end x) && (seq_of x == seq)) (made past));
         drawn = λ y id. omega (arith, few, few_drawn past y id);
+        next = next_small past few;
       }

@@ -1,59 +1,76 @@
 -- All that a script's run asks and is told has numbers of their widths.
-use Rattle.std.proofs.Common.{◌<◌, ◌^◌, List, [], ◌∷◌, ◌++◌, length, sym, subst, arith}
-use Rattle.std.specs.Prelude.{Option}
-use Rattle.std.proofs.lemmas.List.{append-nil}
+use Rattle.std.proofs.Common.{◌<◌, ℕ, ◌^◌, List, [], ◌∷◌, ◌++◌, length, sym, subst, arith}
+use Rattle.std.specs.Prelude.{Option, ◌==◌}
+use Rattle.mj_base.specs.declared.ids.SeqId.{SeqId}
 use Rattle.mj_schema.specs.declared.schema.Schema.{Schema}
 use Rattle.wire_encoder.specs.Prepared.{IsPrepared}
+use Rattle.bind_model.specs.declared.asked.Asked.{Asked}
 use Rattle.bind_model.specs.declared.event.Event.{Event}
 use Rattle.bind_model.specs.Replies.{legal}
+use Rattle.bind_model.specs.Seen.{own_of}
 use Rattle.bind_model.specs.Wire.{Wire}
 use Rattle.bind_model.specs.WireOf.{wire_of}
 use Rattle.call_script.specs.declared.script.Script.{Script}
-use Rattle.call_script.specs.declared.script.TheConstants.{SEQUENCES}
-use Rattle.history_reader.specs.Printable.{AreAll}
+use Rattle.history_reader.specs.Printable.{IsSequence, AreAll}
+use Rattle.printed_laws.proofs.OwnEvents.{MiddleAsks, newest, rest_asks}
 use Rattle.printed_laws.proofs.SmallBytes.{prepared_bytes}
 use Rattle.printed_laws.proofs.SmallFaults.{HasLowSlots}
-use Rattle.printed_laws.proofs.SmallLists.{If}
+use Rattle.printed_laws.proofs.SmallLists.{If, all_filtered}
 use Rattle.printed_laws.proofs.SmallMail.{all_made, small_past}
-use Rattle.printed_laws.proofs.SmallNames.{IsHanded, next_line_small, next_take_small}
-use Rattle.printed_laws.proofs.SmallReplies.{small_answer}
-use Rattle.printed_laws.proofs.SmallSaid.{IsSmallAsked, IsSmallTold, IsSmallEvent}
+use Rattle.printed_laws.proofs.SmallNames.{IsHanded, next_join_small, next_of_small, next_take_small}
+use Rattle.printed_laws.proofs.SmallReplies.{IsSmallPast, short_answer, small_answer}
+use Rattle.printed_laws.proofs.SmallSaid.{IsSmallAsked, IsSmallTold, IsSmallEvent, IsShort}
 use Rattle.printed_laws.proofs.SmallScript.{IsSmallScript}
 use Rattle.printed_laws.proofs.SmallThings.{all_handed}
 use Rattle.printed_laws.proofs.SmallWire.{BecomeBytes}
 use Rattle.printed_laws.proofs.SmallWireOf.{small_wire}
-use Rattle.script_run.specs.OfScript.{Next, AsksNext, IsPart, PastOfScript, next_line, next_take}
+use Rattle.script_run.specs.OfScript.{Next, GoesOn, IsPart, PastOfScript, next_join, next_of, next_take}
 
-module _ (schema : Schema) (low : HasLowSlots schema) where
+module _ (schema : Schema) (low : HasLowSlots schema) (seqs : ℕ) (some : seqs < 2 ^ 32) where
   abbrev wire : Wire
   wire = wire_of schema
 
   -- events whose numbers are of their widths
-  abbrev pub AreSmall : List Event → Type 0
+  abbrev AreSmall : List Event → Type 0
   AreSmall past = AreAll (IsSmallEvent (BecomeBytes schema)) past
 
-  event_small : (event : Event) (past : List Event) → legal wire SEQUENCES (event ∷ past) → length past < 2 ^ 30 → AreSmall past
+  event_small : (event : Event) (past : List Event) → legal wire seqs (event ∷ past) → length past < 2 ^ 30 → AreSmall past
       → IsSmallAsked (BecomeBytes schema) event.asked → IsSmallEvent (BecomeBytes schema) event
   event_small event past h few a i =
-      let there : event.seq.0 < 1 = h.0 in
-      let small : event.seq.0 < 2 ^ 32 = omega (arith, there) in (
+      let there : event.seq.0 < seqs = h.0 in
+      let small : IsSequence event.seq = omega (arith, some, there) in
+      let known : IsSmallPast wire past = small_past (BecomeBytes schema) wire (small_wire schema low) past few a in (
         small,
         i,
-        subst IsSmallTold (sym h.1) (small_answer (BecomeBytes schema) wire (small_wire schema low) past
-            (small_past (BecomeBytes schema) wire (small_wire schema low) past few a) event.seq SEQUENCES event.asked small i),
+        subst IsSmallTold (sym h.1) (small_answer (BecomeBytes schema) wire (small_wire schema low) past known event.seq seqs event.asked small i),
+        subst (IsShort event.asked) (sym h.1)
+            (short_answer (BecomeBytes schema) wire (small_wire schema low) past known event.seq seqs event.asked),
       )
 
   -- what they handed out
-  pub handed_small : (past : List Event) → legal wire SEQUENCES past → AreSmall past → AreAll IsHanded past
+  handed_small : (past : List Event) → legal wire seqs past → AreSmall past → AreAll IsHanded past
   handed_small [] h a = tt
   handed_small (event ∷ past) h a =
-      (all_handed wire SEQUENCES event past h (all_made (BecomeBytes schema) wire (event ∷ past) a).0, handed_small past h.2 a.1)
+      (all_handed wire seqs event past h (all_made (BecomeBytes schema) wire (event ∷ past) a).0, handed_small past h.2 a.1)
+
+  -- a part of a legal past is legal
+  legal_before : (own before : List Event) → legal wire seqs (own ++ before) → legal wire seqs before
+  legal_before [] before h = h
+  legal_before (event ∷ own) before h = legal_before own before h.2
+
+  few_before : (own before : List Event) → length (own ++ before) < 2 ^ 30 → length before < 2 ^ 30
+  few_before [] before few = few
+  few_before (event ∷ own) before few = few_before own before (omega (arith, few))
+
+  front : (P : Event → Type 0) (own before : List Event) → AreAll P (own ++ before) → AreAll P own
+  front P [] before a = tt
+  front P (event ∷ own) before a = (a.0, front P own before a.1)
 
   -- a part of the run behind what is small
   part_small : (next : List Event → Option Next) (before : List Event)
-      → ((own : List Event) → legal wire SEQUENCES (own ++ before) → AreSmall (own ++ before)
+      → ((own : List Event) → legal wire seqs (own ++ before) → AreSmall (own ++ before)
       → If (λ (n : Next). IsSmallAsked (BecomeBytes schema) n.1) (next own))
-      → AreSmall before → (own : List Event) → legal wire SEQUENCES (own ++ before) → length (own ++ before) < 2 ^ 30 → AsksNext next own
+      → AreSmall before → (own : List Event) → legal wire seqs (own ++ before) → length (own ++ before) < 2 ^ 30 → GoesOn next own
       → AreSmall (own ++ before)
   part_small next before step a [] h few asks = a
   part_small next before step a (event ∷ own) h few asks =
@@ -61,39 +78,65 @@ module _ (schema : Schema) (low : HasLowSlots schema) where
       let asked = subst (λ (o : Option Next). If (λ (n : Next). IsSmallAsked (BecomeBytes schema) n.1) o) asks.0 (step own h.2 rest) in
       (event_small event (own ++ before) h (omega (arith, few)) rest asked, rest)
 
-  module _ (script : Script) (s : IsSmallScript (IsPrepared schema) script) where
-    line_step : (own : List Event) → legal wire SEQUENCES (own ++ []) → AreSmall (own ++ [])
-        → If (λ (n : Next). IsSmallAsked (BecomeBytes schema) n.1) (next_line wire script.autos script.lines own)
-    line_step own h a =
-        let all : AreSmall own = subst AreSmall (append-nil own) a in
-        next_line_small (BecomeBytes schema) wire (IsPrepared schema) script.autos s.autos (prepared_bytes schema) script.lines s.lines own all
-        (handed_small own (subst (legal wire SEQUENCES) (append-nil own) h) all)
+  -- what sequences do behind what is small, each by its own events
+  middle_small : (next : SeqId → List Event → Option Asked) (before : List Event)
+      → ((s : SeqId) (middle : List Event) → legal wire seqs (middle ++ before) → AreSmall (middle ++ before)
+      → If (IsSmallAsked (BecomeBytes schema)) (next s (own_of s middle)))
+      → AreSmall before → (middle : List Event) → legal wire seqs (middle ++ before) → length (middle ++ before) < 2 ^ 30 → MiddleAsks seqs next middle
+      → AreSmall (middle ++ before)
+  middle_small next before step a [] h few asks = a
+  middle_small next before step a (event ∷ middle) h few asks =
+      let rest = middle_small next before step a middle h.2 (omega (arith, few)) (rest_asks seqs next event middle asks) in
+      let asked = subst (If (IsSmallAsked (BecomeBytes schema))) (newest seqs next event middle asks h.0) (step event.seq middle h.2 rest) in
+      (event_small event (middle ++ before) h (omega (arith, few)) rest asked, rest)
 
-    take_step : (before own : List Event) → AreSmall (own ++ before)
-        → If (λ (n : Next). IsSmallAsked (BecomeBytes schema) n.1) (next_take wire script.autos before own)
-    take_step before own a = next_take_small (BecomeBytes schema) wire (IsPrepared schema) script.autos s.autos (prepared_bytes schema) before own a
-        (all_made (BecomeBytes schema) wire (own ++ before) a).0
+module _ (schema : Schema) (low : HasLowSlots schema) (script : Script) (order : ℕ) (s : IsSmallScript (IsPrepared schema) script)
+    (some : script.seqs < 2 ^ 32) where
+  abbrev own_wire : Wire
+  own_wire = wire_of schema
 
-    -- a part of a legal past is legal
-    legal_before : (own before : List Event) → legal wire SEQUENCES (own ++ before) → legal wire SEQUENCES before
-    legal_before [] before h = h
-    legal_before (event ∷ own) before h = legal_before own before h.2
+  abbrev AllSmall : List Event → Type 0
+  AllSmall past = AreSmall schema low script.seqs some past
 
-    few_before : (own before : List Event) → length (own ++ before) < 2 ^ 30 → length before < 2 ^ 30
-    few_before [] before few = few
-    few_before (event ∷ own) before few = few_before own before (omega (arith, few))
+  join_step : (own : List Event) → legal own_wire script.seqs (own ++ []) → AllSmall (own ++ [])
+      → If (λ (n : Next). IsSmallAsked (BecomeBytes schema) n.1) (next_join script own)
+  join_step own h a = next_join_small (BecomeBytes schema) own_wire (IsPrepared schema) script s.autos (prepared_bytes schema) s.lines own
 
-    lines_part : (after : List Event) → IsPart (next_line wire script.autos script.lines) [] after → legal wire SEQUENCES after → length after < 2 ^ 30
-        → AreSmall after
-    lines_part after p h few =
-        subst AreSmall (sym p.whole) (part_small (next_line wire script.autos script.lines) [] line_step tt p.own
-        (subst (legal wire SEQUENCES) p.whole h) (subst (λ (l : List Event). length l < 2 ^ 30) p.whole few) p.asks)
+  line_step : (after_joins : List Event) (seq : SeqId) (middle : List Event) → legal own_wire script.seqs (middle ++ after_joins)
+      → AllSmall (middle ++ after_joins) → If (IsSmallAsked (BecomeBytes schema)) (next_of own_wire script after_joins seq (own_of seq middle))
+  line_step after_joins seq middle h a =
+      let handed = handed_small schema low script.seqs some (middle ++ after_joins) h a in
+      next_of_small (BecomeBytes schema) own_wire (IsPrepared schema) script s.autos (prepared_bytes schema) s.lines after_joins
+      (behind after_joins middle handed) seq (own_of seq middle)
+      (all_filtered (IsSmallEvent (BecomeBytes schema)) (λ (e : Event). e.seq.0 == seq.0) middle
+      (front schema low script.seqs some (IsSmallEvent (BecomeBytes schema)) middle after_joins a))
+      (all_filtered IsHanded (λ (e : Event). e.seq.0 == seq.0) middle (front schema low script.seqs some IsHanded middle after_joins handed))
+    where
+      behind : (before own : List Event) → AreAll IsHanded (own ++ before) → AreAll IsHanded before
+      behind before [] a = a
+      behind before (event ∷ own) a = behind before own a.1
 
-    pub run_small : (past : List Event) → PastOfScript schema script past → legal wire SEQUENCES past → length past < 2 ^ 30 → AreSmall past
-    run_small past is h few =
-        let drain = is.drain in
-        let there = subst (legal wire SEQUENCES) drain.whole h in
-        let short = subst (λ (l : List Event). length l < 2 ^ 30) drain.whole few in
-        let before = lines_part is.after_lines is.lines (legal_before drain.own is.after_lines there) (few_before drain.own is.after_lines short) in
-        subst AreSmall (sym drain.whole) (part_small (next_take wire script.autos is.after_lines) is.after_lines
-        (λ own g a. take_step is.after_lines own a) before drain.own there short drain.asks)
+  take_step : (before own : List Event) → AllSmall (own ++ before)
+      → If (λ (n : Next). IsSmallAsked (BecomeBytes schema) n.1) (next_take own_wire script.autos before own)
+  take_step before own a = next_take_small (BecomeBytes schema) own_wire (IsPrepared schema) script s.autos (prepared_bytes schema) before own a
+      (all_made (BecomeBytes schema) own_wire (own ++ before) a).0
+
+  joins_part : (after : List Event) → IsPart (next_join script) [] after → legal own_wire script.seqs after → length after < 2 ^ 30 → AllSmall after
+  joins_part after p h few =
+      subst AllSmall (sym p.whole) (part_small schema low script.seqs some (next_join script) [] join_step tt p.own
+      (subst (legal own_wire script.seqs) p.whole h) (subst (λ (l : List Event). length l < 2 ^ 30) p.whole few) p.asks)
+
+  pub run_small : (past : List Event) → PastOfScript schema script order past → legal own_wire script.seqs past → length past < 2 ^ 30 → AllSmall past
+  run_small past is h few =
+      let drain = is.drain in
+      let before = is.middle ++ is.after_joins in
+      let there = subst (legal own_wire script.seqs) drain.whole h in
+      let short = subst (λ (l : List Event). length l < 2 ^ 30) drain.whole few in
+      let lawful = legal_before schema low script.seqs some drain.own before there in
+      let fewer = few_before schema low script.seqs some drain.own before short in
+      let joins = joins_part is.after_joins is.joins (legal_before schema low script.seqs some is.middle is.after_joins lawful)
+      (few_before schema low script.seqs some is.middle is.after_joins fewer) in
+      let lines = middle_small schema low script.seqs some (next_of own_wire script is.after_joins) is.after_joins (line_step is.after_joins) joins
+      is.middle lawful fewer (λ seq w. (is.lines seq w).asks) in
+      subst AllSmall (sym drain.whole) (part_small schema low script.seqs some (next_take own_wire script.autos before) before
+      (λ own g a. take_step before own a) lines drain.own there short drain.asks)

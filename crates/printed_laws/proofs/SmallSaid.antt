@@ -1,10 +1,8 @@
 -- Numbers of their widths in what scripts ask and are told.
-use Rattle.std.specs.Prelude.{ℕ, ◌≡◌, ◌<◌, ◌≤◌, ◌^◌, List, [], length, Ok, Err}
+use Rattle.std.specs.Prelude.{ℕ, ◌≡◌, ◌<◌, ◌≤◌, ◌^◌, List, length, Ok, Err}
 use Rattle.mj_base.specs.declared.fault.Fault.{Fault}
 use Rattle.message_pipe.specs.declared.message.Message.{Message}
 use Rattle.wire_encoder.specs.declared.endpoint.EndpointSide.{EndpointSide}
-use Rattle.wire_model.specs.Bytes.{number32}
-use Rattle.wire_model.specs.Message.{ids_read}
 use Rattle.wire_model.specs.Trees.{Tree}
 use Rattle.wire_model.specs.declared.target.Target.{Target}
 use Rattle.bind_model.specs.Wire.{Wire, Header, Content, Head}
@@ -17,40 +15,40 @@ use Rattle.bind_model.specs.declared.endpoint.ResponderId.{ResponderId}
 use Rattle.bind_model.specs.declared.event.Event.{Event}
 use Rattle.bind_model.specs.declared.told.Told.{Told}
 use Rattle.bind_model.specs.declared.told.Told.TheVariants as tells
-use Rattle.history_reader.specs.Printable.{IsSmall, IsWide, IsSequence, IsEnd, IsThing, AreAll, AreBytes, IsBadWhy, IsWhy}
+use Rattle.history_reader.specs.Printable.{IsSmall, IsWide, IsSequence, IsEnd, IsThing, IsPending, AreAll, AreBytes, IsBadWhy, IsWhy}
 
 -- a responder, but for its interface, which no text says
 abbrev pub IsSmallResponder : ResponderId → Type 0
 IsSmallResponder r = IsEnd r.end × IsSmall r.id × IsWide r.request × IsSmall r.method
 
--- handles, no endpoints, and parameters of which this holds
+-- handles, endpoints, and parameters of which this holds
 abbrev pub IsSmallOut : (Target → Tree → Type 0) → Outgoing → Type 0
-IsSmallOut F o = AreAll IsThing o.handles × (o.pendings ≡ []) × F o.target o.parameters
+IsSmallOut F o = AreAll IsThing o.handles × AreAll IsPending o.pendings × F o.target o.parameters
 
 abbrev pub IsSmallClosing : Closing → Type 0
 IsSmallClosing (closings.Handle x) = IsThing x
-IsSmallClosing (closings.Pending p) = ⊥
+IsSmallClosing (closings.Pending p) = IsPending p
 IsSmallClosing (closings.Responder r) = IsSmallResponder r
 IsSmallClosing (closings.Endpoint y id) = IsEnd y × IsSmall id
 
--- what scripts ask: no endpoint is sent, made, attached or closed, and nothing is written raw
+-- what scripts ask has numbers of their widths, bytes, and parameters of which this holds
 abbrev pub IsSmallAsked : (Target → Tree → Type 0) → Asked → Type 0
 IsSmallAsked F asks.Pipe = Unit {0}
 IsSmallAsked F (asks.Join t) = IsSequence t
 IsSmallAsked F (asks.Mint sort) = Unit {0}
 IsSmallAsked F (asks.Bind x side interface) = IsThing x
-IsSmallAsked F (asks.Associate y side interface) = ⊥
-IsSmallAsked F (asks.Attach p t) = ⊥
+IsSmallAsked F (asks.Associate y side interface) = IsEnd y
+IsSmallAsked F (asks.Attach p t) = IsPending p × IsSequence t
 IsSmallAsked F (asks.Call y id o) = IsEnd y × IsSmall id × IsSmallOut F o
 IsSmallAsked F (asks.Answer r o) = IsSmallResponder r × IsSmallOut F o
-IsSmallAsked F (asks.Raw x bytes handles) = ⊥
+IsSmallAsked F (asks.Raw x bytes handles) = IsThing x × AreBytes bytes × AreAll IsThing handles
 IsSmallAsked F (asks.Take y) = IsEnd y
 IsSmallAsked F (asks.Close closing) = IsSmallClosing closing
 IsSmallAsked F (asks.Skip line) = IsSmall line
 
--- bytes of a message without ids, below version 2, and not too long
+-- bytes of a message that isn't too long
 abbrev pub IsFine : List ℕ → Type 0
-IsFine bytes = AreBytes bytes × (ids_read bytes ≡ []) × (number32 bytes 4 < 2) × (length bytes < 2 ^ 62)
+IsFine bytes = AreBytes bytes × (length bytes < 2 ^ 62)
 
 abbrev pub IsFineMessage : Message → Type 0
 IsFineMessage m = IsFine m.bytes
@@ -59,11 +57,11 @@ IsFineMessage m = IsFine m.bytes
 abbrev pub IsSmallTold : Told → Type 0
 IsSmallTold (tells.Made things) = AreAll IsThing things × (length things ≤ 2)
 IsSmallTold (tells.Bound x) = IsEnd x
-IsSmallTold (tells.Associated p) = ⊥
-IsSmallTold (tells.Attached id) = ⊥
+IsSmallTold (tells.Associated p) = IsPending p
+IsSmallTold (tells.Attached id) = IsSmall id
 IsSmallTold (tells.Sent request bytes) = IsWide request × IsFine bytes
-IsSmallTold (tells.Wrote x) = ⊥
-IsSmallTold (tells.Taken g) = IsSmall g.id × IsSmall g.target.method × IsWide g.request × (g.pendings ≡ [])
+IsSmallTold (tells.Wrote x) = IsEnd x
+IsSmallTold (tells.Taken g) = IsSmall g.id × IsSmall g.target.method × IsWide g.request × AreAll IsPending g.pendings
 IsSmallTold (tells.Dropped id gone) = IsSmall id
 IsSmallTold (tells.Control id) = IsSmall id
 IsSmallTold (tells.Bad why gone) = IsBadWhy why
@@ -71,19 +69,26 @@ IsSmallTold (tells.Closed gone) = Unit {0}
 IsSmallTold tells.Skipped = Unit {0}
 IsSmallTold (tells.No why) = IsWhy why
 
-abbrev pub IsSmallEvent : (Target → Tree → Type 0) → Event → Type 0
-IsSmallEvent F event = IsSequence event.seq × IsSmallAsked F event.asked × IsSmallTold event.told
+-- what was written raw isn't too long
+abbrev pub IsShort : Asked → Told → Type 0
+IsShort (asks.Raw x bytes handles) (tells.Wrote y) = length bytes < 2 ^ 62
+IsShort asked told = Unit {0}
 
--- a wire whose messages are bytes without ids, where this holds of parameters, and which reads numbers of their widths off such bytes
+abbrev pub IsSmallEvent : (Target → Tree → Type 0) → Event → Type 0
+IsSmallEvent F event = IsSequence event.seq × IsSmallAsked F event.asked × IsSmallTold event.told × IsShort event.asked event.told
+
+-- a wire whose messages are bytes, where this holds of parameters, and which reads numbers of their widths off bytes
 pub record IsSmallWire (F : Target → Tree → Type 0) (wire : Wire) : Type 0 where
-  pub sealed : (target : Target) (parameters : Tree) (head : Head) → F target parameters → head.ids ≡ [] → IsFine (wire.sealed target parameters head)
+  pub wants : (target : Target) (parameters : Tree) → F target parameters → length (wire.wants target parameters) ≤ 64
+  pub sealed : (target : Target) (parameters : Tree) (head : Head) → F target parameters → length head.ids ≤ 64
+      → IsFine (wire.sealed target parameters head)
   pub control : (id : ℕ) → IsFine (wire.control id)
-  pub header : (bytes : List ℕ) (h : Header) → IsFine bytes → wire.header bytes ≡ Ok h → IsSmall h.id × (h.ids ≡ [])
+  pub header : (bytes : List ℕ) (h : Header) → IsFine bytes → wire.header bytes ≡ Ok h → IsSmall h.id × AreAll IsSmall h.ids
   pub closed_id : (bytes : List ℕ) (id : ℕ) → IsFine bytes → wire.closed_id bytes ≡ Ok id → IsSmall id
   pub stands : (side : EndpointSide) (interface : ℕ) (bytes : List ℕ) (n : ℕ) (c : Content) → IsFine bytes → wire.stands side interface bytes n ≡ Ok c
       → IsSmall c.target.method × IsWide c.request
   -- its faults are at places of 64 bits
   pub header_fault : (bytes : List ℕ) (f : Fault) → IsFine bytes → wire.header bytes ≡ Err f → IsWide f.at
-  pub closed_fault : (bytes : List ℕ) (f : Fault) → IsFine bytes → wire.closed_id bytes ≡ Err f → IsWide f.at
-  pub stands_fault : (side : EndpointSide) (interface : ℕ) (bytes : List ℕ) (n : ℕ) (f : Fault) → IsFine bytes → wire.stands side interface bytes n ≡ Err f
-      → IsWide f.at
+  pub closed_fault : (bytes : List ℕ) (h : Header) (f : Fault) → IsFine bytes → wire.header bytes ≡ Ok h → wire.closed_id bytes ≡ Err f → IsWide f.at
+  pub stands_fault : (side : EndpointSide) (interface : ℕ) (bytes : List ℕ) (h : Header) (n : ℕ) (f : Fault) → IsFine bytes → wire.header bytes ≡ Ok h
+      → wire.stands side interface bytes n ≡ Err f → IsWide f.at

@@ -1,9 +1,8 @@
 -- What comes and goes with replies was made.
-use Rattle.std.proofs.Common.{ℕ, List, ◌∷◌, arith, subst, sym}
+use Rattle.std.proofs.Common.{ℕ, List, ◌∷◌, arith}
 use Rattle.handle_table.specs.Things.{without}
 use Rattle.handle_table.proofs.ThingsLemmas.{has-back}
 use Rattle.mj_schema.specs.declared.schema.Schema.{Schema}
-use Rattle.bind_model.specs.declared.endpoint.PendingId.{PendingId}
 use Rattle.bind_model.specs.declared.event.Event.{Event}
 use Rattle.bind_model.specs.declared.told.Told.{Told}
 use Rattle.bind_model.specs.declared.told.Told.TheVariants.{Made, Bound, Associated, Attached, Sent, Wrote, Taken, Dropped, Control, Bad, Closed, Skipped, No}
@@ -13,7 +12,7 @@ use Rattle.bind_model.specs.Wire.{Wire}
 use Rattle.bind_model.proofs.Counting.{times-present, present}
 use Rattle.bind_model.proofs.Fresh.{kept}
 use Rattle.bind_model.proofs.Kept.{Kept, out_made}
-use Rattle.history_reader.specs.Printable.{IsThing, IsPending, AreAll, IsMessage, IsTold}
+use Rattle.history_reader.specs.Printable.{IsThing, AreAll, IsMessage, IsTold}
 use Rattle.printed_laws.proofs.SmallLists.{all_standing, standing}
 use Rattle.printed_laws.proofs.SmallSaid.{IsSmallTold}
 
@@ -40,12 +39,11 @@ pub told_said : (schema : Schema) (told : Told) → IsSmallTold told → IsGotMe
     → AreAll IsThing (gone_by told) → IsTold schema told
 told_said schema (Made things) i m h g = i.0
 told_said schema (Bound x) i m h g = i
-told_said schema (Associated q) i m h g = absurd i
-told_said schema (Attached id) i m h g = absurd i
+told_said schema (Associated q) i m h g = i
+told_said schema (Attached id) i m h g = i
 told_said schema (Sent request bytes) i m h g = (i.0, i.1.0)
-told_said schema (Wrote x) i m h g = absurd i
-told_said schema (Taken got) i m h g =
-    (i.0, m, i.2, h, subst (λ (ps : List PendingId). AreAll IsPending ps) (sym i.3) tt, g)
+told_said schema (Wrote x) i m h g = i
+told_said schema (Taken got) i m h g = (i.0, m, i.2, h, i.3, g)
 told_said schema (Dropped id things) i m h g = (i, g)
 told_said schema (Control id) i m h g = i
 told_said schema (Bad why things) i m h g = (i, g)

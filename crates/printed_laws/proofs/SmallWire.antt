@@ -1,24 +1,26 @@
--- Messages that are written without ids are bytes, and what is read off bytes has its width.
+-- Messages that are written are bytes, and what is read off bytes has its width.
 use Rattle.std.proofs.lemmas.List.{length-append}
-use Rattle.std.proofs.Common.{◌≡◌, ◌<◌, ◌≤◌, ℕ, zero, suc, ◌+◌, ◌/◌, ◌^◌, Bool, true, false, List, [], ◌∷◌, ◌++◌, length, refl, sym, ap, ◌∙◌, subst, arith}
-use Rattle.std.specs.Prelude.{◌==◌, Option, Some, None, Ok, slice_index, if◌then◌else◌}
+use Rattle.std.proofs.Common.{◌≡◌, ◌<◌, ◌≤◌, ℕ, zero, suc, ◌+◌, ◌-◌, ◌*◌, ◌/◌, ◌^◌, Bool, true, false, List, [], ◌∷◌, ◌++◌, length, refl, ap, subst, arith}
+use Rattle.std.specs.Prelude.{◌==◌, nat_lt, Option, Some, None, Ok, slice_index, if◌then◌else◌}
+use Rattle.mj_base.specs.Bytes.{rounded8}
 use Rattle.mj_base.specs.declared.fault.Fault.{Fault}
 use Rattle.mj_schema.specs.declared.schema.Schema.{Schema}
 use Rattle.bounds_claims.specs.Runs.{first_fault}
 use Rattle.message_header.specs.Controls.{control_id, control_marks}
 use Rattle.message_header.specs.FirstFailed.{first_failed}
 use Rattle.message_validator.specs.Before.{before_payload}
-use Rattle.wire_encoder.specs.Prepared.{payload_for}
+use Rattle.wire_encoder.specs.Prepared.{payload_for, verdict}
 use Rattle.wire_model.specs.Bytes.{bytes32, bytes64, number32, number64}
+use Rattle.wire_model.specs.Cells.{zeros}
 use Rattle.wire_model.specs.Expected.{message_marks}
-use Rattle.wire_model.specs.HeaderMarks.{header_marks, HEADER_BYTES, HEADER_BYTES_1}
-use Rattle.wire_model.specs.Message.{Head, basic, front_of, back_of, ids_read, is_plain, message, payload_start, plain_front, request_read}
+use Rattle.wire_model.specs.HeaderMarks.{header_marks, HEADER_BYTES, HEADER_BYTES_1, HEADER_BYTES_2}
+use Rattle.wire_model.specs.Message.{Head, basic, front_of, back_of, id_bytes, ids_from, ids_read, is_plain, message, payload_start, plain_front, request_read, written_request}
 use Rattle.wire_model.specs.Trees.{Tree}
 use Rattle.wire_model.specs.declared.target.Expected.{Expected}
 use Rattle.wire_model.specs.declared.target.Target.{Target}
 use Rattle.bind_model.specs.Wire.{Header, Content}
-use Rattle.bind_model.specs.WireOf.{header_in, closed_id_in, content_in, stands_in, struct_named, unless_fault}
-use Rattle.history_reader.specs.Printable.{IsSmall, IsWide, AreBytes}
+use Rattle.bind_model.specs.WireOf.{header_in, closed_id_in, content_in, endpoints_met, stands_in, struct_named, unless_fault}
+use Rattle.history_reader.specs.Printable.{IsSmall, IsWide, AreAll, AreBytes}
 use Rattle.printed_laws.proofs.SmallLists.{all_both}
 use Rattle.printed_laws.proofs.SmallSaid.{IsFine}
 
@@ -50,46 +52,106 @@ plain_fine : (b : Bool) (h : Head) → AreBytes (plain_front b h)
 plain_fine true h = basic_fine HEADER_BYTES 0 h
 plain_fine false h = all_both IsByte (basic HEADER_BYTES_1 1 h) (bytes64 h.request) (basic_fine HEADER_BYTES_1 1 h) (bytes64_fine h.request)
 
--- a message without ids, with its ids apart
-abbrev with_ids : List ℕ → Head → List ℕ → List ℕ
-with_ids ids h payload = front_of ids h (length payload) ++ (payload ++ back_of ids)
+pub zeros_fine : (n : ℕ) → AreBytes (zeros n)
+zeros_fine zero = tt
+zeros_fine (suc n) = (omega arith, zeros_fine n)
 
-message_bytes : (h : Head) (payload : List ℕ) → h.ids ≡ [] → AreBytes payload → AreBytes (message h payload)
-message_bytes h payload none a =
-    subst (λ (ids : List ℕ). AreBytes (with_ids ids h payload)) (sym none)
-    (all_both IsByte (plain_front (is_plain h.flags) h) (payload ++ []) (plain_fine (is_plain h.flags) h) (all_both IsByte payload [] a tt))
+ids_fine : (ids : List ℕ) → AreBytes (id_bytes ids)
+ids_fine [] = tt
+ids_fine (i ∷ ids) = before i (id_bytes ids) (ids_fine ids)
 
-none_read : (h : Head) (payload : List ℕ) → h.ids ≡ [] → ids_read (message h payload) ≡ []
-unfolding number32 bytes32 bytes64
-none_read h payload none =
-    subst (λ (ids : List ℕ). ids_read (with_ids ids h payload) ≡ []) (sym none) (go (is_plain h.flags))
-  where
-    go : (b : Bool) → ids_read (plain_front b h ++ (payload ++ [])) ≡ []
-    go true = refl
-    go false = refl
+front_fine : (ids : List ℕ) (h : Head) (n : ℕ) → AreBytes (front_of ids h n)
+front_fine [] h n = plain_fine (is_plain h.flags) h
+front_fine (i ∷ ids) h n =
+    let request = written_request (is_plain h.flags) h.request in
+    all_both IsByte (basic HEADER_BYTES_2 2 h) (bytes64 request ++ (bytes64 16 ++ bytes64 (8 + n))) (basic_fine HEADER_BYTES_2 2 h)
+    (all_both IsByte (bytes64 request) (bytes64 16 ++ bytes64 (8 + n)) (bytes64_fine request)
+    (all_both IsByte (bytes64 16) (bytes64 (8 + n)) (bytes64_fine 16) (bytes64_fine (8 + n))))
 
--- its version
-version_read : (h : Head) (payload : List ℕ) → h.ids ≡ [] → number32 (message h payload) 4 < 2
-unfolding number32 bytes32 bytes64
-version_read h payload none =
-    subst (λ (ids : List ℕ). number32 (with_ids ids h payload) 4 < 2) (sym none) (go (is_plain h.flags))
-  where
-    go : (b : Bool) → number32 (plain_front b h ++ (payload ++ [])) 4 < 2
-    go true = omega arith
-    go false = omega arith
+back_fine : (ids : List ℕ) → AreBytes (back_of ids)
+back_fine [] = tt
+back_fine (i ∷ ids) =
+    let k = length (i ∷ ids) in
+    let room = rounded8 (4 * k) - 4 * k in
+    before (8 + 4 * k) (bytes32 k ++ (id_bytes (i ∷ ids) ++ zeros room)) (before k (id_bytes (i ∷ ids) ++ zeros room)
+    (all_both IsByte (id_bytes (i ∷ ids)) (zeros room) (ids_fine (i ∷ ids)) (zeros_fine room)))
 
-front_length : (b : Bool) (h : Head) → length (plain_front b h) ≤ 32
-unfolding bytes32 bytes64
-front_length true h = omega arith
-front_length false h = omega arith
+-- ## How long it is
 
-message_short : (h : Head) (payload : List ℕ) → h.ids ≡ [] → length payload < 2 ^ 61 → length (message h payload) < 2 ^ 62
-message_short h payload none few =
-    subst (λ (ids : List ℕ). length (with_ids ids h payload) < 2 ^ 62) (sym none)
-    (omega (arith, few, front_length (is_plain h.flags) h, length-append (plain_front (is_plain h.flags) h) (payload ++ []), length-append payload []))
+length32 : (n : ℕ) → length (bytes32 n) ≡ 4
+unfolding bytes32
+length32 n = refl
 
-pub message_fine : (h : Head) (payload : List ℕ) → h.ids ≡ [] → AreBytes payload × (length payload < 2 ^ 61) → IsFine (message h payload)
-message_fine h payload none a = (message_bytes h payload none a.0, none_read h payload none, version_read h payload none, message_short h payload none a.1)
+length64 : (n : ℕ) → length (bytes64 n) ≡ 8
+unfolding bytes64 bytes32
+length64 n = refl
+
+behind32 : (n : ℕ) (bytes : List ℕ) → length (bytes32 n ++ bytes) ≡ 4 + length bytes
+behind32 n bytes = omega (arith, length32 n, length-append (bytes32 n) bytes)
+
+basic_length : (size version : ℕ) (h : Head) → length (basic size version h) ≡ 24
+unfolding bytes32
+basic_length size version h = refl
+
+plain_length : (b : Bool) (h : Head) → length (plain_front b h) ≤ 32
+plain_length true h = omega (arith, basic_length HEADER_BYTES 0 h)
+plain_length false h =
+    omega (arith, basic_length HEADER_BYTES_1 1 h, length64 h.request, length-append (basic HEADER_BYTES_1 1 h) (bytes64 h.request))
+
+front_length : (ids : List ℕ) (h : Head) (n : ℕ) → length (front_of ids h n) ≤ 48
+front_length [] h n = let few = plain_length (is_plain h.flags) h in omega (arith, few)
+front_length (i ∷ ids) h n =
+    let request = written_request (is_plain h.flags) h.request in
+    omega (
+      arith,
+      basic_length HEADER_BYTES_2 2 h,
+      length64 request,
+      length64 16,
+      length64 (8 + n),
+      length-append (basic HEADER_BYTES_2 2 h) (bytes64 request ++ (bytes64 16 ++ bytes64 (8 + n))),
+      length-append (bytes64 request) (bytes64 16 ++ bytes64 (8 + n)),
+      length-append (bytes64 16) (bytes64 (8 + n)),
+    )
+
+zeros_length : (n : ℕ) → length (zeros n) ≡ n
+zeros_length zero = refl
+zeros_length (suc n) = ap suc (zeros_length n)
+
+ids_length : (ids : List ℕ) → length (id_bytes ids) ≡ 4 * length ids
+ids_length [] = refl
+ids_length (i ∷ ids) = omega (arith, behind32 i (id_bytes ids), ids_length ids)
+
+back_length : (ids : List ℕ) → length ids ≤ 64 → length (back_of ids) ≤ 300
+back_length [] few = omega arith
+back_length (i ∷ ids) few =
+    let k = length (i ∷ ids) in
+    let room = rounded8 (4 * k) - 4 * k in
+    omega (
+      arith,
+      few,
+      zeros_length room,
+      ids_length (i ∷ ids),
+      length-append (id_bytes (i ∷ ids)) (zeros room),
+      behind32 k (id_bytes (i ∷ ids) ++ zeros room),
+      behind32 (8 + 4 * k) (bytes32 k ++ (id_bytes (i ∷ ids) ++ zeros room)),
+    )
+
+message_bytes : (h : Head) (payload : List ℕ) → AreBytes payload → AreBytes (message h payload)
+message_bytes h payload a = all_both IsByte (front_of h.ids h (length payload)) (payload ++ back_of h.ids) (front_fine h.ids h (length payload))
+    (all_both IsByte payload (back_of h.ids) a (back_fine h.ids))
+
+message_short : (h : Head) (payload : List ℕ) → length h.ids ≤ 64 → length payload < 2 ^ 61 → length (message h payload) < 2 ^ 62
+message_short h payload ids few = omega (
+  arith,
+  few,
+  front_length h.ids h (length payload),
+  back_length h.ids ids,
+  length-append (front_of h.ids h (length payload)) (payload ++ back_of h.ids),
+  length-append payload (back_of h.ids),
+)
+
+pub message_fine : (h : Head) (payload : List ℕ) → length h.ids ≤ 64 → AreBytes payload → length payload < 2 ^ 61 → IsFine (message h payload)
+message_fine h payload ids a few = (message_bytes h payload a, message_short h payload ids few)
 
 -- ## What is read
 
@@ -118,10 +180,26 @@ answer_is : {A : Type 0} (o : Option Fault) (x y : A) → unless_fault o x ≡ O
 answer_is None x y e = cc
 answer_is (Some fault) x y e = absurd cc
 
-pub header_small : (bytes : List ℕ) (h : Header) → IsFine bytes → header_in bytes ≡ Ok h → IsSmall h.id × (h.ids ≡ [])
+-- ids are numbers of 32 bits
+from_small : (bytes : List ℕ) → AreBytes bytes → (p n : ℕ) → AreAll IsSmall (ids_from bytes p n)
+from_small bytes a p zero = tt
+from_small bytes a p (suc n) = (number32_small bytes a p, from_small bytes a (p + 4) n)
+
+read_small : (bytes : List ℕ) → AreBytes bytes → AreAll IsSmall (ids_read bytes)
+read_small bytes a = go (nat_lt (number32 bytes 4) 2) (number64 bytes 40 == 0)
+  where
+    go : (old none : Bool) → AreAll IsSmall (if old then [] else (if none then [] else
+        ids_from bytes (40 + number64 bytes 40 + 8) (number32 bytes (40 + number64 bytes 40 + 4))))
+    go true none = tt
+    go false true = tt
+    go false false = from_small bytes a (40 + number64 bytes 40 + 8) (number32 bytes (40 + number64 bytes 40 + 4))
+
+pub header_small : (bytes : List ℕ) (h : Header) → IsFine bytes → header_in bytes ≡ Ok h → IsSmall h.id × AreAll IsSmall h.ids
 header_small bytes h fine e =
-    let same : record { id = number32 bytes 8; ids = ids_read bytes } ≡ h = answer_is (first_failed (header_marks bytes)) _ h e in
-    (subst (λ (g : Header). IsSmall g.id) same (number32_small bytes fine.0 8), ap (λ (g : Header). g.ids) (sym same) ∙ fine.1)
+    let same : record { id = number32 bytes 8; ids = ids_read bytes } ≡ h = answer_is (first_failed (header_marks bytes)) _ h e in (
+      subst (λ (g : Header). IsSmall g.id) same (number32_small bytes fine.0 8),
+      subst (λ (g : Header). AreAll IsSmall g.ids) same (read_small bytes fine.0),
+    )
 
 pub closed_small : (bytes : List ℕ) (id : ℕ) → IsFine bytes → closed_id_in bytes ≡ Ok id → IsSmall id
 closed_small bytes id fine e = subst IsSmall (answer_is (first_failed (control_marks bytes)) (control_id bytes) id e)
@@ -136,6 +214,8 @@ stands_small schema expected bytes n c fine e =
       subst (λ (d : Content). IsWide d.request) same (request_wide bytes fine.0),
     )
 
--- parameters that become bytes, not too many
+-- parameters that become bytes, not too many, and that name no more endpoints than a message carries
 abbrev pub BecomeBytes : Schema → Target → Tree → Type 0
-BecomeBytes schema target parameters = AreBytes (payload_for schema target parameters) × (length (payload_for schema target parameters) < 2 ^ 61)
+BecomeBytes schema target parameters =
+    AreBytes (payload_for schema target parameters) × (length (payload_for schema target parameters) < 2 ^ 61)
+    × (length (endpoints_met (verdict schema target parameters)) ≤ 64)

@@ -77,7 +77,7 @@ module _ (schema : Schema) (means : Means schema) where
   asked_said (asks.Attach p t) is = tt
   asked_said (asks.Call y id o) is = sending_said Request o.target o.parameters is
   asked_said (asks.Answer r o) is = sending_said Response o.target o.parameters is
-  asked_said (asks.Raw x bytes handles) is = absurd is
+  asked_said (asks.Raw x bytes handles) is = tt
   asked_said (asks.Take x) is = tt
   asked_said (asks.Close closing) is = tt
   asked_said (asks.Skip line) is = tt
@@ -106,10 +106,10 @@ module _ (schema : Schema) (means : Means schema) where
   )
 
   -- each message of a legal history of a script can be said
-  pub script_messages : PassedIsEncodable → filled.IsFilledSchema schema → (seqs : ℕ) (bytes : List ℕ) (script : Script) (past : List Event)
-      → legal (wire_of schema) seqs past → IsScriptOf schema bytes script → PastOfScript schema script past → AllByRecursion (HasMessages schema) past
-  script_messages law full seqs bytes script past h is run =
-      let asked = script_asks law schema bytes script past is run in
+  pub script_messages : PassedIsEncodable → filled.IsFilledSchema schema → (seqs : ℕ) (bytes : List ℕ) (script : Script) (order : ℕ) (past : List Event)
+      → legal (wire_of schema) seqs past → IsScriptOf schema bytes script → PastOfScript schema script order past → AllByRecursion (HasMessages schema) past
+  script_messages law full seqs bytes script order past h is run =
+      let asked = script_asks law schema bytes script order past is run in
       let small = sent_bytes schema seqs past h asked in
       all_said past asked (got_values schema full seqs past h small) small
 

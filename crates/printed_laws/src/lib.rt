@@ -2,8 +2,8 @@
 //! what it sends fits.
 #![tactic(auto)]
 
-ghost use Rattle.std.specs.Prelude.{◌≤◌, ◌*◌, List, ℕ, Ok, length, reverse};
-ghost use Rattle.mj_base.specs.declared.limits.TheConstants.{MAX_SCRIPT_LINES};
+ghost use Rattle.std.specs.Prelude.{◌≤◌, List, ℕ, Ok, length, reverse};
+ghost use Rattle.mj_base.specs.declared.limits.TheConstants.{MAX_EVENTS};
 ghost use Rattle.mj_schema.specs.declared.schema.Schema.{Schema};
 ghost use Rattle.bind_model.specs.Replies.{Legal};
 ghost use Rattle.bind_model.specs.WireOf.{wire_of};
@@ -13,7 +13,6 @@ ghost use Rattle.mojom_compile.specs.declared.source.Source.{Source};
 ghost use Rattle.message_laws.specs.Filled.{IsFilledSchema};
 ghost use Rattle.call_script.specs.Script.{IsScriptOf};
 ghost use Rattle.call_script.specs.declared.script.Script.{Script};
-ghost use Rattle.call_script.specs.declared.script.TheConstants.{SEQUENCES};
 ghost use Rattle.history_reader.specs.Printable.{IsPrintable};
 ghost use Rattle.history_reader.specs.Texts.{Tells};
 ghost use Rattle.history_reader.specs.Whole.{history as history_rule};
@@ -27,9 +26,9 @@ use wire_encoder::laws::passed_is_encodable;
 /// names, values and numbers that a text can say. This is a law and does nothing: it calls the law that it
 /// rests on.
 pub fn runs_can_be_printed()
-    ensures { (sources : List Source) (schema : Schema) (bytes : List ℕ) (script : Script) (history : List Event)
-        → IsSchemaOfFiles sources schema → IsScriptOf schema bytes script → Legal (wire_of schema) SEQUENCES history
-        → OfScript schema script history → length history ≤ 4 * MAX_SCRIPT_LINES → IsPrintable schema (run_said history) }
+    ensures { (sources : List Source) (schema : Schema) (bytes : List ℕ) (script : Script) (order : ℕ) (history : List Event)
+        → IsSchemaOfFiles sources schema → IsScriptOf schema bytes script → Legal (wire_of schema) script.seqs history
+        → OfScript schema script order history → length history ≤ MAX_EVENTS → IsPrintable schema (run_said script.seqs history) }
 {
     passed_is_encodable();
 }
@@ -38,10 +37,10 @@ pub fn runs_can_be_printed()
 /// interfaces of responders' endpoints, and says nothing else. This is a law and does nothing: it calls the
 /// law that it rests on.
 pub fn runs_are_read_back()
-    ensures { (sources : List Source) (schema : Schema) (bytes : List ℕ) (script : Script) (history : List Event)
-        → IsSchemaOfFiles sources schema → IsScriptOf schema bytes script → Legal (wire_of schema) SEQUENCES history
-        → OfScript schema script history → length history ≤ 4 * MAX_SCRIPT_LINES
-        → Tells (history_rule schema) (run_text schema history) (Ok (run_said history)) }
+    ensures { (sources : List Source) (schema : Schema) (bytes : List ℕ) (script : Script) (order : ℕ) (history : List Event)
+        → IsSchemaOfFiles sources schema → IsScriptOf schema bytes script → Legal (wire_of schema) script.seqs history
+        → OfScript schema script order history → length history ≤ MAX_EVENTS
+        → Tells (history_rule schema) (run_text schema script.seqs history) (Ok (run_said script.seqs history)) }
 {
     passed_is_encodable();
 }
@@ -50,9 +49,9 @@ pub fn runs_are_read_back()
 /// pass all checks, in few bytes, and the method's ordinal is a number of 32 bits. This is a law and does
 /// nothing: it calls the law that it rests on.
 pub fn runs_send_what_fits()
-    ensures { (sources : List Source) (schema : Schema) (bytes : List ℕ) (script : Script) (history : List Event)
+    ensures { (sources : List Source) (schema : Schema) (bytes : List ℕ) (script : Script) (order : ℕ) (history : List Event)
         → IsSchemaOfFiles sources schema → IsScriptOf schema bytes script
-        → OfScript schema script history → AllFit schema (reverse history) }
+        → OfScript schema script order history → AllFit schema (reverse history) }
 {
     passed_is_encodable();
 }

@@ -22,6 +22,7 @@ pub(crate) struct Waiting<C> {
 
 /// The jobs that wait, each under its request, and one note for each job that was given, in order. The
 /// notes of those that wait say that they didn't run.
+#[derive(Drop)]
 pub(crate) struct Jobs<C> {
     pub waiting: ResponseMap<Waiting<C>>,
     pub notes: Vec<Note>,

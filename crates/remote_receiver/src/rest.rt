@@ -12,6 +12,7 @@ use bind_model::Stepper;
 use std::alloc::Global;
 
 /// The jobs that wait and the notes of a desk at rest.
+#[derive(Drop)]
 pub struct Rest<C> {
     pub(crate) jobs: Jobs<C>,
 }

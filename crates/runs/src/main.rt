@@ -4,7 +4,6 @@
 
 mod callbacks;
 mod played;
-mod same;
 mod tally;
 mod walk;
 
@@ -23,23 +22,38 @@ use std::{env, io};
 /// The bytes that a file of walks has at most.
 const MOST_BYTES: u64 = 1_048_576;
 
-/// Compares the run of a text, if it is a script. The first run of a walk that differs is printed.
+/// Compares the run of a text in an order, if it is a script. The first run of a walk that differs is printed.
 fn compare<R: Print + AllocGlobal>(
     rt: &R,
     schema: &Arc<Schema>,
     text: &str,
+    order: u64,
     tally: &mut Tally,
 ) -> io::Result<()> {
     tally.texts = tally.texts.saturating_add(1);
-    let Some(played) = Played::new(rt.alloc(), schema, text)? else {
+    let Some(played) = Played::new(rt.alloc(), schema, text, order)? else {
         return Ok(());
     };
     let is_right = played.is_right(rt.alloc())?;
     if !is_right && tally.differ == 0 {
-        println!(rt; "the script:\n{text}")?;
+        println!(rt; "the script, by order {order}:\n{text}")?;
         played.print(rt, schema)?;
     }
     tally.add_script(played.events.as_slice(), is_right)?;
+    Ok(())
+}
+
+/// Compares the runs of a text in all orders of its walk.
+fn compare_orders<R: Print + AllocGlobal>(
+    rt: &R,
+    schema: &Arc<Schema>,
+    walk: &Walk,
+    text: &str,
+    tally: &mut Tally,
+) -> io::Result<()> {
+    for order in 0..walk.orders {
+        compare(rt, schema, text, order, tally)?;
+    }
     Ok(())
 }
 
@@ -53,7 +67,7 @@ fn compare_texts<R: Print + AllocGlobal>(
 ) -> io::Result<()> {
     for number in 0..walk.count(lines) {
         let text = walk.text(rt.alloc(), lines, number)?;
-        compare(rt, schema, text.as_str(), tally)?;
+        compare_orders(rt, schema, walk, text.as_str(), tally)?;
     }
     Ok(())
 }

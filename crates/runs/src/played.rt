@@ -1,15 +1,17 @@
 //! A script that was run, and the events and callbacks that it literally has.
 
+ghost use Rattle.std.specs.Prelude.{◌≤◌};
 ghost use Rattle.std.specs.Arc.{arc_value};
+ghost use Rattle.mj_base.specs.declared.limits.TheConstants.{MAX_FILE_BYTES};
 ghost use Rattle.call_script.specs.Sound.{IsScript};
 
 use crate::callbacks::callbacks;
-use crate::same::are_same_events;
 use bind_model::History;
-use bind_reference::{events_of, left};
-use call_script::{Note, SEQUENCES, Script, ScriptError, read_script, render};
+use bind_reference::{are_same_events, events_of, left};
+use call_script::{Note, Script, ScriptError, read_script, render};
 use handle_table::Thing;
 use mj_base::Items;
+use mj_base::limits::MAX_FILE_BYTES;
 use mj_schema::Schema;
 use script_run::{NoMemory, Ran, run_alone};
 use std::alloc::{AllocError, Global};
@@ -27,35 +29,40 @@ pub struct Played {
     left: Vec<Thing>,
 }
 
-/// What a run of a script leaves.
-fn run(alloc: Global, schema: &Arc<Schema>, script: &Script) -> Result<Ran, AllocError>
-    requires { IsScript (arc_value schema.now) script.now }
+/// What a run of a script in an order leaves.
+fn run(alloc: Global, schema: &Arc<Schema>, script: &Script, order: u64) -> Result<Ran, AllocError>
+    requires script { IsScript (arc_value schema.now) script.now }
+    requires short { script.now.bytes ≤ MAX_FILE_BYTES }
 {
     let Ok(shared) = Arc::try_clone(schema) else {
         return Err(AllocError);
     };
-    match run_alone(alloc, shared, script) {
+    match run_alone(alloc, shared, script, order) {
         Ok(ran) => Ok(ran),
         Err(NoMemory) => Err(AllocError),
     }
 }
 
 impl Played {
-    /// What comes of a text; none where it is no script.
+    /// What comes of a text in an order; none where it is no script, or one of more bytes than a file has.
     pub fn new(
         alloc: Global,
         schema: &Arc<Schema>,
         text: &str,
+        order: u64,
     ) -> Result<Option<Played>, AllocError> {
         let script = match read_script(alloc, schema, text.as_bytes()) {
             Ok(script) => script,
             Err(ScriptError::Refused { .. }) => return Ok(None),
             Err(ScriptError::Memory) => return Err(AllocError),
         };
-        let ran = run(alloc, schema, &script)?;
-        let events = events_of(alloc, schema, &script)?;
-        let notes = callbacks(alloc, SEQUENCES, &events)?;
-        let left = left(alloc, SEQUENCES, &events)?;
+        if script.bytes as u64 > MAX_FILE_BYTES {
+            return Ok(None);
+        }
+        let ran = run(alloc, schema, &script, order)?;
+        let events = events_of(alloc, schema, &script, order)?;
+        let notes = callbacks(alloc, script.seqs, &events)?;
+        let left = left(alloc, script.seqs, &events)?;
         Ok(Some(Played {
             ran,
             events: History::from_items(Items::from_vec(events)),

@@ -34,11 +34,11 @@ fn refusal(why: Why) -> &'static str {
         Why::Full => "no full",
         Why::Empty => "no empty",
         Why::PeerClosed => "no peer-closed",
-        Why::Unbound(_)
-        | Why::Elsewhere(_)
-        | Why::WrongPipe(_)
-        | Why::TooLong
-        | Why::TooManyHandles => "no other",
+        Why::Unbound(_) => "no unbound",
+        Why::Elsewhere(_) => "no elsewhere",
+        Why::WrongPipe(_) => "no wrong-pipe",
+        Why::TooLong => "no too-long",
+        Why::TooManyHandles => "no too-many-handles",
     }
 }
 
@@ -57,7 +57,10 @@ fn word(told: &Told) -> &'static str {
         Told::Closed(_) => "closed",
         Told::Skipped => "skipped",
         Told::No(why) => refusal(*why),
-        Told::Associated(_) | Told::Attached(_) | Told::Wrote(_) | Told::Control(_) => "other",
+        Told::Associated(_) => "associated",
+        Told::Attached(_) => "attached",
+        Told::Wrote(_) => "wrote",
+        Told::Control(_) => "control",
     }
 }
 

@@ -1,6 +1,7 @@
 //! The walks of a file. A line `walk NAME` begins one; `file TEXT` has its definitions, `first LINE` a line
 //! with which each of its scripts begins, `line LINE` one that may stand behind these at any place and any
-//! number of times, and `most N` says how many of those a script has at most.
+//! number of times, and `most N` says how many of those a script has at most. Each script is run in as many
+//! orders of its sequences' lines, from 0 on, as `orders N` says; without it in the order 0 alone.
 
 use mj_base::{Items, Text};
 use mj_schema::Schema;
@@ -15,6 +16,7 @@ pub struct Walk {
     first: String,
     lines: Vec<String>,
     pub most: u32,
+    pub orders: u64,
 }
 
 impl Walk {
@@ -26,6 +28,7 @@ impl Walk {
             first: String::new(alloc),
             lines: Vec::new(alloc),
             most: 0,
+            orders: 1,
         })
     }
 
@@ -38,9 +41,18 @@ impl Walk {
         } else if let Some(text) = line.strip_prefix("line ") {
             Ok(self.lines.push(String::from_str(alloc, text)?)?)
         } else {
+            self.take_number(line);
+            Ok(())
+        }
+    }
+
+    /// Takes a line with a number.
+    fn take_number(&mut self, line: &str) {
+        if let Some(orders) = line.strip_prefix("orders ") {
+            self.orders = orders.parse::<u64>().unwrap_or(0);
+        } else {
             let most = line.strip_prefix("most ").unwrap_or("");
             self.most = most.parse::<u32>().unwrap_or(0);
-            Ok(())
         }
     }
 

@@ -1,19 +1,30 @@
-pub mod SlotLemmas
-pub mod Holding
-pub mod Handed
-pub mod Steps
-pub mod ResponderLemmas
-pub mod Responding
-pub mod Answering
-pub mod LineDone
-pub mod NoIds
-pub mod Weights
-pub mod Waiting
-pub mod ReadyEnd
-pub mod Parts
-pub mod Draining
-pub mod ReplyDone
-pub mod Opening
-pub mod Sole
-pub mod Seating
-pub mod CallbackLemmas
+mod AllLines
+mod Coming
+mod Ending
+mod JoinDone
+mod Joining
+mod LineDone
+mod LineLemmas
+mod LineNames
+mod LineTurns
+mod NameLemmas
+mod OrderLists
+mod OrderSteps
+mod RoomsSettled
+mod RunParts
+mod Sequences
+mod Serving
+mod SoleStepper
+mod TableLemmas
+mod TakeTurns
+mod TurnLemmas
+mod WhatIsTold
+mod Woken
+mod DueReplies
+mod EventShares
+mod EventsDone
+pub mod FewEvents
+mod LineSends
+mod ReadyEnd
+mod NeverFull
+mod CutTurns

@@ -1,413 +1,440 @@
--- A line that is done: what is held under names, before and after.
-use Rattle.std.proofs.Common.{◌≡◌, ◌<◌, ℕ, Bool, true, false, List, [], ◌∷◌, ◌++◌, length, refl, sym, ap, ◌∙◌, subst, inl, inr, ◌+◌, Some}
-use Rattle.std.specs.Prelude.{◌&&◌, ◌||◌, not, Option, None, slice_get, is_some, if◌then◌else◌}
-use Rattle.std.proofs.Math.Path.{fun_ext}
+-- What a sequence did once a reply is settled: one event more, what is due then, and what it holds.
+use Rattle.std.proofs.Common.{◌≡◌, ◌≤◌, ℕ, Bool, true, false, List, [], ◌∷◌, ◌++◌, length, refl, sym, ap, ◌∙◌, subst, eq-eqb, true≢false, arith, length-append}
+use Rattle.std.proofs.Common.{Bor, inr}
+use Rattle.std.specs.Prelude.{◌==◌, Option, Some, None, Result, Ok, Err, IfOk, IfErr, IsOkUnless, OnOk, cond, is_err, find, is_some, reverse}
 use Rattle.std.specs.List.{AllByRecursion}
+use Rattle.std.specs.Option.{option_copied, option_map}
+use Rattle.std.proofs.lemmas.List.{append-nil}
+use Rattle.std.proofs.lemmas.List.Elements.{filter-append}
 use Rattle.mj_base.specs.declared.ids.EndId.{EndId}
 use Rattle.mj_base.specs.declared.ids.SeqId.{SeqId}
-use Rattle.handle_table.specs.declared.thing.Thing.{Thing}
-use Rattle.handle_table.specs.Things.{has}
-use Rattle.bind_model.specs.declared.asked.Asked.TheVariants as asks
-use Rattle.bind_model.specs.declared.asked.Outgoing.{Outgoing}
-use Rattle.bind_model.specs.declared.event.Event.{Event}
-use Rattle.bind_model.specs.declared.told.Told.{Told}
-use Rattle.bind_model.specs.declared.told.Told.TheVariants as tells
-use Rattle.bind_model.specs.declared.told.Why.{Why}
-use Rattle.bind_model.specs.Machine.{out, handed}
-use Rattle.bind_model.specs.Replies.{legal, responders_handed}
-use Rattle.bind_model.specs.declared.endpoint.ResponderId.{ResponderId}
-use Rattle.bind_model.specs.Wire.{Wire}
-use Rattle.bind_model.specs.Pendings.{Half}
-use Rattle.bind_model.specs.Plain.{asked_of, told_of, outgoing_of, HandsBack, HandsResponders, responders_in}
-use Rattle.bind_model.specs.declared.commands.Command as core
-use Rattle.bind_model.specs.declared.commands.Command.TheVariants as commands
-use Rattle.bind_model.specs.declared.commands.ToClose.TheVariants as close
-use Rattle.bind_model.specs.declared.commands.Reply.{Reply}
-use Rattle.bind_model.specs.declared.commands.Reply.TheVariants.{Made, Bound, Associated, Attached, Sent, Wrote, Got, Dropped, Control, Bad, Closed, Skipped, No}
+use Rattle.mj_base.specs.declared.limits.TheConstants.{MAX_EVENTS}
 use Rattle.mj_schema.specs.declared.schema.Schema.{Schema}
+use Rattle.handle_table.specs.declared.thing.Thing.{Thing}
+use Rattle.wire_encoder.specs.declared.prepared.Prepared.{Prepared}
 use Rattle.wire_model.specs.Trees.{Tree, view}
 use Rattle.wire_model.specs.declared.target.Target.{Target}
-use Rattle.wire_encoder.specs.declared.prepared.Prepared.{Prepared}
+use Rattle.bind_model.specs.Pendings.{Half}
+use Rattle.bind_model.specs.Plain.{asked_of, told_of, outgoing_of, responders_in}
+use Rattle.bind_model.specs.Replies.{answer, responders_handed}
+use Rattle.bind_model.specs.Seen.{own_of}
 use Rattle.bind_model.specs.WireOf.{wire_of}
-use Rattle.bind_core.specs.Play.{Play}
+use Rattle.bind_model.specs.declared.asked.Asked.{Asked}
+use Rattle.bind_model.specs.declared.asked.Asked.TheVariants as asks
+use Rattle.bind_model.specs.declared.asked.Outgoing.{Outgoing}
+use Rattle.bind_model.specs.declared.commands.Command.{Command}
+use Rattle.bind_model.specs.declared.commands.Command.TheVariants as commands
+use Rattle.bind_model.specs.declared.commands.Refused.{Refused}
+use Rattle.bind_model.specs.declared.commands.Refused.TheVariants as refusals
+use Rattle.bind_model.specs.declared.commands.Reply.{Reply}
+use Rattle.bind_model.specs.declared.commands.Reply.TheVariants.{Got}
+use Rattle.bind_model.specs.declared.endpoint.ResponderId.{ResponderId}
+use Rattle.bind_model.specs.declared.event.Event.{Event}
+use Rattle.bind_model.specs.declared.told.Told.{Told}
+use Rattle.call_script.specs.Sound.{AreWithin, IsLine, IsReply, sets}
 use Rattle.call_script.specs.declared.script.AutoReply.{AutoReply}
-use Rattle.call_script.specs.declared.script.Command.{Command}
-use Rattle.call_script.specs.declared.script.Command.TheVariants as scripts
 use Rattle.call_script.specs.declared.script.Line.{Line}
-use Rattle.call_script.specs.declared.script.TheConstants.{SEQUENCES}
 use Rattle.call_script.specs.declared.script.NameId.{NameId}
-use Rattle.script_run.specs.Autos.{Due, due, due_for, line_at, lines_done}
-use Rattle.script_run.specs.Names.{Label, labels, labelled, set_by, thing_of, held, responder_held, responder_needed, responder_name, spent_by}
-use Rattle.script_run.specs.Names.{with_responder, without_responder}
-use Rattle.script_run.specs.OfScript.{AsksNext, as_end, or_skip, asked_for, asked_by, next_line, outgoing}
-use Rattle.call_script.specs.Sound.{IsLine, sets}
-use Rattle.script_run.specs.declared.run.Run.{Run}
-use Rattle.script_run.specs.declared.held.Slot.{Slot}
-use Rattle.script_run.specs.steps.Lines.{called, answered, needed, things_in, Took}
-use Rattle.script_run.specs.steps.Responders.{Rights, responder_at, responder_in, EndsWith, TookResponder}
-use Rattle.script_run.specs.steps.Slots.{IsSound, thing_at, held_at, given, taken_from}
-use Rattle.script_run.specs.steps.Replies.{comes_with, settled, responder_with, responders_settled}
-use Rattle.script_run.specs.steps.Going.{past_in, wire_in, Agrees, IsGoing, IsPlain, told_next, Went, HasNames, asks_in, told_in, reply_of, Holds, holds_after}
-use Rattle.script_run.specs.steps.Going.{DidLine, DidTake, DidReply, IsBetween}
-use Rattle.script_run.proofs.ResponderLemmas.{took_length}
-use Rattle.script_run.proofs.Responding.{due_is, settled_length, held_after}
-use Rattle.script_run.proofs.SlotLemmas.{all_back, taken_from-all_held}
-use Rattle.script_run.proofs.Holding.{agrees_same, agrees_left, agrees_given, given_length, left_length}
-use Rattle.script_run.proofs.Handed.{things_asked, is_done, given_is, handed_distinct, handed_new, out_then}
-use Rattle.script_run.proofs.Steps.{plain_asked}
+use Rattle.remote_receiver.specs.Notes.{Kept}
+use Rattle.script_run.specs.Autos.{Due, due_for, replies_to}
+use Rattle.script_run.specs.Names.{Named, named_after}
+use Rattle.script_run.specs.OfScript.{asked_by, outgoing}
+use Rattle.script_run.specs.declared.cut.Cut.{Cut}
+use Rattle.script_run.specs.declared.cut.Cut.TheVariants as cuts
+use Rattle.script_run.specs.declared.names.Names.{Names}
+use Rattle.script_run.specs.declared.plain.Plain.{Plain}
+use Rattle.script_run.specs.declared.rooms.Rooms.{Rooms}
+use Rattle.script_run.specs.declared.stands.Stands.{Stands}
+use Rattle.script_run.specs.AtDesk.{SameDesk, Seen}
+use Rattle.script_run.specs.steps.Desks.{CutIn, DidCommand, DidLine, DidTake, IfSpent, IsFull, IsFullBehind, Replied, SawAt, Served}
+use Rattle.script_run.specs.steps.Desks.{TookAt, Went, due_by, reply_of}
+use Rattle.script_run.specs.steps.Needs.{AreNames}
+use Rattle.script_run.specs.Held.{HaveNames, names_in}
+use Rattle.script_run.specs.steps.Rooms.{HasRoomBehind, HasRoomFor, SameHeld}
+use Rattle.script_run.specs.steps.Settling.{EndsWith, LeavesLast, Settles, SpendsAs, TookFor}
+use Rattle.script_run.specs.Held.{held_at}
+use Rattle.script_run.proofs.LineNames.{names_after}
+use Rattle.script_run.proofs.RoomsSettled.{have_same, names_same, settled_since}
+use Rattle.script_run.proofs.WhatIsTold.{room_behind}
 
--- the things of a command are those of what it asks
-things_same : (command : core.Command) → IsPlain (asked_of command) → things_asked (asked_of command) ≡ things_in command
-things_same commands.Pipe plain = refl
-things_same (commands.Join other) plain = refl
-things_same (commands.Mint sort) plain = refl
-things_same (commands.Bind handle side interface) plain = refl
-things_same (commands.Associate end side interface) plain = refl
-things_same (commands.Attach pending seq) plain = refl
-things_same (commands.Call end id prepared handles pendings) plain = refl
-things_same (commands.Answer responder prepared handles pendings) plain = refl
-things_same (commands.Raw handle bytes handles) plain = absurd plain
-things_same (commands.Take end) plain = refl
-things_same (commands.Close (close.Handle handle)) plain = refl
-things_same (commands.Close (close.Pending pending)) plain = refl
-things_same (commands.Close (close.Responder responder)) plain = refl
-things_same (commands.Close (close.Endpoint end id)) plain = refl
-things_same (commands.Skip line) plain = refl
+-- ## One event
 
-all_out : (a : Bool) → a ≡ (a && true)
-all_out true = refl
-all_out false = refl
+abbrev is_mine : SeqId → Event → Bool
+is_mine me e = e.seq.0 == me.0
 
-or_nothing : (a : Bool) → a ≡ (a || false)
-or_nothing true = refl
-or_nothing false = refl
+module _ (before after : Seen) (command : Command) (reply : Reply) (saw : SawAt before after command reply) where
+  abbrev its_event : Event
+  its_event = record { seq = before.me; asked = asked_of command; told = told_of reply }
 
-module _ (line : Command) (old mid : List Slot) (command : core.Command) (took : Took (needed line) old mid (things_in command)) where
-  -- what was taken is out no more
-  mid_agrees : (is_out : Thing → Bool) (all : List Label) → Agrees is_out all old → Agrees (λ z. is_out z && not (has (things_in command) z)) all mid
-  mid_agrees is_out all a = elim took [
-    | inl t ↦ subst (Agrees (λ z. is_out z && not (has (things_in command) z)) all) (sym t.1)
-        (agrees_left is_out all (needed line) (things_in command) old a t.0)
-    | inr t ↦ subst (Agrees (λ z. is_out z && not (has (things_in command) z)) all) (sym t.1)
-        (agrees_same is_out (λ z. is_out z && not (has (things_in command) z)) all old
-        (λ z. all_out (is_out z) ∙ ap (λ xs. is_out z && not (has xs z)) (sym t.0)) a)
-  ]
+  event_is : after.events ≡ saw.before ++ its_event ∷ []
+  event_is =
+      saw.event
+      ∙ ap (λ (told : Told). saw.before ++ record { seq = before.me; asked = asked_of command; told = told } ∷ []) (sym saw.told)
 
-  -- given back, it is as it was
-  back_again : IsSound old → given (needed line) (things_in command) mid ≡ old
-  back_again sound = elim took [
-    | inl t ↦ ap (given (needed line) (things_in command)) t.1 ∙ all_back (needed line) (things_in command) old sound t.0
-    | inr t ↦ ap (λ xs. given (needed line) xs mid) t.0 ∙ t.1
-  ]
+  own_event : own_of before.me (its_event ∷ []) ≡ its_event ∷ []
+  own_event =
+      let same : (before.me.0 == before.me.0) ≡ true = eq-eqb before.me.0 before.me.0 refl in
+      ap (λ (b : Bool). cond b (its_event ∷ []) []) same
 
-  mid_length : length mid ≡ length old
-  mid_length = elim took [
-    | inl t ↦ ap length t.1 ∙ left_length (needed line) old
-    | inr t ↦ ap length t.1
-  ]
+  own_before : own_of before.me saw.before ≡ own_of before.me before.events
+  own_before =
+      ap (own_of before.me) saw.others.all
+      ∙ (filter-append (is_mine before.me) before.events saw.others.between
+      ∙ (ap (λ (es : List Event). own_of before.me before.events ++ es) saw.others.none_own ∙ append-nil (own_of before.me before.events)))
 
-  -- as many slots as before
-  pub size_after : (reply : Reply) (slots : List Slot) → slots ≡ settled line (comes_with reply) mid → length slots ≡ length old
-  size_after (Made handles) slots e = ap length e ∙ given_length (λ z. false) [] (sets line) handles mid ∙ mid_length
-  size_after (Got g) slots e = ap length e ∙ given_length (λ z. false) [] (sets line) g.handles mid ∙ mid_length
-  size_after (No why back) slots e = ap length e ∙ given_length (λ z. false) [] (needed line) (things_in back) mid ∙ mid_length
-  size_after (Bound end) slots e = ap length e ∙ mid_length
-  size_after (Associated pending) slots e = ap length e ∙ mid_length
-  size_after (Attached id) slots e = ap length e ∙ mid_length
-  size_after (Wrote handle) slots e = ap length e ∙ mid_length
-  size_after (Sent request bytes) slots e = ap length e ∙ mid_length
-  size_after (Dropped id gone) slots e = ap length e ∙ mid_length
-  size_after (Control id) slots e = ap length e ∙ mid_length
-  size_after (Bad why gone) slots e = ap length e ∙ mid_length
-  size_after (Closed gone) slots e = ap length e ∙ mid_length
-  size_after Skipped slots e = ap length e ∙ mid_length
+  own_is : own_of before.me after.events ≡ own_of before.me before.events ++ its_event ∷ []
+  own_is =
+      ap (own_of before.me) event_is
+      ∙ (filter-append (is_mine before.me) saw.before (its_event ∷ [])
+      ∙ (ap (λ (es : List Event). es ++ own_of before.me (its_event ∷ [])) own_before
+      ∙ ap (λ (es : List Event). own_of before.me before.events ++ es) own_event))
 
-  module _ (wire : Wire) (seqs : ℕ) (past : List Event) (seq : SeqId) (all : List Label) (plain : IsPlain (asked_of command)) where
-    abbrev with_told : Told → Event
-    with_told told = record { seq = seq; asked = asked_of command; told = told }
+  sole_is : before.alone ≡ true → after.events ≡ before.events ++ its_event ∷ []
+  sole_is alone =
+      event_is
+      ∙ ap (λ (es : List Event). es ++ its_event ∷ [])
+      (saw.others.all ∙ (ap (λ (es : List Event). before.events ++ es) (saw.others.none alone) ∙ append-nil before.events))
 
-    abbrev is_out : Thing → Bool
-    is_out z = has (out past) z
+  few_are : length after.events ≤ MAX_EVENTS
+  few_are = let room = saw.room in omega (arith, room, ap length event_is, length-append saw.before (its_event ∷ []))
 
-    -- what is out behind an event that is done
-    out_done : (told : Told) → legal wire seqs (with_told told ∷ past) → is_done told ≡ true → (z : Thing)
-        → has (out (with_told told ∷ past)) z ≡ ((is_out z && not (has (things_in command) z)) || has (handed told) z)
-    out_done told h d z =
-        out_then wire seqs (with_told told) past h z
-        ∙ ap (λ xs. (is_out z && not (has xs z)) || has (handed told) z)
-        (given_is wire seqs past seq (asked_of command) told plain h.1 d ∙ things_same command plain)
+module _ (before after : Seen) (old new : Kept Plain) (command : Command) where
+  went_is : (reply : Reply) → Served before after command old new (Ok reply) → Went before after old new (asked_of command) (told_of reply)
+  went_is reply served = record {
+    same = served.same;
+    own = own_is before after command reply served.event;
+    sole = sole_is before after command reply served.event;
+    few = few_are before after command reply served.event;
+    kept = served.kept;
+  }
 
-    -- nothing is handed out
-    quiet : (told : Told) → legal wire seqs (with_told told ∷ past) → is_done told ≡ true → handed told ≡ [] → Agrees is_out all old
-        → Agrees (λ z. has (out (with_told told ∷ past)) z) (labels (sets line) (handed told) ++ all) mid
-    quiet told h d none a =
-        subst (λ xs. Agrees (λ z. has (out (with_told told ∷ past)) z) (labels (sets line) xs ++ all) mid) (sym none) (
-        agrees_same (λ z. is_out z && not (has (things_in command) z)) (λ z. has (out (with_told told ∷ past)) z) all mid
-        (λ z. or_nothing (is_out z && not (has (things_in command) z))
-        ∙ (ap (λ xs. (is_out z && not (has (things_in command) z)) || has xs z) (sym none) ∙ sym (out_done told h d z)))
-        (mid_agrees is_out all a)
-        )
+  -- a command that was done is one event more
+  pub served_went : (result : Result Reply Refused) (reply : Reply) → Served before after command old new result → result ≡ Ok reply
+      → Went before after old new (asked_of command) (told_of reply)
+  served_went result reply served is = went_is reply (subst (λ (r : Result Reply Refused). Served before after command old new r) is served)
 
-    -- things are handed out
-    loud : (told : Told) → legal wire seqs (with_told told ∷ past) → is_done told ≡ true
-        → AllByRecursion (λ (n : NameId). n.0 < length old) (sets line) → Agrees is_out all old
-        → Agrees (λ z. has (out (with_told told ∷ past)) z) (labels (sets line) (handed told) ++ all) (given (sets line) (handed told) mid)
-    loud told h d within a =
-        agrees_same (λ z. (is_out z && not (has (things_in command) z)) || has (handed told) z) (λ z. has (out (with_told told ∷ past)) z)
-        (labels (sets line) (handed told) ++ all) (given (sets line) (handed told) mid)
-        (λ z. sym (out_done told h d z))
-        (agrees_given (λ z. is_out z && not (has (things_in command) z)) all (sets line) (handed told) mid
-        (handed_distinct wire seqs (with_told told) past h)
-        (λ z e.
-        ap (λ xs. is_out z && not (has xs z))
-        (sym (given_is wire seqs past seq (asked_of command) told plain h.1 d ∙ things_same command plain))
-        ∙ handed_new wire seqs (with_told told) past h z e)
-        (rw mid_length within) (mid_agrees is_out all a))
+  -- there is room for what came back
+  pub room_left : (result : Result Reply Refused) (reply : Reply) (rooms : Rooms) → Served before after command old new result → result ≡ Ok reply
+      → HasRoomFor command rooms → HasRoomBehind reply rooms
+  room_left result reply rooms served is room =
+      let saw : SawAt before after command reply = subst (λ (r : Result Reply Refused). IfOk r (SawAt before after command)) is served.event in
+      room_behind (wire_of before.schema) before.seqs (reverse saw.before) before.me command reply rooms saw.told saw.back room
 
-    -- all is refused
-    refused : (why : Why) → legal wire seqs (with_told (tells.No why) ∷ past) → Agrees is_out all old
-        → Agrees (λ z. has (out (with_told (tells.No why) ∷ past)) z) all old
-    refused why h a =
-        agrees_same is_out (λ z. has (out (with_told (tells.No why) ∷ past)) z) all old
-        (λ z. all_out (is_out z) ∙ (or_nothing (is_out z && true) ∙ sym (out_then wire seqs (with_told (tells.No why)) past h z))) a
+  -- one that came back as spent is none
+  pub full_is : (back : Command) → Served before after command old new (Err (refusals.Spent back)) → IsFull before after
+  full_is back served = record { same = served.same; stays = served.refused.0; full = served.refused.2 }
 
-    -- slots agree again once all is kept that comes with the reply
-    pub names_after : (reply : Reply) (slots : List Slot) → legal wire seqs (with_told (told_of reply) ∷ past) → HandsBack command reply
-        → slots ≡ settled line (comes_with reply) mid → IsSound old → AllByRecursion (λ (n : NameId). n.0 < length old) (sets line)
-        → Agrees is_out all old
-        → Agrees (λ z. has (out (with_told (told_of reply) ∷ past)) z) (labels (sets line) (handed (told_of reply)) ++ all) slots
-    names_after (Made handles) slots h back e sound within a = rw e (loud (told_of (Made handles)) h refl within a)
-    names_after (Got g) slots h back e sound within a = rw e (loud (told_of (Got g)) h refl within a)
-    names_after (No why same) slots h back e sound within a =
-        let again : slots ≡ old = e ∙ (ap (λ c. given (needed line) (things_in c) mid) back ∙ back_again sound) in
-        rw again (refused why h a)
-    names_after (Bound end) slots h back e sound within a = rw e (quiet (told_of (Bound end)) h refl refl a)
-    names_after (Associated pending) slots h back e sound within a = rw e (quiet (told_of (Associated pending)) h refl refl a)
-    names_after (Attached id) slots h back e sound within a = rw e (quiet (told_of (Attached id)) h refl refl a)
-    names_after (Wrote handle) slots h back e sound within a = rw e (quiet (told_of (Wrote handle)) h refl refl a)
-    names_after (Sent request bytes) slots h back e sound within a = rw e (quiet (told_of (Sent request bytes)) h refl refl a)
-    names_after (Dropped id gone) slots h back e sound within a = rw e (quiet (told_of (Dropped id gone)) h refl refl a)
-    names_after (Control id) slots h back e sound within a = rw e (quiet (told_of (Control id)) h refl refl a)
-    names_after (Bad why gone) slots h back e sound within a = rw e (quiet (told_of (Bad why gone)) h refl refl a)
-    names_after (Closed gone) slots h back e sound within a = rw e (quiet (told_of (Closed gone)) h refl refl a)
-    names_after Skipped slots h back e sound within a = rw e (quiet (told_of Skipped) h refl refl a)
+-- ## Results
 
--- what a call asks by what was taken is what its line asks
-pub called_is : (slots : List Slot) (named : Rights) (line : Line) (name : NameId) (id : ℕ) (prepared : Prepared) (names : List NameId)
-    → line.command ≡ scripts.Call name id prepared names
-    → called line.number (as_end (thing_at slots name)) id prepared (taken_from slots names)
-    ≡ asked_by (thing_at slots) (held_at slots) (responder_at named) line
-called_is slots named line name id prepared names e =
-    ap (called line.number (as_end (thing_at slots name)) id prepared) (taken_from-all_held slots names)
-    ∙ ap (λ (command : Command). or_skip line.number (asked_for (thing_at slots) (held_at slots) (responder_at named) command)) (sym e)
+-- what holds where there is a value, where there is one
+pub ok_there : {A E : Type 0} (result : Result A E) (P : Type 0) → OnOk result P → is_err result ≡ false → P
+ok_there (Ok a) P p h = p
+ok_there (Err e) P p h = absurd (true≢false h)
 
--- and what an answer asks
-pub answered_is : (slots : List Slot) (named : Rights) (line : Line) (name : NameId) (prepared : Prepared) (names : List NameId)
-    → line.command ≡ scripts.Answer name prepared names
-    → answered line.number (responder_at named name) prepared (taken_from slots names) ≡ asked_by (thing_at slots) (held_at slots) (responder_at named) line
-answered_is slots named line name prepared names e =
-    ap (answered line.number (responder_at named name) prepared) (taken_from-all_held slots names)
-    ∙ ap (λ (command : Command). or_skip line.number (asked_for (thing_at slots) (held_at slots) (responder_at named) command)) (sym e)
+-- want of memory isn't a full history
+pub memory_cut : {A : Type 0} (result : Result A Cut) (full : Type 0) → IsOkUnless result cuts.Memory → IfErr result (λ cut. IfSpent cut full)
+memory_cut (Ok a) full h = tt
+memory_cut (Err cut) full h = subst (λ (c : Cut). IfSpent c full) (sym h) tt
 
--- what is due once a reply was told
-due_found : (autos : List AutoReply) (seq : SeqId) (command : core.Command) (reply : Reply) (before next : Play) → Went before next seq (asked_of command)
-    → told_of reply ≡ told_next before seq (asked_of command) → HandsResponders (wire_in before) command reply
-    → due (wire_in next) autos (past_in next) ≡ due_for autos seq (responders_in reply)
-due_found autos seq command reply before next went told handed_is =
-    ap (λ (w : Wire). due w autos (past_in next)) (ap wire_of went.schema)
-    ∙ (ap (due (wire_in before) autos) went.past
-    ∙ ap (due_for autos seq)
-    (ap (λ (t : Told). responders_handed (wire_in before) t (asked_of command)) (sym told) ∙ sym handed_is))
+-- ## What is due
 
--- whether it is, where it was found
+found_in : {A : Type 0} (P : A → Type 0) (p : A → Bool) (xs : List A) (x : A) → AllByRecursion P xs → find p xs ≡ Some x → P x
+found_in P p [] x all e = absurd cc
+found_in {A} P p (y ∷ xs) x all e = go (p y) e (λ f. found_in P p xs x all.1 f)
+  where
+    go : (b : Bool) → cond b (Some y) (find p xs) ≡ Some x → (find p xs ≡ Some x → P x) → P x
+    go true f rest = let same : y ≡ x = cc in subst P same all.0
+    go false f rest = rest f
+
+-- what is due is one of the replies
+due_from : (P : AutoReply → Type 0) (autos : List AutoReply) (me : SeqId) (rs : List ResponderId) (d : Due) → AllByRecursion P autos
+    → due_for autos me rs ≡ Some d → P d.1
+due_from P autos me [] d all e = absurd cc
+due_from P autos me (r ∷ rs) d all e = go (find (replies_to me r) autos) refl e
+  where
+    go : (o : Option AutoReply) → find (replies_to me r) autos ≡ o → option_map {U = Due} (λ (reply : AutoReply). (r, reply)) o ≡ Some d → P d.1
+    go None f h = absurd cc
+    go (Some reply) f h =
+        let same : (r, reply) ≡ d = cc in
+        subst (λ (x : Due). P x.1) same (found_in P (replies_to me r) autos reply all f)
+
+-- its responder is the one that came
+due_last : (autos : List AutoReply) (me : SeqId) (reply : Reply) (new : Rooms) (d : Due) → due_for autos me (responders_in reply) ≡ Some d
+    → LeavesLast true reply new → EndsWith d.0 new.responders.others.items
+due_last autos me (Got g) new d e last = last d.0 (go g.responder e)
+  where
+    found : (r : ResponderId) (o : Option AutoReply) → option_map {U = Due} (λ (reply : AutoReply). (r, reply)) o ≡ Some d → Some r ≡ Some d.0
+    found r None f = absurd cc
+    found r (Some reply) f = ap (λ (x : ResponderId). Some x) (let same : (r, reply) ≡ d = cc in ap (λ (p : Due). p.0) same)
+
+    go : (o : Option ResponderId) → due_for autos me (elim o [ Some r ↦ r ∷ [] | None ↦ [] ]) ≡ Some d → o ≡ Some d.0
+    go None f = absurd cc
+    go (Some r) f = found r (find (replies_to me r) autos) f
+due_last autos me reply new d e last = absurd cc
+
+copied_some : (o : Option (Bor AutoReply)) → is_some o ≡ is_some (option_copied o)
+copied_some None = refl
+copied_some (Some x) = refl
+
 some_due : (o : Option Due) → is_some (reply_of o) ≡ is_some o
 some_due None = refl
 some_due (Some d) = refl
 
--- a line is done
-module _ (autos : List AutoReply) (line : Line) (before after : Run) (next : Play) (mid : List Slot) (mid_named : Rights) (command : core.Command)
-    (reply : Reply) (going : IsGoing before.core) (fits : IsLine before.core.schema (length before.held.slots.items) line)
-    (sound : IsSound before.held.slots.items) (asked : asked_of command ≡ asks_in before line)
-    (took : Took (needed line.command) before.held.slots.items mid (things_in command))
-    (spent : TookResponder (responder_needed line.command) before.responders.named.items mid_named (responder_in command))
-    (went : Went before.core next line.seq (asked_of command)) (told : told_of reply ≡ told_next before.core line.seq (asked_of command))
-    (back : HandsBack command reply) (handed_is : HandsResponders (wire_in before.core) command reply) (same : after.core ≡ next) where
-  abbrev event : Event
-  event = record { seq = line.seq; asked = asked_of command; told = told_of reply }
+due_none : (o : Option Due) → None ≡ reply_of o → o ≡ None
+due_none None e = refl
+due_none (Some d) e = absurd cc
 
-  plain : IsPlain (asked_of command)
-  plain = subst IsPlain (sym asked)
-      (plain_asked (thing_at before.held.slots.items) (held_at before.held.slots.items) (responder_at before.responders.named.items) line.number line.command)
+abbrev due_with : ResponderId → AutoReply → Option Due
+due_with r reply = Some (r, reply)
 
-  abbrev found_due : Option Due
-  found_due = due_for autos line.seq (responders_in reply)
+due_some : (o : Option Due) (reply : AutoReply) → Some reply ≡ reply_of o → (r : ResponderId) × (o ≡ Some (r, reply))
+due_some None reply e = absurd cc
+due_some (Some (r, other)) reply e = let same : other ≡ reply = cc in (r, ap (due_with r) same)
 
-  core_went : Went before.core after.core line.seq (asked_of command)
-  core_went = rw same went
+-- a list has one last item
+last_one : (r s : ResponderId) (rs : List ResponderId) → EndsWith r rs → EndsWith s rs → r ≡ s
+last_one r s rs (xs, e) (ys, f) = go xs ys (sym e ∙ f)
+  where
+    go : (xs ys : List ResponderId) → xs ++ r ∷ [] ≡ ys ++ s ∷ [] → r ≡ s
+    go [] [] e = cc
+    go [] (y ∷ []) e = absurd cc
+    go [] (y ∷ z ∷ ys) e = absurd cc
+    go (x ∷ []) [] e = absurd cc
+    go (x ∷ z ∷ xs) [] e = absurd cc
+    go (x ∷ xs) (y ∷ ys) e = let rest : xs ++ r ∷ [] ≡ ys ++ s ∷ [] = cc in go xs ys rest
 
-  past_is : past_in after.core ≡ event ∷ past_in before.core
-  past_is =
-      core_went.past ∙ ap (λ (t : Told). record { seq = line.seq; asked = asked_of command; told = t } ∷ past_in before.core) (sym told)
+-- one that ends isn't empty
+pub ends_some : (r : ResponderId) (rs : List ResponderId) → EndsWith r rs → rs ≡ [] → ⊥
+ends_some r rs (xs, e) none = go xs (sym e ∙ none)
+  where
+    go : (xs : List ResponderId) → xs ++ r ∷ [] ≡ [] → ⊥
+    go [] f = cc
+    go (x ∷ xs) f = cc
 
-  due_is_found : due (wire_in after.core) autos (past_in after.core) ≡ found_due
-  due_is_found = due_found autos line.seq command reply before.core after.core core_went told handed_is
+-- ## A line
 
-  is_legal : legal (wire_in before.core) SEQUENCES (event ∷ past_in before.core)
-  is_legal =
-      subst (λ (p : List Event). legal (wire_in before.core) SEQUENCES p) past_is
-      (subst (λ (s : Schema). legal (wire_of s) SEQUENCES (past_in after.core)) core_went.schema core_went.going.legal)
+module _ (autos : List AutoReply) (before after : Seen) (old new : Kept Plain) (command : Command) (reply : Reply) (saw : SawAt before after command reply)
+    (went : Went before after old new (asked_of command) (told_of reply)) (found : Option (Bor AutoReply))
+    (is_found : option_copied found ≡ reply_of (due_for autos after.me (responders_in reply))) where
+  -- by the responders that came
+  abbrev due_now : Option Due
+  due_now = due_for autos before.me (responders_in reply)
 
-  pub line_done : (answer : Option AutoReply) → answer ≡ reply_of found_due
-      → after.held.slots.items ≡ settled line.command (comes_with reply) mid
-      → after.responders.named.items ≡ responders_settled line.command (is_some answer) (comes_with reply) mid_named
-      → ((r : ResponderId) → is_some answer ≡ true → responder_with (comes_with reply) ≡ Some r → EndsWith r after.responders.others.items)
-      → length before.responders.named.items ≡ length before.held.slots.items → DidLine autos line answer before after
-  line_done answer is slots named kept even = record {
-    went = subst (Went before.core after.core line.seq) asked core_went;
-    size = size_after line.command before.held.slots.items mid command took reply after.held.slots.items slots;
-    names = λ all a.
-        rw (← asked, ← told, past_is) (
-        names_after line.command before.held.slots.items mid command took (wire_in before.core) SEQUENCES (past_in before.core) line.seq all plain reply
-        after.held.slots.items is_legal back slots sound fits.sets a
-        );
-    room =
-        ap length named
-        ∙ (settled_length line.command (is_some answer) (comes_with reply) mid_named
-        ∙ took_length (responder_needed line.command) before.responders.named.items mid_named (responder_in command) spent);
-    holds = λ answers b.
-        rw (← asked, ← told, due_is_found) (
-        held_after (wire_in before.core) SEQUENCES (past_in before.core) line command reply told back handed_is before.responders.named.items mid_named
-        after.responders.named.items spent found_due
-        (named ∙ ap (λ (d : Bool). responders_settled line.command d (comes_with reply) mid_named) (ap is_some is ∙ some_due found_due))
-        (rw even fits.sets) answers b
-        );
-    found = is ∙ ap reply_of (sym due_is_found);
-    last = λ d e.
-        let there : found_due ≡ Some d = sym due_is_found ∙ e in
-        kept d.0 (ap is_some is ∙ (some_due found_due ∙ ap is_some there)) (due_is autos line.seq reply d there);
-  }
+  due_now_is : due_by before.schema autos before.me (asked_of command) (told_of reply) ≡ due_now
+  due_now_is = ap (due_for autos before.me) (sym saw.responders)
 
--- a take without names
-pub take_done : (autos : List AutoReply) (seq : SeqId) (end : EndId) (before after : Run) (next : Play) (reply : Reply) (answer : Option AutoReply)
-    → Went before.core next seq (asks.Take end) → after.core ≡ next → told_of reply ≡ told_next before.core seq (asks.Take end)
-    → HandsResponders (wire_in before.core) (commands.Take end) reply → answer ≡ reply_of (due_for autos seq (responders_in reply))
-    → ((r : ResponderId) → responder_with (comes_with reply) ≡ Some r → EndsWith r after.responders.others.items)
-    → DidTake autos seq end answer before after
-take_done autos seq end before after next reply answer went same told handed_is is kept =
-    let core : Went before.core after.core seq (asks.Take end) = rw same went in
-    let there = due_found autos seq (commands.Take end) reply before.core after.core core told handed_is in
-    record {
-      went = core;
-      found = is ∙ ap reply_of (sym there);
-      last = λ d e. kept d.0 (due_is autos seq reply d (sym there ∙ e));
-    }
+  found_is : option_copied found ≡ reply_of due_now
+  found_is = is_found ∙ ap (λ (s : SeqId). reply_of (due_for autos s (responders_in reply))) went.same.me
 
--- what a copy sends without handles
-abbrev sent_with : Target → Tree → List Thing → Outgoing
-sent_with t v hs = record { target = t; parameters = v; handles = hs; pendings = [] }
+  some_is : is_some found ≡ is_some due_now
+  some_is = copied_some found ∙ (ap is_some found_is ∙ some_due due_now)
 
-same_sent : (p q : Prepared) (handles : List Thing) (pendings : List Half) → p.target ≡ q.target → view p.value ≡ view q.value → handles ≡ []
-    → pendings ≡ [] → outgoing_of p handles pendings ≡ outgoing q []
-same_sent p q handles pendings targets values none bare =
-    ap (outgoing_of p handles) bare
-    ∙ (ap (λ (t : Target). sent_with t (view p.value) handles) targets
-    ∙ (ap (λ (v : Tree). sent_with q.target v handles) values ∙ ap (λ (hs : List Thing). sent_with q.target (view q.value) hs) none))
+  last_is : (rooms : Rooms) → LeavesLast (is_some found) reply rooms → (d : Due) → due_now ≡ Some d → EndsWith d.0 rooms.responders.others.items
+  last_is rooms last d e =
+      due_last autos before.me reply rooms d e (subst (λ (b : Bool). LeavesLast b reply rooms) (some_is ∙ ap is_some e) last)
 
--- an automatic reply
-pub reply_done : (reply : AutoReply) (before after : Run) (next : Play) (responder : ResponderId) (copied : Prepared) (handles : List Thing)
-    (pendings : List Half) → EndsWith responder before.responders.others.items → copied.target ≡ reply.prepared.target
-    → view copied.value ≡ view reply.prepared.value → handles ≡ [] → pendings ≡ []
-    → Went before.core next reply.seq (asks.Answer responder (outgoing_of copied handles pendings)) → after.core ≡ next
-    → after.held.slots.items ≡ before.held.slots.items → after.responders.named.items ≡ before.responders.named.items → DidReply reply before after
-reply_done reply before after next responder copied handles pendings last targets values none bare went same slots named = record {
-  responder = responder;
-  last = last;
-  went =
-      rw same (
-      subst (λ (sent : Outgoing). Went before.core next reply.seq (asks.Answer responder sent))
-      (same_sent copied reply.prepared handles pendings targets values none bare) went
-      );
-  slots = slots;
-  named = named;
+  -- a line's command is done
+  pub command_done : (line : Line) (names : Names) (start first mid since rooms : Rooms)
+      → IsLine before.schema before.seqs (length start.stands.things.items) line → HaveNames (length start.stands.things.items) start
+      → SameHeld start first → AreNames (λ (n : NameId). is_some (held_at start.stands.things.items n)) line.command names
+      → asked_of command ≡ asked_by (names_in first) line → TookFor names command first mid
+      → SpendsAs (held_at first.stands.things.items) line.command names command
+      → SameHeld mid since → Settles names reply (is_some found) since rooms → LeavesLast (is_some found) reply rooms
+      → DidCommand autos line (option_copied found) before after old new (names_in start) (names_in rooms) rooms.responders.others.items
+  command_done line names start first mid since rooms fits have held are asked took spends kept settles last =
+      let count : length first.stands.things.items ≡ length start.stands.things.items = ap (λ (s : Stands). length s.things.items) held.stands in
+      let same : names_in first ≡ names_in start = names_same start first held in
+      let asked_is : asked_of command ≡ asked_by (names_in start) line = asked ∙ ap (λ (n : Named). asked_by n line) same in
+      let due_is : due_by before.schema autos before.me (asked_by (names_in start) line) (told_of reply) ≡ due_now =
+      ap (λ (a : Asked). due_by before.schema autos before.me a (told_of reply)) (sym asked_is) ∙ due_now_is in
+      let named : names_in rooms ≡ named_after (wire_of before.schema) (Some line) due_now
+      (record { seq = before.me; asked = asked_of command; told = told_of reply }) (names_in first) =
+      names_after (wire_of before.schema) before.seqs (reverse saw.before) before.me line names command due_now first mid
+      (subst (λ (s : Stands). AreNames (λ (n : NameId). is_some (held_at s.things.items n)) line.command names) (sym held.stands) are)
+      took spends
+      (subst (λ (k : ℕ). HaveNames k first) (sym count) (have_same (length start.stands.things.items) start first held have))
+      (subst (λ (k : ℕ). AreWithin k (sets line.command)) (sym count) fits.sets)
+      reply rooms saw.told saw.back saw.responders
+      (subst (λ (b : Bool). Settles names reply b mid rooms) some_is (settled_since names reply (is_some found) mid since rooms kept settles)) in
+      record {
+        told = told_of reply;
+        went = subst (λ (a : Asked). Went before after old new a (told_of reply)) asked_is went;
+        named =
+            named
+            ∙ (ap (λ (a : Asked). named_after (wire_of before.schema) (Some line) due_now (record { seq = before.me; asked = a; told = told_of reply })
+            (names_in first)) asked_is
+            ∙ (ap (λ (o : Option Due). named_after (wire_of before.schema) (Some line) o
+            (record { seq = before.me; asked = asked_by (names_in start) line; told = told_of reply }) (names_in first)) (sym due_is)
+            ∙ ap (named_after (wire_of before.schema) (Some line) (due_by before.schema autos before.me (asked_by (names_in start) line) (told_of reply))
+            (record { seq = before.me; asked = asked_by (names_in start) line; told = told_of reply })) same));
+        found = found_is ∙ ap reply_of (sym due_is);
+        last = λ d e. last_is rooms last d (sym due_is ∙ e);
+      }
+
+-- a take is
+pub take_done : (autos : List AutoReply) (end : EndId) (before after : Seen) (old new : Kept Plain) (reply : Reply)
+    → SawAt before after (commands.Take end) reply → Went before after old new (asks.Take end) (told_of reply) → (found : Option (Bor AutoReply))
+    → option_copied found ≡ reply_of (due_for autos after.me (responders_in reply)) → (rooms : Rooms) → LeavesLast (is_some found) reply rooms
+    → DidTake autos end (option_copied found) before after old new rooms.responders.others.items
+take_done autos end before after old new reply saw went found is rooms last = record {
+  told = told_of reply;
+  went = went;
+  found =
+      found_is autos before after old new (commands.Take end) reply saw went found is
+      ∙ ap reply_of (sym (due_now_is autos before after old new (commands.Take end) reply saw went found is));
+  last = λ d e.
+      last_is autos before after old new (commands.Take end) reply saw went found is rooms last d
+      (sym (due_now_is autos before after old new (commands.Take end) reply saw went found is) ∙ e);
 }
 
--- ## One line more of a script
+-- by what the call answered
+pub commands_done : (autos : List AutoReply) (before after : Seen) (old new : Kept Plain) (command : Command) (reply : Reply)
+    → SawAt before after command reply → Went before after old new (asked_of command) (told_of reply)
+    → (line : Line) (names : Names) (start first mid since rooms : Rooms)
+    → IsLine before.schema before.seqs (length start.stands.things.items) line → HaveNames (length start.stands.things.items) start
+    → SameHeld start first → AreNames (λ (n : NameId). is_some (held_at start.stands.things.items n)) line.command names
+    → asked_of command ≡ asked_by (names_in first) line → TookFor names command first mid
+    → SpendsAs (held_at first.stands.things.items) line.command names command → SameHeld mid since
+    → (result : Result (Option (Bor AutoReply)) Cut)
+    → IfOk result (λ found. option_copied found ≡ reply_of (due_for autos after.me (responders_in reply)))
+    → IfOk result (λ found. Settles names reply (is_some found) since rooms) → IfOk result (λ found. LeavesLast (is_some found) reply rooms)
+    → IfOk result (λ found. DidCommand autos line (option_copied found) before after old new (names_in start) (names_in rooms) rooms.responders.others.items)
+commands_done autos before after old new command reply saw went line names start first mid since rooms fits have held are asked took spends kept
+    (Ok found) is settles last =
+    command_done autos before after old new command reply saw went found is line names start first mid since rooms fits have held are asked took spends kept
+    settles last
+commands_done autos before after old new command reply saw went line names start first mid since rooms fits have held are asked took spends kept
+    (Err cut) is settles last = tt
 
-module _ (autos : List AutoReply) (lines : List Line) (names : ℕ) (before after : Run) (line : Line) (found : Option AutoReply)
-    (between : IsBetween autos lines names before)
-    (here : slice_get lines (lines_done (wire_in before.core) autos (past_in before.core)) ≡ Some line)
-    (did : DidLine autos line found before after) where
-  abbrev wire : Wire
-  wire = wire_in before.core
+pub takes_done : (autos : List AutoReply) (end : EndId) (before after : Seen) (old new : Kept Plain) (reply : Reply)
+    → SawAt before after (commands.Take end) reply → Went before after old new (asks.Take end) (told_of reply) → (rooms : Rooms)
+    → (result : Result (Option (Bor AutoReply)) Cut)
+    → IfOk result (λ found. option_copied found ≡ reply_of (due_for autos after.me (responders_in reply)))
+    → IfOk result (λ found. LeavesLast (is_some found) reply rooms)
+    → IfOk result (λ found. DidTake autos end (option_copied found) before after old new rooms.responders.others.items)
+takes_done autos end before after old new reply saw went rooms (Ok found) is last = take_done autos end before after old new reply saw went found is rooms last
+takes_done autos end before after old new reply saw went rooms (Err cut) is last = tt
 
-  abbrev past : List Event
-  past = past_in before.core
+-- ## Automatic replies
 
-  abbrev event_of : Event
-  event_of = record { seq = line.seq; asked = asks_in before line; told = told_in before line }
+abbrev with_sent : Target → Tree → List Thing → Outgoing
+with_sent t v hs = record { target = t; parameters = v; handles = hs; pendings = [] }
 
-  -- the line that comes next
-  line_is : line_at wire autos lines past ≡ Some line
-  line_is = ap (λ (o : Option Due). if is_some o then None else slice_get lines (lines_done wire autos past)) between.none ∙ here
+same_sent : (p q : Prepared) (handles : List Thing) (pendings : List Half) → p.target ≡ q.target → view p.value ≡ view q.value → handles ≡ []
+    → pendings ≡ [] → outgoing_of p handles pendings ≡ outgoing q [] []
+same_sent p q handles pendings targets values none bare =
+    ap (outgoing_of p handles) bare
+    ∙ (ap (λ (t : Target). with_sent t (view p.value) handles) targets
+    ∙ (ap (λ (v : Tree). with_sent q.target v handles) values ∙ ap (λ (hs : List Thing). with_sent q.target (view q.value) hs) none))
 
-  -- what the line asks by what the run holds is what it asks by the events
-  asks_same : asks_in before line
-      ≡ asked_by (thing_of (labelled wire autos lines past)) (held past (labelled wire autos lines past)) (responder_held wire autos lines past) line
-  asks_same =
-      let things : thing_at before.held.slots.items ≡ thing_of (labelled wire autos lines past) = fun_ext between.names.agrees.things in
-      let helds : held_at before.held.slots.items ≡ held past (labelled wire autos lines past) = fun_ext between.names.agrees.helds in
-      let rights : responder_at before.responders.named.items ≡ responder_held wire autos lines past = fun_ext between.names.holds in
-      ap
-      (λ (stands : NameId → Option Thing). asked_by stands (held_at before.held.slots.items) (responder_at before.responders.named.items) line) things
-      ∙ (ap (λ (holds : NameId → Option Thing).
-      asked_by (thing_of (labelled wire autos lines past)) holds (responder_at before.responders.named.items) line) helds
-      ∙ ap (λ (answers : NameId → Option ResponderId).
-      asked_by (thing_of (labelled wire autos lines past)) (held past (labelled wire autos lines past)) answers line) rights)
+-- it was sent with the last responder
+pub answer_done : (reply : AutoReply) (before after : Seen) (old new : Kept Plain) (responder : ResponderId) (copied : Prepared) (handles : List Thing)
+    (pendings : List Half) (told : Told) (others : List ResponderId) → EndsWith responder others → copied.target ≡ reply.prepared.target
+    → view copied.value ≡ view reply.prepared.value → handles ≡ [] → pendings ≡ []
+    → Went before after old new (asks.Answer responder (outgoing_of copied handles pendings)) told
+    → (r : ResponderId) → EndsWith r others → Replied (Some (r, reply)) before after old new
+answer_done reply before after old new responder copied handles pendings told others mine targets values none bare went r last = (
+  told,
+  subst (λ (q : ResponderId). Went before after old new (asks.Answer q (outgoing reply.prepared [] [])) told) (last_one responder r others mine last)
+      (subst (λ (sent : Outgoing). Went before after old new (asks.Answer responder sent) told)
+      (same_sent copied reply.prepared handles pendings targets values none bare) went),
+)
 
-  -- by the core behind the line
-  wire_same : wire_in after.core ≡ wire
-  wire_same = ap wire_of did.went.schema
+-- behind what was asked
+module _ (autos : List AutoReply) (before mid : Seen) (asked : Asked) (told : Told) (reply : AutoReply) (others : List ResponderId) (same : SameDesk before mid)
+    (found : Some reply ≡ reply_of (due_by before.schema autos before.me asked told))
+    (last : (d : Due) → due_by before.schema autos before.me asked told ≡ Some d → EndsWith d.0 others) where
+  due_is_it : (r : ResponderId) × (due_by before.schema autos before.me asked told ≡ Some (r, reply))
+  due_is_it = due_some (due_by before.schema autos before.me asked told) reply found
 
-  pub asks_more : AsksNext (next_line (wire_in after.core) autos lines) (past_in after.core)
-  asks_more =
-      let next : next_line wire autos lines past ≡ Some (line.seq, asks_in before line) = rw (between.none, here, asks_same) refl in
-      subst (λ (w : Wire). AsksNext (next_line w autos lines) (past_in after.core)) (sym wire_same)
-      (subst (AsksNext (next_line wire autos lines)) (sym did.went.past) (next, between.asks))
+  pub reply_read : AllByRecursion (IsReply before.schema before.seqs) autos → IsReply mid.schema mid.seqs reply
+  reply_read all =
+      subst (λ (s : Schema). IsReply s mid.seqs reply) (sym same.schema)
+      (subst (λ (k : ℕ). IsReply before.schema k reply) (sym same.seqs)
+      (due_from (IsReply before.schema before.seqs) autos before.me (responders_handed (wire_of before.schema) told asked) (due_is_it.0, reply) all
+      due_is_it.1))
 
-  pub count_more : lines_done (wire_in after.core) autos (past_in after.core) ≡ lines_done wire autos past + 1
-  count_more =
-      ap (λ (w : Wire). lines_done w autos (past_in after.core)) wire_same
-      ∙ (ap (lines_done wire autos) did.went.past
-      ∙ ap (λ (o : Option Due). if is_some o then lines_done wire autos past else lines_done wire autos past + 1) between.none)
+  pub reply_last : (r : ResponderId) × EndsWith r others
+  reply_last = (due_is_it.0, last (due_is_it.0, reply) due_is_it.1)
 
-  labels_now : labelled (wire_in after.core) autos lines (past_in after.core)
-      ≡ labels (sets line.command) (handed (told_in before line)) ++ labelled wire autos lines past
-  labels_now =
-      ap (λ (w : Wire). labelled w autos lines (past_in after.core)) wire_same
-      ∙ (ap (labelled wire autos lines) did.went.past
-      ∙ ap (λ (o : Option Line). labels (set_by o) (handed (told_in before line)) ++ labelled wire autos lines past) line_is)
+  pub replied_is : (after : Seen) (kept new : Kept Plain) → ((r : ResponderId) → EndsWith r others → Replied (Some (r, reply)) mid after kept new)
+      → Replied (due_by before.schema autos before.me asked told) mid after kept new
+  replied_is after kept new answered =
+      subst (λ (o : Option Due). Replied o mid after kept new) (sym due_is_it.1) (answered due_is_it.0 (last (due_is_it.0, reply) due_is_it.1))
 
-  holds_now : responder_held (wire_in after.core) autos lines (past_in after.core)
-      ≡ holds_after wire line (asks_in before line) (told_in before line) (due (wire_in after.core) autos (past_in after.core))
-      (responder_held wire autos lines past)
-  holds_now = fun_ext (λ n.
-      ap (λ (w : Wire). responder_held w autos lines (past_in after.core) n) wire_same
-      ∙ (ap (λ (p : List Event). responder_held wire autos lines p n) did.went.past
-      ∙ (ap (λ (o : Option Line).
-      with_responder (responder_name (set_by o) (told_in before line) (due wire autos (event_of ∷ past)))
-      (responders_handed wire (told_in before line) (asks_in before line))
-      (without_responder (spent_by o (told_in before line) (asks_in before line)) (responder_held wire autos lines past)) n) line_is
-      ∙ ap (λ (o : Option Due). holds_after wire line (asks_in before line) (told_in before line) o (responder_held wire autos lines past) n)
-      (ap (due wire autos) (sym did.went.past) ∙ ap (λ (w : Wire). due w autos (past_in after.core)) (sym wire_same)))))
+  pub full_behind : (after : Seen) (old kept : Kept Plain) → Went before mid old kept asked told → IsFull mid after → IsFullBehind autos asked before after old
+  full_behind after old kept went full = record {
+    between = mid;
+    kept = kept;
+    told = told;
+    went = went;
+    reply = (due_is_it.0, reply);
+    due = due_is_it.1;
+    full = full;
+  }
 
-  pub names_more : HasNames autos lines names after
-  names_more = record {
-    size = did.size ∙ between.names.size;
-    agrees =
-        subst (λ (all : List Label). Agrees (λ x. has (out (past_in after.core)) x) all after.held.slots.items) (sym labels_now)
-        (did.names (labelled wire autos lines past) between.names.agrees);
-    room = did.room ∙ between.names.room;
-    holds =
-        subst (λ (held : NameId → Option ResponderId). Holds held after.responders.named.items) (sym holds_now)
-        (did.holds (responder_held wire autos lines past) between.names.holds);
+-- without one
+pub no_reply : (autos : List AutoReply) (before mid : Seen) (kept : Kept Plain) (asked : Asked) (told : Told)
+    → None ≡ reply_of (due_by before.schema autos before.me asked told) → Replied (due_by before.schema autos before.me asked told) mid mid kept kept
+no_reply autos before mid kept asked told found =
+    subst (λ (o : Option Due). Replied o mid mid kept kept) (sym (due_none (due_by before.schema autos before.me asked told) found)) (refl, refl)
+
+-- ## A line and a take with the automatic reply that is due
+
+module _ (autos : List AutoReply) (before mid : Seen) (old kept : Kept Plain) (reply : AutoReply) (others : List ResponderId) where
+  module _ (asked : Asked) (told : Told) (went : Went before mid old kept asked told)
+      (found : Some reply ≡ reply_of (due_by before.schema autos before.me asked told))
+      (last : (d : Due) → due_by before.schema autos before.me asked told ≡ Some d → EndsWith d.0 others) where
+    pub cut_behind : {A : Type 0} (after : Seen) (result : Result A Cut) → IfErr result (λ cut. IfSpent cut (IsFull mid after))
+        → IfErr result (λ cut. IfSpent cut (CutIn autos asked before after old))
+    cut_behind after (Ok a) full = tt
+    cut_behind after (Err cuts.Memory) full = tt
+    cut_behind after (Err cuts.Spent) full = inr (full_behind autos before mid asked told reply others went.same found last after old kept went full)
+
+  pub line_replied : {A : Type 0} (line : Line) (names between behind : Named) (answer : Option AutoReply) → answer ≡ Some reply
+      → DidCommand autos line answer before mid old kept names between others → (after : Seen) (new : Kept Plain) (result : Result A Cut)
+      → OnOk result ((r : ResponderId) → EndsWith r others → Replied (Some (r, reply)) mid after kept new) → OnOk result (behind ≡ between)
+      → OnOk result (DidLine autos line before after old new names behind)
+  line_replied line names between behind answer is did after new (Ok a) answered same = record {
+    between = mid;
+    kept = kept;
+    told = did.told;
+    went = did.went;
+    named = same ∙ did.named;
+    replied = replied_is autos before mid (asked_by names line) did.told reply others did.went.same (sym is ∙ did.found) did.last after kept new answered;
+  }
+  line_replied line names between behind answer is did after new (Err cut) answered same = tt
+
+  pub take_replied : {A : Type 0} (end : EndId) (answer : Option AutoReply) → answer ≡ Some reply
+      → DidTake autos end answer before mid old kept others → (after : Seen) (new : Kept Plain) (result : Result A Cut)
+      → OnOk result ((r : ResponderId) → EndsWith r others → Replied (Some (r, reply)) mid after kept new)
+      → OnOk result (TookAt autos end before after old new)
+  take_replied end answer is did after new (Ok a) answered = record {
+    between = mid;
+    kept = kept;
+    told = did.told;
+    went = did.went;
+    replied = replied_is autos before mid (asks.Take end) did.told reply others did.went.same (sym is ∙ did.found) did.last after kept new answered;
+  }
+  take_replied end answer is did after new (Err cut) answered = tt
+
+module _ (autos : List AutoReply) (before mid : Seen) (old kept : Kept Plain) (others : List ResponderId) (answer : Option AutoReply) (is : answer ≡ None) where
+  pub line_alone : (line : Line) (names between : Named) → DidCommand autos line answer before mid old kept names between others
+      → DidLine autos line before mid old kept names between
+  line_alone line names between did = record {
+    between = mid;
+    kept = kept;
+    told = did.told;
+    went = did.went;
+    named = did.named;
+    replied = no_reply autos before mid kept (asked_by names line) did.told (sym is ∙ did.found);
+  }
+
+  pub take_alone : (end : EndId) → DidTake autos end answer before mid old kept others → TookAt autos end before mid old kept
+  take_alone end did = record {
+    between = mid;
+    kept = kept;
+    told = did.told;
+    went = did.went;
+    replied = no_reply autos before mid kept (asks.Take end) did.told (sym is ∙ did.found);
   }

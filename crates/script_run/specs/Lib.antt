@@ -1,4 +1,9 @@
 pub mod Autos
 pub mod Names
+pub mod Order
 pub mod OfScript
+pub mod AtDesk
+pub mod Held
+pub mod Working
+pub mod Draining
 pub mod steps

@@ -4,7 +4,7 @@ ghost use Rattle.std.specs.Prelude.{◌≡◌, find};
 ghost use Rattle.std.specs.Option.{option_copied};
 ghost use Rattle.bind_model.specs.Plain.{responders_in};
 ghost use Rattle.script_run.specs.Autos.{replies_to, due_for};
-ghost use Rattle.script_run.specs.steps.Going.{reply_of};
+ghost use Rattle.script_run.specs.steps.Desks.{reply_of};
 
 use bind_model::{Reply, ResponderId};
 use call_script::AutoReply;
@@ -42,8 +42,8 @@ pub fn due_after<'s>(autos: &'s [AutoReply], seq: SeqId, reply: &Reply) -> Optio
         | Reply::Bound(_)
         | Reply::Associated(_)
         | Reply::Attached(_)
-        | Reply::Wrote(_)
         | Reply::Sent(_, _)
+        | Reply::Wrote(_)
         | Reply::Dropped(_, _)
         | Reply::Control(_)
         | Reply::Bad(_, _)

@@ -1,13 +1,13 @@
 //! What became of callbacks, as histories show it.
 
-ghost use Rattle.std.specs.Prelude.{◌≡◌, map, IfOk};
+ghost use Rattle.std.specs.Prelude.{◌≡◌, ◌++◌, map, OnOk};
 ghost use Rattle.callback_laws.specs.Callbacks.{fate_of};
 ghost use Rattle.callback_laws.specs.Shown.{shown};
 
 use history_text::{Fate, Note as TextNote};
 use mj_base::SeqId;
 use remote_receiver::Note;
-use std::alloc::{AllocError, Global};
+use std::alloc::AllocError;
 
 /// What became of a callback that ran, or didn't.
 fn fate_of(ran: bool) -> Fate
@@ -29,13 +29,12 @@ fn shown(seq: SeqId, note: Note) -> TextNote
     }
 }
 
-/// The notes of the desk of a sequence.
-pub fn all_shown(alloc: Global, seq: SeqId, notes: &[Note]) -> Result<Vec<TextNote>, AllocError>
-    ensures { IfOk result (λ all. all.items ≡ map (shown seq) notes.now) }
+/// Adds the notes of the desk of a sequence.
+pub fn push_shown(all: &mut Vec<TextNote>, seq: SeqId, notes: &[Note]) -> Result<(), AllocError>
+    ensures { OnOk result (all.new.items ≡ all.old.items ++ map (shown seq) notes.now) }
 {
-    let mut all = Vec::new(alloc);
     for note in notes {
         all.push(shown(seq, *note))?;
     }
-    Ok(all)
+    Ok(())
 }

@@ -1,18 +1,35 @@
-//! Runs scripts: the lines in order, and then a take wherever a message is ready, with automatic replies.
+//! Runs scripts: the joins, the lines of the sequences in the order that is asked for, and then a take
+//! wherever a message is ready, with automatic replies.
 #![tactic(auto)]
 
 mod autos;
 mod callbacks;
-mod drain;
+mod copy;
+mod counts;
+mod cut;
+mod desks;
+mod draining;
 mod held;
+mod joins;
+mod kept;
+pub mod laws;
 mod lines;
-mod machine;
-mod replies;
-mod responders;
+mod names;
+mod order;
+mod plain;
+mod rooms;
 mod run;
 mod runner;
+mod seat;
+mod sequence;
+mod serve;
+mod stands;
+mod tokens;
+mod worker;
 
-pub use runner::{NoMemory, Ran, run_alone};
-
-#[cfg(test)]
-mod tests;
+pub use cut::{Cut, NoMemory};
+pub use draining::{Drained, drain};
+pub use plain::Plain;
+pub use rooms::Rooms;
+pub use runner::{Ran, run_alone};
+pub use sequence::{Worked, work};

@@ -1,193 +1,68 @@
 //! What the lines of a script ask.
 
-ghost use Rattle.std.specs.Prelude.{◌≡◌, [], ◌∷◌, IfOk, None, Some};
+ghost use Rattle.std.specs.Prelude.{◌≡◌, List, IfOk, Some, is_some};
 ghost use Rattle.mj_schema.specs.declared.schema.Schema.{Schema};
-ghost use Rattle.wire_encoder.specs.Prepared.{IsPrepared};
-ghost use Rattle.wire_model.specs.Trees.{view};
 ghost use Rattle.bind_model.specs.Plain.{asked_of, IsOf};
-ghost use Rattle.script_run.specs.OfScript.{asked_by, as_end};
 ghost use Rattle.call_script.specs.Sound.{IsReadWith};
-ghost use Rattle.script_run.specs.steps.Slots.{thing_at, held_at, taken_from, front, IsSound};
-ghost use Rattle.script_run.specs.steps.Lines.{bound, shut, taken, shut_at, called, answered, needed, things_in, Took};
-ghost use Rattle.script_run.specs.steps.Responders.{responder_at, responder_in, TookResponder};
-ghost use Rattle.script_run.specs.Names.{responder_needed};
+ghost use Rattle.script_run.specs.OfScript.{asked_by};
+ghost use Rattle.script_run.specs.steps.Lines.{associated, attached, bound, shut, shut_at, taken, TakesNothing};
+ghost use Rattle.script_run.specs.steps.Needs.{AreNames};
+ghost use Rattle.script_run.specs.Held.{name_of, names_in};
+ghost use Rattle.script_run.specs.steps.Settling.{SpendsAs, Took, TookFor};
+ghost use Rattle.script_run.specs.Held.{held_at};
+ghost use Rattle.call_script.specs.declared.script.NameId.{NameId as name_id};
 
-use crate::held::Held;
-use crate::responders::Responders;
-use crate::runner::NoMemory;
-use bind_core::copy_value;
-use bind_model::{Command, PendingList, ToClose};
+use crate::cut::NoMemory;
+use crate::names::Names;
+use crate::rooms::Rooms;
+use crate::tokens::{answer, call, raw};
+use bind_model::{Command, ToClose};
 use call_script::{Command as Asked, Line, NameId};
-use mj_base::EndId;
-use std::alloc::{AllocError, Global};
-use wire_encoder::{EndpointSide, Prepared};
-
-/// The first name whose handle a command needs.
-pub fn first_needed(command: &Asked) -> Option<NameId>
-    ensures { result ≡ front (needed command.now) }
-{
-    match command {
-        Asked::Bind(name, _, _) | Asked::CloseToken(name) => Some(*name),
-        Asked::Call(_, _, _, names) | Asked::Answer(_, _, names) => {
-            names.as_slice().first().copied()
-        }
-        Asked::Join(_, _, _)
-        | Asked::Pipe(_, _)
-        | Asked::Mint(_, _)
-        | Asked::Take(_, _)
-        | Asked::CloseEndpoint(_, _) => None,
-    }
-}
-
-/// The name whose responder a command needs.
-pub fn responder_needed(command: &Asked) -> Option<NameId>
-    ensures { result ≡ responder_needed command.now }
-{
-    match command {
-        Asked::Answer(name, _, _) | Asked::CloseToken(name) => Some(*name),
-        Asked::Bind(_, _, _)
-        | Asked::Call(_, _, _, _)
-        | Asked::Join(_, _, _)
-        | Asked::Pipe(_, _)
-        | Asked::Mint(_, _)
-        | Asked::Take(_, _)
-        | Asked::CloseEndpoint(_, _) => None,
-    }
-}
-
-/// What is the same as prepared.
-pub fn copy(alloc: Global, prepared: &Prepared) -> Result<Prepared, AllocError>
-    ensures target { IfOk result (λ other. other.target ≡ prepared.now.target) }
-    ensures value { IfOk result (λ other. view other.value ≡ view prepared.now.value) }
-    ensures prepared { IfOk result (λ other. (schema : Schema) → IsPrepared schema prepared.now → IsPrepared schema other) }
-{
-    Ok(Prepared {
-        target: prepared.target,
-        value: copy_value(alloc, &prepared.value)?,
-        payload: Vec::from_slice(alloc, prepared.payload.as_slice())?,
-        flags: prepared.flags,
-        handles: prepared.handles,
-        endpoints: Vec::from_slice(alloc, prepared.endpoints.as_slice())?,
-    })
-}
-
-/// A call from an end, where that is one, with what is held under names; else nothing, which is noted.
-fn call(
-    held: &mut Held,
-    alloc: Global,
-    number: u32,
-    end: Option<EndId>,
-    id: u32,
-    prepared: &Prepared,
-    names: &[NameId],
-) -> Result<Command, NoMemory>
-    requires { IsSound held.old.slots.items }
-    ensures asked { IfOk result (λ command. asked_of command ≡ called number end id prepared.now (taken_from held.old.slots.items names.now)) }
-    ensures took { IfOk result (λ command. Took names.now held.old.slots.items held.new.slots.items (things_in command)) }
-    ensures bare { IfOk result (λ command. responder_in command ≡ None) }
-    ensures prepared { IfOk result (λ command. (schema : Schema) → IsPrepared schema prepared.now → IsOf schema command) }
-{
-    let Some(end) = end else {
-        return Ok(Command::Skip(number));
-    };
-    let Ok(prepared) = copy(alloc, prepared) else {
-        return Err(NoMemory);
-    };
-    match held.take_all(alloc, names)? {
-        Some(handles) => {
-            let pendings = PendingList::new(alloc);
-            Ok(Command::Call(end, id, prepared, handles, pendings))
-        }
-        None => Ok(Command::Skip(number)),
-    }
-}
+use mj_base::{EndId, SeqId};
+use std::alloc::Global;
+use wire_encoder::EndpointSide;
 
 /// To bind what is held under a name; else nothing, which is noted.
-fn bind(held: &mut Held, number: u32, name: NameId, side: EndpointSide, interface: u32) -> Command
-    ensures asked { asked_of result ≡ bound number side interface (held_at held.old.slots.items name) }
-    ensures took { Took (name ∷ []) held.old.slots.items held.new.slots.items (things_in result) }
-    ensures bare { responder_in result ≡ None }
+fn bind(rooms: &mut Rooms, number: u32, name: NameId, side: EndpointSide, interface: u32) -> Command
+    ensures asked { asked_of result ≡ bound number side interface (held_at rooms.old.handles.named.items name) }
+    ensures took { (handles pendings : List name_id) → Took (Some name) handles pendings result rooms.old rooms.new }
     ensures plain { (schema : Schema) → IsOf schema result }
 {
-    match held.take(name) {
+    match rooms.handles.take(name) {
         Some(handle) => Command::Bind(handle, side, interface),
         None => Command::Skip(number),
     }
 }
 
-/// The answer of the responder that is held under a name, where one is, with what is held under others;
-/// else nothing, which is noted.
-fn answer(
-    held: &mut Held,
-    responders: &mut Responders,
-    alloc: Global,
-    number: u32,
-    name: NameId,
-    prepared: &Prepared,
-    names: &[NameId],
-) -> Result<Command, NoMemory>
-    requires { IsSound held.old.slots.items }
-    ensures asked { IfOk result (λ command. asked_of command
-        ≡ answered number (responder_at responders.old.named.items name) prepared.now (taken_from held.old.slots.items names.now)) }
-    ensures took { IfOk result (λ command. Took names.now held.old.slots.items held.new.slots.items (things_in command)) }
-    ensures spent { IfOk result (λ command.
-        TookResponder (Some name) responders.old.named.items responders.new.named.items (responder_in command)) }
-    ensures prepared { IfOk result (λ command. (schema : Schema) → IsPrepared schema prepared.now → IsOf schema command) }
-{
-    if !responders.is_held(name) {
-        return Ok(Command::Skip(number));
-    }
-    let Ok(prepared) = copy(alloc, prepared) else {
-        return Err(NoMemory);
-    };
-    let Some(handles) = held.take_all(alloc, names)? else {
-        return Ok(Command::Skip(number));
-    };
-    match responders.take(name) {
-        Some(responder) => {
-            let pendings = PendingList::new(alloc);
-            Ok(Command::Answer(responder, prepared, handles, pendings))
-        }
-        // One is held there.
-        None => {
-            held.give(names, handles);
-            unreachable!()
-        }
-    }
-}
-
-/// To close the responder that is held under a name; else nothing, which is noted.
-fn close_responder(responders: &mut Responders, number: u32, name: NameId) -> Command
-    ensures asked { asked_of result ≡ shut number None (responder_at responders.old.named.items name) }
-    ensures spent { TookResponder (Some name) responders.old.named.items responders.new.named.items (responder_in result) }
-    ensures bare { things_in result ≡ [] }
+/// To make an endpoint of an end, where that is one; else nothing, which is noted.
+fn associate(number: u32, end: Option<EndId>, side: EndpointSide, interface: u32) -> Command
+    ensures asked { asked_of result ≡ associated number side interface end }
     ensures plain { (schema : Schema) → IsOf schema result }
+    ensures bare { TakesNothing result }
 {
-    match responders.take(name) {
-        Some(responder) => Command::Close(ToClose::Responder(responder)),
+    match end {
+        Some(end) => Command::Associate(end, side, interface),
         None => Command::Skip(number),
     }
 }
 
-/// To close what is held under a name, a handle or a responder; else nothing, which is noted.
-fn close(held: &mut Held, responders: &mut Responders, number: u32, name: NameId) -> Command
-    ensures asked { asked_of result
-        ≡ shut number (held_at held.old.slots.items name) (responder_at responders.old.named.items name) }
-    ensures took { Took (name ∷ []) held.old.slots.items held.new.slots.items (things_in result) }
-    ensures spent { TookResponder (Some name) responders.old.named.items responders.new.named.items (responder_in result) }
+/// To attach the pending that is held under a name; else nothing, which is noted.
+fn attach(rooms: &mut Rooms, number: u32, name: NameId, seq: SeqId) -> Command
+    ensures asked { asked_of result ≡ attached number seq (name_of (held_at rooms.old.pendings.named.items name)) }
+    ensures took { (handles pendings : List name_id) → Took (Some name) handles pendings result rooms.old rooms.new }
     ensures plain { (schema : Schema) → IsOf schema result }
 {
-    match held.take(name) {
-        Some(handle) => Command::Close(ToClose::Handle(handle)),
-        None => close_responder(responders, number, name),
+    match rooms.pendings.take(name) {
+        Some(pending) => Command::Attach(pending, seq),
+        None => Command::Skip(number),
     }
 }
 
 /// To take at an end, where that is one; else nothing, which is noted.
 fn take(number: u32, end: Option<EndId>) -> Command
     ensures asked { asked_of result ≡ taken number end }
-    ensures bare { (things_in result ≡ []) × (responder_in result ≡ None) }
     ensures plain { (schema : Schema) → IsOf schema result }
+    ensures bare { TakesNothing result }
 {
     match end {
         Some(end) => Command::Take(end),
@@ -195,11 +70,30 @@ fn take(number: u32, end: Option<EndId>) -> Command
     }
 }
 
+/// To close what is held under a name: a handle, a pending or a responder; else nothing, which is noted.
+fn close(rooms: &mut Rooms, number: u32, name: NameId) -> Command
+    ensures asked { asked_of result ≡ shut number (held_at rooms.old.handles.named.items name)
+        (name_of (held_at rooms.old.pendings.named.items name)) (held_at rooms.old.responders.named.items name) }
+    ensures took { (handles pendings : List name_id) → Took (Some name) handles pendings result rooms.old rooms.new }
+    ensures plain { (schema : Schema) → IsOf schema result }
+{
+    if let Some(handle) = rooms.handles.take(name) {
+        return Command::Close(ToClose::Handle(handle));
+    }
+    if let Some(pending) = rooms.pendings.take(name) {
+        return Command::Close(ToClose::Pending(pending));
+    }
+    match rooms.responders.take(name) {
+        Some(responder) => Command::Close(ToClose::Responder(responder)),
+        None => Command::Skip(number),
+    }
+}
+
 /// To close the endpoint of an id at an end, where that is one; else nothing, which is noted.
 fn close_endpoint(number: u32, end: Option<EndId>, id: u32) -> Command
     ensures asked { asked_of result ≡ shut_at number id end }
-    ensures bare { (things_in result ≡ []) × (responder_in result ≡ None) }
     ensures plain { (schema : Schema) → IsOf schema result }
+    ensures bare { TakesNothing result }
 {
     match end {
         Some(end) => Command::Close(ToClose::Endpoint(end, id)),
@@ -207,19 +101,17 @@ fn close_endpoint(number: u32, end: Option<EndId>, id: u32) -> Command
     }
 }
 
-/// The command of a line, with the handles and the responder that it needs, which it takes from their names.
+/// The command of a line, with what it needs, which it takes from its names.
 pub fn command_of(
-    held: &mut Held,
-    responders: &mut Responders,
+    rooms: &mut Rooms,
     alloc: Global,
+    names: &Names,
     line: &Line,
 ) -> Result<Command, NoMemory>
-    requires { IsSound held.old.slots.items }
-    ensures asked { IfOk result (λ command. asked_of command
-        ≡ asked_by (thing_at held.old.slots.items) (held_at held.old.slots.items) (responder_at responders.old.named.items) line.now) }
-    ensures took { IfOk result (λ command. Took (needed line.now.command) held.old.slots.items held.new.slots.items (things_in command)) }
-    ensures spent { IfOk result (λ command.
-        TookResponder (responder_needed line.now.command) responders.old.named.items responders.new.named.items (responder_in command)) }
+    requires { AreNames (λ n. is_some (held_at rooms.old.stands.things.items n)) line.now.command names.now }
+    ensures asked { IfOk result (λ command. asked_of command ≡ asked_by (names_in rooms.old) line.now) }
+    ensures took { IfOk result (λ command. TookFor names.now command rooms.old rooms.new) }
+    ensures spends { IfOk result (SpendsAs (held_at rooms.old.stands.things.items) line.now.command names.now) }
     ensures prepared { IfOk result (λ command. (schema : Schema) → IsReadWith schema line.now.command → IsOf schema command) }
 {
     let number = line.number;
@@ -227,22 +119,19 @@ pub fn command_of(
         Asked::Join(other, _, _) => Ok(Command::Join(*other)),
         Asked::Pipe(_, _) => Ok(Command::Pipe),
         Asked::Mint(sort, _) => Ok(Command::Mint(*sort)),
-        Asked::Bind(name, side, interface) => Ok(bind(held, number, *name, *side, *interface)),
-        Asked::Call(name, id, prepared, names) => {
-            let end = held.end(*name);
-            call(held, alloc, number, end, *id, prepared, names.as_slice())
+        Asked::Bind(name, side, interface) => { Ok(bind(rooms, number, *name, *side, *interface)) }
+        Asked::Associate(name, side, interface, _) => {
+            Ok(associate(number, rooms.stands.end(*name), *side, *interface))
         }
-        Asked::Take(name, _) => Ok(take(number, held.end(*name))),
-        Asked::Answer(name, prepared, names) => answer(
-            held,
-            responders,
-            alloc,
-            number,
-            *name,
-            prepared,
-            names.as_slice(),
-        ),
-        Asked::CloseToken(name) => Ok(close(held, responders, number, *name)),
-        Asked::CloseEndpoint(name, id) => Ok(close_endpoint(number, held.end(*name), *id)),
+        Asked::Attach(name, seq) => Ok(attach(rooms, number, *name, *seq)),
+        Asked::Call(name, id, prepared, _) => {
+            let end = rooms.stands.end(*name);
+            call(rooms, alloc, names, number, end, *id, prepared)
+        }
+        Asked::Take(name, _) => Ok(take(number, rooms.stands.end(*name))),
+        Asked::Answer(name, prepared, _) => answer(rooms, alloc, names, number, *name, prepared),
+        Asked::Raw(name, bytes, _) => raw(rooms, alloc, names, number, *name, bytes),
+        Asked::CloseToken(name) => Ok(close(rooms, number, *name)),
+        Asked::CloseEndpoint(name, id) => Ok(close_endpoint(number, rooms.stands.end(*name), *id)),
     }
 }

@@ -3,7 +3,8 @@
 use std::alloc::{AllocError, Global};
 
 /// The file that the scripts are run over.
-pub const FILE: &str = "module t; interface P { Ping(uint32 n); Give(handle h); };";
+pub const FILE: &str =
+    "module t; interface P { Ping(uint32 n); Give(handle h); Link(pending_associated_receiver<P> r); };";
 
 /// What a script does.
 #[derive(Clone, Copy)]
@@ -20,18 +21,29 @@ pub enum Shape {
     Nested,
     /// Calls on a few pipes, until the lines are full; none is taken before.
     Unread,
+    /// Many associated endpoints of one pipe, each attached, and then calls on them and takes, in turn.
+    Endpoints,
+    /// Raw messages on a few pipes, until the lines are full; none is taken before, and the first take at each end
+    /// finds no header and closes the end with all that lies there.
+    Raw,
 }
 
 /// How many pipes there are of `ManyPipes`.
-const MANY_PIPES: u32 = 16_000;
+const MANY_PIPES: u32 = 10_000;
 
 /// How many ends lie in one another in the chains of `Moves`, and of `Nested`.
 const SHORT_CHAIN: u32 = 8;
 
 const LONG_CHAIN: u32 = 4000;
 
-/// How many pipes there are of `Unread`: each end comes close to the most messages that may lie there.
+/// How many pipes there are of `Unread`, and of `Raw`, whose ends come close to the most messages that may lie
+/// there.
 const FEW_PIPES: u32 = 16;
+
+/// How many associated endpoints there are of `Endpoints`, and the id of the first.
+const ENDPOINTS: u32 = 1000;
+
+const FIRST_ID: u32 = 2_147_483_649;
 
 impl Shape {
     /// What it is, in words.
@@ -43,6 +55,8 @@ impl Shape {
             Shape::ManyPipes => "many pipes",
             Shape::Nested => "nested ends",
             Shape::Unread => "unread messages",
+            Shape::Endpoints => "associated endpoints",
+            Shape::Raw => "raw messages",
         }
     }
 
@@ -58,6 +72,8 @@ impl Shape {
             Shape::ManyPipes => push_called(&mut text, room, MANY_PIPES)?,
             Shape::Nested => push_nested(&mut text, room)?,
             Shape::Unread => push_called(&mut text, room, FEW_PIPES)?,
+            Shape::Endpoints => push_endpoints(&mut text, room)?,
+            Shape::Raw => push_raw(&mut text, room)?,
         }
         Ok(text)
     }
@@ -178,6 +194,47 @@ fn push_nested(text: &mut String, room: u32) -> Result<(), AllocError> {
         let first = chain.saturating_mul(LONG_CHAIN);
         push_chain(text, first, LONG_CHAIN)?;
         write!(text, "0: close y{first}\n")?;
+    }
+    Ok(())
+}
+
+/// An associated endpoint of the first pipe, whose other half is sent over it and attached.
+fn push_endpoint(text: &mut String, number: u32) -> Result<(), AllocError> {
+    write!(
+        text,
+        "0: associate x0 remote t.P p{number}\n0: call x0#0 t.P.Link (^0) p{number}\n"
+    )?;
+    write!(text, "0: take y0 q{number}\n0: attach q{number} 0\n")
+}
+
+/// Associated endpoints of one pipe, and then calls on them in turn, each taken at once: so many lines at most.
+fn push_endpoints(text: &mut String, room: u32) -> Result<(), AllocError> {
+    text.push_str("join 0 0 x0 y0\n")?;
+    push_binds(text, 0)?;
+    for number in 0..ENDPOINTS {
+        push_endpoint(text, number)?;
+    }
+    push_called_endpoints(text, room.saturating_sub(ENDPOINTS * 4 + 3) / 2)
+}
+
+/// So many calls on associated endpoints in turn, each taken at once.
+fn push_called_endpoints(text: &mut String, calls: u32) -> Result<(), AllocError> {
+    for number in 0..calls {
+        let id = FIRST_ID.saturating_add(number % ENDPOINTS);
+        write!(text, "0: call x0#{id} t.P.Ping ({number})\n0: take y0\n")?;
+    }
+    Ok(())
+}
+
+/// A few pipes of which the second ends are bound, and then raw messages without bytes from the first ones in
+/// turn: so many lines in all.
+fn push_raw(text: &mut String, room: u32) -> Result<(), AllocError> {
+    for pipe in 0..FEW_PIPES {
+        push_pipe(text, pipe)?;
+        write!(text, "0: bind y{pipe} receiver t.P\n")?;
+    }
+    for number in 0..room.saturating_sub(FEW_PIPES * 2) {
+        write!(text, "0: raw x{} -\n", number % FEW_PIPES)?;
     }
     Ok(())
 }

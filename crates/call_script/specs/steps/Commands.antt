@@ -1,11 +1,12 @@
 -- What the readers of a line's command answer.
-use Rattle.std.specs.Prelude.{ℕ, ◌≡◌, ◌++◌, true, false, List, length, Option, Some, None, Result, Ok, Err}
+use Rattle.std.specs.Prelude.{ℕ, ◌≡◌, ◌++◌, true, false, List, length, map, Option, Some, None, Result, Ok, Err}
 use Rattle.std.specs.List.{list_all}
 use Rattle.mj_schema.specs.declared.schema.Schema.{Schema}
 use Rattle.wire_model.specs.declared.target.Target.{Target}
 use Rattle.wire_encoder.specs.declared.prepared.Prepared.{Prepared}
 use Rattle.wire_encoder.specs.declared.refusal.PrepareError.{PrepareError}
 use Rattle.call_script.specs.declared.name_table.NameTable.{NameTable}
+use Rattle.call_script.specs.declared.name_table.Scope.{Scope}
 use Rattle.call_script.specs.declared.script.NameId.{NameId}
 use Rattle.call_script.specs.declared.script.AutoReply.{AutoReply}
 use Rattle.call_script.specs.declared.script.Command.{Command}
@@ -15,13 +16,13 @@ use Rattle.call_script.specs.declared.commands.Stop.TheVariants as stops
 use Rattle.call_script.specs.declared.additions.Part.{Part as WrittenPart}
 use Rattle.call_script.specs.declared.additions.Part.TheVariants as parts
 use Rattle.call_script.specs.Forms.{Said, Form, Of, sets}
-use Rattle.call_script.specs.Script.{finds, knows, has_name, Asks, AreNamed, HasNoValue, IsReason, IsValueOf, IsNoValue, IsReply, Part, OfLine, OfReply}
+use Rattle.call_script.specs.Script.{finds, knows, meant, is_set, Asks, AreNamed, HasNoValue, IsReason, IsValueOf, IsNoValue, IsReply, Part, OfLine, OfReply}
 use Rattle.call_script.specs.Script.{seq_of}
-use Rattle.call_script.specs.steps.Names.{IsTable}
+use Rattle.call_script.specs.steps.Names.{IsTable, FindsAt, FindsNone}
 
 -- what a line asks where these names are set before it, or why it is refused
 abbrev pub Gives : Schema → List (List ℕ) → Form → Result Command Stop → Type 0
-Gives schema names form (Ok command) = (knows schema names form ≡ true) × Asks schema (names ++ sets form) form command
+Gives schema names form (Ok command) = (knows schema names form ≡ true) × Asks schema names (names ++ sets form) form command
 Gives schema names form (Err (stops.Refused refusals.UnknownName)) = knows schema names form ≡ false
 Gives schema names form (Err (stops.Refused refusals.BadValue)) = (knows schema names form ≡ true) × HasNoValue schema form
 Gives schema names form (Err (stops.Refused _)) = ⊥
@@ -31,9 +32,9 @@ Gives schema names form (Err stops.Memory) = Unit {0}
 abbrev pub Commands : Schema → NameTable → ℕ → Form → Result Command Stop → Type 0
 Commands schema table count form result = (names : List (List ℕ)) → IsTable table (names ++ sets form) → count ≡ length names → Gives schema names form result
 
--- of what is said to any sequence
-abbrev pub Says : Schema → NameTable → ℕ → Said → Result Command Stop → Type 0
-Says schema table count said result = (seq : ℕ) → Commands schema table count (Of seq said) result
+-- of what is said to a sequence
+abbrev pub Says : Schema → Scope → Said → Result Command Stop → Type 0
+Says schema scope said result = Commands schema scope.table.now scope.count (Of scope.seq said) result
 
 -- the automatic reply of a line, or why it is refused
 abbrev pub Replies : Schema → Form → Result AutoReply Stop → Type 0
@@ -52,13 +53,28 @@ abbrev pub part_view : WrittenPart → Part
 part_view (parts.Line line) = OfLine line
 part_view (parts.Reply reply) = OfReply reply
 
--- the numbers of all these names, or none where one isn't there
-abbrev pub AreFound : List (List ℕ) → List (List ℕ) → List (List ℕ) → Option (List NameId) → Type 0
-AreFound names own words (Some ids) = (list_all (has_name names) words ≡ true) × AreNamed (names ++ own) ids words
-AreFound names own words None = list_all (has_name names) words ≡ false
+-- the numbers of all the names that are meant in a line of a sequence, or none where one isn't there
+abbrev pub AreFound : List (List ℕ) → List (List ℕ) → ℕ → List (List ℕ) → Option (List NameId) → Type 0
+AreFound names own seq words (Some ids) =
+    (list_all (is_set names seq) words ≡ true) × AreNamed (names ++ own) ids (map (meant names seq) words)
+AreFound names own seq words None = list_all (is_set names seq) words ≡ false
 
-abbrev pub FindsAll : NameTable → ℕ → List (List ℕ) → Option (List NameId) → Type 0
-FindsAll table count words found = (names own : List (List ℕ)) → IsTable table (names ++ own) → count ≡ length names → AreFound names own words found
+abbrev pub FindsAll : Scope → List (List ℕ) → Option (List NameId) → Type 0
+FindsAll scope words found = (names own : List (List ℕ)) → IsTable scope.table.now (names ++ own) → scope.count ≡ length names
+    → AreFound names own scope.seq words found
+
+-- the number of a name that is meant in a line of a sequence, or why there is none
+abbrev pub Named : Scope → List ℕ → Result NameId Stop → Type 0
+Named scope name (Ok id) = FindsAt scope name id
+Named scope name (Err (stops.Refused refusals.UnknownName)) = FindsNone scope name
+Named scope name (Err (stops.Refused _)) = ⊥
+Named scope name (Err stops.Memory) = Unit {0}
+
+abbrev pub AllNamed : Scope → List (List ℕ) → Result (List NameId) Stop → Type 0
+AllNamed scope words (Ok ids) = FindsAll scope words (Some ids)
+AllNamed scope words (Err (stops.Refused refusals.UnknownName)) = FindsAll scope words None
+AllNamed scope words (Err (stops.Refused _)) = ⊥
+AllNamed scope words (Err stops.Memory) = Unit {0}
 
 -- the stop for a value that isn't prepared
 abbrev pub StopsFor : PrepareError → Stop → Type 0

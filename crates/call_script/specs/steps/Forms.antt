@@ -6,8 +6,8 @@ use Rattle.call_script.specs.declared.form.Form.{Form as WrittenForm}
 use Rattle.call_script.specs.declared.form.Form.TheVariants as forms
 use Rattle.call_script.specs.declared.form.Said.{Said as WrittenSaid}
 use Rattle.call_script.specs.declared.form.Said.TheVariants as saids
-use Rattle.call_script.specs.declared.script.TheConstants.{SEQUENCES}
-use Rattle.call_script.specs.Forms.{Said, Form, Join, Auto, Of, Pipe, Mint, Bind, Call, Take, Answer, CloseToken, CloseEndpoint, IsSaid, IsForm}
+use Rattle.call_script.specs.Forms.{Said, Form, Join, Auto, Of, Pipe, Mint, Bind, Associate, Attach, Call, Take, Answer, Raw, CloseToken, CloseEndpoint}
+use Rattle.call_script.specs.Forms.{IsSaid, IsForm, sequences, said_sequences, AreThere}
 use Rattle.call_script.specs.Forms.{said_words, form_words, sort_word, side_word}
 
 -- forms without where their words lie
@@ -15,9 +15,12 @@ abbrev pub said_view : WrittenSaid → Said
 said_view (saids.Pipe first second) = Pipe first.now second.now
 said_view (saids.Mint sort name) = Mint sort name.now
 said_view (saids.Bind end side interface) = Bind end.now side interface.now
+said_view (saids.Associate end side interface pending) = Associate end.now side interface.now pending.now
+said_view (saids.Attach pending seq) = Attach pending.now seq
 said_view (saids.Call end id method value tokens) = Call end.now id method.now value.now (map (λ word. word.now) tokens.now)
 said_view (saids.Take end names) = Take end.now (map (λ word. word.now) names.now)
 said_view (saids.Answer responder method value tokens) = Answer responder.now method.now value.now (map (λ word. word.now) tokens.now)
+said_view (saids.Raw end bytes tokens) = Raw end.now bytes.now (map (λ word. word.now) tokens.now)
 said_view (saids.CloseToken token) = CloseToken token.now
 said_view (saids.CloseEndpoint end id) = CloseEndpoint end.now id
 
@@ -26,10 +29,10 @@ form_view (forms.Join seq other first second) = Join seq other first.now second.
 form_view (forms.Auto seq method value) = Auto seq method.now value.now
 form_view (forms.Of seq said) = Of seq (said_view said)
 
--- the number of a sequence that is there, in this spelling
-abbrev pub SpellsSequence : (ℕ → List ℕ) → List ℕ → Option ℕ → Type 0
-SpellsSequence text word (Some n) = (word ≡ text n) × (n < SEQUENCES)
-SpellsSequence text word None = (n : ℕ) → n < SEQUENCES → word ≡ text n → ⊥
+-- the number of a sequence among so many, in this spelling
+abbrev pub SpellsSequence : ℕ → (ℕ → List ℕ) → List ℕ → Option ℕ → Type 0
+SpellsSequence seqs text word (Some n) = (word ≡ text n) × (n < seqs)
+SpellsSequence seqs text word None = (n : ℕ) → n < seqs → word ≡ text n → ⊥
 
 -- the sort of token and the side of an endpoint of this word
 abbrev pub SpellsSort : List ℕ → Option TokenSort → Type 0
@@ -40,17 +43,24 @@ abbrev pub SpellsSide : List ℕ → Option EndpointSide → Type 0
 SpellsSide word (Some side) = word ≡ side_word side
 SpellsSide word None = (side : EndpointSide) → word ≡ side_word side → ⊥
 
--- what is said by a command and these words, or none where nothing is
-abbrev pub SpellsBehind : List ℕ → List (List ℕ) → Option WrittenSaid → Type 0
-SpellsBehind command words (Some said) = IsSaid (said_view said) × (command ∷ words ≡ said_words (said_view said))
-SpellsBehind command words None = (said : Said) → IsSaid said → command ∷ words ≡ said_words said → ⊥
+-- what is said by a command and these words where there are so many sequences, or none where nothing is
+abbrev pub SpellsBehind : ℕ → List ℕ → List (List ℕ) → Option WrittenSaid → Type 0
+SpellsBehind seqs command words (Some said) =
+    IsSaid (said_view said) × AreThere seqs (said_sequences (said_view said)) × (command ∷ words ≡ said_words (said_view said))
+SpellsBehind seqs command words None = (said : Said) → IsSaid said → AreThere seqs (said_sequences said) → command ∷ words ≡ said_words said → ⊥
+
+-- the same where it names no sequence
+abbrev pub SpellsSaid : List ℕ → List (List ℕ) → Option WrittenSaid → Type 0
+SpellsSaid command words found = (seqs : ℕ) → SpellsBehind seqs command words found
 
 -- the line of a sequence of these words, or none
-abbrev pub SpellsOf : List ℕ → List (List ℕ) → Option WrittenForm → Type 0
-SpellsOf start words (Some form) = IsForm (form_view form) × (start ∷ words ≡ form_words (form_view form))
-SpellsOf start words None = (seq : ℕ) (said : Said) → IsForm (Of seq said) → start ∷ words ≡ form_words (Of seq said) → ⊥
+abbrev pub SpellsOf : ℕ → List ℕ → List (List ℕ) → Option WrittenForm → Type 0
+SpellsOf seqs start words (Some form) =
+    IsForm (form_view form) × AreThere seqs (sequences (form_view form)) × (start ∷ words ≡ form_words (form_view form))
+SpellsOf seqs start words None = (seq : ℕ) (said : Said) → IsForm (Of seq said) → AreThere seqs (sequences (Of seq said))
+    → start ∷ words ≡ form_words (Of seq said) → ⊥
 
--- the form of these words, or none where they have none
-abbrev pub SpellsForm : List (List ℕ) → Option WrittenForm → Type 0
-SpellsForm words (Some form) = IsForm (form_view form) × (words ≡ form_words (form_view form))
-SpellsForm words None = (form : Form) → IsForm form → words ≡ form_words form → ⊥
+-- the form of these words where there are so many sequences, or none where they have none
+abbrev pub SpellsForm : ℕ → List (List ℕ) → Option WrittenForm → Type 0
+SpellsForm seqs words (Some form) = IsForm (form_view form) × AreThere seqs (sequences (form_view form)) × (words ≡ form_words (form_view form))
+SpellsForm seqs words None = (form : Form) → IsForm form → AreThere seqs (sequences form) → words ≡ form_words form → ⊥

@@ -34,6 +34,6 @@ pub returns-in_err-command-in-Of : goal.returns-in_err-command-in-Of
 returns-in_err-command-in-Of c =
     let p = err_from_is_err_and c.from_residual-in_err-command-in-Of.result c.from_residual-in_err-command-in-Of.ensures.1 in
     rw (p.1, p.2) (
-    said_stops c.args.indexed.now.schema.now c.args.table.now c.args.count c.args.number (form_view c.args.form.now) c.in-Of.seq _ _
-    (ap form_view c.in-Of.is) c.in_err-command-in-Of.ensures
+    said_stops c.args.indexed.now.schema.now (record { table = c.args.table; count = c.args.count; seq = c.in-Of.seq }) c.args.number
+    (form_view c.args.form.now) _ _ (ap form_view c.in-Of.is) c.in_err-command-in-Of.ensures
     )

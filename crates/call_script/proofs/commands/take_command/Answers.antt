@@ -3,5 +3,5 @@ use Rattle.call_script.proofs.SaidLemmas.{says_take}
 use Rattle.call_script.proofs.commands.take_command.Goals as goal
 
 pub returns-in-Ok : goal.returns-in-Ok
-returns-in-Ok c = says_take c.args.schema.now c.args.table.now c.args.count c.args.end.now _ c.in-Some.end c.in-Ok.ids c.in-Some.ensures.found
+returns-in-Ok c = says_take c.args.schema.now c.args.scope.now c.args.end.now _ c.in_ok-end.end c.in-Ok.ids c.in_ok-end.ensures
     (rw length-map c.in-Ok.ensures)

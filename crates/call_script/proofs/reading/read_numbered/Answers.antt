@@ -24,21 +24,21 @@ loop-line-init c = record {
 pub loop-line-preserved : goal.loop-line-preserved
 loop-line-preserved c =
     rw (lines_more c.args.lines.now c.loop-line.line-index c.line-item.result c.loop-line-test.true, ← c.line-item.is)
-    (goes_on c.args.indexed.now.schema.now c.loop-line.reader c.read_line.new.reader _ _ c.loop-line.number c.loop-line.invariant
-    (rw c.as_slice.ensures.value at c.in_default.ensures))
+    (goes_on c.args.indexed.now.schema.now c.args.seqs c.loop-line.reader c.read_line.new.reader _ _ c.loop-line.number c.loop-line.invariant
+    (rw c.as_slice-words.ensures.value at c.in_default.ensures))
 
-pub returns-in-Err : goal.returns-in-Err
-returns-in-Err c =
-    stops c.args.indexed.now.schema.now c.loop-line.reader c.read_line.new.reader _ _ _ _
-    c.loop-line.number c.in-Err.stop c.error_of.result c.loop-line.invariant
-    (subst (λ words. ReadsOn c.args.indexed.now.schema.now c.loop-line.reader c.read_line.new.reader (map (λ word. word.now) words) c.loop-line.number
-    (Err c.in-Err.stop))
-    c.as_slice.ensures.value c.in-Err.ensures)
+pub returns-in-Err-clause-answers : goal.returns-in-Err-clause-answers
+returns-in-Err-clause-answers c =
+    stops c.args.indexed.now.schema.now c.args.seqs c.loop-line.reader c.read_line.new.reader _ _ _ _
+    c.loop-line.number c.in-Err.stop c.error_of.result c.requires.count c.loop-line.invariant
+    (subst (λ words. ReadsOn c.args.indexed.now.schema.now c.args.seqs c.loop-line.reader c.read_line.new.reader (map (λ word. word.now) words)
+    c.loop-line.number (Err c.in-Err.stop))
+    c.as_slice-words.ensures.value c.in-Err.ensures)
     (rw (← c.line-item.is) at (lines_around c.args.lines.now c.loop-line.line-index c.line-item.result c.loop-line-test.true))
     c.error_of.ensures
 
-pub returns : goal.returns
-returns c =
-    ends c.args.indexed.now.schema.now c.loop-line.reader _ c.loop-line.number _
+pub returns-clause-answers : goal.returns-clause-answers
+returns-clause-answers c =
+    ends c.args.indexed.now.schema.now c.loop-line.reader _ c.loop-line.number _ c.requires.count
     (rw (lines_all c.args.lines.now c.loop-line.line-index c.loop-line-test.false) at c.loop-line.invariant)
     c.from_vec.ensures c.from_vec-2.ensures c.len.ensures.len

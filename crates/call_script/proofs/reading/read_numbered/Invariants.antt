@@ -6,4 +6,4 @@ use Rattle.call_script.proofs.reading.read_numbered.Given as goal
 
 -- so many lines have been read
 abbrev pub invariant-loop-line : goal.invariant-loop-line
-invariant-loop-line l = IsAt l.indexed.schema.now l.reader (map words_now (take l.line-index l.lines)) l.number
+invariant-loop-line l = IsAt l.indexed.schema.now l.seqs l.reader (map words_now (take l.line-index l.lines)) l.number

@@ -3,8 +3,8 @@ use Rattle.call_script.proofs.LineLemmas.{takes, too_many}
 use Rattle.call_script.proofs.reading.take_form.Goals as goal
 
 pub returns-then-number-gt-MAX_SCRIPT_LINES : goal.returns-then-number-gt-MAX_SCRIPT_LINES
-returns-then-number-gt-MAX_SCRIPT_LINES c past read placed numbered =
-    too_many c.args.indexed.now.schema.now c.args.reader.now c.set_names.new.table c.note_method.new.table (form_view c.args.form.now) c.len-count.result
+returns-then-number-gt-MAX_SCRIPT_LINES c seqs past there read placed numbered =
+    too_many c.args.indexed.now.schema.now seqs c.args.reader.now c.set_names.new.table c.note_method.new.table (form_view c.args.form.now) c.len-count.result
     c.args.number c.in_ok-part.part past
     (record {
       sound = c.requires.form;
@@ -12,7 +12,7 @@ returns-then-number-gt-MAX_SCRIPT_LINES c past read placed numbered =
       noted = rw c.in-Ok-true-note_method.field-0-test at c.in-Ok-true-note_method.ensures;
       counted = c.len-count.ensures.len;
     })
-    c.in_ok-part.ensures read placed numbered c.if-number-gt-MAX_SCRIPT_LINES.true
+    c.in_ok-part.ensures read placed numbered there c.if-number-gt-MAX_SCRIPT_LINES.true
 
 pub returns : goal.returns
 returns c =

@@ -1,16 +1,15 @@
 use Rattle.std.proofs.Common.{Bool, true, false, List, [], ℕ, Option, Some, None, ◌∷◌, ◌≡◌, ◌≤◌, ◌<◌, ◌&&◌, ◌∙◌, drop, refl, subst, sym, ap, arith, cond}
-use Rattle.std.specs.Prelude.{Result, Ok, if◌then◌else◌, nat_le}
+use Rattle.std.specs.Prelude.{Ok, if◌then◌else◌, nat_le}
 use Rattle.std.specs.Fmt.{decimal}
 use Rattle.std.specs.Str.{bytes_eq}
 use Rattle.std.specs.Str.Parse.{IsNumeral, digits_value, without_leading_plus}
 use Rattle.std.specs.Char.{digit_value}
-use Rattle.std.proofs.lemmas.Bool.{eqb-true, le-leb, leb-true, ne_eqb}
+use Rattle.std.proofs.lemmas.Bool.{le-leb, leb-true, ne_eqb}
 use Rattle.std.proofs.lemmas.Fmt.{decimal_is_IsNumeral}
 use Rattle.std.proofs.lemmas.Option.{none-some, same_Some}
 use Rattle.std.proofs.lemmas.Slice.Eq.{bytes_eq-Decides}
-use Rattle.clap.proofs.WalkLemmas.{both, byte_read}
+use Rattle.clap.proofs.WalkLemmas.{byte_read}
 use Rattle.clap.specs.Walk.{byte_or_zero}
-use Rattle.command_line.specs.Asked.{handles_of}
 use Rattle.command_line.proofs.law.handles_are_digits.Goals as goal
 
 -- a numeral has no plus to leave out

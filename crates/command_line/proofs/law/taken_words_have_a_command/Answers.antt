@@ -1,4 +1,4 @@
-use Rattle.std.proofs.Common.{Bool, true, false, List, Option, Some, None, [], ◌∷◌, ◌≡◌, ◌∙◌, ◌||◌, cond, ℕ, codes, refl, subst, sym, true≢false}
+use Rattle.std.proofs.Common.{Bool, true, false, List, Option, Some, None, [], ◌∷◌, ◌≡◌, ◌∙◌, ◌||◌, cond, ℕ, codes, refl, subst, sym, true≢false, inl, inr}
 use Rattle.std.specs.Prelude.{find, is_some, option_and_then, option_map, ⊤}
 use Rattle.std.specs.Str.{bytes_eq}
 use Rattle.std.proofs.lemmas.Option.{none-some}
@@ -8,8 +8,8 @@ use Rattle.clap.specs.Kinds.{or_else}
 use Rattle.clap.specs.Faults.{check_fault, defaults_fault, entered_fault, level_fault, settle_fault, walk_fault}
 use Rattle.clap.specs.Simple.{argument_words, built_leaf, entered, inherited, label_of, marked_built, names_of, on_top, rows_at, with_leaf_noted}
 use Rattle.clap.specs.Walk.{Held, Names, answers_to, finished, nothing_held, settled, walk, walk_from}
-use Rattle.command_line.specs.Asked.{Command, HasWrongNumber, command_in, decode_with, handles_in, unless_fault}
-use Rattle.command_line.specs.Definition.{decode, tool}
+use Rattle.command_line.specs.Asked.{Command, HasWrongNumber, command_in, decode_with, handles_in, order_in, run_with, unless_fault}
+use Rattle.command_line.specs.Definition.{decode, run, tool}
 use Rattle.command_line.proofs.NoHelp.{IsNoHelp, IsNone, earlier, later, no_help}
 use Rattle.command_line.proofs.law.taken_words_have_a_command.Goals as goal
 
@@ -51,9 +51,14 @@ each : (Q : Shape → Type 0) (test : Shape → Bool) (all : List Shape) → All
 each Q test [] h = tt
 each Q test (s ∷ rest) h = found_first Q s (find test rest) (test s) h.0 (each Q test rest h.1)
 
-not_decoded : (rows : List Row) (handles : Option ℕ) → option_map (decode_with rows) handles ≡ None → handles ≡ None
-not_decoded rows None e = refl
-not_decoded rows (Some n) e = absurd (none-some (decode_with rows n) (sym e))
+-- a command that is none lacks its number
+no_number : (with : ℕ → Command) (number : Option ℕ) → option_map with number ≡ None → number ≡ None
+no_number with None e = refl
+no_number with (Some n) e = absurd (none-some (with n) (sym e))
+
+-- what building makes of `run`
+abbrev running : Shape
+running = built_leaf (inherited (on_top with_leaf_noted (on_top marked_built tool)).top run.top)
 
 -- what building makes of `decode`
 abbrev decoding : Shape
@@ -63,11 +68,11 @@ either_false : (b : Bool) → (b || false) ≡ true → b ≡ true
 either_false true e = e
 either_false false e = e
 
--- each command but `decode` asks for something, and `help` isn't met
+-- each command but `run` and `decode` asks for something, and `help` isn't met
 numbered : (word : Text) (words : List Text) → bytes_eq word (codes "help") ≡ false
     → AllOf (λ s. answers_to word (label_of s) ≡ true → IsNumbered words s) (built tool).subs
 numbered word words fine = (
-  λ t none. absurd (none-some _ (sym none)),
+  λ t none. inl (refl, no_number (run_with (rows_at running words).1) (order_in (rows_at running words).1) none),
   (
     λ t none. absurd (none-some _ (sym none)),
     (
@@ -75,7 +80,7 @@ numbered word words fine = (
       (
         λ t none. absurd (none-some _ (sym none)),
         (
-          λ t none. (refl, not_decoded (rows_at decoding words).1 (handles_in (rows_at decoding words).1) none),
+          λ t none. inr (refl, no_number (decode_with (rows_at decoding words).1) (handles_in (rows_at decoding words).1) none),
           (
             λ t none. let same : codes "help" ≡ word = (bytes_eq-Decides (codes "help") word).0 (either_false _ t) in
                 absurd (true≢false (sym ((bytes_eq-Decides word (codes "help")).1 (sym same)) ∙ fine)),

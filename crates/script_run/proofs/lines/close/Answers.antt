@@ -1,23 +1,45 @@
-use Rattle.std.proofs.Common.{◌≡◌, sym, ap, ◌∙◌, refl, inr, None}
-use Rattle.std.specs.Prelude.{Option}
-use Rattle.handle_table.specs.declared.thing.Thing.{Thing}
-use Rattle.script_run.specs.steps.Lines.{shut}
-use Rattle.script_run.specs.steps.Responders.{responder_at}
-use Rattle.script_run.specs.steps.Slots.{held_at}
-use Rattle.script_run.proofs.SlotLemmas.{took_none}
+use Rattle.std.proofs.Common.{◌∙◌, refl, sym}
+use Rattle.script_run.proofs.TableLemmas.{none_where, unchanged}
 use Rattle.script_run.proofs.lines.close.Goals as goal
 
-pub returns-in-Some-clause-spent : goal.returns-in-Some-clause-spent
-returns-in-Some-clause-spent c = inr (refl, refl)
+pub returns-in-Some-take-clause-took : goal.returns-in-Some-take-clause-took
+returns-in-Some-take-clause-took c handles pendings = record {
+  handles = refl;
+  no_handles = unchanged c.args.rooms.now.handles.named.items c.take.new.self.named.items c.args.name
+      (sym c.take.ensures.before ∙ none_where c.take.result c.in_default.not-Some) c.take.ensures.after;
+  pendings = rw (sym c.take-2.ensures.before ∙ c.in-Some-take.is) refl;
+  no_pendings = c.take-2.ensures.after;
+  responder = refl;
+  no_responder = refl;
+  stands = refl;
+  kept = refl;
+}
 
-pub returns-in-None-clause-asked : goal.returns-in-None-clause-asked
-returns-in-None-clause-asked c =
-    let none : held_at c.args.held.now.slots.items c.args.name ≡ None = sym c.take.ensures.before ∙ c.in-None.is in
-    c.close_responder.ensures.asked
-    ∙ ap (λ (o : Option Thing). shut c.args.number o (responder_at c.args.responders.now.named.items c.args.name)) (sym none)
+pub returns-in-Some-take-2-clause-took : goal.returns-in-Some-take-2-clause-took
+returns-in-Some-take-2-clause-took c handles pendings = record {
+  handles = refl;
+  no_handles = unchanged c.args.rooms.now.handles.named.items c.take.new.self.named.items c.args.name
+      (sym c.take.ensures.before ∙ none_where c.take.result c.in_default.not-Some) c.take.ensures.after;
+  pendings = refl;
+  no_pendings = unchanged c.args.rooms.now.pendings.named.items c.take-2.new.self.named.items c.args.name
+      (sym c.take-2.ensures.before ∙ none_where c.take-2.result c.in_default-take.not-Some) c.take-2.ensures.after;
+  responder = rw (sym c.take-3.ensures.before ∙ c.in-Some-take-2.is) refl;
+  no_responder = c.take-3.ensures.after;
+  stands = refl;
+  kept = refl;
+}
 
 pub returns-in-None-clause-took : goal.returns-in-None-clause-took
-returns-in-None-clause-took c =
-    rw c.close_responder.ensures.bare (
-    took_none c.args.held.now.slots.items c.take.new.self.slots.items c.args.name (sym c.take.ensures.before ∙ c.in-None.is) c.take.ensures.after
-    )
+returns-in-None-clause-took c handles pendings = record {
+  handles = refl;
+  no_handles = unchanged c.args.rooms.now.handles.named.items c.take.new.self.named.items c.args.name
+      (sym c.take.ensures.before ∙ none_where c.take.result c.in_default.not-Some) c.take.ensures.after;
+  pendings = refl;
+  no_pendings = unchanged c.args.rooms.now.pendings.named.items c.take-2.new.self.named.items c.args.name
+      (sym c.take-2.ensures.before ∙ none_where c.take-2.result c.in_default-take.not-Some) c.take-2.ensures.after;
+  responder = refl;
+  no_responder = unchanged c.args.rooms.now.responders.named.items c.take-3.new.self.named.items c.args.name
+      (sym c.take-3.ensures.before ∙ c.in-None.is) c.take-3.ensures.after;
+  stands = refl;
+  kept = refl;
+}

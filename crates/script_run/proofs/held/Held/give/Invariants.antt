@@ -1,14 +1,16 @@
-use Rattle.std.proofs.Common.{◌≡◌, ◌+◌, ◌≤◌}
+use Rattle.std.proofs.Common.{◌≡◌, ◌+◌, ◌≤◌, length}
 use Rattle.std.specs.Prelude.{vec_len, vec_capacity}
-use Rattle.script_run.specs.steps.Slots.{given}
+use Rattle.script_run.specs.steps.Tables.{given}
 use Rattle.script_run.proofs.held.Held.give.Given as goal
 
 -- to give what is left comes to the same as to give all
-abbrev pub invariant-loop-handle : goal.invariant-loop-handle
-invariant-loop-handle l = record {
-  rest : given l.names l.left.items l.self.slots.items ≡ given l.names l.fn.handles l.fn.self.slots.items;
+abbrev pub invariant-loop-one : goal.invariant-loop-one
+invariant-loop-one g l = record {
+  rest : given l.names l.left.items l.self.named.items ≡ given l.names l.fn.things.items l.fn.self.named.items;
   room : vec_len l.left + vec_len l.self.others ≤ vec_capacity l.self.others;
+  kept : vec_len l.left + vec_len l.self.others ≤ length l.fn.things.items + vec_len l.fn.self.others;
+  same : vec_capacity l.self.others ≡ vec_capacity l.fn.self.others;
 }
 
-abbrev pub decreases-loop-handle : goal.decreases-loop-handle
-decreases-loop-handle l = goal.left-loop-handle l
+abbrev pub decreases-loop-one : goal.decreases-loop-one
+decreases-loop-one g l = goal.left-loop-one g l

@@ -1,0 +1,107 @@
+//! Whether replies, commands and histories are the same.
+
+use bind_model::{Asked, Event, Got, Outgoing, Told};
+use std::alloc::{AllocError, Global};
+use wire_reference::are_same;
+
+/// Whether two calls or answers send the same.
+fn are_same_outgoing(alloc: Global, one: &Outgoing, two: &Outgoing) -> Result<bool, AllocError> {
+    let values = are_same(alloc, one.parameters.value(), two.parameters.value())?;
+    Ok(
+        values
+            && one.target == two.target
+            && one.handles.as_slice() == two.handles.as_slice()
+            && one.pendings.as_slice() == two.pendings.as_slice(),
+    )
+}
+
+/// Whether two commands are the same.
+fn are_same_asked(alloc: Global, one: &Asked, two: &Asked) -> Result<bool, AllocError> {
+    match (one, two) {
+        (Asked::Call(x, id, one), Asked::Call(y, other, two)) => {
+            Ok(x == y && id == other && are_same_outgoing(alloc, one, two)?)
+        }
+        (Asked::Answer(name, one), Asked::Answer(other, two)) => {
+            Ok(name == other && are_same_outgoing(alloc, one, two)?)
+        }
+        (Asked::Bind(x, side, number), Asked::Bind(y, other, another)) => {
+            Ok(x == y && side == other && number == another)
+        }
+        (Asked::Associate(x, side, number), Asked::Associate(y, other, another)) => {
+            Ok(x == y && side == other && number == another)
+        }
+        (Asked::Attach(one, on), Asked::Attach(two, other)) => Ok(one == two && on == other),
+        (Asked::Raw(x, one, with), Asked::Raw(y, two, others)) => Ok(
+            x == y && one.as_slice() == two.as_slice() && with.as_slice() == others.as_slice(),
+        ),
+        (Asked::Pipe, Asked::Pipe) => Ok(true),
+        (Asked::Join(one), Asked::Join(two)) => Ok(one == two),
+        (Asked::Mint(one), Asked::Mint(two)) => Ok(one == two),
+        (Asked::Take(one), Asked::Take(two)) => Ok(one == two),
+        (Asked::Close(one), Asked::Close(two)) => Ok(one == two),
+        (Asked::Skip(one), Asked::Skip(two)) => Ok(one == two),
+        _ => Ok(false),
+    }
+}
+
+/// Whether two takes got the same.
+fn are_same_got(alloc: Global, one: &Got, two: &Got) -> Result<bool, AllocError> {
+    let values = are_same(alloc, one.parameters.value(), two.parameters.value())?;
+    Ok(
+        values
+            && one.id == two.id
+            && one.target == two.target
+            && one.request == two.request
+            && one.handles.as_slice() == two.handles.as_slice()
+            && one.pendings.as_slice() == two.pendings.as_slice()
+            && one.gone.as_slice() == two.gone.as_slice(),
+    )
+}
+
+/// Whether two replies are the same.
+pub fn are_same_told(alloc: Global, one: &Told, two: &Told) -> Result<bool, AllocError> {
+    match (one, two) {
+        (Told::Taken(one), Told::Taken(two)) => are_same_got(alloc, one, two),
+        (Told::Made(one), Told::Made(two)) | (Told::Closed(one), Told::Closed(two)) => {
+            Ok(one.as_slice() == two.as_slice())
+        }
+        (Told::Bound(one), Told::Bound(two)) | (Told::Wrote(one), Told::Wrote(two)) => {
+            Ok(one == two)
+        }
+        (Told::Associated(one), Told::Associated(two)) => Ok(one == two),
+        (Told::Attached(one), Told::Attached(two)) | (Told::Control(one), Told::Control(two)) => {
+            Ok(one == two)
+        }
+        (Told::Sent(number, one), Told::Sent(other, two)) => {
+            Ok(number == other && one.as_slice() == two.as_slice())
+        }
+        (Told::Dropped(id, one), Told::Dropped(other, two)) => {
+            Ok(id == other && one.as_slice() == two.as_slice())
+        }
+        (Told::Bad(why, one), Told::Bad(other, two)) => {
+            Ok(why == other && one.as_slice() == two.as_slice())
+        }
+        (Told::Skipped, Told::Skipped) => Ok(true),
+        (Told::No(one), Told::No(two)) => Ok(one == two),
+        _ => Ok(false),
+    }
+}
+
+/// Whether two events are the same.
+fn are_same_event(alloc: Global, one: &Event, two: &Event) -> Result<bool, AllocError> {
+    Ok(
+        one.seq == two.seq
+            && are_same_asked(alloc, &one.asked, &two.asked)?
+            && are_same_told(alloc, &one.told, &two.told)?,
+    )
+}
+
+/// Whether two histories are the same.
+pub fn are_same_events(alloc: Global, one: &[Event], two: &[Event]) -> Result<bool, AllocError> {
+    for (one, two) in one.iter().zip(two) {
+        if !are_same_event(alloc, one, two)? {
+            return Ok(false);
+        }
+    }
+    Ok(one.len() == two.len())
+}

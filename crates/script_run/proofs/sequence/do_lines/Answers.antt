@@ -1,0 +1,59 @@
+use Rattle.std.proofs.Common.{◌≡◌, ◌∙◌, List, ap, refl, subst, arith, length, take, take_all, Some}
+use Rattle.std.specs.Prelude.{slice_get}
+use Rattle.std.proofs.lemmas.Option.{slice_get_read}
+use Rattle.call_script.specs.declared.script.AutoReply.{AutoReply}
+use Rattle.call_script.specs.declared.script.Line.{Line}
+use Rattle.remote_receiver.specs.Held.{kept_of}
+use Rattle.script_run.specs.Order.{is_own}
+use Rattle.script_run.specs.AtDesk.{seen_by}
+use Rattle.script_run.specs.Held.{HaveNames, names_in}
+use Rattle.script_run.specs.steps.Working.{DidOwn}
+use Rattle.script_run.proofs.AllLines.{worked_all, worked_more}
+use Rattle.script_run.proofs.sequence.do_lines.Goals as goal
+
+pub loop-line-preserved : goal.loop-line-preserved
+loop-line-preserved g c =
+    let s = g.P.Stepper in
+    let i = c.loop-line.invariant in
+    let script = c.args.script.now in
+    let items = c.as_slice-line-items.result.now in
+    let line : Line = c.line-item.result in
+    let k = c.loop-line.line-index in
+    let here : slice_get c.args.script.now.lines k ≡ Some line =
+    rw c.as_slice-line-items.ensures at (slice_get_read items (length items) k line refl c.loop-line-test.true c.line-item.is) in
+    let did =
+    subst (λ (autos : List AutoReply). DidOwn (is_own (s.me c.loop-line.desk.stepper) line) autos line
+    (seen_by s.schema s.seqs s.alone s.me s.seen c.loop-line.desk.stepper) (seen_by s.schema s.seqs s.alone s.me s.seen c.do_own.new.desk.stepper)
+    (kept_of c.loop-line.desk.jobs) (kept_of c.do_own.new.desk.jobs) (names_in c.loop-line.rooms) (names_in c.do_own.new.rooms))
+    c.as_slice-autos.ensures c.in_ok-number.ensures.did in
+    record {
+      same = record {
+        schema = c.in_ok-number.ensures.same.schema ∙ i.same.schema;
+        seqs = c.in_ok-number.ensures.same.seqs ∙ i.same.seqs;
+        alone = c.in_ok-number.ensures.same.alone ∙ i.same.alone;
+        me = c.in_ok-number.ensures.same.me ∙ i.same.me;
+      };
+      have = subst (λ k. HaveNames k c.do_own.new.rooms) i.have.stands c.in_ok-number.ensures.names;
+      few = omega (arith, i.few, c.in_ok-number.ensures.number);
+      did = λ after_joins named.
+          worked_more script after_joins k line here (seen_by s.schema s.seqs s.alone s.me s.seen c.args.desk.now.stepper)
+          (seen_by s.schema s.seqs s.alone s.me s.seen c.loop-line.desk.stepper) (seen_by s.schema s.seqs s.alone s.me s.seen c.do_own.new.desk.stepper) i.same
+          (kept_of c.args.desk.now.jobs) (kept_of c.loop-line.desk.jobs) (kept_of c.do_own.new.desk.jobs) (names_in c.loop-line.rooms)
+          (names_in c.do_own.new.rooms) (i.did after_joins named) did;
+    }
+
+pub returns : goal.returns
+returns g c =
+    let s = g.P.Stepper in
+    let at = c.args.desk.now.stepper in
+    let i = c.loop-line.invariant in
+    let script = c.args.script.now in
+    let all : take c.loop-line.line-index script.lines ≡ script.lines =
+    take_all c.loop-line.line-index script.lines (omega (arith, ap length c.as_slice-line-items.ensures)) in
+    record {
+      same = i.same;
+      have = i.have;
+      did = λ after_joins named.
+          worked_all script after_joins (s.schema at) (s.me at) (s.seen at) (s.seen c.loop-line.desk.stepper) (kept_of c.args.desk.now.jobs)
+          (kept_of c.loop-line.desk.jobs) (names_in c.loop-line.rooms) (rw all at (i.did after_joins named));
+    }

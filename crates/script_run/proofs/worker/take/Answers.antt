@@ -1,0 +1,49 @@
+use Rattle.std.proofs.Common.{◌∙◌, ap, sym}
+use Rattle.std.specs.Option.{option_copied}
+use Rattle.bind_model.specs.declared.asked.Asked.TheVariants as asks
+use Rattle.remote_receiver.specs.Held.{kept_of}
+use Rattle.script_run.specs.AtDesk.{seen_by}
+use Rattle.script_run.proofs.LineDone.{cut_behind, take_alone, take_replied, reply_last, reply_read}
+use Rattle.script_run.proofs.worker.take.Goals as goal
+
+pub answer-requires-clause-reply : goal.answer-requires-clause-reply
+answer-requires-clause-reply g c =
+    let s = g.P.Stepper in
+    let did = c.in_ok-reply.ensures.did in
+    reply_read c.args.autos.now (seen_by s.schema s.seqs s.alone s.me s.seen c.args.desk.now.stepper)
+    (seen_by s.schema s.seqs s.alone s.me s.seen c.do_take.new.desk.stepper) (asks.Take c.args.end) did.told c.in-Some.reply.now
+    c.do_take.new.rooms.responders.others.items did.went.same (sym (ap option_copied c.in-Some.is) ∙ did.found) did.last c.requires.autos
+
+pub answer-requires-clause-last : goal.answer-requires-clause-last
+answer-requires-clause-last g c =
+    let s = g.P.Stepper in
+    let did = c.in_ok-reply.ensures.did in
+    reply_last c.args.autos.now (seen_by s.schema s.seqs s.alone s.me s.seen c.args.desk.now.stepper)
+    (seen_by s.schema s.seqs s.alone s.me s.seen c.do_take.new.desk.stepper) (asks.Take c.args.end) did.told c.in-Some.reply.now
+    c.do_take.new.rooms.responders.others.items did.went.same (sym (ap option_copied c.in-Some.is) ∙ did.found) did.last
+
+pub returns-in-Some-clause-cut : goal.returns-in-Some-clause-cut
+returns-in-Some-clause-cut g c =
+    let s = g.P.Stepper in
+    let did = c.in_ok-reply.ensures.did in
+    cut_behind c.args.autos.now (seen_by s.schema s.seqs s.alone s.me s.seen c.args.desk.now.stepper)
+    (seen_by s.schema s.seqs s.alone s.me s.seen c.do_take.new.desk.stepper) (kept_of c.args.desk.now.jobs)
+    (kept_of c.do_take.new.desk.jobs) c.in-Some.reply.now
+    c.do_take.new.rooms.responders.others.items (asks.Take c.args.end) did.told did.went (sym (ap option_copied c.in-Some.is) ∙ did.found) did.last
+    (seen_by s.schema s.seqs s.alone s.me s.seen c.answer.new.desk.stepper) c.answer.result c.answer.ensures.cut
+
+pub returns-in-Some-clause-took : goal.returns-in-Some-clause-took
+returns-in-Some-clause-took g c =
+    let s = g.P.Stepper in
+    take_replied c.args.autos.now (seen_by s.schema s.seqs s.alone s.me s.seen c.args.desk.now.stepper)
+    (seen_by s.schema s.seqs s.alone s.me s.seen c.do_take.new.desk.stepper) (kept_of c.args.desk.now.jobs)
+    (kept_of c.do_take.new.desk.jobs) c.in-Some.reply.now
+    c.do_take.new.rooms.responders.others.items c.args.end (option_copied c.in_ok-reply.field-0) (ap option_copied c.in-Some.is) c.in_ok-reply.ensures.did
+    (seen_by s.schema s.seqs s.alone s.me s.seen c.answer.new.desk.stepper) (kept_of c.answer.new.desk.jobs) c.answer.result c.answer.ensures.went
+
+pub returns-in-None-clause-took : goal.returns-in-None-clause-took
+returns-in-None-clause-took g c =
+    let s = g.P.Stepper in
+    take_alone c.args.autos.now (seen_by s.schema s.seqs s.alone s.me s.seen c.args.desk.now.stepper)
+    (seen_by s.schema s.seqs s.alone s.me s.seen c.do_take.new.desk.stepper) (kept_of c.args.desk.now.jobs) (kept_of c.do_take.new.desk.jobs)
+    c.do_take.new.rooms.responders.others.items (option_copied c.in_ok-reply.field-0) (ap option_copied c.in-None.is) c.args.end c.in_ok-reply.ensures.did

@@ -1,0 +1,60 @@
+-- What the desk of a sequence stands on, and what becomes of the callbacks of its calls.
+use Rattle.std.specs.Prelude.{ℕ, Bool, ◌≡◌, List, map, Option, Some, None, if◌then◌else◌}
+use Rattle.mj_base.specs.declared.ids.SeqId.{SeqId}
+use Rattle.mj_schema.specs.declared.schema.Schema.{Schema}
+use Rattle.wire_model.specs.declared.target.Target.{Target}
+use Rattle.bind_model.specs.declared.asked.Asked.{Asked}
+use Rattle.bind_model.specs.declared.asked.Asked.TheVariants.{Call}
+use Rattle.bind_model.specs.declared.event.Event.{Event}
+use Rattle.bind_model.specs.Seen.{own_of}
+use Rattle.bind_model.specs.Wire.{Wire}
+use Rattle.bind_model.specs.WireOf.{wire_of}
+use Rattle.remote_receiver.specs.Stepped.{Step}
+use Rattle.remote_receiver.specs.declared.job.Answered.{Answered}
+use Rattle.script_run.specs.declared.plain.Plain.{Plain}
+
+-- ## Callbacks
+
+-- the callback of a script's call, and what it promises
+abbrev pub plain : Plain
+plain = record {}
+
+abbrev pub AnswersZero : Plain → Answered → ℕ → Type 0
+AnswersZero job got note = note ≡ 0
+
+-- the callback that comes with a call of a method: one with a response has one
+abbrev pub job_of_method : Wire → Target → Option Plain
+job_of_method wire target = if wire.responds target.interface target.method then Some plain else None
+
+-- the one that comes with what is asked
+abbrev pub job_of : Wire → Asked → Option Plain
+job_of wire (Call end id outgoing) = job_of_method wire outgoing.target
+job_of wire asked = None
+
+-- the step of a desk that an event of its sequence is
+abbrev pub step_by : Wire → Event → Step Plain
+step_by wire event = record { asked = event.asked; told = event.told; job = job_of wire event.asked }
+
+-- the steps of a sequence among all events
+abbrev pub steps_of : Schema → SeqId → List Event → List (Step Plain)
+steps_of schema s events = map (step_by (wire_of schema)) (own_of s events)
+
+-- ## What a desk's stepper is
+
+-- its schema, how many sequences there are, whether nobody else steps meanwhile, whose desk it is, and the events that were seen there
+pub record Seen : Type 0 where
+  pub schema : Schema
+  pub seqs : ℕ
+  pub alone : Bool
+  pub me : SeqId
+  pub events : List Event
+
+abbrev pub seen_by : {P : Type 0} → (P → Schema) → (P → ℕ) → (P → Bool) → (P → SeqId) → (P → List Event) → P → Seen
+seen_by schema seqs alone me events p = record { schema = schema p; seqs = seqs p; alone = alone p; me = me p; events = events p }
+
+-- it is the same but for the events
+pub record SameDesk (before after : Seen) : Type 0 where
+  pub schema : after.schema ≡ before.schema
+  pub seqs : after.seqs ≡ before.seqs
+  pub alone : after.alone ≡ before.alone
+  pub me : after.me ≡ before.me

@@ -1,0 +1,18 @@
+//! Why a run is cut off.
+
+use thiserror::Error;
+
+/// There was no memory for the run.
+#[derive(Clone, Copy, Debug, PartialEq, Eq, Error)]
+#[error("out of memory")]
+pub struct NoMemory;
+
+/// Why a sequence didn't do all of its lines.
+#[derive(Clone, Copy, Debug, PartialEq, Eq, Error)]
+pub enum Cut {
+    #[error("out of memory")]
+    Memory,
+    /// The history has 16,777,216 events.
+    #[error("the history is full")]
+    Spent,
+}
