@@ -1,0 +1,154 @@
+//! Comparing a core with the literal machine, step by step.
+
+ghost use Rattle.std.specs.Prelude.{◌≡◌, IfOk};
+ghost use Rattle.std.specs.Arc.{arc_value};
+
+use crate::held::Held;
+use crate::moves::{Turn, Walk};
+use crate::play::command_of;
+use crate::tally::Tally;
+use bind_core::Core;
+use bind_model::Refused;
+use bind_reference::{answer, are_same_told, left, ready};
+use handle_table::Ended;
+use mj_base::SeqId;
+use mj_schema::Schema;
+use std::alloc::{AllocError, Global};
+use std::sync::Arc;
+
+/// How many sequences a core has.
+const SEQUENCES: u32 = 2;
+
+/// Does a turn; it isn't done where something that it takes isn't held.
+fn play(
+    core: &mut Core,
+    held: &mut Held<'_>,
+    alloc: Global,
+    schema: &Schema,
+    turn: Turn,
+) -> Result<bool, AllocError>
+    requires core { (core.old.schema ≡ schema.now) × (core.old.seqs ≡ SEQUENCES) }
+    ensures same { (core.new.schema ≡ core.old.schema) × (core.new.seqs ≡ core.old.seqs) }
+{
+    let Turn(seq, step) = turn;
+    if seq >= SEQUENCES {
+        return Ok(false);
+    }
+    let Some(command) = command_of(held, alloc, schema, step)? else {
+        return Ok(false);
+    };
+    match core.step(alloc, SeqId(seq), command) {
+        Ok(reply) => held.put(reply),
+        Err(Refused::Memory(command) | Refused::Spent(command)) => {
+            held.put_back(command);
+            return Err(AllocError);
+        }
+    }
+    if held.is_short {
+        return Err(AllocError);
+    }
+    Ok(true)
+}
+
+/// Compares the newest reply of a core, to the turn of a place, which end is ready then, and what isn't gone, with what the events say.
+fn compare(
+    core: &Core,
+    alloc: Global,
+    schema: &Schema,
+    turn: usize,
+    tally: &mut Tally,
+) -> Result<(), AllocError> {
+    let events = core.history().as_slice();
+    let Some((event, past)) = events.split_last() else {
+        return Ok(());
+    };
+    let wanted = answer(alloc, schema, SEQUENCES, past, event.seq, &event.asked)?;
+    let is_told = are_same_told(alloc, &event.told, &wanted)?;
+    let is_ready = core.ready() == ready(alloc, schema, events)?;
+    let is_left = core.left(alloc)? == left(alloc, SEQUENCES, events)?;
+    tally.add_step(turn, &event.told, &wanted, is_told && is_ready && is_left)
+}
+
+/// Does turns on a core until one isn't done, and compares those from a place on.
+fn do_turns(
+    core: &mut Core,
+    held: &mut Held<'_>,
+    alloc: Global,
+    schema: &Schema,
+    turns: &[Turn],
+    from: usize,
+    tally: &mut Tally,
+) -> Result<(), AllocError>
+    requires core { (core.old.schema ≡ schema.now) × (core.old.seqs ≡ SEQUENCES) }
+{
+    for (place, turn) in turns.iter().enumerate() {
+        if !play(core, held, alloc, schema, *turn)? {
+            return Ok(());
+        }
+        if place >= from {
+            compare(core, alloc, schema, place, tally)?;
+        }
+    }
+    Ok(())
+}
+
+/// A core that shares a schema.
+fn core_of(alloc: Global, schema: &Arc<Schema>) -> Result<Core, AllocError>
+    ensures { IfOk result (λ core. (core.schema ≡ arc_value schema.now) × (core.seqs ≡ SEQUENCES)) }
+{
+    match Arc::try_clone(schema) {
+        Ok(shared) => Ok(Core::new(alloc, shared, SEQUENCES)),
+        Err(_) => Err(AllocError),
+    }
+}
+
+/// Does turns on a new core, and compares those from a place on.
+fn compare_list(
+    alloc: Global,
+    schema: &Arc<Schema>,
+    spare: &Ended,
+    turns: &[Turn],
+    from: usize,
+    tally: &mut Tally,
+) -> Result<(), AllocError> {
+    let mut core = core_of(alloc, schema)?;
+    let mut held = Held::new(alloc, spare);
+    tally.lists = tally.lists.saturating_add(1);
+    let done = do_turns(&mut core, &mut held, alloc, schema, turns, from, tally);
+    let (_history, over) = core.end();
+    held.retire(&over);
+    done
+}
+
+/// The turns of a number of a walk, whose digits are the places in the alphabet, and from which of them on no list
+/// of a lesser number begins with them.
+fn turns_of(alloc: Global, walk: &Walk, number: usize) -> Result<(Vec<Turn>, usize), AllocError> {
+    let mut digits = Vec::new(alloc);
+    let mut rest = number;
+    for _ in 0..walk.length {
+        digits.push(rest.checked_rem(walk.alphabet.len()).unwrap_or(0))?;
+        rest = rest.checked_div(walk.alphabet.len()).unwrap_or(0);
+    }
+    let mut turns = Vec::from_slice(alloc, walk.opening)?;
+    for digit in digits.iter().rev() {
+        if let Some(turn) = walk.alphabet.get(*digit) {
+            turns.push(*turn)?;
+        }
+    }
+    let from = match digits.iter().position(|digit| *digit != 0) {
+        Some(zeros) => turns.len().saturating_sub(zeros).saturating_sub(1),
+        None => 0,
+    };
+    Ok((turns, from))
+}
+
+/// Compares all lists of turns of a walk.
+pub fn compare_walk(alloc: Global, schema: &Arc<Schema>, walk: &Walk) -> Result<Tally, AllocError> {
+    let mut tally = Tally::new(alloc);
+    let (_history, spare) = core_of(alloc, schema)?.end();
+    for number in 0..walk.count() {
+        let (turns, from) = turns_of(alloc, walk, number)?;
+        compare_list(alloc, schema, &spare, &turns, from, &mut tally)?;
+    }
+    Ok(tally)
+}
