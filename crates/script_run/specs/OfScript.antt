@@ -1,4 +1,4 @@
--- The events of a script: the joins, in order; the lines of the sequences, each after the last of its sequence; and then a drain: a take
+-- The events of a script: the joins, in order; the lines of the sequences, each behind the line of its sequence before it; and then a drain: a take
 -- wherever a message is ready, until none is. An automatic reply follows directly after the take of a request that it is for.
 use Rattle.std.specs.Prelude.{ℕ, ◌≡◌, ◌<◌, ◌++◌, List, [], ◌∷◌, length, reverse, Option, Some, None, option_and_then, slice_get, unwrap_or, if◌then◌else◌}
 use Rattle.std.specs.Option.{option_map}

@@ -45,7 +45,7 @@ impl Rooms {
     }
 
     /// Adds so many names that stand for nothing.
-    pub(crate) fn add_names(&mut self, names: usize) -> Result<(), NoMemory>
+    pub fn add_names(&mut self, names: usize) -> Result<(), NoMemory>
         ensures stands { OnOk result (self.new.stands.things.items ≡ self.old.stands.things.items ++ replicate names None) }
         ensures handles { OnOk result (self.new.handles.named.items ≡ self.old.handles.named.items ++ replicate names None) }
         ensures pendings { OnOk result (self.new.pendings.named.items ≡ self.old.pendings.named.items ++ replicate names None) }

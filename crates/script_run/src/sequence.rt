@@ -1,8 +1,8 @@
 //! All lines of one sequence.
 
-ghost use Rattle.std.specs.Prelude.{◌≡◌, ◌<◌, ◌≤◌, ◌+◌, IfNone, IfOk, OnOk, length};
+ghost use Rattle.std.specs.Prelude.{◌≡◌, ◌<◌, ◌≤◌, ◌+◌, Err, IfNone, IfOk, OnOk, Some, length};
 ghost use Rattle.std.specs.List.{AllByRecursion};
-ghost use Rattle.mj_base.specs.declared.limits.TheConstants.{MAX_SCRIPT_LINES};
+ghost use Rattle.mj_base.specs.declared.limits.TheConstants.{MAX_EVENTS, MAX_SCRIPT_LINES};
 ghost use Rattle.call_script.specs.Sound.{IsLine, IsReply, IsScript};
 ghost use Rattle.remote_receiver.specs.Held.{kept_of};
 ghost use Rattle.script_run.specs.Order.{is_own};
@@ -63,6 +63,7 @@ fn do_own<P: Stepper, G: Gate>(
         (kept_of desk.old.jobs) (kept_of desk.new.jobs) (names_in rooms.old) (names_in rooms.new)) }
     ensures names { OnOk result (HaveNames (length rooms.old.stands.things.items) rooms.new) }
     ensures number { IfOk result (λ done. done ≤ number + 1) }
+    ensures spent { result ≡ Err Cut.Spent → MAX_EVENTS ≤ length (P.seen desk.new.stepper) }
 {
     let seq = desk.stepper().seq();
     if !is_mine(line, seq) {
@@ -88,8 +89,9 @@ fn do_lines<P: Stepper, G: Gate>(
     requires script { IsScript (P.schema desk.old.stepper) script.now }
     requires seqs { P.seqs desk.old.stepper ≡ script.now.seqs }
     requires names { HaveNames script.now.names rooms.old }
-    ensures { OnOk result (Works script.now (seen_by P.schema P.seqs P.alone P.me P.seen desk.old.stepper)
+    ensures works { OnOk result (Works script.now (seen_by P.schema P.seqs P.alone P.me P.seen desk.old.stepper)
         (seen_by P.schema P.seqs P.alone P.me P.seen desk.new.stepper) (kept_of desk.old.jobs) (kept_of desk.new.jobs) rooms.old rooms.new) }
+    ensures spent { result ≡ Err Cut.Spent → MAX_EVENTS ≤ length (P.seen desk.new.stepper) }
 {
     let autos = script.autos.as_slice();
     let mut number = 0;
@@ -100,7 +102,7 @@ fn do_lines<P: Stepper, G: Gate>(
 }
 
 /// Does the lines of a desk's sequence, in order, each with its automatic reply, with what the joins gave
-/// it under its names.
+/// it under its names. It is cut off as spent only where the history that its stepper has seen then is full.
 pub fn work<P: Stepper, G: Gate>(
     alloc: Global,
     schema: &Schema,
@@ -114,8 +116,9 @@ pub fn work<P: Stepper, G: Gate>(
     requires script { IsScript (P.schema desk.stepper) script.now }
     requires seqs { P.seqs desk.stepper ≡ script.now.seqs }
     requires names { HaveNames script.now.names held }
-    ensures { IfNone result.cut (Works script.now (seen_by P.schema P.seqs P.alone P.me P.seen desk.stepper)
+    ensures works { IfNone result.cut (Works script.now (seen_by P.schema P.seqs P.alone P.me P.seen desk.stepper)
         (seen_by P.schema P.seqs P.alone P.me P.seen result.desk.stepper) (kept_of desk.jobs) (kept_of result.desk.jobs) held result.held) }
+    ensures spent { result.cut ≡ Some Cut.Spent → MAX_EVENTS ≤ length (P.seen result.desk.stepper) }
 {
     let mut desk = desk;
     let mut held = held;

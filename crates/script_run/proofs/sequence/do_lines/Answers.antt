@@ -42,8 +42,8 @@ loop-line-preserved g c =
           (names_in c.do_own.new.rooms) (i.did after_joins named) did;
     }
 
-pub returns : goal.returns
-returns g c =
+pub returns-clause-works : goal.returns-clause-works
+returns-clause-works g c =
     let s = g.P.Stepper in
     let at = c.args.desk.now.stepper in
     let i = c.loop-line.invariant in
