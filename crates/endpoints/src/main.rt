@@ -1,4 +1,4 @@
-//! Does worked examples of what no script leads to yet, command by command, and prints their histories:
+//! Does worked examples command by command, on the core and with no script, and prints their histories:
 //! associated endpoints on three sequences, their ends, and messages that are written raw.
 #![tactic(auto)]
 

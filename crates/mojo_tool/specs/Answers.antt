@@ -56,7 +56,7 @@ asked_by s files work = IsWork (command_of s.words) files work
 pub record KeepsLaws (schema : Schema) (seqs : ℕ) (past : List Event) : Type 0 where
   -- at each end the messages are consumed in the order in which they were written, each once
   pub in_order : InOrder (wire_of schema) past
-  -- each is the one that its writer says: the tight bytes of a call
+  -- each is the one that its writer says: the tight bytes of a call or an answer, the bytes of a raw write, or a control
   pub writers : HaveWriters (wire_of schema) past
   -- what is got is what its message stands for
   pub stands : AllStand (wire_of schema) past
