@@ -19,10 +19,10 @@ use crate::worker::do_line;
 use bind_model::Stepper;
 use call_script::{AutoReply, Line, Script};
 use mj_base::SeqId;
-use mj_io::Gate;
 use mj_schema::Schema;
 use remote_receiver::Desk;
 use std::alloc::Global;
+use step_gate::Gate;
 
 /// What a sequence leaves that did its lines: its desk, what it holds, and why it was cut off, if it was.
 pub struct Worked<P: Stepper> {
