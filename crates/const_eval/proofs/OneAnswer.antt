@@ -11,12 +11,12 @@ use Rattle.mojom_files.proofs.Best.{best_is_first}
 use Rattle.module_resolver.specs.declared.file_names.FileNames.{FileNames}
 use Rattle.const_eval.specs.declared.consts.Consts.{Consts}
 use Rattle.const_eval.specs.declared.file_things.FileThings.{FileThings}
-use Rattle.const_eval.specs.declared.meaning.Meaning.{Meaning}
-use Rattle.const_eval.specs.declared.origin.Origin.{Origin}
-use Rattle.const_eval.specs.Meanings.{AreMeanings}
+use Rattle.const_meanings.specs.declared.meaning.Meaning.{Meaning}
+use Rattle.const_meanings.specs.declared.origin.Origin.{Origin}
+use Rattle.const_meanings.specs.Meanings.{AreMeanings}
 use Rattle.const_eval.specs.Consts.{AreConsts}
 use Rattle.const_eval.specs.Evaluated.{const_refusals, const_refusal, IsEvaluated, IsConstRefused}
-use Rattle.const_eval.proofs.Reaching.{one_meaning}
+use Rattle.const_meanings.proofs.Reaching.{one_meaning}
 
 one_meanings : (things : List Origin) (one two : List Meaning) → AreMeanings things one → AreMeanings things two → one ≡ two
 one_meanings things one two a b = same_lists one two (a.count ∙ sym b.count) at

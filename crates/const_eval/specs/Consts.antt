@@ -8,12 +8,12 @@ use Rattle.module_resolver.specs.declared.target.Target.{Target}
 use Rattle.module_resolver.specs.declared.file_names.FileNames.{FileNames}
 use Rattle.module_resolver.specs.LookUp.{look_up}
 use Rattle.const_eval.specs.declared.consts.Consts.{Consts}
-use Rattle.const_eval.specs.declared.meaning.Meaning.{Meaning}
-use Rattle.const_eval.specs.declared.meaning.Meaning.TheVariants as meanings
-use Rattle.const_eval.specs.declared.origin.Origin.{Origin}
-use Rattle.const_eval.specs.declared.origin.Origin.TheVariants.{Written}
-use Rattle.const_eval.specs.Known.{Known, TextValue, BoolValue, NumberValue, signed, known_with}
-use Rattle.const_eval.specs.Meanings.{AreMeanings}
+use Rattle.const_meanings.specs.declared.meaning.Meaning.{Meaning}
+use Rattle.const_meanings.specs.declared.meaning.Meaning.TheVariants as meanings
+use Rattle.const_meanings.specs.declared.origin.Origin.{Origin}
+use Rattle.const_meanings.specs.declared.origin.Origin.TheVariants.{Written}
+use Rattle.const_meanings.specs.Known.{Known, TextValue, BoolValue, NumberValue, signed, known_with}
+use Rattle.const_meanings.specs.Meanings.{AreMeanings}
 use Rattle.const_eval.specs.Things.{things_of_files, thing_of}
 use Rattle.const_eval.specs.Origins.{origins_of}
 

@@ -10,7 +10,7 @@ use Rattle.mojom_files.specs.declared.cause.Cause.TheVariants.{WrongLiteral, Out
 use Rattle.mojom_files.specs.declared.refusal.Refusal.{Refusal}
 use Rattle.mojom_files.specs.Refusals.{where_true}
 use Rattle.const_eval.specs.declared.kinds.Range.{Range}
-use Rattle.const_eval.specs.Known.{Known, TextValue, BoolValue, NumberValue}
+use Rattle.const_meanings.specs.Known.{Known, TextValue, BoolValue, NumberValue}
 
 -- the basic kind of a type without `?`, where it is one
 abbrev pub basic_of_parts : List Identifier → Option Basic

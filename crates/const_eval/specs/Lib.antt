@@ -1,8 +1,5 @@
-pub mod Known
 pub mod Things
 pub mod Origins
-pub mod Needs
-pub mod Meanings
 pub mod Consts
 pub mod Kinds
 pub mod Refused

@@ -14,13 +14,19 @@ use Rattle.mojom_files.specs.Definitions.{Defined, definitions_of, enumerators_o
 use Rattle.module_resolver.specs.declared.file_names.FileNames.{FileNames}
 use Rattle.module_resolver.specs.LookUp.{look_up}
 use Rattle.const_eval.specs.declared.file_things.FileThings.{FileThings}
-use Rattle.const_eval.specs.declared.literal.Literal.{Literal}
-use Rattle.const_eval.specs.declared.literal.Literal.TheVariants as literals
-use Rattle.const_eval.specs.declared.origin.Origin.{Origin}
-use Rattle.const_eval.specs.declared.origin.Origin.TheVariants.{Written, Of, Next, Missing}
-use Rattle.const_eval.specs.Known.{literal_of}
+use Rattle.const_meanings.specs.declared.literal.Literal.{Literal}
+use Rattle.const_meanings.specs.declared.literal.Literal.TheVariants as literals
+use Rattle.const_meanings.specs.declared.origin.Origin.{Origin}
+use Rattle.const_meanings.specs.declared.origin.Origin.TheVariants.{Written, Of, Next, Missing}
 use Rattle.const_eval.specs.Kinds.{basic_of_base}
 use Rattle.const_eval.specs.Things.{numbered, things_of_files, thing_of}
+
+-- the literal that is written; none of a name
+abbrev pub literal_of : Value → Option Literal
+literal_of (values.String written) = Some (literals.Text written.bytes)
+literal_of (values.Bool value span) = Some (literals.Bool value)
+literal_of (values.Number negative magnitude span) = Some (literals.Number negative magnitude)
+literal_of (values.Name name) = None
 
 -- of another thing, where there is one
 abbrev pub of_thing : Option ℕ → Origin

@@ -39,7 +39,7 @@ use Rattle.module_resolver.specs.NameRefusals.{place_of}
 use Rattle.module_resolver.specs.Uses.{is_min_version, response_of}
 use Rattle.const_eval.specs.declared.file_things.FileThings.{FileThings}
 use Rattle.const_eval.specs.declared.consts.Consts.{Consts}
-use Rattle.const_eval.specs.Known.{Known}
+use Rattle.const_meanings.specs.Known.{Known}
 use Rattle.const_eval.specs.Things.{numbered, owner_of}
 use Rattle.const_eval.specs.Kinds.{basic_of_base, wrong_literal, refused_uint32, refused_value}
 use Rattle.const_eval.specs.Consts.{value_at, is_circular, value_in}
@@ -146,23 +146,21 @@ abbrev pub refused_circle : Site → ℕ → Identifier → List Refusal
 refused_circle site thing name =
     where_true (is_circular site.consts thing) (record { file = site.file; at = name.span.start; cause = CircularConst name.text })
 
--- a value of a constant of this kind: one of float or double is passed over, and there are none of other kinds than the basic ones
-abbrev pub refused_const_as : ℕ → Identifier → ℕ → Option Basic → Known → List Refusal
+-- a constant of a kind that isn't basic is refused whatever its value; one of float or double is passed over; and of the others the value is tested
+abbrev pub refused_const_as : ℕ → Identifier → ℕ → Option Basic → Option Known → List Refusal
 refused_const_as file name at None value = wrong_literal file name ∷ []
 refused_const_as file name at (Some basics.Float) value = []
 refused_const_as file name at (Some basics.Double) value = []
-refused_const_as file name at (Some kind) value = refused_value file name at kind value
+refused_const_as file name at (Some kind) value = of_known (refused_value file name at kind) value
 
-abbrev pub refused_const_value : ℕ → Const → Known → List Refusal
-refused_const_value file c value = refused_const_as file c.name (place_of_value c.value) (basic_of_base c.kind.base) value
-
--- the value of the constant of this number, where it has one
-abbrev pub refused_known_const : Site → ℕ → Const → List Refusal
-refused_known_const site thing c = of_known (refused_const_value site.file c) (value_at site.consts thing)
+-- the constant of this number, by its kind first and then by its value
+abbrev pub refused_const_value : Site → ℕ → Const → List Refusal
+refused_const_value site thing c =
+    refused_const_as site.file c.name (place_of_value c.value) (basic_of_base c.kind.base) (value_at site.consts thing)
 
 abbrev pub refused_const : Site → ℕ → Const → List Refusal
 refused_const site thing c =
-    refused_circle site thing c.name ++ (refused_known_const site thing c ++ refused_lengths site.file c.kind.base)
+    refused_circle site thing c.name ++ (refused_const_value site thing c ++ refused_lengths site.file c.kind.base)
 
 -- an enumerator is a number of int32, at its value or at its identifier where none is written
 abbrev pub refused_enumerator_value : ℕ → Enumerator → Known → List Refusal
@@ -210,18 +208,21 @@ refused_enum_default site enclosing f value =
     (not (is_enumerator_of site.consts.files (meant_by_base site enclosing f.kind.base) (meant_by_value site enclosing value)))
     (wrong_literal site.file f.name)
 
--- a default of a basic kind is a value of that kind
-abbrev pub refused_default_of : Site → Option (List ℕ) → Field → Value → Known → Option Basic → List Refusal
-refused_default_of site enclosing f value known (Some kind) = refused_value site.file f.name (place_of_value value) kind known
-refused_default_of site enclosing f value known None = refused_enum_default site enclosing f value
+-- float and double have no defaults, whatever their values; a default of another basic kind is a value of that kind
+abbrev pub refused_default_as : ℕ → Identifier → ℕ → Basic → Option Known → List Refusal
+refused_default_as file name at basics.Float value = wrong_literal file name ∷ []
+refused_default_as file name at basics.Double value = wrong_literal file name ∷ []
+refused_default_as file name at kind value = of_known (refused_value file name at kind) value
 
-abbrev pub refused_default_as : Site → Option (List ℕ) → Field → Value → Known → List Refusal
-refused_default_as site enclosing f value known = refused_default_of site enclosing f value known (basic_of_base f.kind.base)
+-- a default, by the kind of its field first: only that of a basic kind is tested by its value
+abbrev pub refused_default_of : Site → Option (List ℕ) → Field → Value → Option Basic → List Refusal
+refused_default_of site enclosing f value None = refused_enum_default site enclosing f value
+refused_default_of site enclosing f value (Some kind) =
+    refused_default_as site.file f.name (place_of_value value) kind (value_in site.consts site.names site.file enclosing value)
 
 abbrev pub refused_default : Site → Option (List ℕ) → Field → Option Value → List Refusal
 refused_default site enclosing f None = []
-refused_default site enclosing f (Some value) =
-    of_known (refused_default_as site enclosing f value) (value_in site.consts site.names site.file enclosing value)
+refused_default site enclosing f (Some value) = refused_default_of site enclosing f value (basic_of_base f.kind.base)
 
 -- members
 

@@ -1,9 +1,7 @@
 //! What constants and enumerators mean, and what values are.
 
 use crate::file_things::{FileThings, thing_of};
-use crate::known::{KnownView, known_with, signed};
-use crate::meaning::Meaning;
-use crate::origin::Origin;
+use const_meanings::{KnownView, Meaning, Origin, known_with, signed};
 use mj_base::{Items, Text};
 use module_resolver::{Names, Target};
 use mojom_ast::Value;
@@ -25,7 +23,7 @@ pub struct Consts {
 impl Consts {
     ghost use Rattle.std.specs.Prelude.{◌≡◌, IfOk};
     ghost use Rattle.std.specs.Option.{option_map};
-    ghost use Rattle.const_eval.specs.Known.{known_view};
+    ghost use Rattle.const_meanings.specs.Known.{known_view};
     ghost use Rattle.const_eval.specs.Consts.{value_at, is_circular, value_of_target, value_in};
 
     /// What the thing of this number is; none exactly where it has no value.

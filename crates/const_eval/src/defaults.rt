@@ -1,22 +1,20 @@
 //! The defaults of fields.
 
-ghost use Rattle.std.specs.Prelude.{◌≡◌, IfOk, OnOk};
+ghost use Rattle.std.specs.Prelude.{◌≡◌, IfOk, OnOk, Some};
 ghost use Rattle.mojom_ast.specs.TypeTrees.{base_view};
 ghost use Rattle.mojom_files.specs.Refusals.{best_of};
-ghost use Rattle.const_eval.specs.Known.{known_view};
-ghost use Rattle.const_eval.specs.Refused.{meant_by_base, meant_by_value, is_enumerator_of, refused_enum_default, refused_default_as, refused_default};
+ghost use Rattle.const_eval.specs.Refused.{meant_by_base, meant_by_value, is_enumerator_of, refused_enum_default, refused_default_of, refused_default};
 ghost use Rattle.const_eval.specs.steps.Views.{site_of};
 
 use crate::file_things::{FileThings, owner_of};
 use crate::here::Here;
-use crate::kinds::{check_value, refuse_literal};
-use crate::known::KnownView;
+use crate::kinds::{check_known, refuse_literal};
 use crate::places::place_of_value;
 use crate::trees::basic_of_base;
 use mj_base::Text;
 use module_resolver::Target;
 use mojom_ast::{BaseNode, Field, Value};
-use mojom_files::{Refusal, dotted};
+use mojom_files::{Basic, Refusal, dotted};
 use std::alloc::{AllocError, Global};
 
 /// What the name of a type means; none of a type that is no name.
@@ -95,24 +93,26 @@ fn check_enum_default(
     }
 }
 
-/// Tests a default that has this value.
-fn check_default_as(
+/// Tests a default of this basic kind: `float` and `double` have none, and one of the others is tested
+/// by its value, if it has one.
+fn check_basic_default(
     alloc: Global,
     best: &mut Option<Refusal>,
     here: &Here<'_>,
     enclosing: &Option<Text>,
     field: &Field,
     value: &Value,
-    known: KnownView<'_>,
+    kind: Basic,
 ) -> Result<(), AllocError>
-    ensures { OnOk result (best.new ≡ best_of best.old (refused_default_as (site_of here.now) enclosing.now field.now value.now (known_view known.entry))) }
+    ensures { OnOk result (best.new ≡ best_of best.old (refused_default_of (site_of here.now) enclosing.now field.now value.now (Some kind))) }
 {
-    match basic_of_base(&field.kind.node().base) {
-        Some(kind) => {
+    match kind {
+        Basic::Float | Basic::Double => refuse_literal(alloc, best, here.file, &field.name),
+        kind => {
+            let known = here.value_of(alloc, enclosing, value)?;
             let at = place_of_value(value);
-            check_value(alloc, best, here.file, &field.name, at, kind, known)
+            check_known(alloc, best, here.file, &field.name, at, kind, known)
         }
-        None => check_enum_default(alloc, best, here, enclosing, field, value),
     }
 }
 
@@ -129,8 +129,8 @@ pub fn check_default(
     let Some(value) = &field.default else {
         return Ok(());
     };
-    match here.value_of(alloc, enclosing, value)? {
-        Some(known) => check_default_as(alloc, best, here, enclosing, field, value, known),
-        None => Ok(()),
+    match basic_of_base(&field.kind.node().base) {
+        Some(kind) => check_basic_default(alloc, best, here, enclosing, field, value, kind),
+        None => check_enum_default(alloc, best, here, enclosing, field, value),
     }
 }

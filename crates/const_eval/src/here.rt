@@ -1,7 +1,7 @@
 //! Where something is tested.
 
 use crate::consts::Consts;
-use crate::known::KnownView;
+use const_meanings::KnownView;
 use mj_base::Text;
 use module_resolver::Names;
 use mojom_ast::Value;
@@ -19,7 +19,7 @@ pub struct Here<'a> {
 impl<'a> Here<'a> {
     ghost use Rattle.std.specs.Prelude.{◌≡◌, IfOk};
     ghost use Rattle.std.specs.Option.{option_map};
-    ghost use Rattle.const_eval.specs.Known.{known_view};
+    ghost use Rattle.const_meanings.specs.Known.{known_view};
     ghost use Rattle.const_eval.specs.Consts.{value_in};
 
     /// What a value is that stands within the definition of this full name.

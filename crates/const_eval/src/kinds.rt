@@ -1,18 +1,20 @@
 //! Which values the basic kinds take.
 
 ghost use Rattle.std.specs.Prelude.{◌≡◌, ◌<◌, ◌^◌, [], ◌∷◌, OnOk};
+ghost use Rattle.std.specs.Option.{option_map};
 ghost use Rattle.mojom_files.specs.Refusals.{best_of};
-ghost use Rattle.const_eval.specs.Known.{known_view};
+ghost use Rattle.const_meanings.specs.Known.{known_view};
 ghost use Rattle.const_eval.specs.Kinds.{range_of, is_within, wrong_literal, refused_outside, refused_uint32, refused_number, refused_value};
+ghost use Rattle.const_eval.specs.Refused.{of_known};
 
-use crate::known::KnownView;
+use const_meanings::KnownView;
 use mj_base::Text;
 use mojom_ast::Identifier;
 use mojom_files::{Basic, Cause, Refusal, keep};
 use std::alloc::{AllocError, Global};
 
 /// Numbers from the least to the greatest.
-#[derive(Clone, Copy, Debug, PartialEq, Eq)]
+#[derive(Clone, Copy)]
 pub struct Range {
     pub least: i128,
     pub greatest: i128,
@@ -131,5 +133,24 @@ pub fn check_value(
         (Basic::Bool, KnownView::Bool(_)) | (Basic::Text, KnownView::Text(_)) => Ok(()),
         (_, KnownView::Number(number)) => check_number(alloc, best, file, name, at, kind, number),
         _ => refuse_literal(alloc, best, file, name),
+    }
+}
+
+/// Tests what may have a value as one of a basic kind, for what has this name: nothing is tested where
+/// there is none.
+pub fn check_known(
+    alloc: Global,
+    best: &mut Option<Refusal>,
+    file: u32,
+    name: &Identifier,
+    at: u64,
+    kind: Basic,
+    known: Option<KnownView<'_>>,
+) -> Result<(), AllocError>
+    ensures { OnOk result (best.new ≡ best_of best.old (of_known (refused_value file name.now at kind) (option_map known_view known.entry))) }
+{
+    match known {
+        Some(value) => check_value(alloc, best, file, name, at, kind, value),
+        None => Ok(()),
     }
 }

@@ -1,4 +1,4 @@
-//! What the constants and enumerators of Mojom files mean, and the refusals of constants and numbers.
+//! What the constants and enumerators of Mojom files are, and the refusals of constants and numbers.
 #![tactic(auto)]
 
 mod consts;
@@ -8,17 +8,13 @@ mod error;
 mod file_things;
 mod here;
 mod kinds;
-mod known;
 mod laws;
 mod lengths;
 mod literal;
-mod meaning;
 mod members;
 mod ordinals;
-mod origin;
 mod origins;
 mod places;
-mod reach;
 mod stage;
 mod things;
 mod trees;
@@ -28,9 +24,5 @@ mod versions;
 pub use consts::Consts;
 pub use error::ConstError;
 pub use file_things::FileThings;
-pub use known::KnownView;
 pub use laws::{nothing_refused, one_evaluation};
-pub use literal::Literal;
-pub use meaning::{Meaning, one_meaning};
-pub use origin::Origin;
 pub use stage::evaluate;

@@ -1,23 +1,11 @@
-//! Literals.
+//! The literals that are written.
 
 ghost use Rattle.std.specs.Prelude.{◌≡◌, IfOk};
-ghost use Rattle.const_eval.specs.Known.{literal_of};
+ghost use Rattle.const_eval.specs.Origins.{literal_of};
 
-use mj_base::Items;
+use const_meanings::Literal;
 use mojom_ast::Value;
 use std::alloc::{AllocError, Global};
-
-/// A literal of a constant or an enumerator.
-#[derive(Drop)]
-pub enum Literal {
-    /// The bytes that a string stands for.
-    Text(Items<u8>),
-    Bool(bool),
-    /// A number, without steps that count on from it.
-    Number { negative: bool, magnitude: u64 },
-    /// The value of a constant of `float` or `double`, whatever is written there: no kind takes it.
-    Float,
-}
 
 /// A copy of a literal; none exactly of a name.
 pub fn literal_of(alloc: Global, value: &Value) -> Result<Option<Literal>, AllocError>

@@ -5,9 +5,9 @@ ghost use Rattle.const_eval.specs.Things.{numbered};
 ghost use Rattle.const_eval.specs.Origins.{of_thing, or_missing, origins_in};
 
 use crate::file_things::{FileThings, thing_of};
-use crate::literal::{Literal, literal_of};
-use crate::origin::Origin;
+use crate::literal::literal_of;
 use crate::trees::{basic_of_base, enumerators_of};
+use const_meanings::{Literal, Origin};
 use mj_base::Text;
 use module_resolver::Names;
 use mojom_ast::{Enumerator, Value};

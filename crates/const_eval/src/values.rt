@@ -1,20 +1,21 @@
 //! The values of constants and enumerators.
 
 ghost use Rattle.std.specs.Prelude.{◌≡◌, ◌++◌, OnOk};
-ghost use Rattle.std.specs.Option.{option_map_or};
+ghost use Rattle.std.specs.Option.{option_map, option_map_or};
 ghost use Rattle.mojom_files.specs.Refusals.{best_of};
-ghost use Rattle.const_eval.specs.Known.{known_view};
-ghost use Rattle.const_eval.specs.Refused.{place_of_value, refused_circle, refused_const_value, refused_known_const, refused_const};
+ghost use Rattle.const_meanings.specs.Known.{known_view};
+ghost use Rattle.const_eval.specs.Kinds.{basic_of_base};
+ghost use Rattle.const_eval.specs.Refused.{place_of_value, refused_circle, refused_const_as, refused_const_value, refused_const};
 ghost use Rattle.const_eval.specs.steps.Views.{site_of};
 ghost use Rattle.const_eval.specs.Refused.{refused_known_enumerator, refused_enumerator};
 
 use crate::here::Here;
-use crate::kinds::{check_value, refuse_literal};
-use crate::known::KnownView;
+use crate::kinds::{check_known, check_value, refuse_literal};
 use crate::lengths::check_lengths;
 use crate::places::place_of_value;
 use crate::trees::basic_of_base;
 use crate::versions::check_versions;
+use const_meanings::KnownView;
 use mj_base::Text;
 use mojom_ast::{Const, Enumerator, Identifier};
 use mojom_files::{Basic, Cause, Refusal, keep};
@@ -45,40 +46,40 @@ fn check_circle(
     Ok(())
 }
 
-/// Tests a value of a constant.
-fn check_const_value(
+/// Tests a constant by its kind, and where that is a basic one, but not `float` or `double`, by its
+/// value, if it has one.
+fn check_const_as(
     alloc: Global,
     best: &mut Option<Refusal>,
     file: u32,
     constant: &Const,
-    value: KnownView<'_>,
+    known: Option<KnownView<'_>>,
 ) -> Result<(), AllocError>
-    ensures { OnOk result (best.new ≡ best_of best.old (refused_const_value file constant.now (known_view value.entry))) }
+    ensures { OnOk result (best.new ≡ best_of best.old (refused_const_as file constant.now.name
+        (place_of_value constant.now.value) (basic_of_base constant.now.kind.base) (option_map known_view known.entry))) }
 {
     match basic_of_base(&constant.kind.node().base) {
         Some(Basic::Float | Basic::Double) => Ok(()),
         Some(kind) => {
             let at = place_of_value(&constant.value);
-            check_value(alloc, best, file, &constant.name, at, kind, value)
+            check_known(alloc, best, file, &constant.name, at, kind, known)
         }
         None => refuse_literal(alloc, best, file, &constant.name),
     }
 }
 
-/// Tests the value of the constant of this number, where it has one.
-fn check_known_const(
+/// Tests the kind of the constant of this number, and its value, where it has one.
+fn check_const_value(
     alloc: Global,
     best: &mut Option<Refusal>,
     here: &Here<'_>,
     thing: usize,
     constant: &Const,
 ) -> Result<(), AllocError>
-    ensures { OnOk result (best.new ≡ best_of best.old (refused_known_const (site_of here.now) thing constant.now)) }
+    ensures { OnOk result (best.new ≡ best_of best.old (refused_const_value (site_of here.now) thing constant.now)) }
 {
-    match here.consts.value_at(thing) {
-        Some(value) => check_const_value(alloc, best, here.file, constant, value),
-        None => Ok(()),
-    }
+    let known = here.consts.value_at(thing);
+    check_const_as(alloc, best, here.file, constant, known)
 }
 
 /// Tests the constant of this number.
@@ -92,7 +93,7 @@ pub fn check_const(
     ensures { OnOk result (best.new ≡ best_of best.old (refused_const (site_of here.now) thing constant.now)) }
 {
     check_circle(alloc, best, here, thing, &constant.name)?;
-    check_known_const(alloc, best, here, thing, constant)?;
+    check_const_value(alloc, best, here, thing, constant)?;
     check_lengths(best, here.file, &constant.kind);
     Ok(())
 }

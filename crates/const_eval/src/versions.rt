@@ -8,7 +8,7 @@ ghost use Rattle.const_eval.specs.Refused.{place_of_value, refused_version_value
 ghost use Rattle.const_eval.specs.steps.Views.{site_of};
 
 use crate::here::Here;
-use crate::kinds::{check_value, refuse_literal};
+use crate::kinds::{check_known, refuse_literal};
 use crate::places::place_of_value;
 use mj_base::Text;
 use mojom_ast::{Attribute, Identifier, Value};
@@ -36,13 +36,9 @@ fn check_version_value(
     let Some(value) = value else {
         return refuse_literal(alloc, best, here.file, name);
     };
-    match here.value_of(alloc, enclosing, value)? {
-        Some(known) => {
-            let at = place_of_value(value);
-            check_value(alloc, best, here.file, name, at, Basic::Uint32, known)
-        }
-        None => Ok(()),
-    }
+    let known = here.value_of(alloc, enclosing, value)?;
+    let at = place_of_value(value);
+    check_known(alloc, best, here.file, name, at, Basic::Uint32, known)
 }
 
 /// Tests an attribute before what has this name.

@@ -10,7 +10,7 @@ use Rattle.mojom_files.specs.declared.cause.Cause.TheVariants.{OrdinalDouble, Or
 use Rattle.mojom_files.specs.declared.refusal.Refusal.{Refusal}
 use Rattle.mojom_files.specs.Refusals.{where_true}
 use Rattle.module_resolver.specs.Uses.{is_min_version}
-use Rattle.const_eval.specs.Known.{Known, NumberValue}
+use Rattle.const_meanings.specs.Known.{Known, NumberValue}
 use Rattle.const_eval.specs.Consts.{value_in}
 use Rattle.kind_check.specs.Scopes.{Scope, meant_in, refused}
 use Rattle.kind_check.specs.Members.{Member, Numbered, held}

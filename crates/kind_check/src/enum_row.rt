@@ -2,14 +2,14 @@
 
 ghost use Rattle.std.specs.Prelude.{◌≡◌, pos, ◌+ℤ◌, map, IfOk};
 ghost use Rattle.kind_check.specs.Rows.{held_signed, whole_or, number_at, valued, member_row, default_in, enum_row};
-ghost use Rattle.const_eval.specs.Known.{known_view};
+ghost use Rattle.const_meanings.specs.Known.{known_view};
 ghost use Rattle.kind_check.specs.steps.Views.{scope_view, valued_view};
 
 use crate::enum_check::is_default;
 use crate::literal::known_in;
 use crate::member_row::is_extensible;
 use crate::scope::ScopeView;
-use const_eval::KnownView;
+use const_meanings::KnownView;
 use mj_base::{Items, Text};
 use mj_schema::{EnumRow, MemberRow};
 use mojom_ast::{Attribute, Enumerator, Value};

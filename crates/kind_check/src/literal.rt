@@ -2,7 +2,7 @@
 
 ghost use Rattle.std.specs.Prelude.{◌≡◌, IfOk};
 ghost use Rattle.std.specs.Option.{option_map};
-ghost use Rattle.const_eval.specs.Known.{known_view};
+ghost use Rattle.const_meanings.specs.Known.{known_view};
 ghost use Rattle.kind_check.specs.OrdinalRefusals.{known_in};
 ghost use Rattle.kind_check.specs.Rows.{literal_of, literal_in, const_row};
 ghost use Rattle.kind_check.specs.steps.Views.{scope_view};
@@ -10,7 +10,7 @@ ghost use Rattle.kind_check.specs.steps.Views.{scope_view};
 use crate::kind_of::kind_of;
 use crate::row_table::RowTable;
 use crate::scope::ScopeView;
-use const_eval::KnownView;
+use const_meanings::KnownView;
 use mj_base::{Items, Text};
 use mj_schema::{ConstRow, Literal};
 use mojom_ast::{Const, Value};

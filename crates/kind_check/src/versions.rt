@@ -5,7 +5,7 @@ ghost use Rattle.std.specs.List.{flat_map};
 ghost use Rattle.std.specs.Option.{option_copied};
 ghost use Rattle.mojom_ast.specs.TypeTrees.{base_view};
 ghost use Rattle.mojom_files.specs.Refusals.{best_of};
-ghost use Rattle.const_eval.specs.Known.{known_view};
+ghost use Rattle.const_meanings.specs.Known.{known_view};
 ghost use Rattle.kind_check.specs.steps.Views.{member_view, numbered_view, scope_view};
 ghost use Rattle.kind_check.specs.OrdinalRefusals.{held_whole, version_of_known, min_version, version_of, refused_falls, is_behind, needs_null, refused_late};
 
@@ -13,7 +13,7 @@ use crate::meant::is_object;
 use crate::member::{MemberView, NumberedView};
 use crate::refuse::{Rule, refuse};
 use crate::scope::{ScopeView, meant_in};
-use const_eval::KnownView;
+use const_meanings::KnownView;
 use mojom_ast::{Attribute, BaseNode, Type, Value};
 use mojom_files::Refusal;
 use std::alloc::{AllocError, Global};

@@ -2,7 +2,8 @@
 
 use crate::answer::placed;
 use crate::stages::Stages;
-use const_eval::{Consts, KnownView};
+use const_eval::Consts;
+use const_meanings::KnownView;
 use module_resolver::{Names, Target};
 use mojom_ast::Name;
 use mojom_files::{Cause, NamedFile, Refusal, dotted};

@@ -22,10 +22,10 @@ use Rattle.module_resolver.specs.LookUp.{look_up, sort_of}
 use Rattle.module_resolver.specs.declared.target.DefinitionSort.{DefinitionSort}
 use Rattle.module_resolver.specs.declared.target.DefinitionSort.TheVariants as sorts
 use Rattle.module_resolver.specs.declared.target.Target.{Target}
-use Rattle.const_eval.specs.Kinds.{basic_of_base, basic_of_parts, is_within, refused_value, signed_bits, unsigned_bits, wrong_literal}
-use Rattle.const_eval.specs.Known.{Known, TextValue, BoolValue, NumberValue, FloatValue}
+use Rattle.const_eval.specs.Kinds.{basic_of_base, basic_of_parts, is_within, signed_bits, unsigned_bits, wrong_literal}
+use Rattle.const_meanings.specs.Known.{Known, TextValue, BoolValue, NumberValue, FloatValue}
 use Rattle.const_eval.specs.declared.kinds.Range.{Range}
-use Rattle.const_eval.specs.Refused.{Site, is_enumerator_of, meant_by_base, meant_by_value, of_known, place_of_value, refused_default}
+use Rattle.const_eval.specs.Refused.{Site, is_enumerator_of, meant_by_base, meant_by_value, place_of_value, refused_default}
 use Rattle.const_eval.specs.Refused.{refused_default_as, refused_default_of, refused_enum_default}
 use Rattle.const_eval.specs.declared.file_things.FileThings.{FileThings}
 use Rattle.mj_schema.specs.KindTrees as kinds
@@ -226,8 +226,8 @@ whole_holds Other w signed test number k literal refusal tested e is l =
 module _ (Other : KindTree → Literal → Type 0) (file : ℕ) (name : Identifier) (at : ℕ) (nullable : Bool) where
   abbrev Given : Basic → Known → Type 0
   Given basic known =
-      (k : KindTree) (literal : Literal) → refused_value file name at basic known ≡ [] → basic_kind nullable basic ≡ Some k → literal_of known ≡ Some literal
-      → Holds Other k literal
+      (k : KindTree) (literal : Literal) → refused_default_as file name at basic (Some known) ≡ [] → basic_kind nullable basic ≡ Some k
+      → literal_of known ≡ Some literal → Holds Other k literal
 
   basic_holds : (basic : Basic) (known : Known) → Given basic known
   basic_holds basics.Float known k literal e is l = absurd cc
@@ -323,7 +323,7 @@ module _ (Other : KindTree → Literal → Type 0) (rows : List FileRows) (scope
   base_holds : (f : Field) (value : Value) (known : Known) (literal : Literal) → known_in scope value ≡ Some known → literal_of known ≡ Some literal
       → (base : BaseTree) → (meant_by_base (site_of scope) scope.enclosing f.kind.base ≡ meant_by_base (site_of scope) scope.enclosing base)
       → (nullable : Bool) (k : KindTree) → kind_of_base rows scope base nullable ≡ Some k
-      → refused_default_of (site_of scope) scope.enclosing f value known (basic_of_base base) ≡ [] → Holds Other k literal
+      → refused_default_of (site_of scope) scope.enclosing f value (basic_of_base base) ≡ [] → Holds Other k literal
   base_holds f value known literal knows l (Named name) means nullable k is e = go (basic_of_parts name.parts) e is
     where
       t : Option Target
@@ -338,11 +338,14 @@ module _ (Other : KindTree → Literal → Type 0) (rows : List FileRows) (scope
           let at = ap (λ (o : Option Target). where_true (not (is_enumerator_of scope.consts.files o v)) (wrong_literal scope.file f.name)) means in
           true_of (is_enumerator_of scope.consts.files t v) (none_where (not (is_enumerator_of scope.consts.files t v)) _ (sym at ∙ e))
 
-      go : (b : Option Basic) → refused_default_of (site_of scope) scope.enclosing f value known b ≡ []
+      go : (b : Option Basic) → refused_default_of (site_of scope) scope.enclosing f value b ≡ []
           → option_and_then (meant_kind rows scope nullable) (option_or (option_map meant.Basic b) (option_map meant.Target t)) ≡ Some k
           → Holds Other k literal
       go None e is = names_hold t nullable k value known literal is (enumerated e) knows l
-      go (Some basic) e is = basic_holds Other scope.file f.name (place_of_value value) nullable basic known k literal e is l
+      go (Some basic) e is =
+          let at : ℕ = place_of_value value in
+          let one = sym (ap (refused_default_as scope.file f.name at basic) knows) ∙ e in
+          basic_holds Other scope.file f.name at nullable basic known k literal one is l
   base_holds f value known literal knows l (ArrayOf of inner count) means nullable k is e = unnamed f value literal k means e
   base_holds f value known literal knows l (MapOf key of_key one of_value) means nullable k is e = unnamed f value literal k means e
   base_holds f value known literal knows l (HandleOf sort) means nullable k is e = unnamed f value literal k means e
@@ -354,7 +357,7 @@ module _ (Other : KindTree → Literal → Type 0) (rows : List FileRows) (scope
       → Holds Other k literal
   field_default f k literal is e given = of f.default e given
     where
-      known_of : (value : Value) (o : Option Known) → known_in scope value ≡ o → of_known (refused_default_as (site_of scope) scope.enclosing f value) o ≡ []
+      known_of : (value : Value) (o : Option Known) → known_in scope value ≡ o → refused_default (site_of scope) scope.enclosing f (Some value) ≡ []
           → option_and_then literal_of o ≡ Some literal → Holds Other k literal
       known_of value None knows e given = absurd cc
       known_of value (Some known) knows e given = base_holds f value known literal knows given f.kind.base refl f.kind.nullable k is e

@@ -26,7 +26,7 @@ use Rattle.module_resolver.specs.declared.target.Target.{Target}
 use Rattle.module_resolver.specs.declared.target.Target.TheVariants as targets
 use Rattle.const_eval.specs.Consts.{AreConsts, value_at, value_of_target}
 use Rattle.const_eval.specs.Evaluated.{refused_things}
-use Rattle.const_eval.specs.Known.{Known, TextValue, BoolValue, NumberValue, FloatValue}
+use Rattle.const_meanings.specs.Known.{Known, TextValue, BoolValue, NumberValue, FloatValue}
 use Rattle.const_eval.specs.Origins.{origin_of_definition, origin_of_value, origins_in_order, origins_of_enumerators}
 use Rattle.const_eval.specs.Refused.{Site, is_enumerator_of, of_known, refused_circle, refused_definition, refused_enumerator}
 use Rattle.const_eval.specs.Refused.{refused_enumerator_value}
@@ -34,9 +34,9 @@ use Rattle.const_eval.specs.Refused.{refused_enumerators, refused_known_enumerat
 use Rattle.const_eval.specs.Things.{numbered, owner_of, owners, owners_in, thing_within, things_at, things_of_files}
 use Rattle.const_eval.specs.declared.consts.Consts.{Consts}
 use Rattle.const_eval.specs.declared.file_things.FileThings.{FileThings}
-use Rattle.const_eval.specs.declared.literal.Literal.TheVariants as written
-use Rattle.const_eval.specs.declared.origin.Origin.{Origin}
-use Rattle.const_eval.specs.declared.origin.Origin.TheVariants.{Written}
+use Rattle.const_meanings.specs.declared.literal.Literal.TheVariants as written
+use Rattle.const_meanings.specs.declared.origin.Origin.{Origin}
+use Rattle.const_meanings.specs.declared.origin.Origin.TheVariants.{Written}
 use Rattle.mj_schema.specs.KindTrees as kinds
 use Rattle.mj_schema.specs.KindTrees.{KindTree}
 use Rattle.mj_schema.specs.declared.kind.Width.TheVariants.{Bits32}

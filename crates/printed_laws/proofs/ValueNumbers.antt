@@ -15,20 +15,20 @@ use Rattle.module_resolver.specs.LookUp.{look_up}
 use Rattle.module_resolver.specs.declared.target.Target.{Target}
 use Rattle.const_eval.specs.Consts.{known_of_meaning, known_of_origin, value_at, value_in, value_of_target}
 use Rattle.const_eval.specs.Kinds.{is_within, signed_bits}
-use Rattle.const_eval.specs.Known.{Known, NumberValue, known_with, number_of, signed}
-use Rattle.const_eval.specs.Meanings.{AreMeanings, HasValue}
-use Rattle.const_eval.specs.Needs.{EndsAt, added, ahead, counts_on, needed, needed_by, or_itself, source}
+use Rattle.const_meanings.specs.Known.{Known, NumberValue, known_with, number_of, signed}
+use Rattle.const_meanings.specs.Meanings.{AreMeanings, HasValue}
+use Rattle.const_meanings.specs.Needs.{EndsAt, added, ahead, counts_on, needed, needed_by, or_itself, source}
 use Rattle.const_eval.specs.Origins.{of_thing, origin_of_value, origin_or}
 use Rattle.const_eval.specs.Refused.{Site, of_known, refused_circle, refused_enumerator, refused_enumerator_value, refused_known_enumerator, refused_versions}
 use Rattle.const_eval.specs.Things.{numbered, thing_of}
 use Rattle.const_eval.specs.declared.consts.Consts.{Consts}
-use Rattle.const_eval.specs.declared.literal.Literal.{Literal}
-use Rattle.const_eval.specs.declared.literal.Literal.TheVariants as literals
-use Rattle.const_eval.specs.declared.meaning.Meaning.{Meaning}
-use Rattle.const_eval.specs.declared.meaning.Meaning.TheVariants as meanings
-use Rattle.const_eval.specs.declared.origin.Origin.{Origin}
-use Rattle.const_eval.specs.declared.origin.Origin.TheVariants.{Written, Of, Next, Missing}
-use Rattle.const_eval.proofs.Reaching.{one_meaning}
+use Rattle.const_meanings.specs.declared.literal.Literal.{Literal}
+use Rattle.const_meanings.specs.declared.literal.Literal.TheVariants as literals
+use Rattle.const_meanings.specs.declared.meaning.Meaning.{Meaning}
+use Rattle.const_meanings.specs.declared.meaning.Meaning.TheVariants as meanings
+use Rattle.const_meanings.specs.declared.origin.Origin.{Origin}
+use Rattle.const_meanings.specs.declared.origin.Origin.TheVariants.{Written, Of, Next, Missing}
+use Rattle.const_meanings.proofs.Reaching.{one_meaning}
 use Rattle.kind_check.specs.OrdinalRefusals.{known_in}
 use Rattle.kind_check.specs.Rows.{Valued, held_signed, number_at, valued_from, whole_or}
 use Rattle.kind_check.specs.Scopes.{Scope}

@@ -25,16 +25,16 @@ use Rattle.module_resolver.specs.declared.file_names.FileNames.{FileNames}
 use Rattle.module_resolver.specs.declared.target.Target.{Target}
 use Rattle.const_eval.specs.Consts.{AreConsts, value_at, value_of_target}
 use Rattle.const_eval.specs.Kinds.{basic_of_base}
-use Rattle.const_eval.specs.Known.{Known, TextValue, BoolValue, NumberValue, FloatValue, known_with}
+use Rattle.const_meanings.specs.Known.{Known, TextValue, BoolValue, NumberValue, FloatValue, known_with}
 use Rattle.const_eval.specs.Origins.{of_thing, origin_of_const, origin_of_definition, origin_of_item, origin_of_value, origin_or, origins_in, origins_in_order}
 use Rattle.const_eval.specs.Origins.{origins_of_enumerators}
 use Rattle.const_eval.specs.Things.{numbered, thing_of, things_of_files}
 use Rattle.const_eval.specs.declared.consts.Consts.{Consts}
 use Rattle.const_eval.specs.declared.file_things.FileThings.{FileThings}
-use Rattle.const_eval.specs.declared.literal.Literal.{Literal}
-use Rattle.const_eval.specs.declared.literal.Literal.TheVariants as written
-use Rattle.const_eval.specs.declared.origin.Origin.{Origin}
-use Rattle.const_eval.specs.declared.origin.Origin.TheVariants.{Written, Next}
+use Rattle.const_meanings.specs.declared.literal.Literal.{Literal}
+use Rattle.const_meanings.specs.declared.literal.Literal.TheVariants as written
+use Rattle.const_meanings.specs.declared.origin.Origin.{Origin}
+use Rattle.const_meanings.specs.declared.origin.Origin.TheVariants.{Written, Next}
 use Rattle.mj_schema.specs.KindTrees.{KindTree}
 use Rattle.mj_schema.specs.Layout.{draft_field, draft_of as row_draft}
 use Rattle.mj_schema.specs.declared.rows.DraftField.{DraftField}

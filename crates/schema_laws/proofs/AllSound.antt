@@ -15,10 +15,10 @@ use Rattle.module_resolver.specs.NameRefusals.{refused_uses}
 use Rattle.module_resolver.specs.Uses.{uses_in_type, uses_in_value, uses_in_attributes, uses_in_item}
 use Rattle.const_eval.specs.declared.consts.Consts.{Consts}
 use Rattle.const_eval.specs.declared.file_things.FileThings.{FileThings}
-use Rattle.const_eval.specs.declared.origin.Origin.{Origin}
-use Rattle.const_eval.specs.declared.origin.Origin.TheVariants.{Next}
+use Rattle.const_meanings.specs.declared.origin.Origin.{Origin}
+use Rattle.const_meanings.specs.declared.origin.Origin.TheVariants.{Next}
 use Rattle.const_eval.specs.Kinds.{basic_of_base}
-use Rattle.const_eval.specs.Needs.{needed_by, needed, counts_on}
+use Rattle.const_meanings.specs.Needs.{needed_by, needed, counts_on}
 use Rattle.const_eval.specs.Consts.{AreConsts, value_at, is_circular}
 use Rattle.const_eval.specs.Things.{numbered, things_at, things_of_files}
 use Rattle.const_eval.specs.Origins.{origin_of_value, origin_of_const, origin_of_item, origin_of_definition, origins_of_enumerators}

@@ -22,15 +22,15 @@ use Rattle.module_resolver.specs.NameRefusals.{refused_uses}
 use Rattle.module_resolver.specs.Uses.{uses_in_value}
 use Rattle.const_eval.specs.declared.consts.Consts.{Consts}
 use Rattle.const_eval.specs.declared.file_things.FileThings.{FileThings}
-use Rattle.const_eval.specs.declared.origin.Origin.{Origin}
-use Rattle.const_eval.specs.declared.origin.Origin.TheVariants.{Of}
-use Rattle.const_eval.specs.Known.{Known, TextValue, BoolValue, NumberValue, FloatValue, signed}
+use Rattle.const_meanings.specs.declared.origin.Origin.{Origin}
+use Rattle.const_meanings.specs.declared.origin.Origin.TheVariants.{Of}
+use Rattle.const_meanings.specs.Known.{Known, TextValue, BoolValue, NumberValue, FloatValue, signed}
 use Rattle.const_eval.specs.Kinds.{basic_of_parts, basic_of_base, refused_value}
-use Rattle.const_eval.specs.Needs.{needed_by, counts_on}
+use Rattle.const_meanings.specs.Needs.{needed_by, counts_on}
 use Rattle.const_eval.specs.Consts.{AreConsts, value_at, value_of_target, value_in}
 use Rattle.const_eval.specs.Things.{things_of_files, thing_of}
 use Rattle.const_eval.specs.Origins.{of_thing, origin_of_value, origin_of_const}
-use Rattle.const_eval.specs.Refused.{Site, place_of_value, of_known, refused_circle, refused_const_as, refused_const_value, refused_known_const, refused_lengths}
+use Rattle.const_eval.specs.Refused.{Site, place_of_value, refused_circle, refused_const_as, refused_const_value, refused_lengths}
 use Rattle.mj_schema.specs.KindTrees.{KindTree}
 use Rattle.mj_schema.specs.declared.rows.Literal.TheVariants as literals
 use Rattle.kind_check.specs.declared.counts.FileRows.{FileRows}
@@ -82,7 +82,7 @@ no_float_value file name at basics.Float FloatValue e = absurd cc
 no_float_value file name at basics.Double FloatValue e = absurd cc
 
 is_basic : (file : ℕ) (name : Identifier) (at : ℕ) (basic : Option Basic) (known : Known)
-    → ((b : Basic) → basic ≡ Some b → is_float_basic b ≡ false) → refused_const_as file name at basic known ≡ [] → IsBasic basic known
+    → ((b : Basic) → basic ≡ Some b → is_float_basic b ≡ false) → refused_const_as file name at basic (Some known) ≡ [] → IsBasic basic known
 is_basic file name at None known plain e = absurd cc
 is_basic file name at (Some basics.Float) known plain e = let bad : true ≡ false = plain basics.Float refl in absurd cc
 is_basic file name at (Some basics.Double) known plain e = let bad : true ≡ false = plain basics.Double refl in absurd cc
@@ -223,9 +223,11 @@ module _ (files : List NamedFile) (order : List ℕ) (consts : Consts) (are : Ar
       subst (λ (i : DefinitionItem). refused_item scope d.full i ≡ []) c.is
       (are_quiet.kinds file tree is d (among_at (definitions_of tree.tree) n d c.there)) in
       let one = both_empty (refused_circle site thing c.constant.name) _ (const_quiet files order consts are are_quiet file tree is n c) in
-      let two = both_empty (refused_known_const site thing c.constant) (refused_lengths file c.constant.kind.base) one.1 in
-      let value : refused_const_value file c.constant known ≡ [] = sym (ap (of_known (refused_const_value file c.constant)) e) ∙ two.0 in
-      is_basic file c.constant.name (place_of_value c.constant.value) (basic_of_base c.constant.kind.base) known
+      let two = both_empty (refused_const_value site thing c.constant) (refused_lengths file c.constant.kind.base) one.1 in
+      let at : ℕ = place_of_value c.constant.value in
+      let basic = basic_of_base c.constant.kind.base in
+      let value : refused_const_as file c.constant.name at basic (Some known) ≡ [] = sym (ap (refused_const_as file c.constant.name at basic) e) ∙ two.0 in
+      is_basic file c.constant.name at basic known
       (no_float scope c.constant.name c.constant.kind.base c.constant.kind.nullable kinds) value
 
   -- the constant that stands there has a row

@@ -14,12 +14,12 @@ use Rattle.mojom_files.specs.Definitions.{Defined, enumerators_of}
 use Rattle.module_resolver.specs.NamesOf.{names_of}
 use Rattle.module_resolver.specs.NameRefusals.{refused_uses}
 use Rattle.module_resolver.specs.Uses.{Use, uses_in_option, uses_in_attributes, uses_in_enum, uses_in_item, uses_of}
-use Rattle.const_eval.specs.declared.literal.Literal.TheVariants as literals
-use Rattle.const_eval.specs.declared.origin.Origin.{Origin}
-use Rattle.const_eval.specs.declared.origin.Origin.TheVariants.{Written, Next}
-use Rattle.const_eval.specs.Known.{Known, TextValue, BoolValue, NumberValue, FloatValue}
+use Rattle.const_meanings.specs.declared.literal.Literal.TheVariants as literals
+use Rattle.const_meanings.specs.declared.origin.Origin.{Origin}
+use Rattle.const_meanings.specs.declared.origin.Origin.TheVariants.{Written, Next}
+use Rattle.const_meanings.specs.Known.{Known, TextValue, BoolValue, NumberValue, FloatValue}
 use Rattle.const_eval.specs.Kinds.{refused_value}
-use Rattle.const_eval.specs.Needs.{needed_by, counts_on}
+use Rattle.const_meanings.specs.Needs.{needed_by, counts_on}
 use Rattle.const_eval.specs.Consts.{value_at, is_circular}
 use Rattle.const_eval.specs.Things.{numbered, things_of_files}
 use Rattle.const_eval.specs.Origins.{origin_of_value, origin_or, origins_in_order, origins_of_enumerators}

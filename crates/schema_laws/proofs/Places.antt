@@ -9,8 +9,8 @@ use Rattle.mojom_files.specs.declared.named_file.NamedFile.{NamedFile}
 use Rattle.mojom_files.specs.Definitions.{Defined, definitions_of, enumerators_of}
 use Rattle.module_resolver.specs.declared.file_names.FileNames.{FileNames}
 use Rattle.const_eval.specs.declared.file_things.FileThings.{FileThings}
-use Rattle.const_eval.specs.declared.origin.Origin.{Origin}
-use Rattle.const_eval.specs.declared.origin.Origin.TheVariants.{Next}
+use Rattle.const_meanings.specs.declared.origin.Origin.{Origin}
+use Rattle.const_meanings.specs.declared.origin.Origin.TheVariants.{Next}
 use Rattle.const_eval.specs.Things.{numbered, owners_in, owners, things_at, things_from}
 use Rattle.const_eval.specs.Origins.{origin_or, origins_in_order, origins_of_enumerators, origin_of_definition, origins_in}
 use Rattle.schema_laws.proofs.Quiet.{both_empty}

@@ -13,7 +13,7 @@ use Rattle.mj_schema.specs.Layout.{never_fall, are_small}
 use Rattle.mj_schema.specs.declared.rows.DraftField.{DraftField}
 use Rattle.kind_check.specs.declared.counts.FileRows.{FileRows}
 use Rattle.kind_check.specs.declared.list_sort.ListSort.{ListSort}
-use Rattle.const_eval.specs.Known.{Known, TextValue, BoolValue, NumberValue, FloatValue}
+use Rattle.const_meanings.specs.Known.{Known, TextValue, BoolValue, NumberValue, FloatValue}
 use Rattle.kind_check.specs.Scopes.{Scope}
 use Rattle.kind_check.specs.Members.{Member, Numbered, held, ordinal_at, numbered_from, numbered}
 use Rattle.kind_check.specs.TypeRefusals.{refused_in_member}

@@ -4,18 +4,18 @@ use Rattle.std.specs.Prelude.{Bool, true, false, Option, Some, None, slice_get}
 use Rattle.mojom_files.specs.declared.named_file.NamedFile.{NamedFile}
 use Rattle.module_resolver.specs.declared.file_names.FileNames.{FileNames}
 use Rattle.const_eval.specs.declared.consts.Consts.{Consts}
-use Rattle.const_eval.specs.declared.meaning.Meaning.{Meaning}
-use Rattle.const_eval.specs.declared.meaning.Meaning.TheVariants.{Value, Circular, Nothing}
-use Rattle.const_eval.specs.declared.origin.Origin.{Origin}
-use Rattle.const_eval.specs.declared.origin.Origin.TheVariants.{Written, Of, Next, Missing}
-use Rattle.const_eval.specs.declared.reach.Reach.{Reach}
+use Rattle.const_meanings.specs.declared.meaning.Meaning.{Meaning}
+use Rattle.const_meanings.specs.declared.meaning.Meaning.TheVariants.{Value, Circular, Nothing}
+use Rattle.const_meanings.specs.declared.origin.Origin.{Origin}
+use Rattle.const_meanings.specs.declared.origin.Origin.TheVariants.{Written, Of, Next, Missing}
+use Rattle.const_meanings.specs.declared.reach.Reach.{Reach}
 use Rattle.const_eval.specs.Consts.{AreConsts}
-use Rattle.const_eval.specs.Meanings.{IsMeaning, AreMeanings}
-use Rattle.const_eval.specs.Needs.{needed_by, needed, ahead, added}
+use Rattle.const_meanings.specs.Meanings.{IsMeaning, AreMeanings}
+use Rattle.const_meanings.specs.Needs.{needed_by, needed, ahead, added}
 use Rattle.const_eval.specs.Origins.{origins_of}
 use Rattle.const_eval.specs.Things.{things_of_files}
-use Rattle.const_eval.specs.steps.Reached.{reach, AreFar, is_reached, is_written}
-use Rattle.const_eval.proofs.Reaching.{FarUpTo, far_more, far_all, value_is, circular_is, nothing_is, ends_unwritten, each_more}
+use Rattle.const_meanings.specs.steps.Reached.{reach, AreFar, is_reached, is_written}
+use Rattle.const_meanings.proofs.Reaching.{FarUpTo, far_more, far_all, value_is, circular_is, nothing_is, ends_unwritten, each_more}
 
 -- where so many steps lead from each of the first things
 reaches_to : (things : List Origin) (steps n : ℕ) → (reaches : List Reach) × FarUpTo things steps n reaches

@@ -16,7 +16,7 @@ use Rattle.module_resolver.proofs.FileNumbers.{imports_below}
 use Rattle.module_resolver.proofs.Leading.{as_many, place_there, leads_at}
 use Rattle.module_resolver.proofs.Marks.{distinct_push}
 use Rattle.module_resolver.proofs.Walks.{found_all, found_below, left_is, leads_on, walk_begins, walk_more, circle_is, taken_more, free_left}
-use Rattle.const_eval.proofs.Pigeons.{twice}
+use Rattle.const_meanings.proofs.Pigeons.{twice}
 
 -- numbers below a limit, none of them twice
 record AreDifferent (limit : ℕ) (numbers : List ℕ) : Type 0 where

@@ -23,11 +23,11 @@ use Rattle.module_resolver.specs.NamesOf.{sort_of_item, names_of}
 use Rattle.module_resolver.specs.NameRefusals.{fits_sort, fits, refused_uses}
 use Rattle.module_resolver.specs.Uses.{uses_in_value}
 use Rattle.const_eval.specs.declared.file_things.FileThings.{FileThings}
-use Rattle.const_eval.specs.declared.literal.Literal.{Literal}
-use Rattle.const_eval.specs.declared.literal.Literal.TheVariants as literals
-use Rattle.const_eval.specs.declared.origin.Origin.{Origin}
-use Rattle.const_eval.specs.declared.origin.Origin.TheVariants.{Written, Of}
-use Rattle.const_eval.specs.Needs.{needed_by, counts_on}
+use Rattle.const_meanings.specs.declared.literal.Literal.{Literal}
+use Rattle.const_meanings.specs.declared.literal.Literal.TheVariants as literals
+use Rattle.const_meanings.specs.declared.origin.Origin.{Origin}
+use Rattle.const_meanings.specs.declared.origin.Origin.TheVariants.{Written, Of}
+use Rattle.const_meanings.specs.Needs.{needed_by, counts_on}
 use Rattle.const_eval.specs.Things.{owners, things_of_files, thing_within, thing_of}
 use Rattle.const_eval.specs.Origins.{of_thing, origin_of_value, origin_of_const, origins_in}
 use Rattle.schema_laws.proofs.Rowed.{defined_as}

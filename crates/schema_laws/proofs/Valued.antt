@@ -3,18 +3,18 @@ use Rattle.std.proofs.Common.{◌≡◌, ◌<◌, ◌-◌, ℕ, zero, suc, lengt
 use Rattle.std.specs.Prelude.{Bool, true, false, Option, Some, None, option_and_then, slice_get}
 use Rattle.std.proofs.lemmas.Option.{slice_get_within, slice_get-get_or}
 use Rattle.const_eval.specs.declared.consts.Consts.{Consts}
-use Rattle.const_eval.specs.declared.literal.Literal.{Literal}
-use Rattle.const_eval.specs.declared.literal.Literal.TheVariants as literals
-use Rattle.const_eval.specs.declared.meaning.Meaning.{Meaning}
-use Rattle.const_eval.specs.declared.meaning.Meaning.TheVariants.{Value, Circular, Nothing}
-use Rattle.const_eval.specs.declared.origin.Origin.{Origin}
-use Rattle.const_eval.specs.declared.origin.Origin.TheVariants.{Written, Of, Next, Missing}
-use Rattle.const_eval.specs.Known.{Known, TextValue, BoolValue, NumberValue, FloatValue, number_of, known_with}
-use Rattle.const_eval.specs.Needs.{needed_by, needed, or_itself, source, ahead, added, counts_on, NeedsItself, EndsAt}
-use Rattle.const_eval.specs.Meanings.{HasValue, IsMeaning, AreMeanings}
+use Rattle.const_meanings.specs.declared.literal.Literal.{Literal}
+use Rattle.const_meanings.specs.declared.literal.Literal.TheVariants as literals
+use Rattle.const_meanings.specs.declared.meaning.Meaning.{Meaning}
+use Rattle.const_meanings.specs.declared.meaning.Meaning.TheVariants.{Value, Circular, Nothing}
+use Rattle.const_meanings.specs.declared.origin.Origin.{Origin}
+use Rattle.const_meanings.specs.declared.origin.Origin.TheVariants.{Written, Of, Next, Missing}
+use Rattle.const_meanings.specs.Known.{Known, TextValue, BoolValue, NumberValue, FloatValue, number_of, known_with}
+use Rattle.const_meanings.specs.Needs.{needed_by, needed, or_itself, source, ahead, added, counts_on, NeedsItself, EndsAt}
+use Rattle.const_meanings.specs.Meanings.{HasValue, IsMeaning, AreMeanings}
 use Rattle.const_eval.specs.Consts.{known_of_origin, known_of_meaning, value_at, is_circular_meaning, is_circular}
-use Rattle.const_eval.proofs.Orbits.{reached_loops, ends_here}
-use Rattle.const_eval.proofs.Reaching.{one_meaning}
+use Rattle.const_meanings.proofs.Orbits.{reached_loops, ends_here}
+use Rattle.const_meanings.proofs.Reaching.{one_meaning}
 
 abbrev pub is_number : Known → Bool
 is_number (NumberValue number) = true

@@ -1,6 +1,6 @@
 use Rattle.std.proofs.Common.{◌≡◌, drop, map, ◌++◌}
 use Rattle.mojom_ast.specs.declared.definitions.Enumerator.{Enumerator}
-use Rattle.const_eval.specs.declared.origin.Origin.TheVariants.{Next}
+use Rattle.const_meanings.specs.declared.origin.Origin.TheVariants.{Next}
 use Rattle.const_eval.specs.Origins.{origin_of_value, origin_or, origins_in_order}
 use Rattle.const_eval.proofs.origins.Scope.add_in_order.Given as goal
 

@@ -1,0 +1,4 @@
+pub mod Known
+pub mod Needs
+pub mod Meanings
+pub mod steps
