@@ -6,7 +6,7 @@ use Rattle.mojom_ast.specs.TypeTrees.{BaseTree, Named}
 use Rattle.mojom_files.specs.Basics.{basic_of}
 use Rattle.mojom_files.specs.declared.basic.Basic.{Basic}
 use Rattle.mojom_files.specs.declared.basic.Basic.TheVariants as basics
-use Rattle.mojom_files.specs.declared.cause.Cause.TheVariants.{WrongLiteral, OutOfRange}
+use Rattle.mojom_files.specs.Causes.{WrongLiteral, OutOfRange}
 use Rattle.mojom_files.specs.declared.refusal.Refusal.{Refusal}
 use Rattle.mojom_files.specs.Refusals.{where_true}
 use Rattle.const_eval.specs.declared.kinds.Range.{Range}

@@ -2,6 +2,7 @@ pub mod Things
 pub mod Origins
 pub mod Consts
 pub mod Kinds
+pub mod Ordinals
 pub mod Refused
 pub mod Evaluated
 pub mod Laws

@@ -26,7 +26,7 @@ use Rattle.mojom_ast.specs.declared.definitions.Parameter.{Parameter}
 use Rattle.mojom_ast.specs.declared.definitions.Const.{Const}
 use Rattle.mojom_files.specs.declared.basic.Basic.{Basic}
 use Rattle.mojom_files.specs.declared.basic.Basic.TheVariants as basics
-use Rattle.mojom_files.specs.declared.cause.Cause.TheVariants.{CircularConst}
+use Rattle.mojom_files.specs.Causes.{CircularConst}
 use Rattle.mojom_files.specs.declared.refusal.Refusal.{Refusal}
 use Rattle.mojom_files.specs.Names.{dotted}
 use Rattle.mojom_files.specs.Definitions.{Defined, enumerators_of}
@@ -40,6 +40,7 @@ use Rattle.module_resolver.specs.Uses.{is_min_version, response_of}
 use Rattle.const_eval.specs.declared.file_things.FileThings.{FileThings}
 use Rattle.const_eval.specs.declared.consts.Consts.{Consts}
 use Rattle.const_meanings.specs.Known.{Known}
+use Rattle.const_eval.specs.Ordinals.{NumberedAs, ordinal_by, numbered_by}
 use Rattle.const_eval.specs.Things.{numbered, owner_of}
 use Rattle.const_eval.specs.Kinds.{basic_of_base, wrong_literal, refused_uint32, refused_value}
 use Rattle.const_eval.specs.Consts.{value_at, is_circular, value_in}
@@ -79,8 +80,7 @@ pub record Member : Type 0 where
 
 -- the ordinal of a member, where that of one without ordinal is this
 abbrev pub ordinal_or : ℕ → Option Number → ℕ
-ordinal_or next None = next
-ordinal_or next (Some ordinal) = ordinal.value
+ordinal_or next ordinal = ordinal_by (λ (n : ℕ). n) next ordinal
 
 -- where the ordinal of a member stands: at the number, or at the identifier where none is written
 abbrev pub place_of_ordinal : Member → ℕ
@@ -88,10 +88,9 @@ place_of_ordinal member = option_map_or (λ (n : Number). n.span.start) member.o
 
 -- ordinals are numbers of uint32; a member without ordinal has the one before plus 1, and the first of these has this one
 abbrev pub refused_ordinals : ℕ → ℕ → List Member → List Refusal
-refused_ordinals file next [] = []
-refused_ordinals file next (member ∷ members) =
-    refused_uint32 file (place_of_ordinal member) (ordinal_or next member.ordinal)
-    ++ refused_ordinals file (ordinal_or next member.ordinal + 1) members
+refused_ordinals file next members =
+    flat_map (λ (one : NumberedAs Member). refused_uint32 file (place_of_ordinal one.member) one.ordinal)
+    (numbered_by (λ (n : ℕ). n) (λ (m : Member). m.ordinal) next members)
 
 abbrev pub field_member : StructItem → List Member
 field_member (struct_items.Field f) = record { name = f.name; ordinal = f.ordinal } ∷ []

@@ -10,7 +10,7 @@ ghost use Rattle.const_eval.specs.Refused.{of_known};
 use const_meanings::KnownView;
 use mj_base::Text;
 use mojom_ast::Identifier;
-use mojom_files::{Basic, Cause, Refusal, keep};
+use mojom_files::{Basic, Cause, NamedCause, Refusal, keep};
 use std::alloc::{AllocError, Global};
 
 /// Numbers from the least to the greatest.
@@ -60,7 +60,7 @@ pub fn refuse_literal(
         Refusal {
             file,
             at: name.span.start,
-            cause: Cause::WrongLiteral(text),
+            cause: Cause::named(NamedCause::WrongLiteral, text),
         },
     );
     Ok(())
@@ -78,10 +78,7 @@ fn check_within(
     ensures { best.new ≡ best_of best.old (refused_outside file at kind number range) }
 {
     if !is_within(range, number) {
-        let cause = Cause::OutOfRange {
-            kind,
-            value: number,
-        };
+        let cause = Cause::out_of_range(kind, number);
         keep(best, Refusal { file, at, cause });
     }
 }

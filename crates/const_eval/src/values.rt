@@ -18,7 +18,7 @@ use crate::versions::check_versions;
 use const_meanings::KnownView;
 use mj_base::Text;
 use mojom_ast::{Const, Enumerator, Identifier};
-use mojom_files::{Basic, Cause, Refusal, keep};
+use mojom_files::{Basic, Cause, NamedCause, Refusal, keep};
 use std::alloc::{AllocError, Global};
 
 /// Tests whether the thing of this number and name needs itself.
@@ -34,7 +34,8 @@ fn check_circle(
     if !here.consts.is_circular(thing) {
         return Ok(());
     }
-    let cause = Cause::CircularConst(Text::from_str(alloc, name.text.as_str())?);
+    let text = Text::from_str(alloc, name.text.as_str())?;
+    let cause = Cause::named(NamedCause::CircularConst, text);
     keep(
         best,
         Refusal {

@@ -1,10 +1,1 @@
-pub mod Scopes
-pub mod Members
-pub mod TypeRefusals
-pub mod OrdinalRefusals
-pub mod KindRefusals
-pub mod RowCounts
-pub mod Kinds
-pub mod Rows
-pub mod Drafts
-pub mod steps
+pub mod Whys

@@ -1,13 +1,14 @@
 //! The check of kinds.
 
 ghost use Rattle.std.specs.Prelude.{◌≡◌, None, IfOk, IfErr};
-ghost use Rattle.kind_check.specs.KindRefusals.{kinds_refusal};
-ghost use Rattle.kind_check.specs.Drafts.{draft_of, IsWhy};
+ghost use Rattle.kind_refusals.specs.KindRefusals.{kinds_refusal};
+ghost use Rattle.draft_rows.specs.Drafts.{draft_of};
+ghost use Rattle.kind_check.specs.Whys.{IsWhy};
 
-use crate::draft::{Draft, draft_of};
 use crate::error::KindError;
-use crate::file_check::kinds_refusal;
 use const_eval::Consts;
+use draft_rows::{Draft, draft_of};
+use kind_refusals::kinds_refusal;
 use module_resolver::Names;
 use mojom_files::NamedFile;
 use std::alloc::Global;

@@ -1,29 +1,9 @@
-//! The kinds of Mojom files, and what is refused of kinds, ordinals and versions.
+//! The check of kinds: the tables of Mojom files, or what is refused of kinds, ordinals and versions.
 #![tactic(auto)]
 
-mod along;
 mod check;
-mod counts;
-mod draft;
-mod enum_check;
-mod enum_row;
 mod error;
-mod file_check;
-mod interface_row;
-mod kind_of;
-mod list_check;
-mod list_sort;
-mod literal;
-mod meant;
-mod member;
-mod member_row;
-mod ordinals;
-mod refuse;
-mod row_table;
-mod scope;
-mod type_check;
-mod versions;
 
 pub use check::check_kinds;
-pub use draft::Draft;
+pub use draft_rows::Draft;
 pub use error::KindError;

@@ -5,8 +5,8 @@ use Rattle.std.proofs.lemmas.Bool.{cases_order}
 use Rattle.std.proofs.lemmas.List.{take_all, take_more_same, length_push, get_or_append_left, get_or_push, ext_get_or}
 use Rattle.std.proofs.lemmas.Option.{same_Some, none-some}
 use Rattle.mojom_files.specs.declared.named_file.NamedFile.{NamedFile}
-use Rattle.mojom_files.specs.declared.cause.Cause.{Cause}
-use Rattle.mojom_files.specs.declared.cause.Cause.TheVariants.{CircularImport}
+use Rattle.mojom_files.specs.Causes.{Cause}
+use Rattle.mojom_files.specs.Causes.{CircularImport}
 use Rattle.mojom_files.specs.declared.refusal.Refusal.{Refusal}
 use Rattle.module_resolver.specs.Imports.{has, all_files, first_left, import_left, is_free, next_file, IsTakenInOrder, IsTakenWhole, IsOrder, IsWalk, IsCircle}
 use Rattle.module_resolver.specs.Order.{all_imports, file_names, names_at, import_place, LeadsOnAt, IsCircular, IsOrdered, IsDisordered, OneOrder}

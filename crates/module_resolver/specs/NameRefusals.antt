@@ -16,7 +16,7 @@ use Rattle.mojom_ast.specs.declared.definitions.InterfaceItem.{InterfaceItem}
 use Rattle.mojom_ast.specs.declared.definitions.InterfaceItem.TheVariants as interface_items
 use Rattle.mojom_ast.specs.declared.definitions.Parameter.{Parameter}
 use Rattle.mojom_files.specs.declared.named_file.NamedFile.{NamedFile}
-use Rattle.mojom_files.specs.declared.cause.Cause.TheVariants.{DuplicateName, UnknownName, WrongSort}
+use Rattle.mojom_files.specs.Causes.{DuplicateName, UnknownName, WrongSort}
 use Rattle.mojom_files.specs.declared.refusal.Refusal.{Refusal}
 use Rattle.mojom_files.specs.Basics.{basic_of}
 use Rattle.mojom_files.specs.Names.{dotted}

@@ -5,7 +5,7 @@ use Rattle.std.specs.Option.{option_map, option_map_or, option_to_list}
 use Rattle.std.specs.Str.{bytes_eq}
 use Rattle.mojom_ast.specs.declared.file.Import.{Import}
 use Rattle.mojom_files.specs.declared.named_file.NamedFile.{NamedFile}
-use Rattle.mojom_files.specs.declared.cause.Cause.TheVariants.{NoFile, CircularImport, DuplicateName}
+use Rattle.mojom_files.specs.Causes.{NoFile, CircularImport, DuplicateName}
 use Rattle.mojom_files.specs.declared.refusal.Refusal.{Refusal}
 use Rattle.mojom_files.specs.Refusals.{where_true, first_refusal}
 use Rattle.module_resolver.specs.Numbers.{number_of}

@@ -104,7 +104,7 @@ fn circular(
     Ok(Refusal {
         file,
         at,
-        cause: Cause::CircularImport(names),
+        cause: Cause::circular_import(names),
     })
 }
 

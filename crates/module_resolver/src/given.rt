@@ -8,7 +8,7 @@ ghost use Rattle.module_resolver.specs.steps.Taking.{AreTexts};
 use crate::name_table::NameTable;
 use mj_base::{Items, Text};
 use mojom_ast::Import;
-use mojom_files::{Cause, NamedFile, Refusal, keep};
+use mojom_files::{Cause, NamedCause, NamedFile, Refusal, keep};
 use std::alloc::{AllocError, Global};
 use std::str;
 
@@ -61,7 +61,7 @@ fn missing_import(alloc: Global, number: u32, one: &Import) -> Result<Refusal, A
     Ok(Refusal {
         file: number,
         at: one.path.span.start,
-        cause: Cause::NoFile(one.path.bytes.copy(alloc)?),
+        cause: Cause::no_file(one.path.bytes.copy(alloc)?),
     })
 }
 
@@ -81,7 +81,7 @@ fn refusal_of(
         best = Some(Refusal {
             file: number,
             at: 0,
-            cause: Cause::DuplicateName(name),
+            cause: Cause::named(NamedCause::DuplicateName, name),
         });
     }
     for one in file.tree.imports.as_slice() {

@@ -14,7 +14,7 @@ use crate::lists::{enumerator_names, field_names, method_names, parameter_names,
 use crate::name_set::NameSet;
 use mj_base::{Items, Text};
 use mojom_ast::{Identifier, InterfaceItem, InterfaceMember, Parameter};
-use mojom_files::{Basic, Cause, DefinitionView, ItemView, Refusal, keep};
+use mojom_files::{Basic, Cause, DefinitionView, ItemView, NamedCause, Refusal, keep};
 use std::alloc::{AllocError, Global};
 
 /// Refuses an identifier as one that stands twice, and keeps the first refusal.
@@ -26,7 +26,8 @@ fn refuse(
 ) -> Result<(), AllocError>
     ensures { OnOk result (best.new ≡ best_of best.old (duplicate file name.now ∷ [])) }
 {
-    let cause = Cause::DuplicateName(Text::from_str(alloc, name.text.as_str())?);
+    let text = Text::from_str(alloc, name.text.as_str())?;
+    let cause = Cause::named(NamedCause::DuplicateName, text);
     let at = name.span.start;
     keep(best, Refusal { file, at, cause });
     Ok(())

@@ -10,7 +10,7 @@ use crate::file_names::Names;
 use crate::target::{DefinitionSort, Target};
 use mj_base::Text;
 use mojom_ast::{Attribute, BaseNode, Identifier, Type, Value};
-use mojom_files::{Basic, Cause, Refusal, dotted, keep};
+use mojom_files::{Basic, Cause, NamedCause, Refusal, dotted, keep};
 use std::alloc::{AllocError, Global};
 
 /// What a name has to mean where it stands.
@@ -78,12 +78,12 @@ fn check_use(
     match names.look_up(alloc, file, enclosing, name.as_str())? {
         Some(target) => {
             if !fits(names, wanted, target) {
-                let cause = Cause::WrongSort(name);
+                let cause = Cause::named(NamedCause::WrongSort, name);
                 keep(best, Refusal { file, at, cause });
             }
         }
         None => {
-            let cause = Cause::UnknownName(name);
+            let cause = Cause::named(NamedCause::UnknownName, name);
             keep(best, Refusal { file, at, cause });
         }
     }

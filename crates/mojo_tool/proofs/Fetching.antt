@@ -12,7 +12,7 @@ use Rattle.mojom_compile.specs.declared.schema_error.SchemaError.{SchemaError}
 use Rattle.mojom_compile.specs.declared.schema_error.SchemaError.TheVariants as errors
 use Rattle.mojom_compile.specs.declared.error.FileRefusal.{FileRefusal}
 use Rattle.mojom_compile.specs.declared.source.Source.{Source}
-use Rattle.mojom_files.specs.declared.cause.Cause.{Cause}
+use Rattle.mojom_files.specs.Causes.{Cause}
 use Rattle.mojom_files.specs.declared.refusal.Refusal.{Refusal}
 use Rattle.mojom_compile.specs.Schemas.{IsSchemaOfFiles, IsRefusalOf, IsWhy}
 use Rattle.schema_text.specs.Listing.{listing}

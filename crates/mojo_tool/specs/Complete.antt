@@ -4,7 +4,7 @@ use Rattle.mj_io.specs.Outside.{Named, Rose}
 use Rattle.mojo_tool.specs.Answers.{Seen, asked_by, refused_work, WroteOrFailed}
 use Rattle.mojo_tool.specs.Lines.{refusal_text, error_line, read_text}
 use Rattle.mojom_compile.specs.declared.error.FileRefusal.{FileRefusal}
-use Rattle.mojom_files.specs.declared.cause.Cause.{Cause}
+use Rattle.mojom_files.specs.Causes.{Cause}
 use Rattle.call_script.specs.declared.script_error.LineRefusal.{LineRefusal}
 use Rattle.wire_encoder.specs.declared.refusal.PrepareError.{PrepareError}
 use Rattle.mj_base.specs.declared.fault.Fault.{Fault}

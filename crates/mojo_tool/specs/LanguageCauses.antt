@@ -3,11 +3,11 @@ use Rattle.std.specs.Prelude.{ℕ, decimal, ◌++◌, List, codes}
 use Rattle.std.specs.List.{flat_map}
 use Rattle.std.specs.Fmt.{signed_decimal}
 use Rattle.mojom_files.specs.Basics.{basic_name}
-use Rattle.mojom_files.specs.declared.cause.Cause.{Cause}
-use Rattle.mojom_files.specs.declared.cause.Cause.TheVariants.{NoFile, CircularImport, DuplicateName, UnknownName, WrongSort, CircularConst}
-use Rattle.mojom_files.specs.declared.cause.Cause.TheVariants.{WrongLiteral, OutOfRange, TooManyFields, EmptyEnum, DoubleDefault}
-use Rattle.mojom_files.specs.declared.cause.Cause.TheVariants.{FloatField, BadMapKey, NullableKey, BadNullable, ZeroLengthArray}
-use Rattle.mojom_files.specs.declared.cause.Cause.TheVariants.{OrdinalDouble, OrdinalGap, VersionFalls, LateNotNullable}
+use Rattle.mojom_files.specs.Causes.{Cause}
+use Rattle.mojom_files.specs.Causes.{NoFile, CircularImport, DuplicateName, UnknownName, WrongSort, CircularConst}
+use Rattle.mojom_files.specs.Causes.{WrongLiteral, OutOfRange, TooManyFields, EmptyEnum, DoubleDefault}
+use Rattle.mojom_files.specs.Causes.{FloatField, BadMapKey, NullableKey, BadNullable, ZeroLengthArray}
+use Rattle.mojom_files.specs.Causes.{OrdinalDouble, OrdinalGap, VersionFalls, LateNotNullable}
 
 -- names, with a blank before each
 abbrev pub names_text : List (List ℕ) → List ℕ

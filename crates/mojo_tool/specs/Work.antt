@@ -17,7 +17,7 @@ use Rattle.mojom_compile.specs.declared.schema_error.SchemaError.TheVariants as 
 use Rattle.mojom_compile.specs.declared.source.Source.{Source}
 use Rattle.mojom_compile.specs.Compiled.{IsParsed, IsUnread}
 use Rattle.mojom_compile.specs.Schemas.{IsSchemaOfFiles, IsRefusalOf}
-use Rattle.mojom_files.specs.declared.cause.Cause.{Cause}
+use Rattle.mojom_files.specs.Causes.{Cause}
 use Rattle.call_script.specs.declared.script.Script.{Script}
 use Rattle.call_script.specs.declared.script_error.LineRefusal.{LineRefusal}
 use Rattle.call_script.specs.Script.{IsScriptOf, IsFirstRefusal}

@@ -2,10 +2,11 @@
 
 ghost use Rattle.std.specs.Prelude.{◌≡◌, ◌++◌, codes, decimal, OnOk};
 ghost use Rattle.std.specs.Fmt.{signed_decimal};
+ghost use Rattle.mojom_files.specs.Causes.{named};
 ghost use Rattle.mojo_tool.specs.LanguageCauses.{language_text, names_text};
 
 use mj_base::Text;
-use mojom_files::{Basic, Cause};
+use mojom_files::{Cause, CauseParts, NamedCause};
 use mojom_print::{push_number, push_text};
 use std::alloc::AllocError;
 
@@ -52,50 +53,57 @@ fn push_signed(out: &mut Vec<u8>, number: i128) -> Result<(), AllocError>
     push_text(out, text.as_str())
 }
 
-/// Writes a number that isn't one of its kind.
-fn push_range(out: &mut Vec<u8>, kind: Basic, value: i128) -> Result<(), AllocError>
-    ensures { OnOk result (out.new.items ≡ out.old.items ++ language_text (Cause.OutOfRange kind value)) }
+/// Writes a word, the name of a kind and a number that isn't one of it.
+fn push_range(out: &mut Vec<u8>, word: &str, kind: &str, number: i128) -> Result<(), AllocError>
+    ensures { OnOk result (out.new.items ≡ out.old.items ++ (word.now ++ (kind.now ++ (codes " " ++ signed_decimal number)))) }
 {
-    push_named(out, "OutOfRange ", kind.name())?;
+    push_named(out, word, kind)?;
     push_text(out, " ")?;
-    push_signed(out, value)
+    push_signed(out, number)
+}
+
+/// Writes a cause that goes by a name, and what it tells.
+fn push_cause_of_name(out: &mut Vec<u8>, cause: NamedCause, name: &str) -> Result<(), AllocError>
+    ensures { OnOk result (out.new.items ≡ out.old.items ++ language_text (named cause name.now)) }
+{
+    match cause {
+        NamedCause::DuplicateName => push_named(out, "DuplicateName ", name),
+        NamedCause::UnknownName => push_named(out, "UnknownName ", name),
+        NamedCause::WrongSort => push_named(out, "WrongSort ", name),
+        NamedCause::CircularConst => push_named(out, "CircularConst ", name),
+        NamedCause::WrongLiteral => push_named(out, "WrongLiteral ", name),
+        NamedCause::TooManyFields => push_named(out, "TooManyFields ", name),
+        NamedCause::EmptyEnum => push_named(out, "EmptyEnum ", name),
+        NamedCause::DoubleDefault => push_named(out, "DoubleDefault ", name),
+        NamedCause::FloatField => push_named(out, "FloatField ", name),
+        NamedCause::BadMapKey => push_named(out, "BadMapKey ", name),
+        NamedCause::NullableKey => push_named(out, "NullableKey ", name),
+        NamedCause::BadNullable => push_named(out, "BadNullable ", name),
+        NamedCause::ZeroLengthArray => push_named(out, "ZeroLengthArray ", name),
+        NamedCause::OrdinalDouble(ordinal) => push_numbered(out, "OrdinalDouble ", name, ordinal),
+        NamedCause::OrdinalGap(ordinal) => push_numbered(out, "OrdinalGap ", name, ordinal),
+        NamedCause::VersionFalls { before, here } => {
+            push_numbered(out, "VersionFalls ", name, before)?;
+            push_text(out, " ")?;
+            push_number(out, here as u64)
+        }
+        NamedCause::LateNotNullable => push_named(out, "LateNotNullable ", name),
+    }
 }
 
 /// Writes a cause and what it tells.
 pub fn push_cause(out: &mut Vec<u8>, cause: &Cause) -> Result<(), AllocError>
     ensures { OnOk result (out.new.items ≡ out.old.items ++ language_text cause.now) }
 {
-    match cause {
-        Cause::NoFile(path) => {
+    match cause.parts() {
+        CauseParts::NoFile(path) => {
             push_text(out, "NoFile ")?;
             out.extend_from_slice(path.as_slice())
         }
-        Cause::CircularImport(names) => push_list(out, "CircularImport", names.as_slice()),
-        Cause::DuplicateName(name) => push_named(out, "DuplicateName ", name.as_str()),
-        Cause::UnknownName(name) => push_named(out, "UnknownName ", name.as_str()),
-        Cause::WrongSort(name) => push_named(out, "WrongSort ", name.as_str()),
-        Cause::CircularConst(name) => push_named(out, "CircularConst ", name.as_str()),
-        Cause::WrongLiteral(name) => push_named(out, "WrongLiteral ", name.as_str()),
-        Cause::OutOfRange { kind, value } => push_range(out, *kind, *value),
-        Cause::TooManyFields(name) => push_named(out, "TooManyFields ", name.as_str()),
-        Cause::EmptyEnum(name) => push_named(out, "EmptyEnum ", name.as_str()),
-        Cause::DoubleDefault(name) => push_named(out, "DoubleDefault ", name.as_str()),
-        Cause::FloatField(name) => push_named(out, "FloatField ", name.as_str()),
-        Cause::BadMapKey(name) => push_named(out, "BadMapKey ", name.as_str()),
-        Cause::NullableKey(name) => push_named(out, "NullableKey ", name.as_str()),
-        Cause::BadNullable(name) => push_named(out, "BadNullable ", name.as_str()),
-        Cause::ZeroLengthArray(name) => push_named(out, "ZeroLengthArray ", name.as_str()),
-        Cause::OrdinalDouble { name, ordinal } => {
-            push_numbered(out, "OrdinalDouble ", name.as_str(), *ordinal)
+        CauseParts::CircularImport(names) => push_list(out, "CircularImport", names.as_slice()),
+        CauseParts::OutOfRange { kind, value } => {
+            push_range(out, "OutOfRange ", kind.name(), *value)
         }
-        Cause::OrdinalGap { name, ordinal } => {
-            push_numbered(out, "OrdinalGap ", name.as_str(), *ordinal)
-        }
-        Cause::VersionFalls { name, before, here } => {
-            push_numbered(out, "VersionFalls ", name.as_str(), *before)?;
-            push_text(out, " ")?;
-            push_number(out, *here as u64)
-        }
-        Cause::LateNotNullable(name) => push_named(out, "LateNotNullable ", name.as_str()),
+        CauseParts::Named(cause, name) => push_cause_of_name(out, *cause, name.as_str()),
     }
 }

@@ -29,9 +29,9 @@ use Rattle.const_eval.specs.declared.consts.Consts.{Consts}
 use Rattle.const_eval.specs.Consts.{AreConsts}
 use Rattle.const_eval.specs.Evaluated.{IsEvaluated, IsConstRefused}
 use Rattle.const_eval.proofs.OneAnswer.{one_consts, one_refusal, not_both}
-use Rattle.kind_check.specs.declared.draft.Draft.{Draft}
-use Rattle.kind_check.specs.KindRefusals.{kinds_refusal}
-use Rattle.kind_check.specs.Drafts.{draft_of as tables_of}
+use Rattle.draft_rows.specs.declared.draft.Draft.{Draft}
+use Rattle.kind_refusals.specs.KindRefusals.{kinds_refusal}
+use Rattle.draft_rows.specs.Drafts.{draft_of as tables_of}
 use Rattle.schema_laws.specs.Refused.{IsNamesRefusal, IsConstsRefusal, IsKindsRefusal, IsStageRefusal}
 use Rattle.mojom_compile.specs.declared.error.FileRefusal.{FileRefusal}
 use Rattle.mojom_compile.specs.declared.schema_error.SchemaError.{SchemaError}

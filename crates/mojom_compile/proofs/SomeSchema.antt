@@ -10,8 +10,8 @@ use Rattle.mj_schema.specs.declared.rows.StructRow.{StructRow}
 use Rattle.mj_schema.specs.Layout.{IsLaidOut, draft_of}
 use Rattle.mojom_ast.specs.declared.file.File.{File}
 use Rattle.mojom_files.specs.declared.named_file.NamedFile.{NamedFile}
-use Rattle.kind_check.specs.declared.draft.Draft.{Draft}
-use Rattle.kind_check.specs.Drafts.{draft_of as tables_of}
+use Rattle.draft_rows.specs.declared.draft.Draft.{Draft}
+use Rattle.draft_rows.specs.Drafts.{draft_of as tables_of}
 use Rattle.schema_laws.specs.Refused.{HasAnswer}
 use Rattle.schema_laws.specs.Whole.{CanBeLaidOut, IsWhole}
 use Rattle.schema_laws.proofs.Assembly.{whole_passed}

@@ -6,8 +6,8 @@ use Rattle.mojom_files.specs.declared.named_file.NamedFile.{NamedFile}
 use Rattle.mojom_files.specs.declared.refusal.Refusal.{Refusal}
 use Rattle.module_resolver.specs.declared.file_names.Names.{Names}
 use Rattle.const_eval.specs.declared.consts.Consts.{Consts}
-use Rattle.kind_check.specs.declared.draft.Draft.{Draft}
-use Rattle.kind_check.specs.Drafts.{draft_of as tables_of}
+use Rattle.draft_rows.specs.declared.draft.Draft.{Draft}
+use Rattle.draft_rows.specs.Drafts.{draft_of as tables_of}
 use Rattle.schema_laws.specs.Passed.{IsPassed}
 use Rattle.schema_laws.specs.Refused.{IsStageRefusal}
 use Rattle.mojom_compile.specs.declared.error.FileRefusal.{FileRefusal}

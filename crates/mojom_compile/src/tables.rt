@@ -4,7 +4,7 @@ ghost use Rattle.std.specs.Prelude.{◌≡◌, ◌+◌, IfOk, map};
 ghost use Rattle.std.specs.List.{AllByRecursion};
 ghost use Rattle.mj_schema.specs.Layout.{IsLaidOut, draft_of};
 ghost use Rattle.schema_laws.specs.Whole.{CanBeLaidOut, IsWhole};
-ghost use Rattle.kind_check.specs.steps.RowNumbers.{row_number};
+ghost use Rattle.draft_rows.specs.steps.RowNumbers.{row_number};
 ghost use Rattle.mojom_compile.specs.Schemas.{IsLayoutOf};
 
 use kind_check::Draft;

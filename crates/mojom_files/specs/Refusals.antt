@@ -2,12 +2,11 @@
 use Rattle.std.specs.Prelude.{ℕ, ◌≡◌, ◌==◌, nat_lt, Bool, false, ◌||◌, ◌&&◌, if◌then◌else◌, List, [], ◌∷◌, Option, Some, None, ◌⊎◌}
 use Rattle.std.specs.List.{fold}
 use Rattle.std.specs.Option.{option_or}
-use Rattle.mojom_files.specs.declared.cause.Cause.{Cause}
-use Rattle.mojom_files.specs.declared.cause.Cause.TheVariants as causes
+use Rattle.mojom_files.specs.Causes as causes
 use Rattle.mojom_files.specs.declared.refusal.Refusal.{Refusal}
 
 -- the order of causes at one place
-abbrev pub rank : Cause → ℕ
+abbrev pub rank : causes.Cause → ℕ
 rank (causes.NoFile path) = 0
 rank (causes.CircularImport names) = 1
 rank (causes.DuplicateName name) = 2

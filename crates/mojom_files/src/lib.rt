@@ -10,7 +10,7 @@ mod names;
 mod refusal;
 
 pub use basic::Basic;
-pub use cause::Cause;
+pub use cause::{Cause, CauseParts, NamedCause};
 pub use definition_view::{DefinitionView, ItemView, definitions};
 pub use named_file::NamedFile;
 pub use names::{dotted, within};

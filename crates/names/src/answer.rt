@@ -2,7 +2,7 @@
 
 use crate::stages::Stages;
 use mj_base::Text;
-use mojom_files::{Basic, Cause, NamedFile, Refusal};
+use mojom_files::{Basic, Cause, CauseParts, NamedCause, NamedFile, Refusal};
 use std::alloc::{AllocError, Global};
 use std::str;
 
@@ -32,37 +32,43 @@ fn fall_text(alloc: Global, name: &str, before: u32, here: u32) -> Result<String
     format!(in alloc; "VersionFalls {name} {before} {here}")
 }
 
-/// The cause of a refusal, and what it says.
-fn cause_text(alloc: Global, cause: &Cause) -> Result<String, AllocError> {
-    let (word, name) = match cause {
-        Cause::CircularImport(names) => return circle_text(alloc, names.as_slice()),
-        Cause::OutOfRange { kind, value } => return range_text(alloc, *kind, *value),
-        Cause::OrdinalDouble { name, ordinal } => {
-            return ordinal_text(alloc, "OrdinalDouble", name.as_str(), *ordinal);
+/// A cause that goes by a name, and what it says.
+fn text_of_named(alloc: Global, cause: NamedCause, name: &str) -> Result<String, AllocError> {
+    let word = match cause {
+        NamedCause::OrdinalDouble(ordinal) => {
+            return ordinal_text(alloc, "OrdinalDouble", name, ordinal);
         }
-        Cause::OrdinalGap { name, ordinal } => {
-            return ordinal_text(alloc, "OrdinalGap", name.as_str(), *ordinal);
-        }
-        Cause::VersionFalls { name, before, here } => {
-            return fall_text(alloc, name.as_str(), *before, *here);
-        }
-        Cause::NoFile(path) => ("NoFile", str::from_utf8(path.as_slice()).unwrap_or("?")),
-        Cause::DuplicateName(name) => ("DuplicateName", name.as_str()),
-        Cause::UnknownName(name) => ("UnknownName", name.as_str()),
-        Cause::WrongSort(name) => ("WrongSort", name.as_str()),
-        Cause::CircularConst(name) => ("CircularConst", name.as_str()),
-        Cause::WrongLiteral(name) => ("WrongLiteral", name.as_str()),
-        Cause::TooManyFields(name) => ("TooManyFields", name.as_str()),
-        Cause::EmptyEnum(name) => ("EmptyEnum", name.as_str()),
-        Cause::DoubleDefault(name) => ("DoubleDefault", name.as_str()),
-        Cause::FloatField(name) => ("FloatField", name.as_str()),
-        Cause::BadMapKey(name) => ("BadMapKey", name.as_str()),
-        Cause::NullableKey(name) => ("NullableKey", name.as_str()),
-        Cause::BadNullable(name) => ("BadNullable", name.as_str()),
-        Cause::ZeroLengthArray(name) => ("ZeroLengthArray", name.as_str()),
-        Cause::LateNotNullable(name) => ("LateNotNullable", name.as_str()),
+        NamedCause::OrdinalGap(ordinal) => return ordinal_text(alloc, "OrdinalGap", name, ordinal),
+        NamedCause::VersionFalls { before, here } => return fall_text(alloc, name, before, here),
+        NamedCause::DuplicateName => "DuplicateName",
+        NamedCause::UnknownName => "UnknownName",
+        NamedCause::WrongSort => "WrongSort",
+        NamedCause::CircularConst => "CircularConst",
+        NamedCause::WrongLiteral => "WrongLiteral",
+        NamedCause::TooManyFields => "TooManyFields",
+        NamedCause::EmptyEnum => "EmptyEnum",
+        NamedCause::DoubleDefault => "DoubleDefault",
+        NamedCause::FloatField => "FloatField",
+        NamedCause::BadMapKey => "BadMapKey",
+        NamedCause::NullableKey => "NullableKey",
+        NamedCause::BadNullable => "BadNullable",
+        NamedCause::ZeroLengthArray => "ZeroLengthArray",
+        NamedCause::LateNotNullable => "LateNotNullable",
     };
     format!(in alloc; "{word} {name}")
+}
+
+/// The cause of a refusal, and what it says.
+fn cause_text(alloc: Global, cause: &Cause) -> Result<String, AllocError> {
+    match cause.parts() {
+        CauseParts::NoFile(path) => {
+            let path = str::from_utf8(path.as_slice()).unwrap_or("?");
+            format!(in alloc; "NoFile {path}")
+        }
+        CauseParts::CircularImport(names) => circle_text(alloc, names.as_slice()),
+        CauseParts::OutOfRange { kind, value } => range_text(alloc, *kind, *value),
+        CauseParts::Named(cause, name) => text_of_named(alloc, *cause, name.as_str()),
+    }
 }
 
 /// What is said of a place, a byte of the file of this number: `FILE:AT: WHAT`.

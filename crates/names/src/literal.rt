@@ -6,7 +6,7 @@ use const_eval::Consts;
 use const_meanings::KnownView;
 use module_resolver::{Names, Target};
 use mojom_ast::Name;
-use mojom_files::{Cause, NamedFile, Refusal, dotted};
+use mojom_files::{CauseParts, NamedCause, NamedFile, Refusal, dotted};
 use names_reference::{
     Found, Given, Origin, Thing, Use, meaning, order, things_of, uses_of, value, value_of,
 };
@@ -178,9 +178,11 @@ fn first_circular(alloc: Global, given: Given<'_>) -> Result<Option<Place>, Allo
 fn is_first(alloc: Global, given: Given<'_>, refusal: &Refusal) -> Result<bool, AllocError> {
     let Refusal { file, at, cause } = refusal;
     let place = Some((*file as usize, *at));
-    match cause {
-        Cause::UnknownName(_) => Ok(first_unknown(alloc, given)? == place),
-        Cause::CircularConst(_) => Ok(first_circular(alloc, given)? == place),
+    match cause.parts() {
+        CauseParts::Named(NamedCause::UnknownName, _) => Ok(first_unknown(alloc, given)? == place),
+        CauseParts::Named(NamedCause::CircularConst, _) => Ok(
+            first_circular(alloc, given)? == place,
+        ),
         _ => Ok(true),
     }
 }

@@ -3,7 +3,7 @@
 use const_eval::{ConstError, Consts, evaluate};
 use kind_check::{Draft, KindError, check_kinds};
 use module_resolver::{Names, ResolveError, order, resolve};
-use mojom_files::{Cause, NamedFile, Refusal};
+use mojom_files::{CauseParts, NamedCause, NamedFile, Refusal};
 use std::alloc::{AllocError, Global};
 
 /// What the stages make of files, each where those before it refuse nothing; and the first refusal.
@@ -84,9 +84,9 @@ impl Stages {
     /// How far the files come.
     pub fn end(&self) -> &'static str {
         match &self.refusal {
-            Some(refusal) => match refusal.cause {
-                Cause::UnknownName(_) => "no meaning",
-                Cause::CircularConst(_) => "circular",
+            Some(refusal) => match refusal.cause.parts() {
+                CauseParts::Named(NamedCause::UnknownName, _) => "no meaning",
+                CauseParts::Named(NamedCause::CircularConst, _) => "circular",
                 _ if self.order.is_none() => "no order",
                 _ if self.consts.is_none() => "refused",
                 _ => "evaluated",

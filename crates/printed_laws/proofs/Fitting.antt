@@ -12,15 +12,14 @@ use Rattle.mojom_ast.specs.declared.names.Number.{Number}
 use Rattle.mojom_files.specs.declared.named_file.NamedFile.{NamedFile}
 use Rattle.module_resolver.specs.declared.file_names.FileNames.{FileNames}
 use Rattle.const_eval.specs.declared.consts.Consts.{Consts}
-use Rattle.kind_check.specs.declared.counts.Counts.{Counts}
-use Rattle.kind_check.specs.declared.counts.FileRows.{FileRows}
-use Rattle.kind_check.specs.declared.draft.Draft.{Draft}
-use Rattle.kind_check.specs.Scopes.{Scope}
-use Rattle.kind_check.specs.KindRefusals.{around}
-use Rattle.kind_check.specs.Members.{held, ordinal_at}
-use Rattle.kind_check.specs.RowCounts.{structs_of, methods_in, no_rows, rows_of}
-use Rattle.kind_check.specs.Rows.{method_rows}
-use Rattle.kind_check.specs.Drafts.{enclosed, draft_of_item, draft_of}
+use Rattle.draft_rows.specs.declared.counts.Counts.{Counts}
+use Rattle.draft_rows.specs.declared.counts.FileRows.{FileRows}
+use Rattle.draft_rows.specs.declared.draft.Draft.{Draft}
+use Rattle.kind_scope.specs.Scopes.{Scope, around}
+use Rattle.kind_scope.specs.Members.{held, ordinal_at}
+use Rattle.draft_rows.specs.RowCounts.{structs_of, methods_in, no_rows, rows_of}
+use Rattle.draft_rows.specs.Rows.{method_rows}
+use Rattle.draft_rows.specs.Drafts.{enclosed, draft_of_item, draft_of}
 use Rattle.schema_laws.proofs.Among.{each_at, each_append}
 use Rattle.schema_laws.proofs.Each.{at_each}
 use Rattle.schema_laws.proofs.Lift.{lift}

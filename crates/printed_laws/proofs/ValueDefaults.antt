@@ -36,17 +36,18 @@ use Rattle.mj_schema.specs.declared.rows.DraftField.{DraftField}
 use Rattle.mj_schema.specs.declared.rows.Literal.{Literal}
 use Rattle.mj_schema.specs.declared.rows.Literal.TheVariants as literals
 use Rattle.wire_model.specs.Kinded.{IsInRange, is_nullable}
-use Rattle.kind_check.specs.Kinds.{kind_of_base, basic_kind, handle_sort, meant_kind, row_kind, rows_before_target, sort_kind, pending_kind, with_value}
-use Rattle.kind_check.specs.Kinds.{count_of}
-use Rattle.kind_check.specs.Members.{Member, Numbered}
-use Rattle.kind_check.specs.OrdinalRefusals.{is_behind, known_in, needs_null, refused_late, version_of}
-use Rattle.kind_check.specs.Rows.{Valued, field_row, field_with, held_signed, kind_in, literal_in, literal_of, number_at, valued_from, whole_or}
-use Rattle.kind_check.specs.Scopes.{Scope, meant_in}
-use Rattle.kind_check.specs.TypeRefusals.{is_object, is_struct_or_union}
-use Rattle.kind_check.specs.declared.counts.Counts.{Counts}
-use Rattle.kind_check.specs.declared.counts.FileRows.{FileRows}
-use Rattle.kind_check.specs.declared.meant.Meant.{Meant}
-use Rattle.kind_check.specs.declared.meant.Meant.TheVariants as meant
+use Rattle.draft_rows.specs.Kinds.{kind_of_base, basic_kind, handle_sort, meant_kind, row_kind, rows_before_target, sort_kind, pending_kind, with_value}
+use Rattle.draft_rows.specs.Kinds.{count_of}
+use Rattle.kind_scope.specs.Members.{Member, Numbered}
+use Rattle.kind_refusals.specs.OrdinalRefusals.{is_behind, needs_null, refused_late}
+use Rattle.kind_scope.specs.Scopes.{known_in, Scope, meant_in}
+use Rattle.kind_scope.specs.Versions.{version_of}
+use Rattle.draft_rows.specs.Rows.{Valued, field_row, field_with, held_signed, kind_in, literal_in, literal_of, number_at, valued_from, whole_or}
+use Rattle.kind_refusals.specs.TypeRefusals.{is_object, is_struct_or_union}
+use Rattle.draft_rows.specs.declared.counts.Counts.{Counts}
+use Rattle.draft_rows.specs.declared.counts.FileRows.{FileRows}
+use Rattle.kind_scope.specs.declared.meant.Meant.{Meant}
+use Rattle.kind_scope.specs.declared.meant.Meant.TheVariants as meant
 use Rattle.schema_laws.proofs.Quiet.{none_where}
 
 -- a kind that reads as a number where it is absent, or that may be null

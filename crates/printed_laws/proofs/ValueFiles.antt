@@ -12,8 +12,8 @@ use Rattle.mj_schema.specs.declared.schema.Schema.{Schema}
 use Rattle.wire_model.specs.Absent.{literal_value}
 use Rattle.wire_model.specs.Depth.{IsOfKind}
 use Rattle.wire_model.specs.Marks.{is_known}
-use Rattle.kind_check.specs.Drafts.{draft_of}
-use Rattle.kind_check.specs.declared.draft.Draft.{Draft}
+use Rattle.draft_rows.specs.Drafts.{draft_of}
+use Rattle.draft_rows.specs.declared.draft.Draft.{Draft}
 use Rattle.message_laws.specs.Filled.{IsFilledSchema}
 use Rattle.schema_laws.specs.Passed.{IsPassed}
 use Rattle.schema_laws.proofs.Members.{have_members}

@@ -52,20 +52,20 @@ use Rattle.wire_model.specs.Depth.{IsOfKind}
 use Rattle.wire_model.specs.Kinded.{IsInRange}
 use Rattle.wire_model.specs.Marks.{is_known}
 use Rattle.wire_model.specs.Texts.{valid_len}
-use Rattle.kind_check.specs.Drafts.{empty, join, draft_of_item, draft_of}
-use Rattle.kind_check.specs.KindRefusals.{around, inside, is_struct, limit_of, refused_count, refused_in_interface, refused_in_item, refused_item, refused_list}
-use Rattle.kind_check.specs.KindRefusals.{refused_numbers, refused_parameters, refused_response, refused_struct}
-use Rattle.kind_check.specs.Members.{Member, Numbered, field_in, field_of, numbered, parameter_of}
-use Rattle.kind_check.specs.OrdinalRefusals.{along_ordinals, refused_doubles, refused_late}
-use Rattle.kind_check.specs.RowCounts.{definitions_at, method_among, methods_in, no_rows, rows_of}
-use Rattle.kind_check.specs.Rows.{Valued, field_row, member_row, method_structs, parameters_row, response_row, struct_row, structs_of_methods, valued}
-use Rattle.kind_check.specs.Scopes.{Scope}
-use Rattle.kind_check.specs.TypeRefusals.{refused_in_member}
-use Rattle.kind_check.specs.declared.counts.Counts.{Counts}
-use Rattle.kind_check.specs.declared.counts.FileRows.{FileRows}
-use Rattle.kind_check.specs.declared.draft.Draft.{Draft}
-use Rattle.kind_check.specs.declared.list_sort.ListSort.{ListSort}
-use Rattle.kind_check.specs.declared.list_sort.ListSort.TheVariants.{Fields, Parameters}
+use Rattle.draft_rows.specs.Drafts.{empty, join, draft_of_item, draft_of}
+use Rattle.kind_scope.specs.Scopes.{around, inside, Scope}
+use Rattle.kind_refusals.specs.KindRefusals.{is_struct, limit_of, refused_count, refused_in_interface, refused_in_item, refused_item, refused_list}
+use Rattle.kind_refusals.specs.KindRefusals.{refused_numbers, refused_parameters, refused_response, refused_struct}
+use Rattle.kind_scope.specs.Members.{Member, Numbered, field_in, field_of, numbered, parameter_of, along_ordinals}
+use Rattle.kind_refusals.specs.OrdinalRefusals.{refused_doubles, refused_late}
+use Rattle.draft_rows.specs.RowCounts.{definitions_at, method_among, methods_in, no_rows, rows_of}
+use Rattle.draft_rows.specs.Rows.{Valued, field_row, member_row, method_structs, parameters_row, response_row, struct_row, structs_of_methods, valued}
+use Rattle.kind_refusals.specs.TypeRefusals.{refused_in_member}
+use Rattle.draft_rows.specs.declared.counts.Counts.{Counts}
+use Rattle.draft_rows.specs.declared.counts.FileRows.{FileRows}
+use Rattle.draft_rows.specs.declared.draft.Draft.{Draft}
+use Rattle.kind_refusals.specs.declared.list_sort.ListSort.{ListSort}
+use Rattle.kind_refusals.specs.declared.list_sort.ListSort.TheVariants.{Fields, Parameters}
 use Rattle.schema_laws.specs.Passed.{IsPassed}
 use Rattle.schema_laws.proofs.Among.{IsAmong, all_at, among_at, each_append}
 use Rattle.schema_laws.proofs.Each.{all_along, all_empty, all_flat, all_found, all_map, all_numbered, all_so, at_each}

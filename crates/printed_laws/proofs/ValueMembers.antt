@@ -45,13 +45,12 @@ use Rattle.mj_schema.specs.declared.rows.Literal.{Literal}
 use Rattle.mj_schema.specs.declared.rows.Literal.TheVariants as literals
 use Rattle.mj_schema.specs.declared.rows.MemberRow.{MemberRow}
 use Rattle.wire_model.specs.Marks.{is_known}
-use Rattle.kind_check.specs.Drafts.{draft_of, enclosed}
-use Rattle.kind_check.specs.KindRefusals.{around, inside}
-use Rattle.kind_check.specs.Kinds.{row_kind, sort_kind}
-use Rattle.kind_check.specs.RowCounts.{definitions_at, rows_before, rows_of}
-use Rattle.kind_check.specs.Rows.{Valued, literal_of, member_row, valued}
-use Rattle.kind_check.specs.Scopes.{Scope}
-use Rattle.kind_check.specs.declared.counts.Counts.{Counts}
+use Rattle.draft_rows.specs.Drafts.{draft_of, enclosed}
+use Rattle.kind_scope.specs.Scopes.{around, inside, Scope}
+use Rattle.draft_rows.specs.Kinds.{row_kind, sort_kind}
+use Rattle.draft_rows.specs.RowCounts.{definitions_at, rows_before, rows_of}
+use Rattle.draft_rows.specs.Rows.{Valued, literal_of, member_row, valued}
+use Rattle.draft_rows.specs.declared.counts.Counts.{Counts}
 use Rattle.schema_laws.proofs.Places.{at_behind, at_either, at_front, numbered_at, order_sized}
 use Rattle.schema_laws.proofs.Quiet.{both_empty}
 use Rattle.schema_laws.specs.Passed.{IsPassed}

@@ -29,9 +29,8 @@ use Rattle.const_meanings.specs.declared.meaning.Meaning.TheVariants as meanings
 use Rattle.const_meanings.specs.declared.origin.Origin.{Origin}
 use Rattle.const_meanings.specs.declared.origin.Origin.TheVariants.{Written, Of, Next, Missing}
 use Rattle.const_meanings.proofs.Reaching.{one_meaning}
-use Rattle.kind_check.specs.OrdinalRefusals.{known_in}
-use Rattle.kind_check.specs.Rows.{Valued, held_signed, number_at, valued_from, whole_or}
-use Rattle.kind_check.specs.Scopes.{Scope}
+use Rattle.kind_scope.specs.Scopes.{known_in, Scope}
+use Rattle.draft_rows.specs.Rows.{Valued, held_signed, number_at, valued_from, whole_or}
 use Rattle.schema_laws.proofs.Quiet.{both_empty, none_where}
 use Rattle.printed_laws.proofs.ValueDefaults.{at_most, true_of, within_parts}
 

@@ -10,13 +10,12 @@ use Rattle.mojom_files.specs.declared.named_file.NamedFile.{NamedFile}
 use Rattle.module_resolver.specs.declared.file_names.FileNames.{FileNames}
 use Rattle.const_eval.specs.declared.consts.Consts.{Consts}
 use Rattle.mj_schema.specs.declared.rows.EnumRow.{EnumRow}
-use Rattle.kind_check.specs.Drafts.{draft_of_item, draft_of_definition, draft_of_all, draft_from, draft_of, enclosed}
-use Rattle.kind_check.specs.KindRefusals.{around, inside}
-use Rattle.kind_check.specs.RowCounts.{after, after_all, counts_before, definitions_at, no_rows, rows_before, rows_from, rows_of}
-use Rattle.kind_check.specs.Rows.{enum_row, valued}
-use Rattle.kind_check.specs.Scopes.{Scope}
-use Rattle.kind_check.specs.declared.counts.Counts.{Counts}
-use Rattle.kind_check.specs.declared.counts.FileRows.{FileRows}
+use Rattle.draft_rows.specs.Drafts.{draft_of_item, draft_of_definition, draft_of_all, draft_from, draft_of, enclosed}
+use Rattle.kind_scope.specs.Scopes.{around, inside, Scope}
+use Rattle.draft_rows.specs.RowCounts.{after, after_all, counts_before, definitions_at, no_rows, rows_before, rows_from, rows_of}
+use Rattle.draft_rows.specs.Rows.{enum_row, valued}
+use Rattle.draft_rows.specs.declared.counts.Counts.{Counts}
+use Rattle.draft_rows.specs.declared.counts.FileRows.{FileRows}
 use Rattle.schema_laws.proofs.Places.{at_behind, at_front}
 use Rattle.schema_laws.proofs.Totals.{all_between, item_between}
 

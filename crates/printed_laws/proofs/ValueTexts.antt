@@ -44,17 +44,14 @@ use Rattle.mj_schema.specs.declared.rows.Literal.{Literal as RowLiteral}
 use Rattle.mj_schema.specs.declared.rows.Literal.TheVariants as literals
 use Rattle.mj_schema.specs.declared.rows.StructRow.{StructRow}
 use Rattle.wire_model.specs.Texts.{valid_len}
-use Rattle.kind_check.specs.Drafts.{join, draft_of_item, draft_of}
-use Rattle.kind_check.specs.KindRefusals.{around}
-use Rattle.kind_check.specs.Members.{Member, Numbered, field_in, field_of, numbered as numbered_members, parameter_of}
-use Rattle.kind_check.specs.OrdinalRefusals.{along_ordinals, known_in}
-use Rattle.kind_check.specs.RowCounts.{definitions_at, methods_in, no_rows, rows_of}
-use Rattle.kind_check.specs.Rows.{field_row, field_with, kind_in, literal_in, literal_of, method_structs, response_row, struct_row}
-use Rattle.kind_check.specs.Rows.{structs_of_methods}
-use Rattle.kind_check.specs.Scopes.{Scope}
-use Rattle.kind_check.specs.declared.counts.Counts.{Counts}
-use Rattle.kind_check.specs.declared.counts.FileRows.{FileRows}
-use Rattle.kind_check.specs.declared.draft.Draft.{Draft}
+use Rattle.draft_rows.specs.Drafts.{join, draft_of_item, draft_of}
+use Rattle.kind_scope.specs.Scopes.{around, known_in, Scope}
+use Rattle.kind_scope.specs.Members.{Member, Numbered, field_in, field_of, numbered as numbered_members, parameter_of, along_ordinals}
+use Rattle.draft_rows.specs.RowCounts.{definitions_at, methods_in, no_rows, rows_of}
+use Rattle.draft_rows.specs.Rows.{field_row, field_with, kind_in, literal_in, literal_of, method_structs, response_row, struct_row, structs_of_methods}
+use Rattle.draft_rows.specs.declared.counts.Counts.{Counts}
+use Rattle.draft_rows.specs.declared.counts.FileRows.{FileRows}
+use Rattle.draft_rows.specs.declared.draft.Draft.{Draft}
 use Rattle.schema_laws.proofs.Among.{IsAmong, each_append, each_at}
 use Rattle.schema_laws.proofs.Each.{all_along, all_flat, all_found, all_map, all_numbered, all_so, at_each}
 use Rattle.schema_laws.proofs.Lift.{lift}

@@ -25,15 +25,14 @@ use Rattle.module_resolver.specs.NamesOf.{names_of}
 use Rattle.module_resolver.specs.NameRefusals.{duplicate, method_name, member_lists, repeated, repeated_members, repeated_definitions, named_as_basic, repeated_in, of_file, is_among, names_before, refused_uses, refusals_in, names_refusal}
 use Rattle.module_resolver.specs.Uses.{uses_of}
 use Rattle.const_eval.specs.declared.consts.Consts.{Consts}
-use Rattle.kind_check.specs.declared.counts.Counts.{Counts}
-use Rattle.kind_check.specs.declared.counts.FileRows.{FileRows}
-use Rattle.kind_check.specs.declared.draft.Draft.{Draft}
-use Rattle.kind_check.specs.Scopes.{Scope}
-use Rattle.kind_check.specs.KindRefusals.{around}
-use Rattle.kind_check.specs.Members.{held, ordinal_at}
-use Rattle.kind_check.specs.RowCounts.{structs_of, method_among, methods_in, no_rows, rows_of}
-use Rattle.kind_check.specs.Rows.{method_rows}
-use Rattle.kind_check.specs.Drafts.{enclosed, draft_of_item, draft_of_definition, draft_of}
+use Rattle.draft_rows.specs.declared.counts.Counts.{Counts}
+use Rattle.draft_rows.specs.declared.counts.FileRows.{FileRows}
+use Rattle.draft_rows.specs.declared.draft.Draft.{Draft}
+use Rattle.kind_scope.specs.Scopes.{Scope, around}
+use Rattle.kind_scope.specs.Members.{held, ordinal_at}
+use Rattle.draft_rows.specs.RowCounts.{structs_of, method_among, methods_in, no_rows, rows_of}
+use Rattle.draft_rows.specs.Rows.{method_rows}
+use Rattle.draft_rows.specs.Drafts.{enclosed, draft_of_item, draft_of_definition, draft_of}
 use Rattle.schema_laws.specs.Passed.{IsPassed}
 use Rattle.schema_laws.proofs.Among.{IsAmong, among_flat, place_of, each_at, each_append}
 use Rattle.schema_laws.proofs.Each.{at_each}

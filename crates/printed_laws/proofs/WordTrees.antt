@@ -31,7 +31,7 @@ use Rattle.mojom_print.proofs.WordTexts.{word_each, of_identifier}
 use Rattle.mojom_print.proofs.Retold.{comma_lexical, tokens_lexical}
 use Rattle.mojom_files.specs.Names.{named_in, dotted}
 use Rattle.mojom_files.specs.Definitions.{Defined, identifier_of, module_of, struct_item, interface_item, in_struct, in_interface, nested_in, with_nested, definitions_of}
-use Rattle.kind_check.specs.RowCounts.{method_among, methods_in}
+use Rattle.draft_rows.specs.RowCounts.{method_among, methods_in}
 use Rattle.mojom_compile.specs.Compiled.{IsParsed}
 use Rattle.history_reader.specs.Names as words
 use Rattle.history_reader.specs.Signs.{blank}

@@ -29,19 +29,21 @@ use Rattle.mj_schema.specs.declared.rows.DraftStruct.{DraftStruct}
 use Rattle.mj_schema.specs.declared.rows.UnionFieldRow.{UnionFieldRow}
 use Rattle.mj_schema.specs.declared.rows.ConstRow.{ConstRow}
 use Rattle.mj_schema.specs.declared.rows.Literal.{Literal}
-use Rattle.kind_check.specs.declared.counts.Counts.{Counts}
-use Rattle.kind_check.specs.declared.counts.FileRows.{FileRows}
-use Rattle.kind_check.specs.declared.draft.Draft.{Draft}
-use Rattle.kind_check.specs.declared.list_sort.ListSort.{ListSort}
-use Rattle.kind_check.specs.declared.list_sort.ListSort.TheVariants.{Fields, Parameters}
-use Rattle.kind_check.specs.Scopes.{Scope}
-use Rattle.kind_check.specs.Members.{Member, Numbered, held, ordinal_at, numbered_from, field_of, union_field_of, parameter_of, numbered}
-use Rattle.kind_check.specs.OrdinalRefusals.{is_among, doubled, place, along_ordinals}
-use Rattle.kind_check.specs.KindRefusals.{refused_list, refused_parameters, refused_response, refused_in_item, refused_in_interface, refused_item, inside, around}
-use Rattle.kind_check.specs.RowCounts.{method_among, methods_in, after, after_all, definitions_at}
-use Rattle.kind_check.specs.Kinds.{kind_of}
-use Rattle.kind_check.specs.Rows.{kind_in, field_with, field_row, found_of, struct_row, union_field_with, union_field_row, union_row, const_with, const_row, literal_in, parameters_row, response_row, method_structs, structs_of_methods}
-use Rattle.kind_check.specs.Drafts.{empty, join, draft_of_item, draft_of_definition, draft_of_all, draft_from}
+use Rattle.draft_rows.specs.declared.counts.Counts.{Counts}
+use Rattle.draft_rows.specs.declared.counts.FileRows.{FileRows}
+use Rattle.draft_rows.specs.declared.draft.Draft.{Draft}
+use Rattle.kind_refusals.specs.declared.list_sort.ListSort.{ListSort}
+use Rattle.kind_refusals.specs.declared.list_sort.ListSort.TheVariants.{Fields, Parameters}
+use Rattle.kind_scope.specs.Scopes.{Scope, inside, around}
+use Rattle.kind_scope.specs.Members.{Member, Numbered, held, ordinal_at, numbered_from, field_of, union_field_of, parameter_of, numbered}
+use Rattle.kind_refusals.specs.OrdinalRefusals.{is_among, doubled}
+use Rattle.kind_scope.specs.Members.{place, along_ordinals}
+use Rattle.kind_refusals.specs.KindRefusals.{refused_list, refused_parameters, refused_response, refused_in_item, refused_in_interface, refused_item}
+use Rattle.draft_rows.specs.RowCounts.{method_among, methods_in, after, after_all, definitions_at}
+use Rattle.draft_rows.specs.Kinds.{kind_of}
+use Rattle.draft_rows.specs.Rows.{kind_in, field_with, field_row, found_of, struct_row, union_field_with, union_field_row, union_row, const_with, const_row}
+use Rattle.draft_rows.specs.Rows.{literal_in, parameters_row, response_row, method_structs, structs_of_methods}
+use Rattle.draft_rows.specs.Drafts.{empty, join, draft_of_item, draft_of_definition, draft_of_all, draft_from}
 use Rattle.schema_laws.specs.Kept.{response_list, method_lists, struct_lists, union_lists, const_names, all_definitions, names_along, names_listed, field_names, union_field_names, HasAll}
 use Rattle.schema_laws.proofs.Among.{IsAmong}
 use Rattle.schema_laws.proofs.Quiet.{both_empty}

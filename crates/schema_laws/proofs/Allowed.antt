@@ -10,7 +10,7 @@ use Rattle.mojom_ast.specs.declared.types.PendingSort.TheVariants as pending
 use Rattle.mojom_ast.specs.TypeTrees.{BaseTree, Named, ArrayOf, MapOf, HandleOf, PendingOf}
 use Rattle.mojom_files.specs.declared.basic.Basic.{Basic}
 use Rattle.mojom_files.specs.declared.basic.Basic.TheVariants as basics
-use Rattle.mojom_files.specs.declared.cause.Cause.TheVariants.{BadMapKey, NullableKey, ZeroLengthArray}
+use Rattle.mojom_files.specs.Causes.{BadMapKey, NullableKey, ZeroLengthArray}
 use Rattle.mojom_files.specs.Refusals.{where_true}
 use Rattle.module_resolver.specs.declared.target.DefinitionSort.{DefinitionSort}
 use Rattle.module_resolver.specs.declared.target.DefinitionSort.TheVariants as sorts
@@ -19,13 +19,14 @@ use Rattle.mj_schema.specs.declared.kind.Width.TheVariants.{Bits8, Bits16, Bits3
 use Rattle.mj_schema.specs.KindTrees.{KindTree, BoolKind, IntKind, EnumKind, TextKind, HandleKind, ArrayKind, MapKind, StructKind, UnionKind}
 use Rattle.mj_schema.specs.WellFormed as schema
 use Rattle.mj_schema.specs.WellFormed.{is_allowed}
-use Rattle.kind_check.specs.declared.counts.Counts.{Counts}
-use Rattle.kind_check.specs.declared.counts.FileRows.{FileRows}
-use Rattle.kind_check.specs.declared.meant.Meant.{Meant}
-use Rattle.kind_check.specs.declared.meant.Meant.TheVariants as meant
-use Rattle.kind_check.specs.Scopes.{Scope, meant_in, refused}
-use Rattle.kind_check.specs.TypeRefusals.{is_number, is_text, is_enum, is_key, is_zero, refused_in_base}
-use Rattle.kind_check.specs.Kinds.{basic_kind, row_kind, meant_kind, rows_before_target, handle_sort, pending_kind, count_of, with_value, kind_of_base, interface_number}
+use Rattle.draft_rows.specs.declared.counts.Counts.{Counts}
+use Rattle.draft_rows.specs.declared.counts.FileRows.{FileRows}
+use Rattle.kind_scope.specs.declared.meant.Meant.{Meant}
+use Rattle.kind_scope.specs.declared.meant.Meant.TheVariants as meant
+use Rattle.kind_scope.specs.Scopes.{Scope, meant_in, refused}
+use Rattle.kind_refusals.specs.TypeRefusals.{is_number, is_text, is_enum, is_key, is_zero, refused_in_base}
+use Rattle.draft_rows.specs.Kinds.{basic_kind, row_kind, meant_kind, rows_before_target, handle_sort, pending_kind, count_of, with_value, kind_of_base}
+use Rattle.draft_rows.specs.Kinds.{interface_number}
 use Rattle.schema_laws.proofs.Quiet.{both_empty, none_where}
 
 same_allowed : (one two : KindTree) → Some one ≡ Some two → is_allowed one ≡ true → is_allowed two ≡ true

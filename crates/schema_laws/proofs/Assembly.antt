@@ -3,7 +3,7 @@ use Rattle.std.proofs.Common.{ℕ, List}
 use Rattle.mojom_files.specs.declared.named_file.NamedFile.{NamedFile}
 use Rattle.module_resolver.specs.declared.file_names.Names.{Names}
 use Rattle.const_eval.specs.declared.consts.Consts.{Consts}
-use Rattle.kind_check.specs.Drafts.{draft_of}
+use Rattle.draft_rows.specs.Drafts.{draft_of}
 use Rattle.schema_laws.specs.Passed.{IsPassed}
 use Rattle.schema_laws.specs.Whole.{IsWhole}
 use Rattle.schema_laws.proofs.Tables.{draft_counts}

@@ -16,10 +16,10 @@ use Rattle.module_resolver.specs.declared.target.DefinitionSort.TheVariants as s
 use Rattle.module_resolver.specs.LookUp.{sort_of}
 use Rattle.module_resolver.specs.NamesOf.{sort_of_item, names_in, names_of}
 use Rattle.mj_schema.specs.WellFormed.{RowCounts}
-use Rattle.kind_check.specs.declared.counts.Counts.{Counts}
-use Rattle.kind_check.specs.declared.counts.FileRows.{FileRows}
-use Rattle.kind_check.specs.RowCounts.{after, after_all, no_rows, counts_before, definitions_at, rows_from, rows_of, rows_before}
-use Rattle.kind_check.specs.Kinds.{rows_before_target}
+use Rattle.draft_rows.specs.declared.counts.Counts.{Counts}
+use Rattle.draft_rows.specs.declared.counts.FileRows.{FileRows}
+use Rattle.draft_rows.specs.RowCounts.{after, after_all, no_rows, counts_before, definitions_at, rows_from, rows_of, rows_before}
+use Rattle.draft_rows.specs.Kinds.{rows_before_target}
 use Rattle.schema_laws.proofs.Totals.{after_files}
 
 -- there are no more rows than these

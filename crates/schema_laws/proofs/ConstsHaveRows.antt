@@ -12,7 +12,7 @@ use Rattle.mojom_ast.specs.declared.definitions.DefinitionItem.TheVariants as it
 use Rattle.mojom_files.specs.declared.named_file.NamedFile.{NamedFile}
 use Rattle.mojom_files.specs.declared.basic.Basic.{Basic}
 use Rattle.mojom_files.specs.declared.basic.Basic.TheVariants as basics
-use Rattle.mojom_files.specs.declared.cause.Cause.TheVariants.{FloatField}
+use Rattle.mojom_files.specs.Causes.{FloatField}
 use Rattle.mojom_files.specs.Names.{dotted}
 use Rattle.mojom_files.specs.Definitions.{Defined, definitions_of}
 use Rattle.module_resolver.specs.declared.file_names.Names.{Names}
@@ -33,14 +33,14 @@ use Rattle.const_eval.specs.Origins.{of_thing, origin_of_value, origin_of_const}
 use Rattle.const_eval.specs.Refused.{Site, place_of_value, refused_circle, refused_const_as, refused_const_value, refused_lengths}
 use Rattle.mj_schema.specs.KindTrees.{KindTree}
 use Rattle.mj_schema.specs.declared.rows.Literal.TheVariants as literals
-use Rattle.kind_check.specs.declared.counts.FileRows.{FileRows}
-use Rattle.kind_check.specs.declared.meant.Meant.TheVariants as meant
-use Rattle.kind_check.specs.Scopes.{Scope, meant_in, refused}
-use Rattle.kind_check.specs.TypeRefusals.{is_float_basic, is_float, refused_in_base, refused_in_type}
-use Rattle.kind_check.specs.KindRefusals.{around, refused_item}
-use Rattle.kind_check.specs.RowCounts.{definitions_at, rows_of}
-use Rattle.kind_check.specs.Kinds.{meant_kind, kind_of_base, kind_of}
-use Rattle.kind_check.specs.Rows.{literal_of, literal_in, const_with, const_row}
+use Rattle.draft_rows.specs.declared.counts.FileRows.{FileRows}
+use Rattle.kind_scope.specs.declared.meant.Meant.TheVariants as meant
+use Rattle.kind_scope.specs.Scopes.{Scope, meant_in, refused, around}
+use Rattle.kind_refusals.specs.TypeRefusals.{is_float_basic, is_float, refused_in_base, refused_in_type}
+use Rattle.kind_refusals.specs.KindRefusals.{refused_item}
+use Rattle.draft_rows.specs.RowCounts.{definitions_at, rows_of}
+use Rattle.draft_rows.specs.Kinds.{meant_kind, kind_of_base, kind_of}
+use Rattle.draft_rows.specs.Rows.{literal_of, literal_in, const_with, const_row}
 use Rattle.schema_laws.specs.Passed.{IsPassed}
 use Rattle.schema_laws.proofs.Among.{IsAmong, place_of, among_at}
 use Rattle.schema_laws.proofs.Quiet.{both_empty, none_where}

@@ -13,12 +13,12 @@ use Rattle.mj_schema.specs.KindTrees.{KindTree}
 use Rattle.mj_schema.specs.WellFormed.{are_different}
 use Rattle.mj_schema.specs.declared.rows.UnionFieldRow.{UnionFieldRow}
 use Rattle.mj_schema.specs.declared.rows.MethodRow.{MethodRow}
-use Rattle.kind_check.specs.declared.counts.FileRows.{FileRows}
-use Rattle.kind_check.specs.Scopes.{Scope}
-use Rattle.kind_check.specs.Members.{Member, Numbered, held, ordinal_at, numbered_from, numbered, method_in, method_of}
-use Rattle.kind_check.specs.OrdinalRefusals.{is_among, doubled, ordinals_of}
-use Rattle.kind_check.specs.RowCounts.{structs_of, method_among, methods_in}
-use Rattle.kind_check.specs.Rows.{kind_in, union_field_with, union_field_row, found_of, method_rows}
+use Rattle.draft_rows.specs.declared.counts.FileRows.{FileRows}
+use Rattle.kind_scope.specs.Scopes.{Scope}
+use Rattle.kind_scope.specs.Members.{Member, Numbered, held, ordinal_at, numbered_from, numbered, method_in, method_of}
+use Rattle.kind_refusals.specs.OrdinalRefusals.{is_among, doubled, ordinals_of}
+use Rattle.draft_rows.specs.RowCounts.{structs_of, method_among, methods_in}
+use Rattle.draft_rows.specs.Rows.{kind_in, union_field_with, union_field_row, found_of, method_rows}
 use Rattle.schema_laws.proofs.Quiet.{both_empty}
 
 -- numbers before

@@ -28,20 +28,21 @@ use Rattle.mj_schema.specs.declared.rows.UnionFieldRow.{UnionFieldRow}
 use Rattle.mj_schema.specs.declared.rows.UnionRow.{UnionRow}
 use Rattle.mj_schema.specs.declared.rows.ConstRow.{ConstRow}
 use Rattle.mj_schema.specs.declared.rows.Literal.{Literal}
-use Rattle.kind_check.specs.declared.counts.Counts.{Counts}
-use Rattle.kind_check.specs.declared.counts.FileRows.{FileRows}
-use Rattle.kind_check.specs.declared.draft.Draft.{Draft}
-use Rattle.kind_check.specs.declared.list_sort.ListSort.{ListSort}
-use Rattle.kind_check.specs.declared.list_sort.ListSort.TheVariants.{Fields, UnionFields, Parameters}
-use Rattle.kind_check.specs.Scopes.{Scope}
-use Rattle.kind_check.specs.Members.{Member, Numbered, field_of, union_field_of, parameter_of, numbered}
-use Rattle.kind_check.specs.TypeRefusals.{refused_in_option, refused_in_member, refused_in_type}
-use Rattle.kind_check.specs.OrdinalRefusals.{along_ordinals}
-use Rattle.kind_check.specs.KindRefusals.{limit_of, refused_count, refused_numbers, refused_list, refused_parameters, refused_response, refused_in_item, refused_in_interface, refused_item, refused_definition, inside, around, kinds_refusal}
-use Rattle.kind_check.specs.RowCounts.{method_among, methods_in, rows_of, no_rows}
-use Rattle.kind_check.specs.Kinds.{kind_of}
-use Rattle.kind_check.specs.Rows.{kind_in, field_with, field_row, struct_row, union_field_with, union_field_row, union_row, const_with, const_row, literal_in, parameters_row, response_row, method_structs, structs_of_methods}
-use Rattle.kind_check.specs.Drafts.{empty, join, draft_of_item, draft_of_definition, draft_of}
+use Rattle.draft_rows.specs.declared.counts.Counts.{Counts}
+use Rattle.draft_rows.specs.declared.counts.FileRows.{FileRows}
+use Rattle.draft_rows.specs.declared.draft.Draft.{Draft}
+use Rattle.kind_refusals.specs.declared.list_sort.ListSort.{ListSort}
+use Rattle.kind_refusals.specs.declared.list_sort.ListSort.TheVariants.{Fields, UnionFields, Parameters}
+use Rattle.kind_scope.specs.Scopes.{Scope, inside, around}
+use Rattle.kind_scope.specs.Members.{Member, Numbered, field_of, union_field_of, parameter_of, numbered, along_ordinals}
+use Rattle.kind_refusals.specs.TypeRefusals.{refused_in_option, refused_in_member, refused_in_type}
+use Rattle.kind_refusals.specs.KindRefusals.{limit_of, refused_count, refused_numbers, refused_list, refused_parameters, refused_response, refused_in_item}
+use Rattle.kind_refusals.specs.KindRefusals.{refused_in_interface, refused_item, refused_definition, kinds_refusal}
+use Rattle.draft_rows.specs.RowCounts.{method_among, methods_in, rows_of, no_rows}
+use Rattle.draft_rows.specs.Kinds.{kind_of}
+use Rattle.draft_rows.specs.Rows.{kind_in, field_with, field_row, struct_row, union_field_with, union_field_row, union_row, const_with, const_row, literal_in}
+use Rattle.draft_rows.specs.Rows.{parameters_row, response_row, method_structs, structs_of_methods}
+use Rattle.draft_rows.specs.Drafts.{empty, join, draft_of_item, draft_of_definition, draft_of}
 use Rattle.schema_laws.specs.Passed.{IsPassed}
 use Rattle.schema_laws.proofs.Among.{each_append}
 use Rattle.schema_laws.proofs.Quiet.{both_empty, quiet}

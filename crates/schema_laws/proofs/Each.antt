@@ -3,9 +3,8 @@ use Rattle.std.proofs.Common.{◌≡◌, ℕ, zero, suc, ◌+◌, List, [], ◌�
 use Rattle.std.specs.Prelude.{Bool, true, false, ◌==◌, nat_lt, if◌then◌else◌, Option, Some, None, map, slice_get}
 use Rattle.std.specs.List.{AllByRecursion, flat_map, fold, list_all}
 use Rattle.std.specs.Option.{option_to_list}
-use Rattle.kind_check.specs.Members.{Member, Numbered, ordinal_at, held, numbered_from}
-use Rattle.kind_check.specs.OrdinalRefusals.{place, along}
-use Rattle.kind_check.specs.Rows.{found_of}
+use Rattle.kind_scope.specs.Members.{Member, Numbered, ordinal_at, held, numbered_from, place, along}
+use Rattle.draft_rows.specs.Rows.{found_of}
 use Rattle.schema_laws.proofs.Among.{each_append}
 use Rattle.schema_laws.proofs.Quiet.{both_empty}
 

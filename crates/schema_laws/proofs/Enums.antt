@@ -11,14 +11,15 @@ use Rattle.std.proofs.lemmas.Option.{same_Some}
 use Rattle.mojom_ast.specs.declared.attributes.Attribute.{Attribute}
 use Rattle.mojom_ast.specs.declared.definitions.Enum.{Enum}
 use Rattle.mojom_ast.specs.declared.definitions.Enumerator.{Enumerator}
-use Rattle.mojom_files.specs.declared.cause.Cause.TheVariants.{EmptyEnum}
+use Rattle.mojom_files.specs.Causes.{EmptyEnum}
 use Rattle.mojom_files.specs.Refusals.{where_true}
 use Rattle.mj_schema.specs.WellFormed.{has_members}
 use Rattle.mj_schema.specs.declared.rows.MemberRow.{MemberRow}
 use Rattle.mj_base.specs.declared.limits.TheConstants.{MAX_ENUMERATORS}
-use Rattle.kind_check.specs.Scopes.{Scope, refused}
-use Rattle.kind_check.specs.KindRefusals.{is_empty, is_default, refused_count, refused_default, refused_enum}
-use Rattle.kind_check.specs.Rows.{Valued, valued, member_row, default_in, enum_row}
+use Rattle.kind_scope.specs.Scopes.{Scope, refused}
+use Rattle.kind_refusals.specs.KindRefusals.{is_empty, refused_count, refused_default, refused_enum}
+use Rattle.kind_scope.specs.Attributes.{is_default}
+use Rattle.draft_rows.specs.Rows.{Valued, valued, member_row, default_in, enum_row}
 use Rattle.schema_laws.proofs.Quiet.{both_empty, none_where}
 
 -- the number is that of one of these

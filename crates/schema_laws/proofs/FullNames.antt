@@ -22,14 +22,14 @@ use Rattle.mj_schema.specs.declared.rows.InterfaceRow.{InterfaceRow}
 use Rattle.mj_schema.specs.declared.rows.Literal.{Literal}
 use Rattle.mj_schema.specs.declared.rows.UnionRow.{UnionRow}
 use Rattle.mj_schema.specs.WellFormed.{structs_of_methods}
-use Rattle.kind_check.specs.declared.counts.Counts.{Counts}
-use Rattle.kind_check.specs.declared.counts.FileRows.{FileRows}
-use Rattle.kind_check.specs.declared.draft.Draft.{Draft}
-use Rattle.kind_check.specs.Scopes.{Scope}
-use Rattle.kind_check.specs.RowCounts.{definitions_at, no_rows, rows_of}
-use Rattle.kind_check.specs.Kinds.{kind_of}
-use Rattle.kind_check.specs.Rows.{literal_in, const_with}
-use Rattle.kind_check.specs.Drafts.{join, enclosed, draft_of_item, draft_of_definition, draft_of}
+use Rattle.draft_rows.specs.declared.counts.Counts.{Counts}
+use Rattle.draft_rows.specs.declared.counts.FileRows.{FileRows}
+use Rattle.draft_rows.specs.declared.draft.Draft.{Draft}
+use Rattle.kind_scope.specs.Scopes.{Scope}
+use Rattle.draft_rows.specs.RowCounts.{definitions_at, no_rows, rows_of}
+use Rattle.draft_rows.specs.Kinds.{kind_of}
+use Rattle.draft_rows.specs.Rows.{literal_in, const_with}
+use Rattle.draft_rows.specs.Drafts.{join, enclosed, draft_of_item, draft_of_definition, draft_of}
 use Rattle.schema_laws.specs.Passed.{IsPassed}
 use Rattle.schema_laws.proofs.Tables.{named_drafts, draft_names}
 use Rattle.schema_laws.proofs.Doubles.{times, times_append, distinct}

@@ -10,10 +10,10 @@ use Rattle.module_resolver.specs.declared.file_names.Names.{Names}
 use Rattle.module_resolver.specs.LookUp.{sort_of}
 use Rattle.module_resolver.specs.NamesOf.{names_of}
 use Rattle.const_eval.specs.declared.consts.Consts.{Consts}
-use Rattle.kind_check.specs.declared.counts.Counts.{Counts}
-use Rattle.kind_check.specs.KindRefusals.{around}
-use Rattle.kind_check.specs.RowCounts.{definitions_at, rows_of, rows_before, no_rows}
-use Rattle.kind_check.specs.Drafts.{draft_of}
+use Rattle.draft_rows.specs.declared.counts.Counts.{Counts}
+use Rattle.kind_scope.specs.Scopes.{around}
+use Rattle.draft_rows.specs.RowCounts.{definitions_at, rows_of, rows_before, no_rows}
+use Rattle.draft_rows.specs.Drafts.{draft_of}
 use Rattle.schema_laws.specs.Passed.{IsPassed}
 use Rattle.schema_laws.specs.Kept.{all_definitions, HasAll}
 use Rattle.schema_laws.proofs.Among.{IsAmong}

@@ -7,7 +7,7 @@ use Rattle.mojom_ast.specs.declared.names.Identifier.{Identifier}
 use Rattle.mojom_ast.specs.TypeTrees.{BaseTree, Named, ArrayOf, MapOf, HandleOf, PendingOf}
 use Rattle.mojom_files.specs.declared.basic.Basic.{Basic}
 use Rattle.mojom_files.specs.declared.basic.Basic.TheVariants as basics
-use Rattle.mojom_files.specs.declared.cause.Cause.TheVariants.{FloatField, ZeroLengthArray}
+use Rattle.mojom_files.specs.Causes.{FloatField, ZeroLengthArray}
 use Rattle.mojom_files.specs.Names.{dotted}
 use Rattle.mojom_files.specs.Refusals.{where_true}
 use Rattle.module_resolver.specs.declared.target.Target.{Target}
@@ -23,13 +23,14 @@ use Rattle.module_resolver.specs.Uses.{Use, is_basic, uses_in_type}
 use Rattle.mj_schema.specs.KindTrees.{KindTree, BoolKind, IntKind, EnumKind, TextKind, HandleKind, ArrayKind, MapKind, StructKind, UnionKind}
 use Rattle.mj_schema.specs.declared.kind.Width.TheVariants.{Bits8, Bits16, Bits32, Bits64}
 use Rattle.const_eval.specs.Kinds.{basic_of_parts}
-use Rattle.kind_check.specs.declared.counts.Counts.{Counts}
-use Rattle.kind_check.specs.declared.counts.FileRows.{FileRows}
-use Rattle.kind_check.specs.declared.meant.Meant.TheVariants as meant
-use Rattle.kind_check.specs.RowCounts.{rows_before}
-use Rattle.kind_check.specs.Scopes.{Scope, meant_in, refused}
-use Rattle.kind_check.specs.TypeRefusals.{is_float, is_number, is_zero, refused_in_base}
-use Rattle.kind_check.specs.Kinds.{basic_kind, row_kind, meant_kind, sort_kind, handle_sort, pending_kind, count_of, with_value, kind_of_base, interface_at, sort_interface, target_interface}
+use Rattle.draft_rows.specs.declared.counts.Counts.{Counts}
+use Rattle.draft_rows.specs.declared.counts.FileRows.{FileRows}
+use Rattle.kind_scope.specs.declared.meant.Meant.TheVariants as meant
+use Rattle.draft_rows.specs.RowCounts.{rows_before}
+use Rattle.kind_scope.specs.Scopes.{Scope, meant_in, refused}
+use Rattle.kind_refusals.specs.TypeRefusals.{is_float, is_number, is_zero, refused_in_base}
+use Rattle.draft_rows.specs.Kinds.{basic_kind, row_kind, meant_kind, sort_kind, handle_sort, pending_kind, count_of, with_value, kind_of_base, interface_at}
+use Rattle.draft_rows.specs.Kinds.{sort_interface, target_interface}
 use Rattle.schema_laws.proofs.Quiet.{both_empty, none_where}
 
 -- there is one

@@ -21,14 +21,15 @@ use Rattle.mj_schema.specs.declared.rows.ConstRow.{ConstRow}
 use Rattle.mj_schema.specs.declared.rows.DraftField.{DraftField}
 use Rattle.mj_schema.specs.declared.rows.Literal.{Literal}
 use Rattle.mj_schema.specs.declared.rows.UnionFieldRow.{UnionFieldRow}
-use Rattle.kind_check.specs.declared.counts.Counts.{Counts}
-use Rattle.kind_check.specs.declared.counts.FileRows.{FileRows}
-use Rattle.kind_check.specs.declared.meant.Meant.{Meant}
-use Rattle.kind_check.specs.declared.meant.Meant.TheVariants as meant
-use Rattle.kind_check.specs.Scopes.{Scope, meant_in}
-use Rattle.kind_check.specs.Members.{Numbered}
-use Rattle.kind_check.specs.Kinds.{basic_kind, row_kind, rows_before_target, meant_kind, interface_at, target_interface, interface_number, pending_kind, count_of, with_value, kind_of_base, kind_of}
-use Rattle.kind_check.specs.Rows.{const_with, const_row, literal_in, kind_in, field_with, field_row, union_field_with, union_field_row, found_of}
+use Rattle.draft_rows.specs.declared.counts.Counts.{Counts}
+use Rattle.draft_rows.specs.declared.counts.FileRows.{FileRows}
+use Rattle.kind_scope.specs.declared.meant.Meant.{Meant}
+use Rattle.kind_scope.specs.declared.meant.Meant.TheVariants as meant
+use Rattle.kind_scope.specs.Scopes.{Scope, meant_in}
+use Rattle.kind_scope.specs.Members.{Numbered}
+use Rattle.draft_rows.specs.Kinds.{basic_kind, row_kind, rows_before_target, meant_kind, interface_at, target_interface, interface_number, pending_kind}
+use Rattle.draft_rows.specs.Kinds.{count_of, with_value, kind_of_base, kind_of}
+use Rattle.draft_rows.specs.Rows.{const_with, const_row, literal_in, kind_in, field_with, field_row, union_field_with, union_field_row, found_of}
 use Rattle.schema_laws.proofs.Below.{IsRowThere, AreThere}
 
 -- each row that a kind names is there, where there is a kind

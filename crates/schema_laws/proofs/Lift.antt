@@ -5,13 +5,12 @@ use Rattle.mojom_files.specs.declared.named_file.NamedFile.{NamedFile}
 use Rattle.mojom_files.specs.Definitions.{Defined}
 use Rattle.module_resolver.specs.declared.file_names.FileNames.{FileNames}
 use Rattle.const_eval.specs.declared.consts.Consts.{Consts}
-use Rattle.kind_check.specs.declared.counts.Counts.{Counts}
-use Rattle.kind_check.specs.declared.counts.FileRows.{FileRows}
-use Rattle.kind_check.specs.declared.draft.Draft.{Draft}
-use Rattle.kind_check.specs.Scopes.{Scope}
-use Rattle.kind_check.specs.KindRefusals.{around}
-use Rattle.kind_check.specs.RowCounts.{after, after_all, definitions_at}
-use Rattle.kind_check.specs.Drafts.{empty, join, draft_of_definition, draft_of_all, draft_from}
+use Rattle.draft_rows.specs.declared.counts.Counts.{Counts}
+use Rattle.draft_rows.specs.declared.counts.FileRows.{FileRows}
+use Rattle.draft_rows.specs.declared.draft.Draft.{Draft}
+use Rattle.kind_scope.specs.Scopes.{Scope, around}
+use Rattle.draft_rows.specs.RowCounts.{after, after_all, definitions_at}
+use Rattle.draft_rows.specs.Drafts.{empty, join, draft_of_definition, draft_of_all, draft_from}
 use Rattle.schema_laws.proofs.Among.{IsAmong}
 
 -- it holds of tables joined where it holds of each

@@ -19,16 +19,16 @@ use Rattle.mojom_files.specs.Names.{within}
 use Rattle.module_resolver.specs.declared.file_names.Names.{Names}
 use Rattle.const_eval.specs.declared.consts.Consts.{Consts}
 use Rattle.mj_schema.specs.WellFormed.{has_distinct_tags, has_distinct_ordinals, has_members}
-use Rattle.kind_check.specs.declared.counts.Counts.{Counts}
-use Rattle.kind_check.specs.declared.counts.FileRows.{FileRows}
-use Rattle.kind_check.specs.declared.draft.Draft.{Draft}
-use Rattle.kind_check.specs.declared.list_sort.ListSort.TheVariants.{Fields, UnionFields, Methods, Parameters}
-use Rattle.kind_check.specs.Scopes.{Scope}
-use Rattle.kind_check.specs.Members.{field_of, union_field_of, method_of, parameter_of}
-use Rattle.kind_check.specs.KindRefusals.{inside, around, refused_list, refused_parameters, refused_response, refused_in_item, refused_in_interface, refused_item}
-use Rattle.kind_check.specs.RowCounts.{method_among, methods_in, no_rows, rows_of}
-use Rattle.kind_check.specs.Rows.{parameters_row, response_row, method_structs, structs_of_methods}
-use Rattle.kind_check.specs.Drafts.{empty, join, draft_of_item, draft_of}
+use Rattle.draft_rows.specs.declared.counts.Counts.{Counts}
+use Rattle.draft_rows.specs.declared.counts.FileRows.{FileRows}
+use Rattle.draft_rows.specs.declared.draft.Draft.{Draft}
+use Rattle.kind_refusals.specs.declared.list_sort.ListSort.TheVariants.{Fields, UnionFields, Methods, Parameters}
+use Rattle.kind_scope.specs.Scopes.{Scope, inside, around}
+use Rattle.kind_scope.specs.Members.{field_of, union_field_of, method_of, parameter_of}
+use Rattle.kind_refusals.specs.KindRefusals.{refused_list, refused_parameters, refused_response, refused_in_item, refused_in_interface, refused_item}
+use Rattle.draft_rows.specs.RowCounts.{method_among, methods_in, no_rows, rows_of}
+use Rattle.draft_rows.specs.Rows.{parameters_row, response_row, method_structs, structs_of_methods}
+use Rattle.draft_rows.specs.Drafts.{empty, join, draft_of_item, draft_of}
 use Rattle.schema_laws.specs.Passed.{IsPassed}
 use Rattle.schema_laws.specs.Whole.{CanBeLaidOut}
 use Rattle.schema_laws.proofs.Among.{each_append}

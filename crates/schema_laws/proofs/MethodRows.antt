@@ -9,10 +9,10 @@ use Rattle.std.proofs.lemmas.List.Sums.{sum_by-cons}
 use Rattle.mojom_ast.specs.declared.definitions.Method.{Method}
 use Rattle.mojom_ast.specs.declared.definitions.Parameter.{Parameter}
 use Rattle.mj_schema.specs.WellFormed.{RowCounts, is_row, has_structs}
-use Rattle.kind_check.specs.Members.{held, ordinal_at}
-use Rattle.kind_check.specs.RowCounts.{structs_with, structs_of, structs_of_all}
-use Rattle.kind_check.specs.Rows.{method_row, method_rows}
-use Rattle.kind_check.specs.Drafts.{response_order, method_order, methods_order}
+use Rattle.kind_scope.specs.Members.{held, ordinal_at}
+use Rattle.draft_rows.specs.RowCounts.{structs_with, structs_of, structs_of_all}
+use Rattle.draft_rows.specs.Rows.{method_row, method_rows}
+use Rattle.draft_rows.specs.Drafts.{response_order, method_order, methods_order}
 
 -- what passes of two lists passes of both together
 pub both_pass : {A : Type 0} (test : A → Bool) (xs ys : List A)

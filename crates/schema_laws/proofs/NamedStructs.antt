@@ -21,15 +21,14 @@ use Rattle.mj_schema.specs.declared.rows.DraftStruct.{DraftStruct}
 use Rattle.mj_schema.specs.declared.rows.InterfaceRow.{InterfaceRow}
 use Rattle.mj_schema.specs.declared.rows.MethodRow.{MethodRow}
 use Rattle.mj_schema.specs.WellFormed.{structs_of_methods as numbers_of_methods}
-use Rattle.kind_check.specs.declared.counts.Counts.{Counts}
-use Rattle.kind_check.specs.declared.counts.FileRows.{FileRows}
-use Rattle.kind_check.specs.declared.draft.Draft.{Draft}
-use Rattle.kind_check.specs.Scopes.{Scope}
-use Rattle.kind_check.specs.Members.{held, ordinal_at}
-use Rattle.kind_check.specs.KindRefusals.{inside}
-use Rattle.kind_check.specs.RowCounts.{methods_in, structs_of, definitions_at, no_rows, rows_of}
-use Rattle.kind_check.specs.Rows.{parameters_row, response_row, method_rows, method_structs, structs_of_methods}
-use Rattle.kind_check.specs.Drafts.{join, enclosed, draft_of_item, draft_of_definition, draft_of}
+use Rattle.draft_rows.specs.declared.counts.Counts.{Counts}
+use Rattle.draft_rows.specs.declared.counts.FileRows.{FileRows}
+use Rattle.draft_rows.specs.declared.draft.Draft.{Draft}
+use Rattle.kind_scope.specs.Scopes.{Scope, inside}
+use Rattle.kind_scope.specs.Members.{held, ordinal_at}
+use Rattle.draft_rows.specs.RowCounts.{methods_in, structs_of, definitions_at, no_rows, rows_of}
+use Rattle.draft_rows.specs.Rows.{parameters_row, response_row, method_rows, method_structs, structs_of_methods}
+use Rattle.draft_rows.specs.Drafts.{join, enclosed, draft_of_item, draft_of_definition, draft_of}
 use Rattle.schema_laws.proofs.Tables.{named_drafts}
 use Rattle.schema_laws.proofs.Numbering.{structs_of_method, Lifts, in_files}
 

@@ -22,14 +22,14 @@ use Rattle.module_resolver.specs.LookUp.{sort_of}
 use Rattle.module_resolver.specs.Uses.{Use, response_of, uses_in_type, uses_in_option, uses_in_attributes, uses_in_field, uses_in_struct, uses_in_union, uses_in_parameter, uses_in_method, uses_in_interface, uses_in_item, uses_of}
 use Rattle.module_resolver.specs.NameRefusals.{refused_uses}
 use Rattle.const_eval.specs.declared.consts.Consts.{Consts}
-use Rattle.kind_check.specs.declared.counts.Counts.{Counts}
-use Rattle.kind_check.specs.declared.counts.FileRows.{FileRows}
-use Rattle.kind_check.specs.declared.list_sort.ListSort.TheVariants.{Fields, UnionFields, Parameters}
-use Rattle.kind_check.specs.RowCounts.{rows_before}
-use Rattle.kind_check.specs.Scopes.{Scope}
-use Rattle.kind_check.specs.Members.{Member, field_in, field_of, union_field_of, parameter_of}
-use Rattle.kind_check.specs.KindRefusals.{refused_parameters, refused_response, refused_in_item, refused_in_interface, refused_item, refused_definition, around}
-use Rattle.kind_check.specs.Rows.{kind_in}
+use Rattle.draft_rows.specs.declared.counts.Counts.{Counts}
+use Rattle.draft_rows.specs.declared.counts.FileRows.{FileRows}
+use Rattle.kind_refusals.specs.declared.list_sort.ListSort.TheVariants.{Fields, UnionFields, Parameters}
+use Rattle.draft_rows.specs.RowCounts.{rows_before}
+use Rattle.kind_scope.specs.Scopes.{Scope, around}
+use Rattle.kind_scope.specs.Members.{Member, field_in, field_of, union_field_of, parameter_of}
+use Rattle.kind_refusals.specs.KindRefusals.{refused_parameters, refused_response, refused_in_item, refused_in_interface, refused_item, refused_definition}
+use Rattle.draft_rows.specs.Rows.{kind_in}
 use Rattle.schema_laws.proofs.Among.{each_append}
 use Rattle.schema_laws.proofs.Quiet.{both_empty}
 use Rattle.schema_laws.proofs.Each.{all_empty}

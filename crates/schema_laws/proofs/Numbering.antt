@@ -15,14 +15,13 @@ use Rattle.mojom_files.specs.Names.{within}
 use Rattle.module_resolver.specs.declared.file_names.FileNames.{FileNames}
 use Rattle.const_eval.specs.declared.consts.Consts.{Consts}
 use Rattle.mj_schema.specs.declared.rows.DraftStruct.{DraftStruct}
-use Rattle.kind_check.specs.declared.counts.Counts.{Counts}
-use Rattle.kind_check.specs.declared.counts.FileRows.{FileRows}
-use Rattle.kind_check.specs.declared.draft.Draft.{Draft}
-use Rattle.kind_check.specs.Scopes.{Scope}
-use Rattle.kind_check.specs.KindRefusals.{inside, around}
-use Rattle.kind_check.specs.RowCounts.{methods_in, structs_with, structs_of, structs_of_all, after, after_all, definitions_at}
-use Rattle.kind_check.specs.Rows.{parameters_row, response_row, method_structs, structs_of_methods}
-use Rattle.kind_check.specs.Drafts.{empty, join, enclosed, draft_of_item, draft_of_definition, draft_of_all, draft_from}
+use Rattle.draft_rows.specs.declared.counts.Counts.{Counts}
+use Rattle.draft_rows.specs.declared.counts.FileRows.{FileRows}
+use Rattle.draft_rows.specs.declared.draft.Draft.{Draft}
+use Rattle.kind_scope.specs.Scopes.{Scope, inside, around}
+use Rattle.draft_rows.specs.RowCounts.{methods_in, structs_with, structs_of, structs_of_all, after, after_all, definitions_at}
+use Rattle.draft_rows.specs.Rows.{parameters_row, response_row, method_structs, structs_of_methods}
+use Rattle.draft_rows.specs.Drafts.{empty, join, enclosed, draft_of_item, draft_of_definition, draft_of_all, draft_from}
 
 -- a method has as many structs as are counted for it
 pub structs_of_method : (rows : List FileRows) (scope : Scope) (full : List ℕ) (m : Method) → structs_of m ≡ length (method_structs rows scope full m)

@@ -13,8 +13,8 @@ use Rattle.module_resolver.specs.NameRefusals as resolver
 use Rattle.module_resolver.specs.NameRefusals.{names_refusal}
 use Rattle.const_eval.specs.declared.consts.Consts.{Consts}
 use Rattle.const_eval.specs.Evaluated.{const_refusals, const_refusal}
-use Rattle.kind_check.specs.KindRefusals.{refused_definition, refusals_in, refusals_at, kinds_refusal}
-use Rattle.kind_check.specs.RowCounts.{definitions_at}
+use Rattle.kind_refusals.specs.KindRefusals.{refused_definition, refusals_in, refusals_at, kinds_refusal}
+use Rattle.draft_rows.specs.RowCounts.{definitions_at}
 use Rattle.schema_laws.proofs.Among.{IsAmong}
 
 -- lists in which nothing is

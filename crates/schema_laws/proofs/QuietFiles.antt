@@ -15,8 +15,8 @@ use Rattle.module_resolver.specs.NameRefusals as resolver
 use Rattle.module_resolver.specs.Uses.{uses_of}
 use Rattle.const_eval.specs.declared.consts.Consts.{Consts}
 use Rattle.const_eval.specs.Evaluated.{refused_in}
-use Rattle.kind_check.specs.KindRefusals.{refused_definition}
-use Rattle.kind_check.specs.RowCounts.{definitions_at}
+use Rattle.kind_refusals.specs.KindRefusals.{refused_definition}
+use Rattle.draft_rows.specs.RowCounts.{definitions_at}
 use Rattle.schema_laws.specs.Passed.{IsPassed}
 use Rattle.schema_laws.proofs.Among.{IsAmong, place_of}
 use Rattle.schema_laws.proofs.Quiet.{both_empty, quiet, quiet_consts, quiet_names}

@@ -11,15 +11,17 @@ use Rattle.mojom_files.specs.declared.refusal.Refusal.{Refusal}
 use Rattle.mj_schema.specs.KindTrees.{KindTree}
 use Rattle.mj_schema.specs.Layout.{never_fall, are_small}
 use Rattle.mj_schema.specs.declared.rows.DraftField.{DraftField}
-use Rattle.kind_check.specs.declared.counts.FileRows.{FileRows}
-use Rattle.kind_check.specs.declared.list_sort.ListSort.{ListSort}
+use Rattle.draft_rows.specs.declared.counts.FileRows.{FileRows}
+use Rattle.kind_refusals.specs.declared.list_sort.ListSort.{ListSort}
 use Rattle.const_meanings.specs.Known.{Known, TextValue, BoolValue, NumberValue, FloatValue}
-use Rattle.kind_check.specs.Scopes.{Scope}
-use Rattle.kind_check.specs.Members.{Member, Numbered, held, ordinal_at, numbered_from, numbered}
-use Rattle.kind_check.specs.TypeRefusals.{refused_in_member}
-use Rattle.kind_check.specs.OrdinalRefusals.{place, along_ordinals, min_version, known_in, version_of_known, version_of, refused_fall, refused_falls, refused_gap, lacking, refused_order, refused_late, doubled, refused_double, refused_doubles}
-use Rattle.kind_check.specs.KindRefusals.{limit_of, is_struct, is_empty, refused_count, refused_struct, refused_numbers, refused_list}
-use Rattle.kind_check.specs.Rows.{kind_in, field_with, field_row, found_of, struct_row}
+use Rattle.kind_scope.specs.Scopes.{Scope, known_in}
+use Rattle.kind_scope.specs.Members.{Member, Numbered, held, ordinal_at, numbered_from, numbered, place, along_ordinals}
+use Rattle.kind_refusals.specs.TypeRefusals.{refused_in_member}
+use Rattle.kind_scope.specs.Versions.{min_version, version_of_known, version_of}
+use Rattle.kind_refusals.specs.OrdinalRefusals.{refused_fall, refused_falls, refused_gap, lacking, refused_order, refused_late, doubled, refused_double}
+use Rattle.kind_refusals.specs.OrdinalRefusals.{refused_doubles}
+use Rattle.kind_refusals.specs.KindRefusals.{limit_of, is_struct, is_empty, refused_count, refused_struct, refused_numbers, refused_list}
+use Rattle.draft_rows.specs.Rows.{kind_in, field_with, field_row, found_of, struct_row}
 use Rattle.schema_laws.specs.Whole.{CanBeLaidOut}
 use Rattle.schema_laws.proofs.Quiet.{both_empty, map_empty, none_where}
 

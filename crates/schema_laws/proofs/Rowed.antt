@@ -15,9 +15,9 @@ use Rattle.module_resolver.specs.LookUp.{sort_of}
 use Rattle.module_resolver.specs.NamesOf.{sort_of_item, names_in, names_of}
 use Rattle.module_resolver.specs.Imports.{has, all_files, IsOrder}
 use Rattle.module_resolver.specs.Order.{all_imports, imports_of, file_names}
-use Rattle.kind_check.specs.declared.counts.Counts.{Counts}
-use Rattle.kind_check.specs.declared.counts.FileRows.{FileRows}
-use Rattle.kind_check.specs.RowCounts.{after, after_all, no_rows, counts_before, definitions_at, rows_from, rows_of, rows_before}
+use Rattle.draft_rows.specs.declared.counts.Counts.{Counts}
+use Rattle.draft_rows.specs.declared.counts.FileRows.{FileRows}
+use Rattle.draft_rows.specs.RowCounts.{after, after_all, no_rows, counts_before, definitions_at, rows_from, rows_of, rows_before}
 use Rattle.schema_laws.proofs.Each.{at_each}
 
 -- the definition that a target means, and what it is

@@ -17,7 +17,7 @@ use Rattle.mj_schema.specs.declared.rows.StructRow.{StructRow}
 use Rattle.mj_schema.specs.declared.rows.UnionFieldRow.{UnionFieldRow}
 use Rattle.mj_schema.specs.declared.rows.UnionRow.{UnionRow}
 use Rattle.mj_schema.specs.WellFormed.{RowCounts, are_within, has_structs, is_row, is_allowed, structs_of_methods, named_structs, all_kinds, all_names, counts_of, is_well_formed}
-use Rattle.kind_check.specs.declared.draft.Draft.{Draft}
+use Rattle.draft_rows.specs.declared.draft.Draft.{Draft}
 use Rattle.schema_laws.specs.Whole.{IsWhole}
 use Rattle.schema_laws.proofs.Tables.{draft_kinds, named_drafts, draft_names, draft_counts}
 use Rattle.schema_laws.proofs.Members.{HaveMembers}

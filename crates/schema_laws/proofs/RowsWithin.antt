@@ -27,16 +27,15 @@ use Rattle.mj_schema.specs.declared.rows.DraftStruct.{DraftStruct}
 use Rattle.mj_schema.specs.declared.rows.InterfaceRow.{InterfaceRow}
 use Rattle.mj_schema.specs.declared.rows.UnionFieldRow.{UnionFieldRow}
 use Rattle.mj_schema.specs.declared.rows.UnionRow.{UnionRow}
-use Rattle.kind_check.specs.declared.counts.Counts.{Counts}
-use Rattle.kind_check.specs.declared.counts.FileRows.{FileRows}
-use Rattle.kind_check.specs.declared.draft.Draft.{Draft}
-use Rattle.kind_check.specs.Scopes.{Scope}
-use Rattle.kind_check.specs.Members.{Member, field_of, union_field_of, parameter_of, numbered}
-use Rattle.kind_check.specs.OrdinalRefusals.{along_ordinals}
-use Rattle.kind_check.specs.KindRefusals.{inside, around}
-use Rattle.kind_check.specs.RowCounts.{methods_in, structs_of_all, after, after_all, no_rows, definitions_at, rows_of}
-use Rattle.kind_check.specs.Rows.{struct_row, union_row, response_row, method_structs, structs_of_methods, interface_row}
-use Rattle.kind_check.specs.Drafts.{empty, join, methods_order, draft_of_interface, draft_of_item, enclosed, draft_of_definition, draft_of_all, draft_from, draft_of}
+use Rattle.draft_rows.specs.declared.counts.Counts.{Counts}
+use Rattle.draft_rows.specs.declared.counts.FileRows.{FileRows}
+use Rattle.draft_rows.specs.declared.draft.Draft.{Draft}
+use Rattle.kind_scope.specs.Scopes.{Scope, inside, around}
+use Rattle.kind_scope.specs.Members.{Member, field_of, union_field_of, parameter_of, numbered, along_ordinals}
+use Rattle.draft_rows.specs.RowCounts.{methods_in, structs_of_all, after, after_all, no_rows, definitions_at, rows_of}
+use Rattle.draft_rows.specs.Rows.{struct_row, union_row, response_row, method_structs, structs_of_methods, interface_row}
+use Rattle.draft_rows.specs.Drafts.{empty, join, methods_order, draft_of_interface, draft_of_item, enclosed, draft_of_definition, draft_of_all, draft_from}
+use Rattle.draft_rows.specs.Drafts.{draft_of}
 use Rattle.schema_laws.specs.Passed.{IsPassed}
 use Rattle.schema_laws.proofs.Tables.{draft_kinds, draft_counts}
 use Rattle.schema_laws.proofs.Totals.{after_files, AreBetween, HaveRows, files_between}

@@ -11,7 +11,7 @@ use Rattle.module_resolver.specs.Resolved.{AreNames}
 use Rattle.const_eval.specs.declared.consts.Consts.{Consts}
 use Rattle.const_eval.specs.Consts.{AreConsts}
 use Rattle.const_eval.specs.Evaluated.{const_refusal, IsEvaluated}
-use Rattle.kind_check.specs.KindRefusals.{kinds_refusal}
+use Rattle.kind_refusals.specs.KindRefusals.{kinds_refusal}
 use Rattle.schema_laws.specs.Refused.{HasAnswer}
 use Rattle.schema_laws.proofs.SomeConsts.{some_consts}
 use Rattle.schema_laws.proofs.SomeOrder.{some_order}

@@ -6,7 +6,7 @@ use Rattle.std.proofs.lemmas.List.{length_push, get_or_default}
 use Rattle.std.proofs.lemmas.List.Elements.{All-nil, All-push}
 use Rattle.std.proofs.lemmas.List.Folds.{Any-from_list_any}
 use Rattle.mojom_files.specs.declared.named_file.NamedFile.{NamedFile}
-use Rattle.mojom_files.specs.declared.cause.Cause.TheVariants.{CircularImport}
+use Rattle.mojom_files.specs.Causes.{CircularImport}
 use Rattle.mojom_files.specs.declared.refusal.Refusal.{Refusal}
 use Rattle.module_resolver.specs.Imports.{has, AreDistinct, all_files, first_left, import_left, is_free, next_file}
 use Rattle.module_resolver.specs.Imports.{IsTakenInOrder, IsTakenWhole, IsWalk, IsCircle}

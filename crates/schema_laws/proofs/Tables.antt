@@ -11,7 +11,7 @@ use Rattle.mj_schema.specs.declared.rows.InterfaceRow.{InterfaceRow}
 use Rattle.mj_schema.specs.declared.rows.UnionFieldRow.{UnionFieldRow}
 use Rattle.mj_schema.specs.declared.rows.UnionRow.{UnionRow}
 use Rattle.mj_schema.specs.WellFormed.{RowCounts, structs_of_methods}
-use Rattle.kind_check.specs.declared.draft.Draft.{Draft}
+use Rattle.draft_rows.specs.declared.draft.Draft.{Draft}
 
 -- the kinds of all fields and constants
 abbrev pub draft_kinds : Draft → List KindTree

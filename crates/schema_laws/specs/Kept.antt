@@ -12,10 +12,9 @@ use Rattle.mj_schema.specs.declared.rows.DraftStruct.{DraftStruct}
 use Rattle.mj_schema.specs.declared.rows.UnionFieldRow.{UnionFieldRow}
 use Rattle.mj_schema.specs.declared.rows.UnionRow.{UnionRow}
 use Rattle.mj_schema.specs.declared.rows.ConstRow.{ConstRow}
-use Rattle.kind_check.specs.declared.draft.Draft.{Draft}
-use Rattle.kind_check.specs.Members.{Member, Numbered, field_of, union_field_of, parameter_of, numbered}
-use Rattle.kind_check.specs.OrdinalRefusals.{along_ordinals}
-use Rattle.kind_check.specs.RowCounts.{methods_in, definitions_at}
+use Rattle.draft_rows.specs.declared.draft.Draft.{Draft}
+use Rattle.kind_scope.specs.Members.{Member, Numbered, field_of, union_field_of, parameter_of, numbered, along_ordinals}
+use Rattle.draft_rows.specs.RowCounts.{methods_in, definitions_at}
 
 -- the parameters of a response, where there is one
 abbrev pub response_list : Option (List Parameter) → List (List Member)

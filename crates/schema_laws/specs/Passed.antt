@@ -6,7 +6,7 @@ use Rattle.module_resolver.specs.Order.{IsOrdered}
 use Rattle.module_resolver.specs.Resolved.{AreNames}
 use Rattle.const_eval.specs.declared.consts.Consts.{Consts}
 use Rattle.const_eval.specs.Evaluated.{IsEvaluated}
-use Rattle.kind_check.specs.KindRefusals.{kinds_refusal}
+use Rattle.kind_refusals.specs.KindRefusals.{kinds_refusal}
 
 -- the files have this resolved order and these names, their constants and enumerators mean this, and nothing is refused of their kinds
 pub record IsPassed (files : List NamedFile) (order : List ℕ) (names : Names) (consts : Consts) : Type 0 where

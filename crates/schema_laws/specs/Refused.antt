@@ -7,7 +7,7 @@ use Rattle.module_resolver.specs.Order.{IsOrdered, IsDisordered}
 use Rattle.module_resolver.specs.Resolved.{AreNames, IsRefused}
 use Rattle.const_eval.specs.declared.consts.Consts.{Consts}
 use Rattle.const_eval.specs.Evaluated.{IsEvaluated, IsConstRefused}
-use Rattle.kind_check.specs.KindRefusals.{kinds_refusal}
+use Rattle.kind_refusals.specs.KindRefusals.{kinds_refusal}
 use Rattle.schema_laws.specs.Passed.{IsPassed}
 
 -- the first refusal of names

@@ -7,7 +7,7 @@ use Rattle.mj_schema.specs.declared.rows.DraftStruct.{DraftStruct}
 use Rattle.mj_schema.specs.declared.rows.StructRow.{StructRow}
 use Rattle.mj_schema.specs.Layout.{draft_of, never_fall, are_small}
 use Rattle.mj_schema.specs.WellFormed.{is_well_formed}
-use Rattle.kind_check.specs.declared.draft.Draft.{Draft}
+use Rattle.draft_rows.specs.declared.draft.Draft.{Draft}
 
 -- the fields of a struct can be laid out: there are few, and their versions never fall and have 32 bits
 pub record CanBeLaidOut (row : DraftStruct) : Type 0 where

@@ -10,7 +10,7 @@ ghost use Rattle.mj_schema.specs.declared.rows.DraftStruct.{DraftStruct};
 ghost use Rattle.mj_schema.specs.declared.rows.StructRow.{StructRow};
 ghost use Rattle.mj_schema.specs.Layout as layout;
 ghost use Rattle.mj_schema.specs.Layout.{IsLaidOut};
-ghost use Rattle.kind_check.specs.Drafts.{draft_of};
+ghost use Rattle.draft_rows.specs.Drafts.{draft_of};
 ghost use Rattle.schema_laws.specs.Passed.{IsPassed};
 ghost use Rattle.schema_laws.specs.Refused.{HasAnswer};
 ghost use Rattle.schema_laws.specs.Whole.{CanBeLaidOut, IsWhole};

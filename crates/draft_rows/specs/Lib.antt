@@ -1,0 +1,5 @@
+pub mod RowCounts
+pub mod Kinds
+pub mod Rows
+pub mod Drafts
+pub mod steps

@@ -1,6 +1,0 @@
-use Rattle.std.proofs.Common.{◌≡◌, drop, map, ◌++◌}
-use Rattle.kind_check.specs.RowCounts.{methods_in}
-use Rattle.kind_check.proofs.counts.methods_in.Given as goal
-
-abbrev pub invariant-loop-member : goal.invariant-loop-member
-invariant-loop-member l = map (λ m. m.now) l.found.items ++ methods_in (drop l.member-index l.members) ≡ methods_in l.members

@@ -1,8 +1,0 @@
-use Rattle.std.proofs.Common.{◌≡◌, drop, map, ◌++◌}
-use Rattle.kind_check.specs.Drafts.{methods_order}
-use Rattle.kind_check.proofs.draft.add_methods_order.Given as goal
-
-abbrev pub invariant-loop-method : goal.invariant-loop-method
-invariant-loop-method l =
-    l.order.items ++ methods_order l.number (map (λ m. m.now) (drop l.method-index l.methods))
-    ≡ l.fn.order.items ++ methods_order l.fn.first (map (λ m. m.now) l.methods)

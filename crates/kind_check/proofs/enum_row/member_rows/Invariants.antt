@@ -1,8 +1,0 @@
-use Rattle.std.proofs.Common.{◌≡◌, drop, map, ◌++◌}
-use Rattle.kind_check.specs.Rows.{member_row}
-use Rattle.kind_check.proofs.enum_row.member_rows.Given as goal
-use Rattle.kind_check.specs.steps.Views.{valued_view}
-
-abbrev pub invariant-loop-one : goal.invariant-loop-one
-invariant-loop-one l =
-    l.made.items ++ map member_row (map valued_view (drop l.one-index l.ones)) ≡ map member_row (map valued_view l.ones)

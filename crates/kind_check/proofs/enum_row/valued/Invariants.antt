@@ -1,9 +1,0 @@
-use Rattle.std.proofs.Common.{◌≡◌, drop, map, ◌++◌}
-use Rattle.kind_check.specs.Rows.{valued_from, valued}
-use Rattle.kind_check.proofs.enum_row.valued.Given as goal
-use Rattle.kind_check.specs.steps.Views.{scope_view, valued_view}
-
-abbrev pub invariant-loop-enumerator : goal.invariant-loop-enumerator
-invariant-loop-enumerator l =
-    map valued_view l.made.items ++ valued_from (scope_view l.scope) l.next (drop l.enumerator-index l.enumerators)
-    ≡ valued (scope_view l.scope) l.enumerators

@@ -1,9 +1,0 @@
-use Rattle.std.proofs.Common.{◌≡◌, drop, map, ◌++◌}
-use Rattle.kind_check.specs.Rows.{structs_of_methods}
-use Rattle.kind_check.proofs.interface_row.add_methods.Given as goal
-use Rattle.kind_check.specs.steps.Views.{scope_view}
-
-abbrev pub invariant-loop-method : goal.invariant-loop-method
-invariant-loop-method l =
-    l.structs.items ++ structs_of_methods l.rows (scope_view l.scope) l.full (map (λ m. m.now) (drop l.method-index l.methods))
-    ≡ l.fn.structs.items ++ structs_of_methods l.rows (scope_view l.scope) l.full (map (λ m. m.now) l.methods)

@@ -1,7 +1,0 @@
-use Rattle.std.proofs.Common.{◌≡◌, drop, map, ◌++◌}
-use Rattle.kind_check.specs.Members.{parameter_of}
-use Rattle.kind_check.specs.steps.Views.{member_view}
-use Rattle.kind_check.proofs.member.parameters.Given as goal
-
-abbrev pub invariant-loop-parameter : goal.invariant-loop-parameter
-invariant-loop-parameter l = map member_view l.found.items ++ map parameter_of (drop l.parameter-index l.parameters) ≡ map parameter_of l.parameters

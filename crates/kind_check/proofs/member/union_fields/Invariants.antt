@@ -1,7 +1,0 @@
-use Rattle.std.proofs.Common.{◌≡◌, drop, map, ◌++◌}
-use Rattle.kind_check.specs.Members.{union_field_of}
-use Rattle.kind_check.specs.steps.Views.{member_view}
-use Rattle.kind_check.proofs.member.union_fields.Given as goal
-
-abbrev pub invariant-loop-field : goal.invariant-loop-field
-invariant-loop-field l = map member_view l.found.items ++ map union_field_of (drop l.field-index l.fields) ≡ map union_field_of l.fields

@@ -1,9 +1,0 @@
-use Rattle.std.proofs.Common.{◌≡◌, drop, map, ◌++◌}
-use Rattle.kind_check.specs.Rows.{found_of, union_field_row}
-use Rattle.kind_check.proofs.member_row.union_field_rows.Given as goal
-use Rattle.kind_check.specs.steps.Views.{numbered_view, scope_view}
-
-abbrev pub invariant-loop-one : goal.invariant-loop-one
-invariant-loop-one l =
-    l.made.items ++ found_of (union_field_row l.rows (scope_view l.scope)) (map numbered_view (drop l.one-index l.ones))
-    ≡ found_of (union_field_row l.rows (scope_view l.scope)) (map numbered_view l.ones)

@@ -1,6 +1,0 @@
-use Rattle.std.proofs.Common.{◌≡◌, drop}
-use Rattle.kind_check.specs.OrdinalRefusals.{min_version}
-use Rattle.kind_check.proofs.versions.min_version.Given as goal
-
-abbrev pub invariant-loop-attribute : goal.invariant-loop-attribute
-invariant-loop-attribute l = min_version (drop l.attribute-index l.attributes) ≡ min_version l.attributes

@@ -1,0 +1,3 @@
+pub mod TypeRefusals
+pub mod OrdinalRefusals
+pub mod KindRefusals

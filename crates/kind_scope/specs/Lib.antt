@@ -1,0 +1,5 @@
+pub mod Scopes
+pub mod Members
+pub mod Versions
+pub mod Attributes
+pub mod Views
