@@ -5,7 +5,7 @@ use Rattle.mojom_ast.specs.declared.token.Token.{Token}
 use Rattle.mojom_ast.specs.declared.file.File.{File}
 use Rattle.mojom_ast.specs.Lang.{Whole, Read}
 use Rattle.mojom_ast.specs.Grammar.{file}
-use Rattle.mojom_ast.specs.Parsed.{Spells}
+use Rattle.mojom_ast.specs.Parsed.{SpellsWithin, Spells}
 use Rattle.grammar_laws.specs.steps.Factored.{factored}
 use Rattle.grammar_laws.proofs.Asks.{Sure}
 use Rattle.grammar_laws.proofs.Finds.{Outcome}
@@ -22,7 +22,7 @@ abbrev IsTree : File → File → List Token → Type 0
 IsTree tree f rest = (rest ≡ []) × (f ≡ tree)
 
 -- what is spelled with so many levels is read with them
-read_at : (n : ℕ) (tree : File) (ts : List Token) → (file n).followed Whole (IsTree tree) ts → (factored n).read ts ≡ Ok (tree, [])
+pub read_at : (n : ℕ) (tree : File) (ts : List Token) → SpellsWithin n tree ts → (factored n).read ts ≡ Ok (tree, [])
 read_at n tree ts h =
     let o : Outcome Sure (IsTree tree) [] ((factored n).read (ts ++ [])) = (good_factored n n).finds (length (ts ++ [])) Sure refl (IsTree tree)
     (λ x t us k. absurd (cc)) ts [] (omega arith) refl (to_factored n Whole (IsTree tree) ts h) in

@@ -4,4 +4,5 @@ pub mod Answers
 pub mod Complete
 pub mod LanguageCauses
 pub mod Lines
+pub mod Again
 pub mod steps

@@ -5,7 +5,7 @@ ghost use Rattle.command_line.specs.Asked.{command_of};
 ghost use Rattle.mj_io.specs.Outside.{Named, SinkState};
 ghost use Rattle.mojom_ast.specs.declared.file.File.{File};
 ghost use Rattle.mojom_compile.specs.Compiled.{IsParsed};
-ghost use Rattle.mojom_print.specs.FileText.{file_text};
+ghost use Rattle.mojo_tool.specs.Again.{PrintsAgain};
 ghost use Rattle.mojo_tool.specs.Answers.{Answers, Seen, code_of, WroteOrFailed};
 ghost use Rattle.mojo_tool.specs.Complete.{IsComplete};
 ghost use Rattle.mojo_tool.specs.steps.Reports.{Printed, Reported};
@@ -189,8 +189,9 @@ pub fn one_work()
         → IsWork (command_of words) files other → work ≡ other }
 {}
 
-/// A law of printed texts: where a printed text has a tree, that tree's text is the same text, so that
-/// a print of a print changes nothing.
+/// A law of printed texts: where a file has a tree, the text that is printed of it has a tree too, and
+/// that tree's text is the same text, so that a print of a print changes nothing. It is a law of
+/// trees and texts: one longer than `MAX_FILE_BYTES` is refused by its length.
 pub fn prints_again()
-    ensures { (bytes : List ℕ) (tree other : File) → IsParsed bytes tree → IsParsed (file_text tree) other → file_text other ≡ file_text tree }
+    ensures { (bytes : List ℕ) (tree : File) → IsParsed bytes tree → PrintsAgain tree }
 {}

@@ -6,9 +6,13 @@ use Rattle.mojom_ast.specs.declared.file.File.{File}
 use Rattle.mojom_ast.specs.Lang.{Whole, Begun, Deep}
 use Rattle.mojom_ast.specs.Grammar.{file}
 
+-- The tokens are a file of this tree, with at most so many types round one another.
+abbrev pub SpellsWithin : ℕ → File → List Token → Type 0
+SpellsWithin n tree ts = (file n).followed Whole (λ f rest. (rest ≡ []) × (f ≡ tree)) ts
+
 -- The tokens are a file of this tree, however deep its types nest.
 abbrev pub Spells : File → List Token → Type 0
-Spells tree ts = (n : ℕ) × (file n).followed Whole (λ f rest. (rest ≡ []) × (f ≡ tree)) ts
+Spells tree ts = (n : ℕ) × SpellsWithin n tree ts
 
 -- The tokens are a file, or end inside of one: the first parts of each form whole, and then a beginning of the next.
 abbrev pub Begins : List Token → Type 0

@@ -1,7 +1,7 @@
 //! Where tokens stop being what a rule says.
 
 /// Why a rule goes on no further, by how many tokens are left there.
-#[derive(Clone, Copy, Debug, PartialEq, Eq)]
+#[derive(Clone, Copy)]
 pub enum Fault {
     /// No beginning goes on with the next token, or there is none.
     Unexpected(usize),

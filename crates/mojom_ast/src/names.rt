@@ -10,7 +10,7 @@ pub struct Identifier {
 }
 
 /// A number without a sign, and where it stands.
-#[derive(Clone, Copy, Debug, PartialEq, Eq)]
+#[derive(Clone, Copy)]
 pub struct Number {
     pub value: u64,
     pub span: Span,

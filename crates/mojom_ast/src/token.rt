@@ -3,7 +3,7 @@
 use mj_base::{Items, Span, Text};
 
 /// A word that is no identifier.
-#[derive(Clone, Copy, Debug, PartialEq, Eq)]
+#[derive(Clone, Copy)]
 pub enum Keyword {
     Module,
     Import,
@@ -24,7 +24,7 @@ pub enum Keyword {
 }
 
 /// A sign of one character, or `=>`.
-#[derive(Clone, Copy, Debug, PartialEq, Eq)]
+#[derive(Clone, Copy)]
 pub enum Symbol {
     /// `;`
     Semicolon,

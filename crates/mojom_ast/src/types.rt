@@ -69,7 +69,7 @@ pub enum BaseNode {
 }
 
 /// What a handle is for.
-#[derive(Clone, Copy, Debug, PartialEq, Eq)]
+#[derive(Clone, Copy)]
 pub enum HandleSort {
     MessagePipe,
     DataPipeConsumer,
@@ -79,7 +79,7 @@ pub enum HandleSort {
 }
 
 /// An end of an interface that is handed over.
-#[derive(Clone, Copy, Debug, PartialEq, Eq)]
+#[derive(Clone, Copy)]
 pub enum PendingSort {
     Remote,
     Receiver,

@@ -2,4 +2,9 @@ pub mod Readings
 pub mod SameStructs
 pub mod Trees
 pub mod SomeSchema
+pub mod InFile
+pub mod NamesInFile
+pub mod ConstsInFile
+pub mod KindsInFile
+pub mod Given
 pub mod OneSchemaOfFiles

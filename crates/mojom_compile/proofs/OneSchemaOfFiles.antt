@@ -40,6 +40,7 @@ use Rattle.mojom_compile.specs.declared.source.Source.{Source}
 use Rattle.mojom_compile.specs.Compiled.{IsUnread}
 use Rattle.mojom_compile.specs.Schemas.{IsTreeOf, AreTreesOf, IsFirstUnread, IsTreesRefusal, IsRefusalOf, AreTablesOf, HaveTables, IsLayoutOf, IsSchemaOfFiles, OneSchemaOfFiles}
 use Rattle.mojom_compile.proofs.Readings.{one_tree}
+use Rattle.mojom_compile.proofs.Given.{is_given}
 use Rattle.mojom_compile.proofs.SomeSchema.{some_schema}
 use Rattle.mojom_compile.proofs.SameStructs.{same_structs}
 
@@ -336,4 +337,10 @@ module _ (sources : List Source) where
 
   -- for the law of this name
   pub one_schema : OneSchemaOfFiles sources
-  one_schema = record { some = some_schema sources; one_schema = the_schema; one_refusal = the_refusal; never_both = never }
+  one_schema = record {
+    some = some_schema sources;
+    one_schema = the_schema;
+    one_refusal = the_refusal;
+    never_both = never;
+    of_given = is_given sources;
+  }

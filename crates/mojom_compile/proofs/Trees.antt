@@ -1,10 +1,13 @@
 -- Trees of files in a row.
-use Rattle.std.proofs.Common.{◌≡◌, ℕ, zero, suc, ◌+◌, List, [], ◌∷◌, ◌++◌, length, take, refl, sym, ap, subst, arith}
+use Rattle.std.proofs.Common.{◌≡◌, ℕ, zero, suc, ◌+◌, List, [], ◌∷◌, ◌++◌, length, take, refl, sym, ap, subst, inl, inr, arith}
 use Rattle.std.specs.Prelude.{slice_get, Some}
 use Rattle.std.proofs.lemmas.Option.{same_Some}
 use Rattle.mojom_files.specs.declared.named_file.NamedFile.{NamedFile}
+use Rattle.mojom_compile.specs.declared.schema_error.SchemaError.{SchemaError}
+use Rattle.mojom_compile.specs.declared.schema_error.SchemaError.TheVariants.{Unread, Refused, Memory}
 use Rattle.mojom_compile.specs.declared.source.Source.{Source}
-use Rattle.mojom_compile.specs.Schemas.{IsTreeOf, AreTreesOf}
+use Rattle.mojom_compile.specs.Schemas.{IsTreeOf, AreTreesOf, IsWhy}
+use Rattle.mojom_compile.specs.steps.Stages.{IsUnreadFile}
 
 trees_next : (sources : List Source) (files : List NamedFile) (k : ℕ) (source : Source) (file : NamedFile) → slice_get sources k ≡ Some source
     → AreTreesOf (take k sources) files → IsTreeOf source file → AreTreesOf (take (suc k) sources) (files ++ file ∷ [])
@@ -27,3 +30,16 @@ trees_length [] [] are = refl
 trees_length [] (f ∷ fs) are = absurd are
 trees_length (s ∷ ss) [] are = absurd are
 trees_length (s ∷ ss) (f ∷ fs) are = ap suc (trees_length ss fs are.1)
+
+-- a file without a tree behind those that have one is the first
+pub first_unread : (sources : List Source) (files : List NamedFile) (k : ℕ) (source : Source) (error : SchemaError) → slice_get sources k ≡ Some source
+    → AreTreesOf (take k sources) files → IsUnreadFile k source error → IsWhy sources error
+first_unread sources files k source (Unread file refusal) at are why = inr (record {
+  before = files;
+  trees = subst (λ (n : ℕ). AreTreesOf (take n sources) files) (sym why.0) are;
+  source = source;
+  is = subst (λ (n : ℕ). slice_get sources n ≡ Some source) (sym why.0) at;
+  unread = why.1;
+})
+first_unread sources files k source (Refused refusal) at are why = absurd why
+first_unread sources files k source Memory at are why = inl refl

@@ -1,5 +1,5 @@
 -- Which files have which schema, and which refusal.
-use Rattle.std.specs.Prelude.{ℕ, ◌≡◌, ◌≤◌, ◌+◌, ◌^◌, ◌⊎◌, List, [], ◌∷◌, length, map, take, slice_get, Some}
+use Rattle.std.specs.Prelude.{ℕ, ◌≡◌, ◌<◌, ◌≤◌, ◌+◌, ◌^◌, ◌⊎◌, List, [], ◌∷◌, length, map, take, slice_get, Some}
 use Rattle.mj_schema.specs.declared.schema.Schema.{Schema}
 use Rattle.mj_schema.specs.Layout.{draft_of}
 use Rattle.mojom_files.specs.declared.named_file.NamedFile.{NamedFile}
@@ -52,6 +52,12 @@ IsRefusalOf sources (Unread file refusal) = IsFirstUnread sources file refusal
 IsRefusalOf sources (Refused refusal) = IsTreesRefusal sources refusal
 IsRefusalOf sources Memory = ⊥
 
+-- the file that is refused is one of those that are given
+abbrev pub IsOfGiven : List Source → SchemaError → Type 0
+IsOfGiven sources (Unread file refusal) = file < length sources
+IsOfGiven sources (Refused refusal) = refusal.file < length sources
+IsOfGiven sources Memory = Unit {0}
+
 -- a refusal, or want of memory
 abbrev pub IsWhy : List Source → SchemaError → Type 0
 IsWhy sources error = (error ≡ Memory) ⊎ IsRefusalOf sources error
@@ -97,7 +103,7 @@ pub record HasTooManyRows (sources : List Source) : Type 0 where
   pub tables : HaveTables sources draft
   pub many : 2 ^ 32 ≤ rows_in draft
 
--- files have just one schema or just one refusal, and never both, but for more rows than a schema can have
+-- files have just one schema or just one refusal, and never both, but for more rows than a schema can have; the file that is refused is one of them
 pub record OneSchemaOfFiles (sources : List Source) : Type 0 where
   pub some :
       ((schema : Schema) × IsSchemaOfFiles sources schema)
@@ -105,3 +111,4 @@ pub record OneSchemaOfFiles (sources : List Source) : Type 0 where
   pub one_schema : (schema other : Schema) → IsSchemaOfFiles sources schema → IsSchemaOfFiles sources other → schema ≡ other
   pub one_refusal : (error other : SchemaError) → IsRefusalOf sources error → IsRefusalOf sources other → error ≡ other
   pub never_both : (schema : Schema) (error : SchemaError) → IsSchemaOfFiles sources schema → IsRefusalOf sources error → ⊥
+  pub of_given : (error : SchemaError) → IsRefusalOf sources error → IsOfGiven sources error

@@ -5,11 +5,10 @@ ghost use Rattle.mojom_compile.specs.declared.error.CompileError.TheVariants.{Me
 
 use std::alloc::{AllocError, AllocFailed};
 use std::fmt;
-use thiserror::Error;
 
 /// Why a file is refused. The numbers of lexical causes are places in bytes from 0, those of
 /// `Unexpected` and `TooNested` numbers of tokens from 0.
-#[derive(Clone, Copy, Debug, PartialEq, Eq)]
+#[derive(Clone, Copy)]
 pub enum Cause {
     /// The bytes are no UTF-8: the longest valid prefix ends here.
     BadUtf8(u64),
@@ -50,19 +49,16 @@ impl fmt::Display for Cause {
 }
 
 /// The refusal of a file: the place in bytes from 0 of what is refused, and why it is.
-#[derive(Clone, Copy, Debug, PartialEq, Eq, Error)]
-#[error("{cause} at byte {at}")]
+#[derive(Clone, Copy)]
 pub struct FileRefusal {
     pub at: u64,
     pub cause: Cause,
 }
 
 /// Why a file wasn't compiled: it is refused, or memory ran out.
-#[derive(Clone, Copy, Debug, PartialEq, Eq, Error)]
+#[derive(Clone, Copy)]
 pub enum CompileError {
-    #[error(transparent)]
     Refused(FileRefusal),
-    #[error("out of memory")]
     Memory,
 }
 

@@ -1,8 +1,10 @@
 //! Files to their schema.
 
 ghost use Rattle.std.specs.Prelude.{◌≡◌, ◌<◌, ◌^◌, List, length, IfOk, IfErr};
+ghost use Rattle.module_resolver.specs.Order.{IsOrdered};
+ghost use Rattle.module_resolver.specs.Resolved.{AreNames};
 ghost use Rattle.mojom_compile.specs.declared.source.Source.{Source};
-ghost use Rattle.mojom_compile.specs.Schemas.{IsTreeOf, AreTreesOf, AreTablesOf, IsSchemaOfFiles, IsWhy, OneSchemaOfFiles};
+ghost use Rattle.mojom_compile.specs.Schemas.{IsTreeOf, AreTreesOf, AreTablesOf, IsSchemaOfFiles, IsOfGiven, IsWhy, OneSchemaOfFiles};
 ghost use Rattle.mojom_compile.specs.steps.Stages.{IsOfStages, IsUnreadFile};
 
 use crate::compiler::read;
@@ -14,7 +16,7 @@ use const_eval::evaluate;
 use kind_check::{Draft, check_kinds};
 use mj_base::Text;
 use mj_schema::Schema;
-use module_resolver::{order, resolve};
+use module_resolver::{Names, order, resolve};
 use mojom_files::NamedFile;
 use std::alloc::Global;
 
@@ -50,6 +52,38 @@ fn read_all(alloc: Global, sources: &[Source]) -> Result<Vec<NamedFile>, SchemaE
     Ok(files)
 }
 
+/// The tables of files that have this order and these names; or the first refusal of their constants, and
+/// then of their kinds.
+fn tables_of_named(
+    alloc: Global,
+    files: &[NamedFile],
+    order: &[u32],
+    names: &Names,
+) -> Result<Draft, SchemaError>
+    requires ordered { IsOrdered files.now order.now }
+    requires named { AreNames files.now order.now names.now }
+    ensures tables { IfOk result (AreTablesOf files.now) }
+    ensures refused { IfErr result (IsOfStages files.now) }
+{
+    let consts = evaluate(alloc, files, order, names)?;
+    let draft = check_kinds(alloc, files, order, names, &consts)?;
+    Ok(draft)
+}
+
+/// The tables of files that have this order; or the first refusal of their names, and then of the rest.
+fn tables_of_ordered(
+    alloc: Global,
+    files: &[NamedFile],
+    order: &[u32],
+) -> Result<Draft, SchemaError>
+    requires { IsOrdered files.now order.now }
+    ensures tables { IfOk result (AreTablesOf files.now) }
+    ensures refused { IfErr result (IsOfStages files.now) }
+{
+    let names = resolve(alloc, files, order)?;
+    tables_of_named(alloc, files, order, &names)
+}
+
 /// The tables of files by their trees; or the first refusal: of their order, then of their names, their
 /// constants, and their kinds.
 fn tables_of(alloc: Global, files: &[NamedFile]) -> Result<Draft, SchemaError>
@@ -58,17 +92,11 @@ fn tables_of(alloc: Global, files: &[NamedFile]) -> Result<Draft, SchemaError>
     ensures refused { IfErr result (IsOfStages files.now) }
 {
     let order = order(alloc, files)?;
-    let order = order.as_slice();
-    let names = resolve(alloc, files, order)?;
-    let consts = evaluate(alloc, files, order, &names)?;
-    let draft = check_kinds(alloc, files, order, &names, &consts)?;
-    Ok(draft)
+    tables_of_ordered(alloc, files, order.as_slice())
 }
 
-/// The schema of files, which are given with their names, or their first refusal: a file without a
-/// tree comes first, in the order given; then the order of files, names, constants and kinds, each
-/// stage over all files before the next.
-pub fn compile(alloc: Global, sources: &[Source]) -> Result<Schema, SchemaError>
+/// The schema of files, or their first refusal.
+fn schema_of_files(alloc: Global, sources: &[Source]) -> Result<Schema, SchemaError>
     ensures schema { IfOk result (IsSchemaOfFiles sources.now) }
     ensures refused { IfErr result (IsWhy sources.now) }
 {
@@ -78,6 +106,18 @@ pub fn compile(alloc: Global, sources: &[Source]) -> Result<Schema, SchemaError>
     let files = read_all(alloc, sources)?;
     let tables = tables_of(alloc, files.as_slice())?;
     Ok(schema_of(alloc, tables)?)
+}
+
+/// The schema of files, which are given with their names, or their first refusal: a file without a
+/// tree comes first, in the order given; then the order of files, names, constants and kinds, each
+/// stage over all files before the next. The file that is refused is one of those given.
+#[tactic(auto, using(crate::proofs::Given::answer_given))]
+pub fn compile(alloc: Global, sources: &[Source]) -> Result<Schema, SchemaError>
+    ensures schema { IfOk result (IsSchemaOfFiles sources.now) }
+    ensures refused { IfErr result (IsWhy sources.now) }
+    ensures given { IfErr result (IsOfGiven sources.now) }
+{
+    schema_of_files(alloc, sources)
 }
 
 /// Files have one schema or one refusal, and never both: this is a law and does nothing.

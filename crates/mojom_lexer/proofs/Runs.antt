@@ -1,5 +1,5 @@
 -- Bytes at the front that pass a test.
-use Rattle.std.proofs.Common.{◌≡◌, ℕ, zero, suc, ◌≤◌, ◌<◌, List, [], ◌∷◌, length, take, Bool, true, false, cond, ◌&&◌, refl, arith, lit<}
+use Rattle.std.proofs.Common.{◌≡◌, ℕ, zero, suc, ◌+◌, ◌≤◌, ◌<◌, List, [], ◌∷◌, length, take, drop, get_or, Bool, true, false, cond, ◌&&◌, refl, ap, ◌∙◌, arith, lit<, add-one, drop-cons, length-drop}
 use Rattle.std.specs.List.{list_all}
 use Rattle.std.specs.Str.{IsAscii, IsUtf8}
 use Rattle.std.proofs.lemmas.Str.{IsUtf8-from_ascii}
@@ -31,6 +31,27 @@ run_within p (c ∷ cs) = step (p c) (run_len p cs) (run_within p cs)
     step : (v : Bool) (n : ℕ) → n ≤ length cs → cond v (suc n) 0 ≤ suc (length cs)
     step true n le = omega arith
     step false n le = omega arith
+
+-- the run from a place on, by whether the byte there passes
+run_at : (p : ℕ → Bool) (bs : List ℕ) (i : ℕ) (v : Bool) → i < length bs → p (get_or bs i 0) ≡ v
+    → run_len p (drop i bs) ≡ cond v (suc (run_len p (drop (i + 1) bs))) 0
+run_at p bs i v lt e =
+    let cut : drop i bs ≡ get_or bs i 0 ∷ drop (i + 1) bs = rw (add-one, drop-cons bs i 0) refl in
+    ap (run_len p) cut ∙ ap (λ (b : Bool). cond b (suc (run_len p (drop (i + 1) bs))) 0) e
+
+-- for `run_len`: where a byte passes the run goes on
+pub run_goes : (p : ℕ → Bool) (bs : List ℕ) (i : ℕ) → i < length bs → p (get_or bs i 0) ≡ true → run_len p bs ≡ i + run_len p (drop i bs)
+    → run_len p bs ≡ i + 1 + run_len p (drop (i + 1) bs)
+run_goes p bs i lt e so_far = omega (arith, so_far, run_at p bs i true lt e)
+
+-- where one doesn't it stops
+pub run_stops : (p : ℕ → Bool) (bs : List ℕ) (i : ℕ) → i < length bs → p (get_or bs i 0) ≡ false → run_len p bs ≡ i + run_len p (drop i bs)
+    → i ≡ run_len p bs
+run_stops p bs i lt e so_far = omega (arith, so_far, run_at p bs i false lt e)
+
+-- and at the end it is all
+pub run_ends : (p : ℕ → Bool) (bs : List ℕ) (i : ℕ) → i ≤ length bs → length bs ≤ i → run_len p bs ≡ i + run_len p (drop i bs) → length bs ≡ run_len p bs
+run_ends p bs i le end so_far = omega (arith, so_far, run_within p (drop i bs), length-drop i bs, le, end)
 
 -- the run passes
 pub run_passes : (p : ℕ → Bool) (bs : List ℕ) → list_all p (take (run_len p bs) bs) ≡ true

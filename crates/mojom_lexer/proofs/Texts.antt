@@ -1,5 +1,6 @@
 -- What a string stands for, from left to right.
 use Rattle.std.proofs.Common.{◌≡◌, ℕ, ◌+◌, ◌<◌, List, [], ◌∷◌, ◌++◌, length, drop, get_or, Bool, true, false, cond, ◌==◌, Option, Some, None, Result, Ok, Err, refl, sym, ap, ◌∙◌, subst, arith, add-one, drop-cons, append_assoc}
+use Rattle.std.proofs.lemmas.Bool.{ne_eqb}
 use Rattle.mojom_lexer.specs.Bytes.{backslash}
 use Rattle.mojom_lexer.specs.Strings.{Part, escaped, then_text, text_of}
 use Rattle.mojom_lexer.specs.Strings.Part.{Literal, Escape}
@@ -61,3 +62,25 @@ module _ (i : ℕ) (text bs : List ℕ) (total : Result (List ℕ) ℕ) (lt : i 
       let here : with_text text (text_of (i + 1) (Literal byte ∷ parts_of false rest)) ≡ total =
       subst (λ (ps : List Part). with_text text (text_of (i + 1) ps) ≡ total) (part_here false e) so_far in
       sym (longer text byte (i + 1) (text_of (i + 1 + 1) (parts_of false rest))) ∙ here
+
+  -- the same by what the code tells of a step: behind the second byte of an escape
+  pub joined_escape : (was now : Bool) (more : List ℕ) (m : ℕ) → was ≡ true → now ≡ false → more ≡ text ++ m ∷ []
+      → IsReadTo was i text bs total → escaped byte ≡ Some m → IsReadTo now (i + 1) more bs total
+  joined_escape was now more m a b e so_far is =
+      rw (b, e) (escape_on m (subst (λ (v : Bool). IsReadTo v i text bs total) a so_far) is)
+
+  -- behind a backslash
+  pub joined_slash : (was now : Bool) (more : List ℕ) → was ≡ false → now ≡ true → more ≡ text
+      → IsReadTo was i text bs total → byte ≡ backslash → IsReadTo now (i + 1) more bs total
+  joined_slash was now more a b e so_far is =
+      rw (b, e) (slash_on (subst (λ (v : Bool). IsReadTo v i text bs total) a so_far) (rw is refl))
+
+  -- behind a byte that stands for itself
+  pub joined_plain : (was now : Bool) (more : List ℕ) → was ≡ false → now ≡ was → more ≡ text ++ byte ∷ []
+      → IsReadTo was i text bs total → (byte ≡ backslash → ⊥) → IsReadTo now (i + 1) more bs total
+  joined_plain was now more a b e so_far not_so =
+      rw (b ∙ a, e) (plain_on (subst (λ (v : Bool). IsReadTo v i text bs total) a so_far) (ne_eqb byte backslash not_so))
+
+  -- at an escape that stands for nothing
+  pub joined_bad : (was : Bool) → was ≡ true → IsReadTo was i text bs total → escaped byte ≡ None → total ≡ Err i
+  joined_bad was a so_far e = escape_bad (subst (λ (v : Bool). IsReadTo v i text bs total) a so_far) e

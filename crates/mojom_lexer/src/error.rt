@@ -4,30 +4,23 @@ ghost use Rattle.std.specs.Prelude.{◌≡◌};
 ghost use Rattle.mojom_lexer.specs.declared.error.LexError.TheVariants.{Memory};
 
 use std::alloc::{AllocError, AllocFailed};
-use thiserror::Error;
 
 /// Why a file has no tokens, with the place in the file, in bytes from 0; or that memory ran out.
-#[derive(Clone, Copy, Debug, PartialEq, Eq, Error)]
+#[derive(Clone, Copy)]
 pub enum LexError {
     /// The bytes are no UTF-8: the longest valid prefix ends here.
-    #[error("no UTF-8 at byte {0}")]
     BadUtf8(u64),
     /// A character that begins no token, or the backslash of an escape that no string has.
-    #[error("a bad character at byte {0}")]
     BadChar(u64),
     /// A `/*` that no `*/` follows.
-    #[error("an open comment at byte {0}")]
     OpenComment(u64),
     /// A quote that isn't closed on its line.
-    #[error("an open string at byte {0}")]
     OpenString(u64),
     /// A decimal 0 before another digit.
-    #[error("a leading zero at byte {0}")]
     LeadingZero(u64),
     /// A number above 18,446,744,073,709,551,615.
-    #[error("a number too long at byte {0}")]
     NumberTooLong(u64),
-    #[error("out of memory")]
+    /// Memory ran out.
     Memory,
 }
 

@@ -40,7 +40,6 @@ fn escaped(byte: u8) -> Option<u8>
 
 /// What the bytes between quotes stand for; the place of the first bad escape is counted from `at`,
 /// the place of the opening quote.
-#[tactic(auto, using(crate::proofs::Texts::escape_on, crate::proofs::Texts::escape_bad, crate::proofs::Texts::slash_on, crate::proofs::Texts::plain_on))]
 pub fn text(alloc: Global, at: u64, inside: &[u8]) -> Result<Items<u8>, LexError>
     requires { at + length inside.now < 2 ^ 64 }
     ensures ok { IfOk result (λ text. text_of 1 (parts_of false inside.now) ≡ Ok text) }

@@ -17,7 +17,7 @@ use Rattle.mojom_parser.specs.steps.Verdict.{verdict, Agrees}
 use Rattle.mojom_parser.proofs.Places.{is_spelled, is_blamed, is_answered, is_exact, is_end, is_too_deep}
 
 -- what reading by the rule of a file says of the tokens
-abbrev reading : List Token → Result File ParseError
+abbrev pub reading : List Token → Result File ParseError
 reading ts = verdict (length ts) ((factored MAX_NESTED_TYPES).read ts)
 
 agrees : (v : Result File ParseError) → Agrees v v
@@ -37,14 +37,14 @@ deep_answers : (ts : List Token) (v : Result File ParseError) → reading ts ≡
 deep_answers ts v e at lt d = is_too_deep ts at v lt d (subst (Agrees v) (sym e) (agrees v))
 
 -- reading answers
-is_given : (ts : List Token) (v : Result File ParseError) → reading ts ≡ v → IsAnswer ts v
+pub is_given : (ts : List Token) (v : Result File ParseError) → reading ts ≡ v → IsAnswer ts v
 is_given ts (Ok f) e = (is_spelled ts f e, deep_answers ts (Ok f) e)
 is_given ts (Err errors.Memory) e = absurd (never_memory (length ts) ((factored MAX_NESTED_TYPES).read ts) e)
 is_given ts (Err (errors.Unexpected n)) e = (is_blamed ts (errors.Unexpected n) e, deep_answers ts (Err (errors.Unexpected n)) e)
 is_given ts (Err (errors.TooNested n)) e = (is_blamed ts (errors.TooNested n) e, λ at lt d. sym (deep_answers ts (Err (errors.TooNested n)) e at lt d))
 
 -- a tree whose types nest no deeper is what is read
-tree_is : (ts : List Token) (tree : File) → Spells tree ts → IsShallow ts → reading ts ≡ Ok tree
+pub tree_is : (ts : List Token) (tree : File) → Spells tree ts → IsShallow ts → reading ts ≡ Ok tree
 tree_is ts tree spells shallow = go (reading ts) refl (is_answered ts tree (reading ts) spells (agrees (reading ts)))
   where
     go : (v : Result File ParseError) → reading ts ≡ v → Answers tree v → reading ts ≡ Ok tree

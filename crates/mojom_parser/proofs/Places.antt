@@ -121,7 +121,8 @@ inv : (n : ℕ) (g : File) (rest : List Token) (f : File) → verdict n (Ok (g, 
 inv n g [] f e = ap (λ (x : File). Ok (x, [])) (cc)
 inv n g (t ∷ ts) f e = absurd (cc)
 
-read_whole : (n : ℕ) (r : Read File) (f : File) → verdict n r ≡ Ok f → r ≡ Ok (f, [])
+-- a tree is answered where all is read
+pub read_whole : (n : ℕ) (r : Read File) (f : File) → verdict n r ≡ Ok f → r ≡ Ok (f, [])
 read_whole n (Ok x) f e = inv n x.0 x.1 f e
 read_whole n (Err (Unexpected l)) f e = absurd (cc)
 read_whole n (Err (TooNested l)) f e = absurd (cc)

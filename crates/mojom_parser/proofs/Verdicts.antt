@@ -6,7 +6,7 @@ use Rattle.mojom_ast.specs.declared.token.Token.{Token}
 use Rattle.mojom_ast.specs.declared.file.File.{File}
 use Rattle.mojom_ast.specs.Lang.{Whole, Begun, Deep, Read}
 use Rattle.mojom_ast.specs.Grammar.{file}
-use Rattle.mojom_ast.specs.Parsed.{Spells, Begins, EndsTooDeep}
+use Rattle.mojom_ast.specs.Parsed.{SpellsWithin, Spells, Begins, EndsTooDeep}
 use Rattle.grammar_laws.specs.steps.Factored.{factored}
 use Rattle.grammar_laws.proofs.Asks.{Spelled, Beginning, TooDeep}
 use Rattle.grammar_laws.proofs.Shows.{Shown}
@@ -18,13 +18,17 @@ use Rattle.grammar_laws.proofs.Same.{to_factored, from_factored}
 pub shown : (ts : List Token) (r : Read File) → (factored MAX_NESTED_TYPES).read ts ≡ r → Shown (factored MAX_NESTED_TYPES) ts r
 shown ts r e = subst (λ (x : Read File). Shown (factored MAX_NESTED_TYPES) ts x) e ((good_factored MAX_NESTED_TYPES MAX_NESTED_TYPES).shows ts)
 
--- what is read to the end is spelled
-pub found : (ts : List Token) (f : File) → (factored MAX_NESTED_TYPES).read ts ≡ Ok (f, []) → Spells f ts
-found ts f e =
+-- what is read to the end is spelled with the levels that reading has
+pub found_within : (ts : List Token) (f : File) → (factored MAX_NESTED_TYPES).read ts ≡ Ok (f, []) → SpellsWithin MAX_NESTED_TYPES f ts
+found_within ts f e =
     let t = shown ts (Ok (f, [])) e in
     let h : (file MAX_NESTED_TYPES).followed Whole (λ g rest. (rest ≡ []) × (g ≡ f)) (t.0 ++ []) = from_factored MAX_NESTED_TYPES Whole
     (λ g rest. (rest ≡ []) × (g ≡ f)) (t.0 ++ []) (t.2 Whole (λ g rest. (rest ≡ []) × (g ≡ f)) [] (refl, refl)) in
-    (MAX_NESTED_TYPES, subst (λ (l : List Token). (file MAX_NESTED_TYPES).followed Whole (λ g rest. (rest ≡ []) × (g ≡ f)) l) (sym t.1) h)
+    subst (λ (l : List Token). SpellsWithin MAX_NESTED_TYPES f l) (sym t.1) h
+
+-- what is read to the end is spelled
+pub found : (ts : List Token) (f : File) → (factored MAX_NESTED_TYPES).read ts ≡ Ok (f, []) → Spells f ts
+found ts f e = (MAX_NESTED_TYPES, found_within ts f e)
 
 -- what is spelled is read to the end, or reading stops at a type too deep
 pub whole : (ts : List Token) (tree : File) → Spells tree ts → ((factored MAX_NESTED_TYPES).read ts ≡ Ok (tree, [])) ⊎ Passes Spelled []

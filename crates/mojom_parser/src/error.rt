@@ -5,10 +5,9 @@ ghost use Rattle.mojom_parser.specs.declared.error.ReadError.TheVariants.{Memory
 
 use mojom_ast::Fault;
 use std::alloc::{AllocError, AllocFailed};
-use thiserror::Error;
 
 /// Why the reading of a rule stopped.
-#[derive(Debug, Drop)]
+#[derive(Drop)]
 pub enum ReadError {
     Memory,
     Fault(Fault),
@@ -32,14 +31,12 @@ impl<T: Drop> From<AllocFailed<T>> for ReadError {
 
 /// Why tokens are no file, with the place as the number of a token from 0, or as how many tokens there are; or that
 /// memory ran out.
-#[derive(Clone, Copy, Debug, PartialEq, Eq, Error)]
+#[derive(Clone, Copy)]
 pub enum ParseError {
     /// No beginning of a file goes on with this token; at the end, the tokens are a beginning and no file.
-    #[error("unexpected at token {0}")]
     Unexpected(u64),
     /// This is the first token of a type that stands inside 32 others.
-    #[error("a type nested too deep at token {0}")]
     TooNested(u64),
-    #[error("out of memory")]
+    /// Memory ran out.
     Memory,
 }

@@ -7,10 +7,11 @@ use Rattle.mojom_ast.specs.declared.token.Token.{Token}
 use Rattle.mojom_ast.specs.declared.file.File.{File}
 use Rattle.mojom_ast.specs.Lang.{Whole}
 use Rattle.mojom_ast.specs.Grammar.{file}
+use Rattle.mojom_ast.specs.Parsed.{SpellsWithin}
 use Rattle.mojom_lexer.specs.Lexed.{AreTokens}
 use Rattle.mojom_print.specs.FileText.{file_text}
 use Rattle.mojom_print.specs.Unplaced.{unplaced}
-use Rattle.mojom_print.specs.Again.{SpellsWithin, SpelledAgain}
+use Rattle.mojom_print.specs.Again.{SpelledAgain}
 use Rattle.mojom_print.proofs.Shows.{sort_of, Found, Shows}
 use Rattle.mojom_print.proofs.Prints.{AllLexical, Printed}
 use Rattle.mojom_print.proofs.Sorts.{file_sorts}

@@ -1,7 +1,7 @@
 use Rattle.std.proofs.Common.{sym, subst}
 use Rattle.schema_laws.specs.Whole.{IsWhole}
 use Rattle.schema_laws.proofs.Assembly.{whole_passed}
-use Rattle.mojom_compile.proofs.schemas.compile.Goals as goal
+use Rattle.mojom_compile.proofs.schemas.schema_of_files.Goals as goal
 
 pub schema_of-requires : goal.schema_of-requires
 schema_of-requires c =
