@@ -5,7 +5,7 @@ use Rattle.std.specs.Prelude.{Bool, true, false, ◌||◌, Option, Some, is_some
 use Rattle.std.specs.Str.{bytes_eq}
 use Rattle.std.specs.Map.{update}
 use Rattle.module_resolver.specs.Known.{with_name}
-use Rattle.module_resolver.proofs.Positions.{same_order}
+use Rattle.import_order.proofs.Positions.{same_order}
 
 or_true : (a : Bool) → true ≡ (a || true)
 or_true true = refl

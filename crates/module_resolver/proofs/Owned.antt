@@ -16,12 +16,12 @@ use Rattle.mojom_files.specs.declared.named_file.NamedFile.{NamedFile}
 use Rattle.mojom_files.specs.Refusals.{first_of}
 use Rattle.module_resolver.specs.declared.target.Target.{Target}
 use Rattle.module_resolver.specs.declared.file_names.FileNames.{FileNames}
-use Rattle.module_resolver.specs.Imports.{has}
-use Rattle.module_resolver.specs.Numbers.{number_of}
+use Rattle.import_order.specs.Imports.{has}
+use Rattle.import_order.specs.Numbers.{number_of}
 use Rattle.module_resolver.specs.LookUp.{candidates, look_up}
 use Rattle.module_resolver.specs.NamesOf.{sees_number, names_in}
 use Rattle.module_resolver.specs.steps.Owners.{AreOwners, file_of, first_seen, where_seen, owner, Notes, SeeInOrder}
-use Rattle.module_resolver.proofs.Positions.{same_order, number_more}
+use Rattle.import_order.proofs.Positions.{same_order, number_more}
 
 -- nothing more than what there is
 pub or_none : {A : Type 0} (o : Option A) → option_or o None ≡ o

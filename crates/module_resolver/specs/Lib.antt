@@ -1,11 +1,7 @@
-pub mod Errors
-pub mod Numbers
 pub mod Known
 pub mod LookUp
 pub mod NamesOf
 pub mod Uses
 pub mod NameRefusals
 pub mod Resolved
-pub mod Imports
-pub mod Order
 pub mod steps

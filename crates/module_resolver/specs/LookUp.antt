@@ -3,7 +3,7 @@ use Rattle.std.specs.Prelude.{ℕ, List, [], ◌∷◌, ◌++◌, map, slice_get
 use Rattle.std.specs.Option.{option_map, option_or, option_to_list}
 use Rattle.mojom_files.specs.Names.{within}
 use Rattle.mojom_files.specs.Refusals.{first_of}
-use Rattle.module_resolver.specs.Numbers.{number_of}
+use Rattle.import_order.specs.Numbers.{number_of}
 use Rattle.module_resolver.specs.declared.target.Target.{Target}
 use Rattle.module_resolver.specs.declared.target.Target.TheVariants.{Definition, Enumerator}
 use Rattle.module_resolver.specs.declared.target.DefinitionSort.{DefinitionSort}

@@ -1,15 +1,18 @@
 //! The look-up of a name.
 
-ghost use Rattle.std.specs.Prelude.{◌≡◌, IfOk};
+ghost use Rattle.std.specs.Prelude.{◌≡◌, ◌<◌, ◌≤◌, ◌+◌, ◌^◌, ℕ, [], length, get_or, IfOk, IfSome};
+ghost use Rattle.std.specs.Option.{unwrap_or};
 ghost use Rattle.mojom_files.specs.Names.{within};
 ghost use Rattle.mojom_files.specs.Refusals.{first_of};
 ghost use Rattle.indexmap.specs.IndexMap.{get_by_text};
-ghost use Rattle.module_resolver.specs.Imports.{has};
+ghost use Rattle.import_order.specs.Imports.{has};
 ghost use Rattle.module_resolver.specs.LookUp.{candidates};
 ghost use Rattle.module_resolver.specs.steps.Owners.{owner, HaveLengths};
+ghost use Rattle.module_resolver.specs.steps.Lengths.{IsBetween};
 
 use crate::file_names::{FileNames, Names};
-use crate::lengths::has_length;
+use crate::fronts::Fronts;
+use crate::lengths::{has_length, limit_of};
 use crate::owners::Owners;
 use crate::seen::Seen;
 use crate::target::{DefinitionSort, Target};
@@ -26,11 +29,11 @@ fn meant_by(index: &IndexMap<String, Owners>, seen: &Seen, full: &str) -> Option
 }
 
 /// What has the full name of this in that in the files that are seen. The full name is made only
-/// where anything has one of its length.
+/// where anything may have one of its length.
 fn meant_within(
     alloc: Global,
     index: &IndexMap<String, Owners>,
-    lengths: &[bool],
+    lengths: &[usize],
     seen: &Seen,
     outer: &str,
     name: &str,
@@ -45,11 +48,30 @@ fn meant_within(
     Ok(meant_by(index, seen, full.as_str()))
 }
 
+/// The number of the first front, from this number on, in which a name may have a length of a full
+/// name; none where it has none in any.
+fn next_front(lengths: &[usize], fronts: &Fronts, number: usize, name: &str) -> Option<usize>
+    ensures next { IfSome result (λ next. (number ≤ next) × (next < length fronts.now) × (next + 1 < 2 ^ 64)) }
+    ensures skipped { (k : ℕ) → number ≤ k → k < unwrap_or result (length fronts.now)
+        → IsBetween lengths.now (length (within (get_or fronts.now k []) name.now)) }
+{
+    if fronts.len() <= number {
+        return None;
+    }
+    let limit = limit_of(lengths, fronts.at(number).len(), name.len())?;
+    let next = fronts.first_within(number, limit);
+    if next < fronts.len() {
+        Some(next)
+    } else {
+        None
+    }
+}
+
 /// What a name means in a file.
 pub(crate) fn look_up_from(
     alloc: Global,
     index: &IndexMap<String, Owners>,
-    lengths: &[bool],
+    lengths: &[usize],
     here: &FileNames,
     enclosing: &Option<Text>,
     name: &str,
@@ -65,11 +87,13 @@ pub(crate) fn look_up_from(
             return Ok(found);
         }
     }
-    for number in 0..here.fronts.len() {
-        let found = meant_within(alloc, index, lengths, seen, here.fronts.at(number), name)?;
+    let mut number = 0;
+    while let Some(next) = next_front(lengths, &here.fronts, number, name) {
+        let found = meant_within(alloc, index, lengths, seen, here.fronts.at(next), name)?;
         if found.is_some() {
             return Ok(found);
         }
+        number = next + 1;
     }
     Ok(meant_by(index, seen, name))
 }

@@ -24,17 +24,17 @@ fn reversed(mut ends: Vec<usize>) -> Vec<usize>
 
 impl Model for Fronts {
     ghost use Rattle.std.specs.Prelude.{List, ℕ, string_bytes};
-    ghost use Rattle.module_resolver.specs.steps.Cuts.{cut_at, AreCuts};
+    ghost use Rattle.module_resolver.specs.steps.Cuts.{cut_at, AreFronts};
 
     ghost Value = { List (List ℕ) };
 
     ghost view = { λ f. cut_at (string_bytes f.whole) f.ends.items };
 
-    ghost invariant = { λ f. AreCuts (string_bytes f.whole) f.ends.items };
+    ghost invariant = { λ f. AreFronts (string_bytes f.whole) f.ends.items };
 }
 
 impl Fronts {
-    ghost use Rattle.std.specs.Prelude.{◌≡◌, ◌<◌, [], length, get_or, IfOk};
+    ghost use Rattle.std.specs.Prelude.{◌≡◌, ◌<◌, ◌≤◌, ℕ, [], length, get_or, IfOk};
     ghost use Rattle.module_resolver.specs.NamesOf.{fronts_of};
 
     /// No fronts. Takes no memory.
@@ -78,8 +78,30 @@ impl Fronts {
     /// The front of this number.
     pub(crate) fn at(&self, number: usize) -> &str
         requires { number < length self.now }
-        ensures { result.now ≡ get_or self.now number [] }
+        ensures is { result.now ≡ get_or self.now number [] }
+        ensures falls { (k : ℕ) → number ≤ k → k < length self.now → length (get_or self.now k []) ≤ length result.now }
     {
         &self.whole.as_str()[..self.ends[number]]
+    }
+
+    /// The number of the first front, from this number on, of at most so many bytes; the number of
+    /// all fronts where there is none.
+    pub(crate) fn first_within(&self, number: usize, limit: usize) -> usize
+        requires { number < length self.now }
+        ensures from { number ≤ result }
+        ensures bound { result ≤ length self.now }
+        ensures before { (k : ℕ) → number ≤ k → k < result → limit < length (get_or self.now k []) }
+    {
+        let mut low = number;
+        let mut high = self.ends.len();
+        while low < high {
+            let middle = low + (high - low) / 2;
+            if self.ends[middle] > limit {
+                low = middle + 1;
+            } else {
+                high = middle;
+            }
+        }
+        low
     }
 }

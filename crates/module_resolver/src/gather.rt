@@ -1,18 +1,19 @@
 //! The names of files, from their trees.
 
 ghost use Rattle.std.specs.Prelude.{◌≡◌, ◌++◌, IfOk, OnOk, map, filter};
-ghost use Rattle.std.specs.List.{flat_map, list_any};
-ghost use Rattle.std.specs.Str.{bytes_eq};
+ghost use Rattle.std.specs.List.{flat_map};
 ghost use Rattle.mojom_files.specs.Names.{within};
 ghost use Rattle.mojom_files.specs.Definitions.{enumerator_names};
 ghost use Rattle.mojom_files.specs.Views.{item_view};
 ghost use Rattle.module_resolver.specs.NamesOf.{sort_of_item, module_fronts, sees, sees_number, names_in, names_of};
+ghost use Rattle.module_resolver.specs.steps.Seen.{ArePaths};
 
 use crate::file_names::{FileNames, Names};
 use crate::fronts::Fronts;
 use crate::indexed_files::IndexedFiles;
 use crate::seen::Seen;
 use crate::target::DefinitionSort;
+use indexmap::IndexSet;
 use mj_base::{Items, Text};
 use mojom_ast::{Enumerator, Import, ModuleStatement};
 use mojom_files::{DefinitionView, ItemView, NamedFile, definitions, within};
@@ -97,32 +98,33 @@ fn enumerator_names(alloc: Global, views: &[DefinitionView<'_>]) -> Result<Items
     Ok(Items::from_vec(names))
 }
 
-/// Whether one of these imports is of the file of this name.
-fn is_imported(imports: &[Import], name: &str) -> bool
-    ensures { result ≡ list_any (λ one. bytes_eq one.path.bytes name.now) imports.now }
+/// The names of the files that are imported.
+fn paths_of<'a>(alloc: Global, imports: &'a [Import]) -> Result<IndexSet<&'a [u8]>, AllocError>
+    ensures { IfOk result (λ paths. ArePaths imports.now paths) }
 {
+    let mut paths = IndexSet::new(alloc);
     for one in imports {
-        if one.path.bytes.as_slice() == name.as_bytes() {
-            return true;
-        }
+        paths.insert(one.path.bytes.as_slice())?;
     }
-    false
+    Ok(paths)
 }
 
 /// Whether a file sees another: itself, or one that it imports.
-fn sees(file: &NamedFile, other: &NamedFile) -> bool
+fn sees(file: &NamedFile, paths: &IndexSet<&[u8]>, other: &NamedFile) -> bool
+    requires { ArePaths file.now.tree.imports paths.now }
     ensures { result ≡ sees file.now other.now }
 {
     let name = other.name.as_str();
-    name == file.name.as_str() || is_imported(file.tree.imports.as_slice(), name)
+    name == file.name.as_str() || paths.contains(name.as_bytes())
 }
 
 /// Whether a file sees the one of this number.
-fn sees_number(files: &[NamedFile], file: &NamedFile, number: u32) -> bool
+fn sees_number(files: &[NamedFile], file: &NamedFile, paths: &IndexSet<&[u8]>, number: u32) -> bool
+    requires { ArePaths file.now.tree.imports paths.now }
     ensures { result ≡ sees_number files.now file.now number }
 {
     match files.get(number as usize) {
-        Some(other) => sees(file, other),
+        Some(other) => sees(file, paths, other),
         None => false,
     }
 }
@@ -136,9 +138,10 @@ fn seen(
 ) -> Result<Items<u32>, AllocError>
     ensures { IfOk result (λ seen. seen ≡ filter (sees_number files.now file.now) order.now) }
 {
+    let paths = paths_of(alloc, file.tree.imports.as_slice())?;
     let mut seen = Vec::new(alloc);
     for number in order {
-        if sees_number(files, file, *number) {
+        if sees_number(files, file, &paths, *number) {
             seen.push(*number)?;
         }
     }

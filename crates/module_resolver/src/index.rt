@@ -5,7 +5,7 @@ ghost use Rattle.std.specs.Option.{option_map};
 ghost use Rattle.std.specs.Str.{bytes_eq};
 ghost use Rattle.mojom_files.specs.Refusals.{first_of};
 ghost use Rattle.indexmap.specs.IndexMap.{get_by_text};
-ghost use Rattle.module_resolver.specs.Numbers.{number_of};
+ghost use Rattle.import_order.specs.Numbers.{number_of};
 ghost use Rattle.module_resolver.specs.LookUp.{defined_in, enumerated_in, meant_by};
 ghost use Rattle.module_resolver.specs.steps.Owners.{file_of, where_seen, owner, Notes};
 

@@ -18,7 +18,7 @@ use std::marker::Model;
 pub struct IndexedFiles {
     files: Items<FileNames>,
     owners: IndexMap<String, Owners>,
-    lengths: Vec<bool>,
+    lengths: Vec<usize>,
 }
 
 impl Model for IndexedFiles {

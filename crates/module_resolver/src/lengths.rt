@@ -1,10 +1,11 @@
 //! The lengths of full names.
 
-ghost use Rattle.std.specs.Prelude.{◌≡◌, ℕ, ◌||◌, ◌==◌, false, get_or, slice_get, length, string_bytes, IfOk, OnOk};
+ghost use Rattle.std.specs.Prelude.{◌≡◌, ◌+◌, ℕ, ◌||◌, ◌==◌, Bool, false, get_or, slice_get, length, string_bytes, if◌then◌else◌, IfOk, OnOk};
 ghost use Rattle.std.specs.Option.{option_map_or};
 ghost use Rattle.indexmap.specs.IndexMap.{get_by_text};
 ghost use Rattle.mojom_files.specs.Names.{within};
-ghost use Rattle.module_resolver.specs.steps.Owners.{HaveLengths};
+ghost use Rattle.module_resolver.specs.steps.Owners.{HaveMarks, HaveLengths};
+ghost use Rattle.module_resolver.specs.steps.Lengths.{IsLesser, IsBetween, reached, limit_of};
 
 use crate::owners::Owners;
 use indexmap::IndexMap;
@@ -32,32 +33,81 @@ fn len_at(owners: &IndexMap<String, Owners>, number: usize) -> usize
 }
 
 /// Marks of the lengths in bytes of all full names that anything has.
+fn marks_of(alloc: Global, owners: &IndexMap<String, Owners>) -> Result<Vec<bool>, AllocError>
+    ensures { IfOk result (λ marks. HaveMarks marks.items (get_by_text owners.now)) }
+{
+    let mut marks = Vec::new(alloc);
+    for number in 0..owners.len() {
+        mark(&mut marks, len_at(owners, number))?;
+    }
+    Ok(marks)
+}
+
+/// The last length that is marked, where it was this one before.
+fn last_marked(last: usize, len: usize, mark: bool) -> usize
+    ensures { result ≡ (if mark then len else last) }
+{
+    if mark { len } else { last }
+}
+
+/// For each length the greatest that is marked and not above it; 0 where there is none.
+fn lesser_of(alloc: Global, marks: &[bool]) -> Result<Vec<usize>, AllocError>
+    ensures { IfOk result (λ lesser. IsLesser marks.now lesser.items) }
+{
+    let mut lesser = Vec::new(alloc);
+    let mut last = 0;
+    for (len, mark) in marks.iter().enumerate() {
+        last = last_marked(last, len, *mark);
+        lesser.push(last)?;
+    }
+    Ok(lesser)
+}
+
+/// For each length in bytes the greatest, not above it, of a full name that anything has.
 pub(crate) fn lengths_of(
     alloc: Global,
     owners: &IndexMap<String, Owners>,
-) -> Result<Vec<bool>, AllocError>
+) -> Result<Vec<usize>, AllocError>
     ensures { IfOk result (λ lengths. HaveLengths lengths.items (get_by_text owners.now)) }
 {
-    let mut lengths = Vec::new(alloc);
-    for number in 0..owners.len() {
-        mark(&mut lengths, len_at(owners, number))?;
-    }
-    Ok(lengths)
+    let marks = marks_of(alloc, owners)?;
+    lesser_of(alloc, marks.as_slice())
 }
 
-/// Whether the full name of this in that has a length which is marked.
-pub(crate) fn has_length(lengths: &[bool], outer: &str, name: &str) -> bool
-    ensures { result ≡ get_or lengths.now (length (within outer.now name.now)) false }
+/// The greatest length of a full name that anything has, not above that of a name of so many bytes in an
+/// outer one of so many; or a length that is above those of all.
+fn reached(lengths: &[usize], outer: usize, name: usize) -> usize
+    ensures { result ≡ reached lengths.now (outer + name + 1) }
 {
     let most = lengths.len();
-    if most <= outer.len() {
-        return false;
+    if most <= outer {
+        return most;
     }
-    if most - outer.len() <= name.len() {
-        return false;
+    if most - outer <= name {
+        return most;
     }
-    lengths
-        .get(outer.len() + name.len() + 1)
-        .copied()
-        .unwrap_or(false)
+    lengths.get(outer + name + 1).copied().unwrap_or(most)
+}
+
+/// How many bytes of an outer name at most, of so many, can stand in a full name that anything has,
+/// before a dot and so many bytes of a name; none where none can.
+pub(crate) fn limit_of(lengths: &[usize], outer: usize, name: usize) -> Option<usize>
+    ensures { result ≡ limit_of lengths.now outer name }
+{
+    let known = reached(lengths, outer, name);
+    if name < known {
+        Some(known - name - 1)
+    } else {
+        None
+    }
+}
+
+/// Whether the full name of this in that has a length with which anything may have it.
+pub(crate) fn has_length(lengths: &[usize], outer: &str, name: &str) -> bool
+    ensures { result ≡ false → IsBetween lengths.now (length (within outer.now name.now)) }
+{
+    match limit_of(lengths, outer.len(), name.len()) {
+        Some(limit) => limit >= outer.len(),
+        None => false,
+    }
 }

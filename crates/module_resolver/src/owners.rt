@@ -37,7 +37,7 @@ impl Owners {
     ghost use Rattle.std.specs.Prelude.{◌≡◌, ℕ, Bool, true, ◌∷◌, [], OnOk, Some};
     ghost use Rattle.std.specs.List.{list_any};
     ghost use Rattle.std.specs.Option.{option_or};
-    ghost use Rattle.module_resolver.specs.Imports.{has};
+    ghost use Rattle.import_order.specs.Imports.{has};
     ghost use Rattle.module_resolver.specs.steps.Owners.{file_of, first_seen, where_seen};
 
     /// This alone. Takes no memory.

@@ -6,15 +6,15 @@ ghost use Rattle.module_resolver.specs.Known.{with_name};
 ghost use Rattle.module_resolver.specs.steps.Sets.{holds};
 ghost use Rattle.module_resolver.specs.NamesOf.{names_of};
 ghost use Rattle.module_resolver.specs.NameRefusals.{of_file, full_names, refusals_in};
-ghost use Rattle.module_resolver.specs.Errors.{IsFor};
+ghost use Rattle.import_order.specs.Errors.{IsFor};
 ghost use Rattle.module_resolver.specs.Resolved.{AreNames, IsRefused};
 
-use crate::error::ResolveError;
 use crate::file_names::Names;
 use crate::gather::names_of;
 use crate::members::check_definitions;
 use crate::name_set::NameSet;
 use crate::repeats::check_repeats;
+use import_order::ResolveError;
 use mojom_files::{NamedFile, Refusal, definitions};
 use std::alloc::{AllocError, Global};
 

@@ -15,7 +15,7 @@ pub struct Seen {
 impl Model for Seen {
     ghost use Rattle.std.specs.Prelude.{List, ℕ, ◌≡◌, nat_eq};
     ghost use Rattle.indexmap.specs.IndexSet.{contains};
-    ghost use Rattle.module_resolver.specs.Imports.{has};
+    ghost use Rattle.import_order.specs.Imports.{has};
 
     ghost Value = { List ℕ };
 
@@ -26,7 +26,7 @@ impl Model for Seen {
 
 impl Seen {
     ghost use Rattle.std.specs.Prelude.{◌≡◌, IfOk};
-    ghost use Rattle.module_resolver.specs.Imports.{has};
+    ghost use Rattle.import_order.specs.Imports.{has};
 
     /// The files of these numbers.
     pub fn new(alloc: Global, numbers: Items<u32>) -> Result<Seen, AllocError>

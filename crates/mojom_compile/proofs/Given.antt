@@ -9,7 +9,7 @@ use Rattle.mojom_files.specs.declared.named_file.NamedFile.{NamedFile}
 use Rattle.mojom_files.specs.declared.refusal.Refusal.{Refusal}
 use Rattle.mojom_files.specs.Refusals.{IsAmong, IsAnswered, best_of, first_refusal}
 use Rattle.mojom_files.proofs.Best.{best_is_first}
-use Rattle.module_resolver.specs.Order.{file_names, import_place, given_refusals, given_refusals_at, IsCircular, IsDisordered}
+use Rattle.import_order.specs.Order.{file_names, import_place, given_refusals, given_refusals_at, IsCircular, IsDisordered}
 use Rattle.module_resolver.specs.NamesOf.{names_of}
 use Rattle.module_resolver.specs.NameRefusals.{is_among, names_before}
 use Rattle.module_resolver.specs.NameRefusals as resolver

@@ -9,7 +9,7 @@ use Rattle.mojom_files.specs.Definitions.{definitions_of}
 use Rattle.module_resolver.specs.declared.target.Target.{Target}
 use Rattle.module_resolver.specs.declared.file_names.FileNames.{FileNames}
 use Rattle.module_resolver.specs.LookUp.{look_up}
-use Rattle.module_resolver.specs.Order.{imported, missing_import, missing, is_given_before, given_refusals}
+use Rattle.import_order.specs.Order.{imported, missing_import, missing, is_given_before, given_refusals}
 use Rattle.module_resolver.specs.NameRefusals.{duplicate, repeated_in, place_of, fits, refused_meaning, refused_use, refusals_in}
 use Rattle.module_resolver.specs.Uses.{Use, uses_of}
 use Rattle.mojom_compile.proofs.InFile.{AllIn, single, both, tested, said_of_each, one_of_each}

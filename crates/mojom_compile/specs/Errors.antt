@@ -1,6 +1,6 @@
 -- What the errors of the stages become.
-use Rattle.module_resolver.specs.declared.error.ResolveError.{ResolveError}
-use Rattle.module_resolver.specs.declared.error.ResolveError.TheVariants as names
+use Rattle.import_order.specs.declared.error.ResolveError.{ResolveError}
+use Rattle.import_order.specs.declared.error.ResolveError.TheVariants as names
 use Rattle.const_eval.specs.declared.error.ConstError.{ConstError}
 use Rattle.const_eval.specs.declared.error.ConstError.TheVariants as consts
 use Rattle.kind_check.specs.declared.error.KindError.{KindError}

@@ -1,7 +1,7 @@
 //! Files to their schema.
 
 ghost use Rattle.std.specs.Prelude.{◌≡◌, ◌<◌, ◌^◌, List, length, IfOk, IfErr};
-ghost use Rattle.module_resolver.specs.Order.{IsOrdered};
+ghost use Rattle.import_order.specs.Order.{IsOrdered};
 ghost use Rattle.module_resolver.specs.Resolved.{AreNames};
 ghost use Rattle.mojom_compile.specs.declared.source.Source.{Source};
 ghost use Rattle.mojom_compile.specs.Schemas.{IsTreeOf, AreTreesOf, AreTablesOf, IsSchemaOfFiles, IsOfGiven, IsWhy, OneSchemaOfFiles};

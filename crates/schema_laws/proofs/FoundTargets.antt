@@ -12,10 +12,10 @@ use Rattle.mojom_files.specs.Refusals.{first_of}
 use Rattle.module_resolver.specs.declared.target.Target.{Target}
 use Rattle.module_resolver.specs.declared.target.Target.TheVariants as targets
 use Rattle.module_resolver.specs.declared.file_names.FileNames.{FileNames}
-use Rattle.module_resolver.specs.Numbers.{number_of}
+use Rattle.import_order.specs.Numbers.{number_of}
 use Rattle.module_resolver.specs.LookUp.{defined_in, enumerated_in, meant_by, candidates, look_up_from, look_up}
 use Rattle.module_resolver.specs.NamesOf.{names_in, names_of}
-use Rattle.module_resolver.proofs.FileNumbers.{number_below}
+use Rattle.import_order.proofs.FileNumbers.{number_below}
 use Rattle.const_eval.specs.Things.{numbered, owners_in, owners}
 use Rattle.schema_laws.proofs.Rowed.{at_map}
 

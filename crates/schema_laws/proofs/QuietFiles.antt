@@ -8,7 +8,7 @@ use Rattle.std.proofs.lemmas.Option.{slice_get_within, get_or_from_slice_get}
 use Rattle.mojom_files.specs.declared.named_file.NamedFile.{NamedFile}
 use Rattle.mojom_files.specs.Definitions.{Defined, definitions_of}
 use Rattle.module_resolver.specs.declared.file_names.FileNames.{FileNames}
-use Rattle.module_resolver.specs.Imports.{has}
+use Rattle.import_order.specs.Imports.{has}
 use Rattle.module_resolver.specs.NamesOf.{names_of}
 use Rattle.module_resolver.specs.NameRefusals.{is_among, names_before, duplicate, repeated_in, of_file, refused_use, refused_uses, refusals_in, names_refusal}
 use Rattle.module_resolver.specs.NameRefusals as resolver

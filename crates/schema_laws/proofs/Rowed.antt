@@ -13,8 +13,8 @@ use Rattle.module_resolver.specs.declared.target.DefinitionSort.{DefinitionSort}
 use Rattle.module_resolver.specs.declared.file_names.FileNames.{FileNames}
 use Rattle.module_resolver.specs.LookUp.{sort_of}
 use Rattle.module_resolver.specs.NamesOf.{sort_of_item, names_in, names_of}
-use Rattle.module_resolver.specs.Imports.{has, all_files, IsOrder}
-use Rattle.module_resolver.specs.Order.{all_imports, imports_of, file_names}
+use Rattle.import_order.specs.Imports.{has, all_files, IsOrder}
+use Rattle.import_order.specs.Order.{all_imports, imports_of, file_names}
 use Rattle.draft_rows.specs.declared.counts.Counts.{Counts}
 use Rattle.draft_rows.specs.declared.counts.FileRows.{FileRows}
 use Rattle.draft_rows.specs.RowCounts.{after, after_all, no_rows, counts_before, definitions_at, rows_from, rows_of, rows_before}

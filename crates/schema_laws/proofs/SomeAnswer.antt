@@ -6,7 +6,7 @@ use Rattle.mojom_files.specs.declared.refusal.Refusal.{Refusal}
 use Rattle.module_resolver.specs.declared.file_names.Names.{Names}
 use Rattle.module_resolver.specs.NamesOf.{names_of}
 use Rattle.module_resolver.specs.NameRefusals.{names_refusal}
-use Rattle.module_resolver.specs.Order.{IsOrdered, IsDisordered}
+use Rattle.import_order.specs.Order.{IsOrdered, IsDisordered}
 use Rattle.module_resolver.specs.Resolved.{AreNames}
 use Rattle.const_eval.specs.declared.consts.Consts.{Consts}
 use Rattle.const_eval.specs.Consts.{AreConsts}

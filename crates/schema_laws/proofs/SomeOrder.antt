@@ -8,14 +8,14 @@ use Rattle.std.proofs.lemmas.List.Folds.{Any-from_list_any}
 use Rattle.mojom_files.specs.declared.named_file.NamedFile.{NamedFile}
 use Rattle.mojom_files.specs.Causes.{CircularImport}
 use Rattle.mojom_files.specs.declared.refusal.Refusal.{Refusal}
-use Rattle.module_resolver.specs.Imports.{has, AreDistinct, all_files, first_left, import_left, is_free, next_file}
-use Rattle.module_resolver.specs.Imports.{IsTakenInOrder, IsTakenWhole, IsWalk, IsCircle}
-use Rattle.module_resolver.specs.Order.{file_names, all_imports, import_place, names_at, given_refusal, LeadsOnAt, IsCircular, IsOrdered, IsDisordered}
-use Rattle.module_resolver.specs.steps.Taking.{AreBelow, AreImports}
-use Rattle.module_resolver.proofs.FileNumbers.{imports_below}
-use Rattle.module_resolver.proofs.Leading.{as_many, place_there, leads_at}
-use Rattle.module_resolver.proofs.Marks.{distinct_push}
-use Rattle.module_resolver.proofs.Walks.{found_all, found_below, left_is, leads_on, walk_begins, walk_more, circle_is, taken_more, free_left}
+use Rattle.import_order.specs.Imports.{has, AreDistinct, all_files, first_left, import_left, is_free, next_file}
+use Rattle.import_order.specs.Imports.{IsTakenInOrder, IsTakenWhole, IsWalk, IsCircle}
+use Rattle.import_order.specs.Order.{file_names, all_imports, import_place, names_at, given_refusal, LeadsOnAt, IsCircular, IsOrdered, IsDisordered}
+use Rattle.import_order.specs.steps.Taking.{AreBelow, AreImports}
+use Rattle.import_order.proofs.FileNumbers.{imports_below}
+use Rattle.import_order.proofs.Leading.{as_many, place_there, leads_at}
+use Rattle.import_order.proofs.Marks.{distinct_push}
+use Rattle.import_order.proofs.Walks.{found_all, found_below, left_is, leads_on, walk_begins, walk_more, circle_is, taken_more, free_left}
 use Rattle.const_meanings.proofs.Pigeons.{twice}
 
 -- numbers below a limit, none of them twice

@@ -1,5 +1,5 @@
 -- Fronts of a text, by the places where they end.
-use Rattle.std.specs.Prelude.{ℕ, List, map, take}
+use Rattle.std.specs.Prelude.{ℕ, ◌<◌, ◌≤◌, List, length, map, take, get_or}
 use Rattle.std.specs.List.{All}
 use Rattle.std.specs.Str.{IsCharBoundary}
 
@@ -10,3 +10,12 @@ cut_at text ends = map (λ (end : ℕ). take end text) ends
 -- the text can be cut at these places
 abbrev pub AreCuts : List ℕ → List ℕ → Type 0
 AreCuts text ends = All (IsCharBoundary text) ends
+
+-- none of these is less than one behind it
+abbrev pub Falls : List ℕ → Type 0
+Falls ends = (i j : ℕ) → i ≤ j → j < length ends → get_or ends j 0 ≤ get_or ends i 0
+
+-- fronts of a text, the longest first
+pub record AreFronts (text ends : List ℕ) : Type 0 where
+  pub cuts : AreCuts text ends
+  pub falls : Falls ends

@@ -1,8 +1,9 @@
 -- What has each full name, as the code keeps it for look-ups.
 use Rattle.std.specs.Prelude.{ℕ, ◌≡◌, Bool, false, if◌then◌else◌, List, [], length, find, filter, get_or, slice_get, Option, Some, None}
 use Rattle.std.specs.Option.{option_or, unwrap_or}
-use Rattle.module_resolver.specs.Imports.{has}
+use Rattle.import_order.specs.Imports.{has}
 use Rattle.module_resolver.specs.LookUp.{meant_by}
+use Rattle.module_resolver.specs.steps.Lengths.{IsBetween}
 use Rattle.module_resolver.specs.declared.target.Target.{Target}
 use Rattle.module_resolver.specs.declared.target.Target.TheVariants.{Definition, Enumerator}
 use Rattle.module_resolver.specs.declared.file_names.FileNames.{FileNames}
@@ -38,10 +39,14 @@ abbrev pub SeeInOrder : List FileNames → List ℕ → Type 0
 SeeInOrder files order = (file : ℕ) (here : FileNames) → slice_get files file ≡ Some here → filter (has here.seen) order ≡ here.seen
 
 -- where the length of a name has no mark, nothing has the name
-abbrev pub HaveLengths : List Bool → (List ℕ → Option (List Target)) → Type 0
-HaveLengths lengths owners = (name : List ℕ) → get_or lengths (length name) false ≡ false → owners name ≡ None
+abbrev pub HaveMarks : List Bool → (List ℕ → Option (List Target)) → Type 0
+HaveMarks marks owners = (name : List ℕ) → get_or marks (length name) false ≡ false → owners name ≡ None
+
+-- where the length of a name stands between two of full names, nothing has the name
+abbrev pub HaveLengths : List ℕ → (List ℕ → Option (List Target)) → Type 0
+HaveLengths lengths owners = (name : List ℕ) → IsBetween lengths (length name) → owners name ≡ None
 
 -- what is kept beside the names of files for look-ups
-pub record IsIndex (files : List FileNames) (owners : List ℕ → Option (List Target)) (lengths : List Bool) : Type 0 where
+pub record IsIndex (files : List FileNames) (owners : List ℕ → Option (List Target)) (lengths : List ℕ) : Type 0 where
   pub are_owners : AreOwners files owners
   pub have_lengths : HaveLengths lengths owners

@@ -1,7 +1,7 @@
 use Rattle.std.proofs.Common.{ℕ, take}
 use Rattle.std.specs.Option.{option_map}
 use Rattle.indexmap.specs.IndexMap.{get_by_text}
-use Rattle.module_resolver.specs.Numbers.{number_of}
+use Rattle.import_order.specs.Numbers.{number_of}
 use Rattle.module_resolver.specs.declared.target.Target.TheVariants.{Enumerator}
 use Rattle.module_resolver.specs.steps.Owners.{where_seen, Notes}
 use Rattle.module_resolver.proofs.index.note_enumerators.Given as goal

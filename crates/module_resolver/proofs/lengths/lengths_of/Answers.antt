@@ -1,7 +1,15 @@
-use Rattle.module_resolver.proofs.MarkedLengths.{entry_marked}
+use Rattle.std.proofs.Common.{ℕ, List}
+use Rattle.indexmap.specs.IndexMap.{get_by_text}
+use Rattle.module_resolver.specs.steps.Lengths.{IsLesser}
+use Rattle.module_resolver.specs.steps.Owners.{HaveLengths}
+use Rattle.module_resolver.proofs.LesserLengths.{have_lengths}
+use Rattle.module_resolver.proofs.Owned.{if_ok_then}
 use Rattle.module_resolver.proofs.lengths.lengths_of.Goals as goal
 
-pub loop-number-preserved : goal.loop-number-preserved
-loop-number-preserved c =
-    entry_marked c.args.owners.now.entries c.loop-number.number c.len_at.result c.loop-number.lengths.items c.mark.new.lengths.items
-    c.len_at.ensures c.in_ok-mark.ensures c.loop-number.invariant
+pub returns : goal.returns
+returns c =
+    if_ok_then (λ lengths. IsLesser c.as_slice.result.now lengths.items)
+    (λ lengths. HaveLengths lengths.items (get_by_text c.args.owners.now)) c.lesser_of.result
+    (λ lengths is.
+    have_lengths c.in_ok-marks.marks.items lengths.items (get_by_text c.args.owners.now) c.in_ok-marks.ensures (rw c.as_slice.ensures.value at is))
+    c.lesser_of.ensures

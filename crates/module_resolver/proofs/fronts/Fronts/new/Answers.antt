@@ -2,8 +2,9 @@ use Rattle.std.proofs.Common.{◌≡◌, ℕ, ◌-◌, List, [], ◌∷◌, ◌+
 use Rattle.std.specs.Prelude.{codes, reverse, string_bytes}
 use Rattle.mojom_files.specs.Names.{within}
 use Rattle.module_resolver.specs.NamesOf.{fronts_of}
-use Rattle.module_resolver.specs.steps.Cuts.{AreCuts}
+use Rattle.module_resolver.specs.steps.Cuts.{AreCuts, Falls}
 use Rattle.module_resolver.proofs.Cuts.{part_added, parts_ended, cuts_whole}
+use Rattle.module_resolver.proofs.Falls.{falls_more, front_more, turned}
 use Rattle.module_resolver.proofs.fronts.Fronts.new.Goals as goal
 
 pub loop-part-preserved : goal.loop-part-preserved
@@ -21,7 +22,10 @@ loop-part-preserved c =
     let both =
     part_added text (string_bytes c.push_str-in-loop-part.new.self) ends c.push.new.self.items rest c.loop-part.part-index c.part-item.result
     (fronts_of c.args.parts.now) c.loop-part-test.true c.part-item.is more longer c.loop-part.invariant.cuts c.loop-part.invariant.are in
-    record { are = both.0; cuts = both.1 }
+    let fall =
+    front_more text c.part-item.result.text (string_bytes c.push_str-in-loop-part.new.self) ends c.push.new.self.items longer more
+    c.loop-part.invariant.falls c.loop-part.invariant.up in
+    record { are = both.0; cuts = both.1; falls = fall.0; up = fall.1 }
 
 pub invariant_of-result : goal.invariant_of-result
 invariant_of-result c =
@@ -29,7 +33,12 @@ invariant_of-result c =
     let ends = c.loop-part.ends.items in
     let is : c.reversed.result.items ≡ reverse (ends ++ length text ∷ []) =
     c.reversed.ensures ∙ ap reverse (c.in_ok-push-2.ensures.items ∙ ap (λ (t : List ℕ). ends ++ length t ∷ []) c.as_str-2.ensures.value) in
-    subst (AreCuts text) (sym is) (cuts_whole text ends c.loop-part.invariant.cuts)
+    record {
+      cuts = subst (AreCuts text) (sym is) (cuts_whole text ends c.loop-part.invariant.cuts);
+      falls =
+          subst Falls (sym (is ∙ turned ends (length text)))
+          (falls_more (length text) (reverse ends) c.loop-part.invariant.up c.loop-part.invariant.falls);
+    }
 
 pub returns : goal.returns
 returns c =

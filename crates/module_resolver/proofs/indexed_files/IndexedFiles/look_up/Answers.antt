@@ -5,7 +5,7 @@ use Rattle.mojom_files.specs.Refusals.{first_of}
 use Rattle.indexmap.specs.IndexMap.{get_by_text}
 use Rattle.module_resolver.specs.declared.target.Target.{Target}
 use Rattle.module_resolver.specs.declared.file_names.FileNames.{FileNames}
-use Rattle.module_resolver.specs.Imports.{has}
+use Rattle.import_order.specs.Imports.{has}
 use Rattle.module_resolver.specs.LookUp.{candidates, look_up}
 use Rattle.module_resolver.specs.steps.Owners.{owner}
 use Rattle.module_resolver.proofs.Owned.{if_ok_then, found_is}

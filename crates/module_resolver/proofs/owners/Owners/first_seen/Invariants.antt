@@ -1,5 +1,5 @@
 use Rattle.std.proofs.Common.{◌≡◌, drop}
-use Rattle.module_resolver.specs.Imports.{has}
+use Rattle.import_order.specs.Imports.{has}
 use Rattle.module_resolver.specs.steps.Owners.{first_seen}
 use Rattle.module_resolver.proofs.owners.Owners.first_seen.Given as goal
 

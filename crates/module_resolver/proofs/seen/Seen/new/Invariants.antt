@@ -1,7 +1,7 @@
 use Rattle.std.proofs.Common.{◌≡◌, ℕ, take}
 use Rattle.std.specs.Prelude.{nat_eq}
 use Rattle.indexmap.specs.IndexSet.{contains}
-use Rattle.module_resolver.specs.Imports.{has}
+use Rattle.import_order.specs.Imports.{has}
 use Rattle.module_resolver.proofs.seen.Seen.new.Given as goal
 
 abbrev pub invariant-loop-number : goal.invariant-loop-number

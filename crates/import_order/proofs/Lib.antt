@@ -1,0 +1,9 @@
+pub mod Positions
+pub mod Firsts
+pub mod FileNumbers
+pub mod Walks
+pub mod Leading
+pub mod OneOrder
+pub mod Counts
+pub mod Frees
+pub mod Marks

@@ -1,0 +1,5 @@
+pub mod Errors
+pub mod Numbers
+pub mod Imports
+pub mod Order
+pub mod steps

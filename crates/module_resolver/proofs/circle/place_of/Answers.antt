@@ -1,8 +1,0 @@
-use Rattle.std.proofs.Common.{arith}
-use Rattle.module_resolver.proofs.Walks.{absent}
-use Rattle.module_resolver.proofs.circle.place_of.Goals as goal
-
-pub unreachable-requires : goal.unreachable-requires
-unreachable-requires c =
-    absent c.args.path.now c.args.file c.requires
-    (λ k lt. c.loop-place.invariant k (let le = c.loop-place-test.false in omega (arith, lt, le)))

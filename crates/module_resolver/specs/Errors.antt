@@ -1,9 +1,0 @@
--- What an error of this crate says.
-use Rattle.mojom_files.specs.declared.refusal.Refusal.{Refusal}
-use Rattle.module_resolver.specs.declared.error.ResolveError.{ResolveError}
-use Rattle.module_resolver.specs.declared.error.ResolveError.TheVariants.{Refused, Memory}
-
--- an error is such a refusal, or want of memory
-abbrev pub IsFor : (Refusal → Type 0) → ResolveError → Type 0
-IsFor Such (Refused refusal) = Such refusal
-IsFor Such Memory = Unit {0}
