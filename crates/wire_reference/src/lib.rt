@@ -1,6 +1,6 @@
 //! What messages stand for, computed literally: pointers are followed first, into a tree, and everything
 //! is judged afterwards, by a list of tests in their order. Plain, slow, and apart from the code that is
-//! proved of the definitions. The program `messages` compares the two.
+//! proved of the definitions. The program `check_messages` compares the two.
 #![tactic(auto)]
 
 mod bytes;

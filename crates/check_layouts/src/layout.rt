@@ -40,8 +40,8 @@ impl Wanted {
     /// Whether the definition and packing both give the layout.
     pub fn is_given(self, alloc: Global) -> Result<bool, AllocError> {
         let Wanted { fields, layout } = self;
-        let places = reference::layout::places(alloc, &fields)?;
-        let rows = reference::layout::version_rows(alloc, &fields, &places)?;
+        let places = layout_reference::layout::places(alloc, &fields)?;
+        let rows = layout_reference::layout::version_rows(alloc, &fields, &places)?;
         let defined = shown(alloc, &places, &rows)?;
         let packed = packed(alloc, fields)?;
         Ok(

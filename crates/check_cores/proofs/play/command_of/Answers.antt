@@ -3,7 +3,7 @@ use Rattle.std.specs.Prelude.{Option, Result, Ok, Err}
 use Rattle.bind_model.specs.Plain.{IsOf}
 use Rattle.bind_model.specs.declared.commands.Command.{Command}
 use Rattle.mj_schema.specs.declared.schema.Schema.{Schema}
-use Rattle.cores.proofs.play.command_of.Goals as goal
+use Rattle.check_cores.proofs.play.command_of.Goals as goal
 
 -- src/play.rt:105:1
 pub returns-in-Raw : goal.returns-in-Raw

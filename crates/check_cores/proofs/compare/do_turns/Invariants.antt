@@ -1,5 +1,5 @@
 use Rattle.std.proofs.Common.{◌≡◌}
-use Rattle.cores.proofs.compare.do_turns.Given as goal
+use Rattle.check_cores.proofs.compare.do_turns.Given as goal
 
 -- the core has the schema and its two sequences
 abbrev pub invariant-loop-place : goal.invariant-loop-place
