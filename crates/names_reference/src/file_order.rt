@@ -27,23 +27,38 @@ fn next_file(files: &[NamedFile], taken: &[usize]) -> Option<usize> {
 }
 
 /// Whether a file of this name stands among the first so many.
-fn is_given_before(files: &[NamedFile], number: usize, name: &str) -> bool {
+pub(crate) fn is_given_before(files: &[NamedFile], number: usize, name: &str) -> bool {
     let mut before = files.iter().take(number);
     before.any(|other| other.name.as_str() == name)
+}
+
+/// Again and again the next file, until none can be taken any more.
+pub(crate) fn taken_files(alloc: Global, files: &[NamedFile]) -> Result<Vec<usize>, AllocError> {
+    let mut taken = Vec::new(alloc);
+    for _ in files {
+        match next_file(files, &taken) {
+            Some(next) => taken.push(next)?,
+            None => break,
+        }
+    }
+    Ok(taken)
+}
+
+/// Whether a file was given twice.
+fn has_double(files: &[NamedFile]) -> bool {
+    let mut numbered = files.iter().enumerate();
+    numbered.any(|(number, file)| is_given_before(files, number, file.name.as_str()))
 }
 
 /// The resolved order: again and again the next file is taken. None where a file was given twice, and
 /// where files are left in the end, as one with an import that names no file.
 pub fn order(alloc: Global, files: &[NamedFile]) -> Result<Option<Vec<usize>>, AllocError> {
-    let mut taken = Vec::new(alloc);
-    for (number, file) in files.iter().enumerate() {
-        if is_given_before(files, number, file.name.as_str()) {
-            return Ok(None);
-        }
-        match next_file(files, &taken) {
-            Some(next) => taken.push(next)?,
-            None => return Ok(None),
-        }
+    if has_double(files) {
+        return Ok(None);
+    }
+    let taken = taken_files(alloc, files)?;
+    if taken.len() < files.len() {
+        return Ok(None);
     }
     Ok(Some(taken))
 }

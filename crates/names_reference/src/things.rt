@@ -29,6 +29,8 @@ pub struct Thing<'a> {
     pub number: usize,
     pub full: Text,
     pub name: &'a Identifier,
+    /// What it is, or the enum of an enumerator.
+    pub item: ItemView<'a>,
     /// The full name of the definition around its value, where there is one.
     pub enclosing: Option<Text>,
     pub origin: Origin<'a>,
@@ -43,7 +45,7 @@ pub(crate) fn copied(alloc: Global, text: &Option<Text>) -> Result<Option<Text>,
 }
 
 /// The basic kind of this name.
-pub(crate) fn basic_of(name: &Name) -> Option<Basic> {
+pub fn basic_of(name: &Name) -> Option<Basic> {
     match name.parts.as_slice() {
         [part] => Basic::of_name(part.text.as_str()),
         _ => None,
@@ -90,6 +92,7 @@ fn add_enumerators<'a>(
             number: first.saturating_add(place),
             full: within(alloc, definition.full(), one.name.text.as_str())?,
             name: &one.name,
+            item: definition.item(),
             enclosing: Some(Text::from_str(alloc, definition.full())?),
             origin: origin_at(place, one),
         })?;
@@ -111,6 +114,7 @@ fn add_definitions<'a>(
             number,
             full: Text::from_str(alloc, one.full())?,
             name: one.name(),
+            item: one.item(),
             enclosing: copied(alloc, one.enclosing())?,
             origin: origin_of_item(one.item()),
         })?;

@@ -10,42 +10,56 @@ use mojom_ast::{
 use mojom_files::{DefinitionView, ItemView, NamedFile, definitions};
 use std::alloc::{AllocError, Global};
 
+/// What a name has to mean where it is used.
+#[derive(Clone, Copy, Debug, PartialEq, Eq)]
+pub enum Wanted {
+    /// A struct, a union or an enum.
+    Type,
+    Interface,
+    /// A constant or an enumerator.
+    Value,
+}
+
 /// A name that is used: the number of its file, the full name of the definition around its place where
-/// there is one, and the name.
+/// there is one, the name, and what it has to mean.
 #[derive(Drop)]
 pub struct Use<'a> {
     pub file: usize,
     pub enclosing: Option<Text>,
     pub name: &'a Name,
+    pub wanted: Wanted,
 }
 
+/// Names, each with what it has to mean.
+type Names<'a> = Vec<(&'a Name, Wanted)>;
+
 /// Adds the name that a value is.
-fn add_value<'a>(names: &mut Vec<&'a Name>, value: Option<&'a Value>) -> Result<(), AllocError> {
+fn add_value<'a>(names: &mut Names<'a>, value: Option<&'a Value>) -> Result<(), AllocError> {
     if let Some(Value::Name(name)) = value {
-        names.push(name)?;
+        names.push((name, Wanted::Value))?;
     }
     Ok(())
 }
 
 /// Adds the names of a type, but for those of basic kinds.
 #[cycle(types)]
-fn add_type<'a>(names: &mut Vec<&'a Name>, base: &'a BaseNode) -> Result<(), AllocError> {
+fn add_type<'a>(names: &mut Names<'a>, base: &'a BaseNode) -> Result<(), AllocError> {
     match base {
         BaseNode::Name(name) if basic_of(name).is_some() => Ok(()),
-        BaseNode::Name(name) => Ok(names.push(name)?),
+        BaseNode::Name(name) => Ok(names.push((name, Wanted::Type))?),
         BaseNode::Array { of, .. } => add_type(names, &of.base),
         BaseNode::Map { key, value } => {
             add_type(names, &key.base)?;
             add_type(names, &value.base)
         }
         BaseNode::Handle(_) => Ok(()),
-        BaseNode::Pending { interface, .. } => Ok(names.push(interface)?),
+        BaseNode::Pending { interface, .. } => Ok(names.push((interface, Wanted::Interface))?),
     }
 }
 
 /// Adds the names that are values of `MinVersion`.
 fn add_attributes<'a>(
-    names: &mut Vec<&'a Name>,
+    names: &mut Names<'a>,
     attributes: &'a [Attribute],
 ) -> Result<(), AllocError> {
     for attribute in attributes {
@@ -58,7 +72,7 @@ fn add_attributes<'a>(
 
 /// Adds the names of parameters.
 fn add_parameters<'a>(
-    names: &mut Vec<&'a Name>,
+    names: &mut Names<'a>,
     parameters: &'a [Parameter],
 ) -> Result<(), AllocError> {
     for parameter in parameters {
@@ -69,10 +83,7 @@ fn add_parameters<'a>(
 }
 
 /// Adds the names of a struct's fields.
-fn add_fields<'a>(
-    names: &mut Vec<&'a Name>,
-    members: &'a [StructMember],
-) -> Result<(), AllocError> {
+fn add_fields<'a>(names: &mut Names<'a>, members: &'a [StructMember]) -> Result<(), AllocError> {
     for member in members {
         if let StructItem::Field(field) = &member.item {
             add_attributes(names, member.attributes.as_slice())?;
@@ -85,7 +96,7 @@ fn add_fields<'a>(
 
 /// Adds the names of an interface's methods.
 fn add_methods<'a>(
-    names: &mut Vec<&'a Name>,
+    names: &mut Names<'a>,
     members: &'a [InterfaceMember],
 ) -> Result<(), AllocError> {
     for member in members {
@@ -101,7 +112,7 @@ fn add_methods<'a>(
 }
 
 /// Adds the names of a union's fields.
-fn add_union<'a>(names: &mut Vec<&'a Name>, fields: &'a [UnionField]) -> Result<(), AllocError> {
+fn add_union<'a>(names: &mut Names<'a>, fields: &'a [UnionField]) -> Result<(), AllocError> {
     for field in fields {
         add_attributes(names, field.attributes.as_slice())?;
         add_type(names, &field.kind.node().base)?;
@@ -111,7 +122,7 @@ fn add_union<'a>(names: &mut Vec<&'a Name>, fields: &'a [UnionField]) -> Result<
 
 /// Adds the names of enumerators.
 fn add_enumerators<'a>(
-    names: &mut Vec<&'a Name>,
+    names: &mut Names<'a>,
     enumerators: &'a [Enumerator],
 ) -> Result<(), AllocError> {
     for enumerator in enumerators {
@@ -123,7 +134,7 @@ fn add_enumerators<'a>(
 
 /// Adds the names that stand in a definition which encloses them. Constants and enums in it are
 /// definitions of their own.
-fn add_inside<'a>(names: &mut Vec<&'a Name>, item: ItemView<'a>) -> Result<(), AllocError> {
+fn add_inside<'a>(names: &mut Names<'a>, item: ItemView<'a>) -> Result<(), AllocError> {
     match item {
         ItemView::Struct(item) => add_fields(names, item.members.as_slice()),
         ItemView::Union(item) => add_union(names, item.fields.as_slice()),
@@ -149,7 +160,7 @@ fn add_uses<'a>(
     }
     let outside = names.len();
     add_inside(&mut names, definition.item())?;
-    for (number, name) in names.iter().enumerate() {
+    for (number, (name, wanted)) in names.iter().enumerate() {
         let enclosing = if number < outside {
             copied(alloc, definition.enclosing())?
         } else {
@@ -159,6 +170,7 @@ fn add_uses<'a>(
             file,
             enclosing,
             name,
+            wanted: *wanted,
         })?;
     }
     Ok(())
@@ -175,6 +187,19 @@ fn add_file<'a>(
         add_uses(alloc, uses, file, definition)?;
     }
     Ok(())
+}
+
+/// The uses of the definitions of the file of this number.
+pub fn uses_in<'a>(
+    alloc: Global,
+    given: Given<'a>,
+    file: usize,
+) -> Result<Vec<Use<'a>>, AllocError> {
+    let mut uses = Vec::new(alloc);
+    if let Some(named) = given.files.get(file) {
+        add_file(alloc, &mut uses, file, named)?;
+    }
+    Ok(uses)
 }
 
 /// The uses of all definitions, along the resolved order of their files.

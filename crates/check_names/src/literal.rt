@@ -6,7 +6,7 @@ use const_eval::Consts;
 use const_meanings::KnownView;
 use module_resolver::{Names, Target};
 use mojom_ast::Name;
-use mojom_files::{CauseParts, NamedCause, NamedFile, Refusal, dotted};
+use mojom_files::{NamedFile, dotted};
 use names_reference::{
     Found, Given, Origin, Thing, Use, meaning, order, things_of, uses_of, value, value_of,
 };
@@ -129,75 +129,12 @@ fn other_value(
     Ok(None)
 }
 
-/// The earlier of two places, of which the first is in the same file or in one before.
-fn earlier(first: Option<Place>, file: usize, at: u64) -> Option<Place> {
-    match first {
-        Some((before, least)) if before != file || least <= at => first,
-        _ => Some((file, at)),
-    }
-}
-
-/// Where a name first means nothing, along the resolved order.
-fn first_unknown(alloc: Global, given: Given<'_>) -> Result<Option<Place>, AllocError> {
-    let mut first = None;
-    for one in uses_of(alloc, given)?.as_slice() {
-        if meaning(alloc, given, one.file, &one.enclosing, one.name)?.is_none() {
-            first = earlier(first, one.file, start_of(one.name));
-        }
-    }
-    Ok(first)
-}
-
-/// The first thing of a file that needs itself, where none in a file before does.
-fn first_circular_in(
-    alloc: Global,
-    given: Given<'_>,
-    file: usize,
-    before: Option<Place>,
-) -> Result<Option<Place>, AllocError> {
-    let mut first = before;
-    for (number, thing) in given.things.iter().enumerate() {
-        if thing.file == file && value(alloc, given, number)? == Found::Circular {
-            first = earlier(first, file, thing.name.span.start);
-        }
-    }
-    Ok(first)
-}
-
-/// Where the first thing stands that needs itself, along the resolved order.
-fn first_circular(alloc: Global, given: Given<'_>) -> Result<Option<Place>, AllocError> {
-    let mut first = None;
-    for file in given.order {
-        first = first_circular_in(alloc, given, *file, first)?;
-    }
-    Ok(first)
-}
-
-/// Whether a refusal of a name, or of a circle of constants, stands at the first place. Of other causes the literal
-/// reading says nothing.
-fn is_first(alloc: Global, given: Given<'_>, refusal: &Refusal) -> Result<bool, AllocError> {
-    let Refusal { file, at, cause } = refusal;
-    let place = Some((*file as usize, *at));
-    match cause.parts() {
-        CauseParts::Named(NamedCause::UnknownName, _) => Ok(first_unknown(alloc, given)? == place),
-        CauseParts::Named(NamedCause::CircularConst, _) => Ok(
-            first_circular(alloc, given)? == place,
-        ),
-        _ => Ok(true),
-    }
-}
-
 /// What differs in files that both have in this order.
 fn difference_in_order(
     alloc: Global,
     given: Given<'_>,
     stages: &Stages,
 ) -> Result<Option<String>, AllocError> {
-    if let Some(refusal) = &stages.refusal
-        && !is_first(alloc, given, refusal)?
-    {
-        return Ok(Some(String::from_str(alloc, "another refusal is the first")?));
-    }
     let Some(names) = &stages.names else {
         return Ok(None);
     };

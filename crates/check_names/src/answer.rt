@@ -1,8 +1,10 @@
-//! What the stages answer, as a text.
+//! What is made of files, as a text.
 
-use crate::stages::Stages;
+use crate::rows::defaults;
 use mj_base::Text;
+use mojom_compile::{SchemaError, Source, compile};
 use mojom_files::{Basic, Cause, CauseParts, NamedCause, NamedFile, Refusal};
+use schema_text::listing;
 use std::alloc::{AllocError, Global};
 use std::str;
 
@@ -86,27 +88,35 @@ pub fn placed(
     format!(in alloc; "{name}:{at}: {what}")
 }
 
-/// Numbers with a blank between two.
-fn numbers_text(alloc: Global, numbers: &[u32]) -> Result<String, AllocError> {
-    let mut text = String::new(alloc);
-    for (place, number) in numbers.iter().enumerate() {
-        if place > 0 {
-            text.push_str(" ")?;
-        }
-        text.push_str(format!(in alloc; "{number}")?.as_str())?;
-    }
-    Ok(text)
+/// A refusal, with its file, its place there in bytes and its cause.
+fn refusal_text(
+    alloc: Global,
+    files: &[NamedFile],
+    refusal: &Refusal,
+) -> Result<String, AllocError> {
+    let cause = cause_text(alloc, &refusal.cause)?;
+    placed(
+        alloc,
+        files,
+        refusal.file as usize,
+        refusal.at,
+        cause.as_str(),
+    )
 }
 
-/// The first refusal, with its file, its place there in bytes and its cause; or the numbers of the files in
-/// resolved order, where nothing is refused.
-pub fn text(alloc: Global, files: &[NamedFile], stages: &Stages) -> Result<String, AllocError> {
-    if let Some(Refusal { file, at, cause }) = &stages.refusal {
-        let cause = cause_text(alloc, cause)?;
-        return placed(alloc, files, *file as usize, *at, cause.as_str());
-    }
-    match &stages.order {
-        Some(numbers) => numbers_text(alloc, numbers.as_slice()),
-        None => Ok(String::new(alloc)),
+/// What `compile` makes of files, whose trees are those of the sources: the listing and the defaults, or the first
+/// refusal.
+pub fn text(alloc: Global, files: &[NamedFile], sources: &[Source]) -> Result<String, AllocError> {
+    match compile(alloc, sources) {
+        Ok(schema) => {
+            let listing = listing(alloc, &schema)?;
+            let listing = str::from_utf8(listing.as_slice()).unwrap_or("?");
+            let defaults = defaults(alloc, &schema)?;
+            let defaults = defaults.as_str();
+            format!(in alloc; "{listing}{defaults}")
+        }
+        Err(SchemaError::Refused(refusal)) => refusal_text(alloc, files, &refusal),
+        Err(SchemaError::Unread { .. }) => String::from_str(alloc, "no tree"),
+        Err(SchemaError::Memory) => Err(AllocError),
     }
 }

@@ -1,30 +1,24 @@
 //! The cases of a file. A line `case NAME` begins one; `file NAME` begins one of its files, whose text stands behind
-//! it in lines `| LINE`, and in `> TEXT` where no line feed ends it. What is wanted of the files, in any order:
-//! `answer TEXT`, the numbers of the files in resolved order or their first refusal; lines `row LINE`, the rows of
-//! their tables; and `end WORDS`, how far the stages come.
+//! it in lines `| LINE`, and in `> TEXT` where no line feed ends it. `answer TEXT` is what is wanted of the files: their
+//! first refusal, or `listed` where nothing is refused.
 
-use mj_base::Text;
-use mojom_ast::File;
-use mojom_files::NamedFile;
-use mojom_lexer::lex;
-use mojom_parser::parse;
+use mj_base::{Items, Text};
+use mojom_compile::Source;
 use std::alloc::{AllocError, Global};
 
 /// A file of a case.
 #[derive(Drop)]
-struct Source {
+struct Part {
     name: String,
     text: String,
 }
 
-/// Files, and what is wanted of them: where a text is empty, nothing.
+/// Files, and what is wanted of them: where the text is empty, nothing.
 #[derive(Drop)]
 pub struct Case {
     pub name: String,
-    sources: Vec<Source>,
+    parts: Vec<Part>,
     pub answer: String,
-    pub rows: String,
-    pub end: String,
 }
 
 impl Case {
@@ -32,10 +26,8 @@ impl Case {
     fn new(alloc: Global, name: &str) -> Result<Case, AllocError> {
         Ok(Case {
             name: String::from_str(alloc, name)?,
-            sources: Vec::new(alloc),
+            parts: Vec::new(alloc),
             answer: String::new(alloc),
-            rows: String::new(alloc),
-            end: String::new(alloc),
         })
     }
 
@@ -47,8 +39,6 @@ impl Case {
             "|" => return self.take_text(rest, "\n"),
             ">" => return self.take_text(rest, ""),
             "answer" => self.answer.push_str(rest)?,
-            "row" => push_line(&mut self.rows, rest)?,
-            "end" => self.end.push_str(rest)?,
             _ => return Ok(false),
         }
         Ok(true)
@@ -56,48 +46,44 @@ impl Case {
 
     /// Begins a file of this name.
     fn take_file(&mut self, alloc: Global, name: &str) -> Result<(), AllocError> {
-        Ok(
-            self.sources.push(Source {
-                name: String::from_str(alloc, name)?,
-                text: String::new(alloc),
-            })?,
-        )
+        self.parts.push(Part {
+            name: String::from_str(alloc, name)?,
+            text: String::new(alloc),
+        })?;
+        Ok(())
     }
 
     /// Adds to the text of the last file; whether there is one.
     fn take_text(&mut self, text: &str, end: &str) -> Result<bool, AllocError> {
-        let Some(source) = self.sources.last_mut() else {
+        let Some(part) = self.parts.last_mut() else {
             return Ok(false);
         };
-        source.text.push_str(text)?;
-        source.text.push_str(end)?;
+        part.text.push_str(text)?;
+        part.text.push_str(end)?;
         Ok(true)
     }
 
-    /// The files; none where one has no tree.
-    pub fn files(&self, alloc: Global) -> Result<Option<Vec<NamedFile>>, AllocError> {
-        let mut files = Vec::new(alloc);
-        for source in &self.sources {
-            let Some(tree) = tree_of(alloc, source.text.as_str()) else {
-                return Ok(None);
-            };
-            let name = Text::from_str(alloc, source.name.as_str())?;
-            files.push(NamedFile { name, tree })?;
+    /// The files.
+    pub fn sources(&self, alloc: Global) -> Result<Vec<Source>, AllocError> {
+        let mut sources = Vec::new(alloc);
+        for part in &self.parts {
+            add_source(alloc, &mut sources, part.name.as_str(), part.text.as_str())?;
         }
-        Ok(Some(files))
+        Ok(sources)
     }
 }
 
-/// The tree of a text, where it has one.
-fn tree_of(alloc: Global, text: &str) -> Option<File> {
-    let tokens = lex(alloc, text.as_bytes()).ok()?;
-    parse(alloc, tokens.as_slice()).ok()
-}
-
-/// Adds a line to a text.
-pub fn push_line(text: &mut String, line: &str) -> Result<(), AllocError> {
-    text.push_str(line)?;
-    text.push_str("\n")
+/// Adds a file of this name and text.
+pub fn add_source(
+    alloc: Global,
+    sources: &mut Vec<Source>,
+    name: &str,
+    text: &str,
+) -> Result<(), AllocError> {
+    let name = Text::from_str(alloc, name)?;
+    let bytes = Items::from_vec(Vec::from_slice(alloc, text.as_bytes())?);
+    sources.push(Source { name, bytes })?;
+    Ok(())
 }
 
 /// Takes a line of a file of cases; whether that has a form. Empty lines and those that begin with `#` say nothing.

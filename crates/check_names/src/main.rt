@@ -1,0 +1,137 @@
+//! Compares what the stages on files, names, constants and kinds make of small sets of files with a literal reading of
+//! the rules: the first refusal or the listing, and what names, constants and enumerators mean. The sets are those of
+//! the files of cases that the words name, of which the answer is compared with what is wanted too, and where a word is
+//! a number so many sets that are made.
+#![tactic(auto)]
+
+mod answer;
+mod case;
+mod compare;
+mod literal;
+mod made;
+mod rows;
+mod stages;
+mod tally;
+
+use crate::case::{Case, take_line};
+use crate::compare::compare;
+use crate::made::{made_sources, made_text};
+use crate::tally::Tally;
+use mj_io::{Fetched, Files, RealFiles};
+use std::alloc::Global;
+use std::env::Env;
+use std::io::Print;
+use std::process::ExitCode;
+use std::{env, io};
+
+/// The bytes that a file of cases has at most.
+const MOST_BYTES: u64 = 1_048_576;
+
+/// Compares the files of a case, and prints what is wrong.
+fn compare_case<R: Print + AllocGlobal>(rt: &R, case: &Case, tally: &mut Tally) -> io::Result<()> {
+    let alloc = rt.alloc();
+    let outcome = compare(alloc, case.sources(alloc)?.as_slice())?;
+    let name = case.name.as_str();
+    let wanted = case.answer.as_str();
+    let came = outcome.answer.as_str();
+    if !wanted.is_empty() && wanted != came {
+        tally.differs();
+        println!(rt; "{name}: wanted was {wanted}, and there came {came}")?;
+    }
+    if let Some(difference) = &outcome.difference {
+        tally.differs();
+        println!(rt; "{name}: {difference}")?;
+    }
+    tally.count_case();
+    Ok(())
+}
+
+/// The cases of a text. Prints lines that have no form.
+fn read_cases<R: Print + AllocGlobal>(
+    rt: &R,
+    text: &str,
+    tally: &mut Tally,
+) -> io::Result<Vec<Case>> {
+    let mut cases = Vec::new(rt.alloc());
+    for line in text.lines() {
+        if !take_line(rt.alloc(), &mut cases, line)? {
+            tally.differs();
+            println!(rt; "this line has no form: {line}")?;
+        }
+    }
+    Ok(cases)
+}
+
+/// Compares the cases of a text.
+fn compare_cases<R: Print + AllocGlobal>(rt: &R, text: &str, tally: &mut Tally) -> io::Result<()> {
+    for case in &read_cases(rt, text, tally)? {
+        compare_case(rt, case, tally)?;
+    }
+    Ok(())
+}
+
+/// Compares the sets that are made by the first so many numbers, and prints those that differ.
+fn compare_made<R: Print + AllocGlobal>(rt: &R, count: u64, tally: &mut Tally) -> io::Result<()> {
+    let alloc = rt.alloc();
+    for number in 0..count {
+        let text = made_text(alloc, number)?;
+        let sources = made_sources(alloc, text.as_str())?;
+        let outcome = compare(alloc, sources.as_slice())?;
+        if let Some(difference) = &outcome.difference {
+            tally.differs();
+            println!(rt; "set {number}: {text}\n{difference}")?;
+        }
+        tally.count_made(&outcome)?;
+    }
+    Ok(())
+}
+
+/// The bytes of a file; none where it can't be read.
+fn bytes_of<F: Files>(alloc: Global, files: &mut F, name: &str) -> Option<Vec<u8>> {
+    let mut bytes = Vec::new(alloc);
+    match files.fetch(alloc, name, MOST_BYTES, &mut bytes) {
+        Ok(Fetched::Whole) => Some(bytes),
+        Ok(Fetched::Longer) | Err(_) => None,
+    }
+}
+
+/// Compares the cases of a file.
+fn compare_file<R: std::rt::Files + Print + AllocGlobal>(
+    rt: &R,
+    name: &str,
+    tally: &mut Tally,
+) -> io::Result<()> {
+    let mut files = RealFiles::new(rt);
+    let bytes = bytes_of(rt.alloc(), &mut files, name);
+    match bytes.as_ref().map(|bytes| str::from_utf8(bytes.as_slice())) {
+        Some(Ok(text)) => compare_cases(rt, text, tally),
+        _ => {
+            tally.differs();
+            println!(rt; "{name}: it can't be read")
+        }
+    }
+}
+
+/// Compares what the words say: a number, that so many sets are made; any other, a file of cases.
+fn run_words<R: std::rt::Files + Env + Print + AllocGlobal>(
+    rt: &R,
+    tally: &mut Tally,
+) -> io::Result<()> {
+    for word in env::args(rt)?.skip(1) {
+        match word.as_str().parse::<u64>() {
+            Ok(count) => compare_made(rt, count, tally)?,
+            Err(_) => compare_file(rt, word.as_str(), tally)?,
+        }
+    }
+    Ok(())
+}
+
+fn main(rt: HostRuntime) -> io::Result<ExitCode> {
+    let mut tally = Tally::new(rt.alloc());
+    run_words(&rt, &mut tally)?;
+    tally.print(&rt)?;
+    if tally.is_good() {
+        return Ok(ExitCode::SUCCESS);
+    }
+    Ok(ExitCode::FAILURE)
+}
