@@ -1,0 +1,10 @@
+pub mod Entries
+pub mod Ordinals
+pub mod Lists
+pub mod Listed
+pub mod Values
+pub mod Kinds
+pub mod Fits
+pub mod Rows
+pub mod Enums
+pub mod Literals

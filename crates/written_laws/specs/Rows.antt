@@ -1,0 +1,156 @@
+-- That the rows of tables are as they are written.
+use Rattle.std.specs.Prelude.{ℕ, ◌≡◌, ◌<◌, ◌⊎◌, true, codes, List, [], ◌∷◌, map, length, slice_get, Option, Some, None}
+use Rattle.std.specs.List.{flat_map, AllByRecursion}
+use Rattle.std.specs.Option.{option_map_or}
+use Rattle.mojom_ast.specs.declared.definitions.DefinitionItem.{DefinitionItem}
+use Rattle.mojom_ast.specs.declared.definitions.DefinitionItem.TheVariants as items
+use Rattle.mojom_ast.specs.declared.definitions.InterfaceMember.{InterfaceMember}
+use Rattle.mojom_ast.specs.declared.definitions.InterfaceItem.{InterfaceItem}
+use Rattle.mojom_ast.specs.declared.definitions.InterfaceItem.TheVariants as interface_items
+use Rattle.mojom_ast.specs.declared.definitions.Parameter.{Parameter}
+use Rattle.mojom_files.specs.declared.named_file.NamedFile.{NamedFile}
+use Rattle.mojom_files.specs.Names.{within}
+use Rattle.mojom_files.specs.Definitions.{Defined, definitions_of}
+use Rattle.module_resolver.specs.declared.file_names.FileNames.{FileNames}
+use Rattle.const_eval.specs.declared.consts.Consts.{Consts}
+use Rattle.mj_schema.specs.declared.rows.DraftField.{DraftField}
+use Rattle.mj_schema.specs.declared.rows.DraftStruct.{DraftStruct}
+use Rattle.mj_schema.specs.declared.rows.UnionFieldRow.{UnionFieldRow}
+use Rattle.mj_schema.specs.declared.rows.UnionRow.{UnionRow}
+use Rattle.mj_schema.specs.declared.rows.MethodRow.{MethodRow}
+use Rattle.mj_schema.specs.declared.rows.InterfaceRow.{InterfaceRow}
+use Rattle.draft_rows.specs.declared.draft.Draft.{Draft}
+use Rattle.written_laws.specs.Entries.{Entry, Counted, counted, fields_of, union_fields_of, parameters_of, methods_of}
+use Rattle.written_laws.specs.Values.{Site, version_in, IsVersion, IsDefault}
+use Rattle.written_laws.specs.Kinds.{may_be_null, is_plain, IsKind}
+use Rattle.written_laws.specs.Fits.{is_basic, KeepsDefault}
+
+-- as many of one as of the other, and each as its own
+abbrev pub ArePaired : {A B : Type 0} → (A → B → Type 0) → List A → List B → Type 0
+ArePaired Fits [] [] = Unit {0}
+ArePaired Fits (one ∷ ones) (other ∷ others) = Fits one other × ArePaired Fits ones others
+ArePaired Fits _ _ = ⊥
+
+-- structs
+
+-- a field of a struct or a parameter: its name, its kind, its default, and since which version it is there; of a later version it is
+-- plain or may be null
+pub record IsField (site : Site) (entry : Entry) (field : DraftField) : Type 0 where
+  pub name : field.name ≡ entry.name
+  pub kind : IsKind entry.kind field.kind
+  pub version : IsVersion site (version_in entry.attributes) field.min_version
+  pub later : 0 < field.min_version → (is_plain field.kind ≡ true) ⊎ (may_be_null field.kind ≡ true)
+  pub default : IsDefault site entry.default field.default
+  pub kept : is_basic field.kind ≡ true → KeepsDefault field.kind entry.default field.default
+
+-- the field stands in the row at its ordinal
+pub record HasField (site : Site) (row : DraftStruct) (one : Counted) : Type 0 where
+  pub field : DraftField
+  pub there : slice_get row.fields one.ordinal ≡ Some field
+  pub is : IsField site one.entry field
+
+-- what a struct is written as: where, its full name, and its fields or parameters
+pub record StructText : Type 0 where
+  pub site : Site
+  pub full : List ℕ
+  pub entries : List Entry
+
+-- the row of a struct has as many fields as are written, each at its ordinal
+pub record IsStruct (text : StructText) (row : DraftStruct) : Type 0 where
+  pub name : row.name ≡ text.full
+  pub count : length row.fields ≡ length text.entries
+  pub fields : AllByRecursion (HasField text.site row) (counted text.entries)
+
+-- unions
+
+-- a field of a union: its name, its tag, which is its ordinal, and its kind
+pub record IsUnionField (one : Counted) (field : UnionFieldRow) : Type 0 where
+  pub name : field.name ≡ one.entry.name
+  pub tag : field.tag ≡ one.ordinal
+  pub kind : IsKind one.entry.kind field.kind
+
+-- what a union or an interface is written as: its full name, and its fields or methods
+pub record ChoiceText : Type 0 where
+  pub full : List ℕ
+  pub entries : List Entry
+
+pub record IsUnion (text : ChoiceText) (row : UnionRow) : Type 0 where
+  pub name : row.name ≡ text.full
+  pub fields : ArePaired IsUnionField (counted text.entries) row.fields
+
+-- interfaces
+
+-- a method: its name and its ordinal
+pub record IsMethod (one : Counted) (method : MethodRow) : Type 0 where
+  pub name : method.name ≡ one.entry.name
+  pub ordinal : method.ordinal ≡ one.ordinal
+
+pub record IsInterface (text : ChoiceText) (row : InterfaceRow) : Type 0 where
+  pub name : row.name ≡ text.full
+  pub methods : ArePaired IsMethod (counted text.entries) row.methods
+
+-- files
+
+-- a definition in the file of this number
+pub record Placed : Type 0 where
+  pub file : ℕ
+  pub definition : Defined
+
+-- the definitions of the file of this number, where it is there
+abbrev pub placed_in : List NamedFile → ℕ → List Placed
+placed_in files file =
+    option_map_or (λ (tree : NamedFile). map (λ (d : Defined). record { file = file; definition = d }) (definitions_of tree.tree)) (slice_get files file) []
+
+-- the definitions of files in their order
+abbrev pub all_placed : List NamedFile → List ℕ → List Placed
+all_placed files order = flat_map (placed_in files) order
+
+-- inside a definition of the file of this number
+abbrev pub site_in : List FileNames → Consts → ℕ → List ℕ → Site
+site_in names consts file full = record { names = names; consts = consts; file = file; enclosing = Some full }
+
+abbrev pub struct_text : Site → List ℕ → List Entry → StructText
+struct_text site full entries = record { site = site; full = full; entries = entries }
+
+-- the response of the method of this full name, where it has one
+abbrev pub response_texts : Site → List ℕ → Option (List Parameter) → List StructText
+response_texts site full None = []
+response_texts site full (Some parameters) = struct_text site (within full (codes "response")) (parameters_of parameters) ∷ []
+
+-- the request of a method of the interface of this full name, and its response
+abbrev pub method_texts : Site → List ℕ → InterfaceItem → List StructText
+method_texts site full (interface_items.Method m) =
+    struct_text site (within (within full m.name.text) (codes "request")) (parameters_of m.request)
+    ∷ response_texts site (within full m.name.text) m.response
+method_texts site full (interface_items.Const c) = []
+method_texts site full (interface_items.Enum e) = []
+
+-- the structs of a definition
+abbrev pub struct_texts : Site → List ℕ → DefinitionItem → List StructText
+struct_texts site full (items.Struct item) = struct_text site full (fields_of item.members) ∷ []
+struct_texts site full (items.Interface item) = flat_map (λ (m : InterfaceMember). method_texts site full m.item) item.members
+struct_texts site full (items.Union item) = []
+struct_texts site full (items.Enum item) = []
+struct_texts site full (items.Const item) = []
+
+abbrev pub union_texts : List ℕ → DefinitionItem → List ChoiceText
+union_texts full (items.Union item) = record { full = full; entries = union_fields_of item.fields } ∷ []
+union_texts full (items.Struct item) = []
+union_texts full (items.Interface item) = []
+union_texts full (items.Enum item) = []
+union_texts full (items.Const item) = []
+
+abbrev pub interface_texts : List ℕ → DefinitionItem → List ChoiceText
+interface_texts full (items.Interface item) = record { full = full; entries = methods_of item.members } ∷ []
+interface_texts full (items.Struct item) = []
+interface_texts full (items.Union item) = []
+interface_texts full (items.Enum item) = []
+interface_texts full (items.Const item) = []
+
+-- the tables of definitions have their structs, unions and interfaces as they are written, and no others
+pub record AreAsWritten (names : List FileNames) (consts : Consts) (ones : List Placed) (draft : Draft) : Type 0 where
+  pub structs :
+      ArePaired IsStruct (flat_map (λ (p : Placed). struct_texts (site_in names consts p.file p.definition.full) p.definition.full p.definition.item) ones)
+      draft.structs
+  pub unions : ArePaired IsUnion (flat_map (λ (p : Placed). union_texts p.definition.full p.definition.item) ones) draft.unions
+  pub interfaces : ArePaired IsInterface (flat_map (λ (p : Placed). interface_texts p.definition.full p.definition.item) ones) draft.interfaces
