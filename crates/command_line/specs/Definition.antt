@@ -39,24 +39,36 @@ print = with_rule (new_app (codes "print")) one_file
 abbrev pub check : App
 check = with_rule (new_app (codes "check")) files
 
+-- `encode` with its method and its flag
+abbrev pub encode_start : App
+encode_start = with_rule (with_rule (new_app (codes "encode")) (option (codes "method"))) (flag (codes "response"))
+
 -- `encode --method METHOD [--response] --value VALUE FILE..`
 abbrev pub encode : App
-encode =
-    with_rule (with_rule (with_rule (with_rule (new_app (codes "encode"))
-    (option (codes "method"))) (flag (codes "response"))) (option (codes "value"))) files
+encode = with_rule (with_rule encode_start (option (codes "value"))) files
+
+-- `decode` with its interface and its flag
+abbrev pub decode_start : App
+decode_start = with_rule (with_rule (new_app (codes "decode")) (option (codes "interface"))) (flag (codes "response"))
+
+-- with its number of handles and its message
+abbrev pub decode_middle : App
+decode_middle = with_rule (with_rule decode_start (option (codes "handles"))) (option (codes "message"))
 
 -- `decode --interface INTERFACE [--response] --handles HANDLES --message MESSAGE FILE..`
 abbrev pub decode : App
-decode =
-    with_rule (with_rule (with_rule (with_rule (with_rule (new_app (codes "decode"))
-    (option (codes "interface"))) (flag (codes "response"))) (option (codes "handles"))) (option (codes "message"))) files
+decode = with_rule decode_middle files
 
 -- the program alone: a command is wanted
 abbrev pub bare : App
 bare = let app = new_app (codes "mojo") in record app { top = record app.top { subcommand_required = true } }
 
 -- the program with its commands
+abbrev pub two_commands : App
+two_commands = with_subcommand (with_subcommand bare run.top) print.top
+
+abbrev pub four_commands : App
+four_commands = with_subcommand (with_subcommand two_commands check.top) encode.top
+
 abbrev pub tool : App
-tool =
-    with_subcommand (with_subcommand (with_subcommand (with_subcommand (with_subcommand bare
-    run.top) print.top) check.top) encode.top) decode.top
+tool = with_subcommand four_commands decode.top

@@ -4,6 +4,7 @@ ghost use Rattle.std.specs.Prelude.{◌≡◌, IfOk, false};
 ghost use Rattle.clap.specs.Words.{app_of, rule_of};
 ghost use Rattle.clap.specs.declared.builder.command.Command.TheViews.{out-Command};
 ghost use Rattle.command_line.specs.Definition.{long, option, free_option, flag, one_file, files, run, print, check, encode, decode, tool};
+ghost use Rattle.command_line.specs.Definition.{encode_start, decode_start, decode_middle, two_commands, four_commands};
 
 use clap::{Arg, ArgAction, Command};
 use std::alloc::{AllocError, Global};
@@ -105,9 +106,9 @@ fn check_command<'a>(alloc: Global) -> Result<Command<'a>, AllocError>
         .arg(files_arg(alloc, "The Mojom files"))
 }
 
-/// `encode --method METHOD [--response] --value VALUE FILE..`.
-fn encode_command<'a>(alloc: Global) -> Result<Command<'a>, AllocError>
-    ensures app { IfOk result (λ command. app_of command ≡ encode) }
+/// `encode` with its method and its flag.
+fn encode_start_command<'a>(alloc: Global) -> Result<Command<'a>, AllocError>
+    ensures app { IfOk result (λ command. app_of command ≡ encode_start) }
     ensures local { IfOk result (λ command. (out-Command command).has_globals ≡ false) }
 {
     Command::new(alloc, "encode")
@@ -117,14 +118,22 @@ fn encode_command<'a>(alloc: Global) -> Result<Command<'a>, AllocError>
             alloc,
             "response",
             "The message is the response, not the request",
-        ))?
+        ))
+}
+
+/// `encode --method METHOD [--response] --value VALUE FILE..`.
+fn encode_command<'a>(alloc: Global) -> Result<Command<'a>, AllocError>
+    ensures app { IfOk result (λ command. app_of command ≡ encode) }
+    ensures local { IfOk result (λ command. (out-Command command).has_globals ≡ false) }
+{
+    encode_start_command(alloc)?
         .arg(option_arg(alloc, "value", "The file of the value's text"))?
         .arg(files_arg(alloc, "The Mojom files, of which one has the method"))
 }
 
-/// `decode --interface INTERFACE [--response] --handles HANDLES --message MESSAGE FILE..`.
-fn decode_command<'a>(alloc: Global) -> Result<Command<'a>, AllocError>
-    ensures app { IfOk result (λ command. app_of command ≡ decode) }
+/// `decode` with its interface and its flag.
+fn decode_start_command<'a>(alloc: Global) -> Result<Command<'a>, AllocError>
+    ensures app { IfOk result (λ command. app_of command ≡ decode_start) }
     ensures local { IfOk result (λ command. (out-Command command).has_globals ≡ false) }
 {
     Command::new(alloc, "decode")
@@ -134,27 +143,58 @@ fn decode_command<'a>(alloc: Global) -> Result<Command<'a>, AllocError>
             alloc,
             "response",
             "The message is a response, not a request",
-        ))?
+        ))
+}
+
+/// `decode` with its options.
+fn decode_middle_command<'a>(alloc: Global) -> Result<Command<'a>, AllocError>
+    ensures app { IfOk result (λ command. app_of command ≡ decode_middle) }
+    ensures local { IfOk result (λ command. (out-Command command).has_globals ≡ false) }
+{
+    decode_start_command(alloc)?
         .arg(option_arg(
             alloc,
             "handles",
             "How many handles come with it, from 0 to 64",
         ))?
-        .arg(option_arg(alloc, "message", "The file of the message"))?
-        .arg(files_arg(alloc, "The Mojom files, of which one has the interface"))
+        .arg(option_arg(alloc, "message", "The file of the message"))
 }
 
-/// The whole command line.
-pub fn tool_command<'a>(alloc: Global) -> Result<Command<'a>, AllocError>
-    ensures app { IfOk result (λ command. app_of command ≡ tool) }
+/// `decode --interface INTERFACE [--response] --handles HANDLES --message MESSAGE FILE..`.
+fn decode_command<'a>(alloc: Global) -> Result<Command<'a>, AllocError>
+    ensures app { IfOk result (λ command. app_of command ≡ decode) }
+    ensures local { IfOk result (λ command. (out-Command command).has_globals ≡ false) }
+{
+    decode_middle_command(alloc)?.arg(files_arg(
+        alloc,
+        "The Mojom files, of which one has the interface",
+    ))
+}
+
+/// The program with its first two commands.
+fn two_command<'a>(alloc: Global) -> Result<Command<'a>, AllocError>
+    ensures app { IfOk result (λ command. app_of command ≡ two_commands) }
 {
     Command::new(alloc, "mojo")
         .about("Reads Mojom files")
         .after_help(STATUSES)
         .subcommand_required(true)
         .subcommand(run_command(alloc)?)?
-        .subcommand(print_command(alloc)?)?
+        .subcommand(print_command(alloc)?)
+}
+
+/// The program with its first four commands.
+fn four_command<'a>(alloc: Global) -> Result<Command<'a>, AllocError>
+    ensures app { IfOk result (λ command. app_of command ≡ four_commands) }
+{
+    two_command(alloc)?
         .subcommand(check_command(alloc)?)?
-        .subcommand(encode_command(alloc)?)?
-        .subcommand(decode_command(alloc)?)
+        .subcommand(encode_command(alloc)?)
+}
+
+/// The whole command line.
+pub fn tool_command<'a>(alloc: Global) -> Result<Command<'a>, AllocError>
+    ensures app { IfOk result (λ command. app_of command ≡ tool) }
+{
+    four_command(alloc)?.subcommand(decode_command(alloc)?)
 }

@@ -1,12 +1,13 @@
 //! What a call answers, and how two answers differ.
 
 use crate::case::Failing;
-use mj_io::{MemoryFiles, MemorySink, NamedFile, OpenGate};
+use mj_io::{MemoryFiles, MemorySink, NamedFile};
 use std::alloc::{AllocError, Global};
 use std::io;
 use std::io::Print;
 use std::sync::Wait;
 use std::thread::Threads;
+use step_gate::OpenGate;
 
 /// The status that says that the words are faulty. What is said of them is free where none is wanted.
 const WRONG_USE: u8 = 2;

@@ -6,7 +6,7 @@ ghost use Rattle.mojom_files.specs.Refusals.{best_of};
 ghost use Rattle.kind_scope.specs.Views.{member_view, numbered_view, scope_view};
 ghost use Rattle.kind_refusals.specs.TypeRefusals.{refused_in_member};
 ghost use Rattle.kind_refusals.specs.OrdinalRefusals.{refused_order, refused_late};
-ghost use Rattle.kind_refusals.specs.KindRefusals.{refused_count, refused_struct, refused_numbers, refused_list};
+ghost use Rattle.kind_refusals.specs.KindRefusals.{refused_count, refused_numbers, refused_list};
 
 use crate::list_sort::ListSort;
 use crate::ordinals::{check_doubles, check_gap};

@@ -1,6 +1,6 @@
 //! Refusals of identifiers, and the first of them.
 
-ghost use Rattle.std.specs.Prelude.{◌≡◌, IfOk, OnOk};
+ghost use Rattle.std.specs.Prelude.{◌≡◌, OnOk};
 ghost use Rattle.mojom_files.specs.Causes.{named};
 ghost use Rattle.mojom_files.specs.Refusals.{best_of, where_true};
 ghost use Rattle.kind_scope.specs.Scopes.{refused};

@@ -1,7 +1,6 @@
 //! What is refused of versions.
 
 ghost use Rattle.std.specs.Prelude.{◌≡◌, map, IfOk, OnOk};
-ghost use Rattle.std.specs.List.{flat_map};
 ghost use Rattle.std.specs.Option.{option_copied};
 ghost use Rattle.mojom_ast.specs.TypeTrees.{base_view};
 ghost use Rattle.mojom_files.specs.Refusals.{best_of};

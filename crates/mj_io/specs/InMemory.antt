@@ -1,6 +1,7 @@
 -- What files and sinks in memory hold, and what each of their calls does.
-use Rattle.std.specs.Prelude.{ℕ, ◌≡◌, ◌+◌, ◌-◌, ◌^◌, List, Contains, map, min, Some, None, string_bytes}
+use Rattle.std.specs.Prelude.{ℕ, ◌≡◌, ◌+◌, ◌-◌, ◌^◌, List, [], Contains, map, min, Some, None, string_bytes}
 use Rattle.mj_io.specs.Outside.{Named, FilesState, SinkState, find_file}
+use Rattle.mj_io.specs.Fetches.{fetches_of, read_of}
 use Rattle.mj_io.specs.declared.memory.NamedFile.{NamedFile}
 use Rattle.mj_io.specs.declared.memory.MemoryFiles.{MemoryFiles}
 use Rattle.mj_io.specs.declared.steady.SteadyFiles.{SteadyFiles}
@@ -10,13 +11,29 @@ use Rattle.mj_io.specs.declared.memory_sink.MemorySink.{MemorySink}
 abbrev pub named : NamedFile → Named
 named file = record { name = string_bytes file.name; bytes = file.bytes.items }
 
+-- what files that hold these say before the first fetch
+abbrev pub unfetched : List Named → FilesState
+unfetched files = record { held = Some files; faults = 0; faults_on_present = 0; fetches = []; read = [] }
+
 -- files in memory say all that they hold
 abbrev pub memory_state : MemoryFiles → FilesState
-memory_state files = record { held = Some (map named files.files.items); faults = files.faults; faults_on_present = files.faults_on_present }
+memory_state files = record {
+  held = Some (map named files.files.items);
+  faults = files.faults;
+  faults_on_present = files.faults_on_present;
+  fetches = fetches_of files.made;
+  read = read_of files.made;
+}
 
 -- no fault is ever counted on a name that is there
 abbrev pub steady_state : SteadyFiles → FilesState
-steady_state files = record { held = Some (map named files.files.items); faults = files.faults; faults_on_present = 0 }
+steady_state files = record {
+  held = Some (map named files.files.items);
+  faults = files.faults;
+  faults_on_present = 0;
+  fetches = fetches_of files.made;
+  read = read_of files.made;
+}
 
 -- a sink in memory says what was written
 abbrev pub sink_state : MemorySink → SinkState

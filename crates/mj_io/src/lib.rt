@@ -1,55 +1,48 @@
-//! Files, sinks and gates: what a program reads, where it writes, and what stands round the steps
-//! of its workers. Files and sinks say what they hold, where they can, and count their faults.
+//! Files and sinks: what a program reads, and where it writes. They say what they hold, where they
+//! can, and count their faults; files say which fetches were made.
 #![tactic(auto)]
 
 ghost use Rattle.std.specs.Prelude.{◌≡◌, ◌≢◌, ◌+◌, ◌≤◌, [], length, IfOk, IfErr, OnOk, OnErr};
 ghost use Rattle.std.specs.Io.{StartsWith};
-ghost use Rattle.mj_io.specs.Outside.{Rose, FilesState, SinkState, FetchedFrom, FailedFrom, FilesGoOn, Wrote, WroteSome, taken_by};
+ghost use Rattle.mj_io.specs.Outside.{Rose, FilesState, SinkState, FetchedFrom, FailedFrom, FilesGoOn, Noted, Wrote, WroteSome, taken_by};
 
-mod gate;
+mod fetches;
 mod memory;
 mod memory_sink;
 mod real;
 mod steady;
-#[cfg(test)]
-mod tests;
 mod writer;
 
-pub use gate::{Gate, OpenGate};
 pub use memory::{MemoryFiles, NamedFile};
 pub use memory_sink::MemorySink;
 pub use real::RealFiles;
 use std::alloc::Global;
 pub use steady::SteadyFiles;
-use thiserror::Error;
 pub use writer::WriterSink;
 
 /// Whether a file was fetched whole, or has more bytes than the limit.
-#[derive(Clone, Copy, Debug, PartialEq, Eq)]
+#[derive(Clone, Copy)]
 pub enum Fetched {
     Whole,
     Longer,
 }
 
 /// Why a file was not fetched. A name that isn't there is a fault.
-#[derive(Clone, Copy, Debug, PartialEq, Eq, Error)]
+#[derive(Clone, Copy)]
 pub enum FilesError {
-    #[error("the file cannot be read")]
     Failed,
-    #[error("out of memory")]
     Memory,
 }
 
 /// Why nothing was written.
-#[derive(Clone, Copy, Debug, PartialEq, Eq, Error)]
+#[derive(Clone, Copy)]
 pub enum SinkError {
-    #[error("nothing can be written")]
     Failed,
 }
 
 /// Files by their names, which no call changes.
 pub trait Files {
-    // the files, where it says what it holds, and the counts of faults
+    // the files, where it says what it holds, the counts of faults, and the fetches made
     ghost state: { Self → FilesState };
 
     /// Appends the bytes of the file to `into` if there are at most `limit`, and else answers
@@ -72,7 +65,10 @@ pub trait Files {
 
         // Whatever the answer, `into` begins with what it held, and has at most `limit` bytes more.
         ensures kept { StartsWith into.new.items into.old.items }
-        ensures short { length into.new.items ≤ length into.old.items + limit };
+        ensures short { length into.new.items ≤ length into.old.items + limit }
+
+        // Each fetch is noted with its answer, behind those before it, and the bytes of a whole file with it.
+        ensures noted { Noted (state self.old) (state self.new) name.now result into.old.items into.new.items };
 }
 
 /// Takes a text in pieces.

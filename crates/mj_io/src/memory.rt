@@ -3,9 +3,10 @@
 ghost use Rattle.std.specs.Prelude.{◌≡◌, ◌≤◌, ◌+◌, ◌⊎◌, ◌↔◌, map, length, IfOk, IfErr, Some, Err};
 ghost use Rattle.std.specs.Io.{StartsWith};
 ghost use Rattle.std.specs.Option.{option_map};
-ghost use Rattle.mj_io.specs.Outside.{find_file, FetchedOf, FetchedFrom, FailedFrom, FilesGoOn};
-ghost use Rattle.mj_io.specs.InMemory.{named, after_call, IsToFail, IsAbsent};
+ghost use Rattle.mj_io.specs.Outside.{find_file, FetchedOf, FetchedFrom, FailedFrom, FilesGoOn, Noted};
+ghost use Rattle.mj_io.specs.InMemory.{named, unfetched, after_call, IsToFail, IsAbsent};
 
+use crate::fetches::{FetchMade, Trace, noted};
 use crate::{Fetched, Files, FilesError};
 use std::alloc::Global;
 
@@ -24,6 +25,7 @@ pub struct MemoryFiles {
     calls: u64,
     faults: u64,
     faults_on_present: u64,
+    made: Trace<FetchMade>,
 }
 
 impl MemoryFiles {
@@ -31,7 +33,7 @@ impl MemoryFiles {
 
     /// The files, and the numbers of the calls of `fetch`, counted from 0, that are to fail.
     pub fn new(files: Vec<NamedFile>, failing: Vec<u64>) -> MemoryFiles
-        ensures state { memory_state result ≡ record { held = Some (map named files.items); faults = 0; faults_on_present = 0 } }
+        ensures state { memory_state result ≡ unfetched (map named files.items) }
         ensures plan { plan_of_files result ≡ record { calls = 0; failing = failing.items } }
     {
         MemoryFiles {
@@ -40,6 +42,7 @@ impl MemoryFiles {
             calls: 0,
             faults: 0,
             faults_on_present: 0,
+            made: Trace::Empty,
         }
     }
 }
@@ -61,24 +64,29 @@ impl Files for MemoryFiles {
         ensures failed { IfErr result (λ error. FailedFrom error name.now (memory_state self.old) (memory_state self.new)) }
         ensures kept { StartsWith into.new.items into.old.items }
         ensures short { length into.new.items ≤ length into.old.items + limit }
+        ensures noted { Noted (memory_state self.old) (memory_state self.new) name.now result into.old.items into.new.items }
 
         // A fetch fails exactly where its number is in the list or the name isn't there.
         ensures plan { plan_of_files self.new ≡ after_call (plan_of_files self.old) }
         ensures fails { (result ≡ Err FilesError.Failed) ↔ (IsToFail (plan_of_files self.old) ⊎ IsAbsent (files_of self.old) name.now) }
     {
+        let start = into.len();
         let fails = self.failing.contains(&self.calls);
         self.calls = self.calls.saturating_add(1);
         match find(self.files.as_slice(), name) {
             None => {
                 self.faults = self.faults.saturating_add(1);
-                Err(FilesError::Failed)
+                noted(&mut self.made, name, Err(FilesError::Failed), start, into)
             }
             Some(_) if fails => {
                 self.faults = self.faults.saturating_add(1);
                 self.faults_on_present = self.faults_on_present.saturating_add(1);
-                Err(FilesError::Failed)
+                noted(&mut self.made, name, Err(FilesError::Failed), start, into)
             }
-            Some(bytes) => copy(bytes, limit, into),
+            Some(bytes) => {
+                let answer = copy(bytes, limit, into);
+                noted(&mut self.made, name, answer, start, into)
+            }
         }
     }
 }

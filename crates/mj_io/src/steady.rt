@@ -1,10 +1,11 @@
 //! Files in memory that never fail but for a missing name.
 
-ghost use Rattle.std.specs.Prelude.{◌≡◌, ◌≤◌, ◌+◌, ◌↔◌, map, length, IfOk, IfErr, Some, Err};
+ghost use Rattle.std.specs.Prelude.{◌≡◌, ◌≤◌, ◌+◌, ◌↔◌, map, length, IfOk, IfErr, Err};
 ghost use Rattle.std.specs.Io.{StartsWith};
-ghost use Rattle.mj_io.specs.Outside.{FetchedFrom, FailedFrom, FilesGoOn};
-ghost use Rattle.mj_io.specs.InMemory.{named, IsAbsent};
+ghost use Rattle.mj_io.specs.Outside.{FetchedFrom, FailedFrom, FilesGoOn, Noted};
+ghost use Rattle.mj_io.specs.InMemory.{named, unfetched, IsAbsent};
 
+use crate::fetches::{FetchMade, Trace, noted};
 use crate::memory::{copy, find};
 use crate::{Fetched, Files, FilesError, NamedFile};
 use std::alloc::Global;
@@ -15,6 +16,7 @@ use std::alloc::Global;
 pub struct SteadyFiles {
     files: Vec<NamedFile>,
     faults: u64,
+    made: Trace<FetchMade>,
 }
 
 impl SteadyFiles {
@@ -22,9 +24,13 @@ impl SteadyFiles {
 
     /// The files.
     pub fn new(files: Vec<NamedFile>) -> SteadyFiles
-        ensures { steady_state result ≡ record { held = Some (map named files.items); faults = 0; faults_on_present = 0 } }
+        ensures { steady_state result ≡ unfetched (map named files.items) }
     {
-        SteadyFiles { files, faults: 0 }
+        SteadyFiles {
+            files,
+            faults: 0,
+            made: Trace::Empty,
+        }
     }
 }
 
@@ -45,16 +51,21 @@ impl Files for SteadyFiles {
         ensures failed { IfErr result (λ error. FailedFrom error name.now (steady_state self.old) (steady_state self.new)) }
         ensures kept { StartsWith into.new.items into.old.items }
         ensures short { length into.new.items ≤ length into.old.items + limit }
+        ensures noted { Noted (steady_state self.old) (steady_state self.new) name.now result into.old.items into.new.items }
 
         // A fetch fails exactly where the name isn't there.
         ensures fails { (result ≡ Err FilesError.Failed) ↔ IsAbsent (steady_files_of self.old) name.now }
     {
+        let start = into.len();
         match find(self.files.as_slice(), name) {
             None => {
                 self.faults = self.faults.saturating_add(1);
-                Err(FilesError::Failed)
+                noted(&mut self.made, name, Err(FilesError::Failed), start, into)
             }
-            Some(bytes) => copy(bytes, limit, into),
+            Some(bytes) => {
+                let answer = copy(bytes, limit, into);
+                noted(&mut self.made, name, answer, start, into)
+            }
         }
     }
 }

@@ -1,11 +1,11 @@
 -- Fronts of a text, the longest first.
-use Rattle.std.proofs.Common.{◌≡◌, ℕ, zero, suc, ◌+◌, ◌<◌, ◌≤◌, List, [], ◌∷◌, ◌++◌, length, take, get_or, refl, sym, ◌∙◌, ap, subst, arith}
+use Rattle.std.proofs.Common.{◌≡◌, ℕ, zero, suc, ◌+◌, ◌<◌, ◌≤◌, List, [], ◌∷◌, ◌++◌, length, take, get_or, sym, ◌∙◌, ap, subst, arith}
 use Rattle.std.specs.Prelude.{reverse}
 use Rattle.std.specs.Str.{IsCharBoundary}
 use Rattle.std.proofs.lemmas.List.{get_or-map, get_or_default, length-map, length-take-le, reverse-append}
 use Rattle.std.proofs.lemmas.List.Elements.{All-get_or}
 use Rattle.mojom_files.specs.Names.{within}
-use Rattle.module_resolver.specs.steps.Cuts.{cut_at, AreCuts, Falls, AreFronts}
+use Rattle.module_resolver.specs.steps.Cuts.{cut_at, AreCuts, Falls}
 use Rattle.module_resolver.proofs.MarkedLengths.{within_len}
 
 -- none of these is above a number

@@ -1,6 +1,6 @@
 -- The greatest lengths of full names that are not above a length.
 use Rattle.std.proofs.Common.{◌≡◌, ℕ, zero, suc, ◌+◌, ◌-◌, ◌<◌, ◌≤◌, List, [], ◌∷◌, ◌++◌, length, drop}
-use Rattle.std.proofs.Common.{take, map, get_or, refl, sym, ◌∙◌, ap, subst, inl, inr, arith, length-append, length-drop, get_or-drop, drop-drop}
+use Rattle.std.proofs.Common.{map, get_or, refl, sym, ◌∙◌, ap, inl, inr, arith, length-append, length-drop, get_or-drop, drop-drop}
 use Rattle.std.specs.Prelude.{Bool, true, false, nat_lt, ◌⊎◌, Option, Some, None, is_some, if◌then◌else◌}
 use Rattle.std.specs.Option.{option_or}
 use Rattle.std.proofs.Math.Nat.{eq-or-lt_of_le}

@@ -1,12 +1,13 @@
 //! The program: the real files and streams, and the words of the command line.
 #![tactic(auto)]
 
-use mj_io::{OpenGate, RealFiles, WriterSink};
+use mj_io::{RealFiles, WriterSink};
 use std::alloc::Global;
 use std::env::Env;
 use std::io::ErrorKind;
 use std::process::ExitCode;
 use std::{env, io};
+use step_gate::OpenGate;
 
 /// The words of the command line, the program's name first.
 fn words<R: Env + Alloc<A = Global>>(rt: &R) -> io::Result<Vec<String>> {

@@ -1,5 +1,5 @@
 -- What is asked for, found out a file at a time.
-use Rattle.std.proofs.Common.{◌≡◌, ◌≤◌, ℕ, List, length, refl, sym, subst, inl, inr, Some, None}
+use Rattle.std.proofs.Common.{◌≡◌, ◌≤◌, ℕ, List, [], ◌∷◌, ◌++◌, length, refl, sym, subst, inl, inr, Some, None}
 use Rattle.std.specs.Prelude.{Option, Result, Ok, Err, IfOk, IfErr}
 use Rattle.std.specs.Result.{IsErrAnd}
 use Rattle.mj_base.specs.declared.limits.TheConstants.{MAX_FILE_BYTES}
@@ -62,11 +62,14 @@ no_tree before now name bytes (ReadFault other) has short why = absurd why
 no_tree before now name bytes NoMemory has short why = tt
 
 -- the text of a tree
-pub tree_text : (held : Option (List Named)) (name bytes text : List ℕ) (tree : File) → HasBytes held name bytes → length bytes ≤ MAX_FILE_BYTES
-    → IsParsed bytes tree → text ≡ file_text tree
-    → IsPrintText held (λ files w. Printing files name w) text
-tree_text held name bytes text tree has short is e = record {
+pub tree_text : (held : Option (List Named)) (before now : List Named) (name bytes text : List ℕ) (tree : File) → HasBytes held name bytes
+    → length bytes ≤ MAX_FILE_BYTES → now ≡ before ++ record { name = name; bytes = bytes } ∷ [] → IsParsed bytes tree → text ≡ file_text tree
+    → IsPrintText name before now held (λ files w. Printing files name w) text
+tree_text held before now name bytes text tree has short came is e = record {
   tree = tree;
+  bytes = bytes;
+  came = came;
+  parsed = is;
   asked = leads_on held name bytes (λ files. Parsing name) (Prints tree) has short (treed held name bytes tree is);
   text_of = e;
 }

@@ -83,16 +83,17 @@ message_doable (Encodes message) text is = tt
 message_doable (Decodes interface method request value) text is = tt
 
 -- a text that is right is that of a run, a tree, a schema, a message or its value that is asked for
-text_work : (command : Option Command) (held : Option (List Named)) (files : List Named) (ask : List Named → Work → Type 0) (text : List ℕ) → held ≡ Some files
-    → IsRightText command held ask text → (work : Work) × IsDoable work × ask files work
-text_work None held files ask text e right = absurd right
-text_work (Some (Run words)) held files ask text e right =
+text_work : (command : Option Command) (before now : List Named) (held : Option (List Named)) (files : List Named)
+    (ask : List Named → Work → Type 0) (text : List ℕ) → held ≡ Some files
+    → IsRightText command before now held ask text → (work : Work) × IsDoable work × ask files work
+text_work None before now held files ask text e right = absurd right
+text_work (Some (Run words)) before now held files ask text e right =
     (Runs right.schema right.bytes words.order, tt, asked_of held files ask (Runs right.schema right.bytes words.order) e right.asked)
-text_work (Some (Print file)) held files ask text e right = (Prints right.tree, tt, asked_of held files ask (Prints right.tree) e right.asked)
-text_work (Some (Check names)) held files ask text e right = (Checks right.schema, tt, asked_of held files ask (Checks right.schema) e right.asked)
-text_work (Some (Encode words)) held files ask text e right =
+text_work (Some (Print file)) before now held files ask text e right = (Prints right.tree, tt, asked_of held files ask (Prints right.tree) e right.asked)
+text_work (Some (Check names)) before now held files ask text e right = (Checks right.schema, tt, asked_of held files ask (Checks right.schema) e right.asked)
+text_work (Some (Encode words)) before now held files ask text e right =
     (right.work, message_doable right.work text right.text_of, asked_of held files ask right.work e right.asked)
-text_work (Some (Decode words)) held files ask text e right =
+text_work (Some (Decode words)) before now held files ask text e right =
     (right.work, message_doable right.work text right.text_of, asked_of held files ask right.work e right.asked)
 
 -- the line of a refusal that is asked for
@@ -172,9 +173,9 @@ module _ (s : Seen) (work : Work) (is : IsAsked s work) where
   asked_here other asked = one other (asked_of s.files_before.held is.files (asked_by s) other is.held asked)
 
   -- a work that has a text is a run, a tree, a schema, a message or its value
-  has_text : (text : List ℕ) → IsRightText (command_of s.words) s.files_before.held (asked_by s) text → IsDoable work
+  has_text : (text : List ℕ) → IsRightText (command_of s.words) s.files_before.read s.files.read s.files_before.held (asked_by s) text → IsDoable work
   has_text text right =
-      let t = text_work (command_of s.words) s.files_before.held is.files (asked_by s) text is.held right in
+      let t = text_work (command_of s.words) s.files_before.read s.files.read s.files_before.held is.files (asked_by s) text is.held right in
       subst IsDoable (one t.0 t.2) t.1
 
   wrong_words : command_of s.words ≡ None → WrongWords ≡ work

@@ -7,11 +7,12 @@ use Rattle.mj_schema.specs.Lookups.{interface_named}
 use Rattle.mj_schema.specs.declared.schema.Schema.{Schema}
 use Rattle.wire_model.specs.declared.target.Expected.{Expected}
 use Rattle.wire_model.specs.declared.target.Target.{Target}
-use Rattle.mojo_tool.specs.Targets.{side_of, message_named, expected_of}
+use Rattle.call_script.specs.Targets.{message_named}
+use Rattle.mojo_tool.specs.Targets.{side_of, expected_of}
 use Rattle.mojo_tool.specs.Work.{Work, UnknownName, Fetching, Gathering, Encoding, Writing, Decoding, Showing, HasMessageAt, HasInterfaceAt}
-use Rattle.mojo_tool.specs.Answers.{IsMessageText, refused_work}
+use Rattle.mojo_tool.specs.Answers.{IsMessageText, IsSchemaRead, EncodesFrom, DecodesFrom, refused_work}
 use Rattle.mojo_tool.specs.steps.Fetches.{HaveSchemaOver}
-use Rattle.mojo_tool.specs.steps.Messages.{Passes}
+use Rattle.mojo_tool.specs.steps.Messages.{Passes, IsFileText}
 use Rattle.mojo_tool.specs.steps.Stops.{Stops}
 use Rattle.mojo_tool.specs.declared.refusal.ToolRefusal.{ToolRefusal}
 use Rattle.mojo_tool.specs.declared.decide.Stop.{Stop}
@@ -41,13 +42,15 @@ module _ (words : EncodeWords) (schema : Schema) where
       later before mid now (λ files. value_of files found) (λ files w. Gathering files words.files (Encoding files words) w) stop on
       (method_leads before.held found have e) stops
 
-  pub encode_text : (before mid : FilesState) (found : Target × ℕ) (text : List ℕ) → FilesGoOn before mid
-      → HaveSchemaOver before.held words.files schema → message_named schema (side_of words.side) words.method ≡ Some found
-      → IsMessageText mid.held (λ files w. Fetching files words.value (Writing schema found) w) text
-      → IsMessageText before.held (λ files w. Gathering files words.files (Encoding files words) w) text
-  encode_text before mid found text on have e is =
-      text_later before mid (λ files. value_of files found) (λ files w. Gathering files words.files (Encoding files words) w) text on
-      (method_leads before.held found have e) is
+  pub encode_text : (before mid : FilesState) (now : List Named) (found : Target × ℕ) (text : List ℕ) → FilesGoOn before mid
+      → HaveSchemaOver before.held words.files schema → IsSchemaRead words.files before.read mid.read schema
+      → message_named schema (side_of words.side) words.method ≡ Some found
+      → IsFileText words.value (Writing schema found) mid.read now mid.held (λ files w. Fetching files words.value (Writing schema found) w) text
+      → IsMessageText words.files words.value (EncodesFrom words) before.read now before.held
+      (λ files w. Gathering files words.files (Encoding files words) w) text
+  encode_text before mid now found text on have first e is =
+      text_later before mid now (λ files. value_of files found) (λ files w. Gathering files words.files (Encoding files words) w) words.files words.value text
+      (Writing schema found) (EncodesFrom words) schema on (method_leads before.held found have e) first (λ bytes work made. (found, e, made)) is
 
   pub encode_unknown : (before now : FilesState) (refusal : ToolRefusal) → HaveSchemaOver before.held words.files schema
       → message_named schema (side_of words.side) words.method ≡ None → refused_work refusal ≡ UnknownName words.method
@@ -90,14 +93,17 @@ module _ (words : DecodeWords) (schema : Schema) where
       later before mid now (λ files. message_of files interface) (λ files w. Gathering files words.files (Decoding files words) w) stop on
       (interface_leads before.held interface have e) stops
 
-  pub decode_text : (before mid : FilesState) (interface : ℕ) (text : List ℕ) → FilesGoOn before mid
-      → HaveSchemaOver before.held words.files schema → interface_named schema.interfaces words.interface ≡ Some interface
-      → IsMessageText mid.held
+  pub decode_text : (before mid : FilesState) (now : List Named) (interface : ℕ) (text : List ℕ) → FilesGoOn before mid
+      → HaveSchemaOver before.held words.files schema → IsSchemaRead words.files before.read mid.read schema
+      → interface_named schema.interfaces words.interface ≡ Some interface
+      → IsFileText words.message (Showing schema (expected_of interface (side_of words.side)) words.interface words.handles) mid.read now mid.held
       (λ files w. Fetching files words.message (Showing schema (expected_of interface (side_of words.side)) words.interface words.handles) w) text
-      → IsMessageText before.held (λ files w. Gathering files words.files (Decoding files words) w) text
-  decode_text before mid interface text on have e is =
-      text_later before mid (λ files. message_of files interface) (λ files w. Gathering files words.files (Decoding files words) w) text on
-      (interface_leads before.held interface have e) is
+      → IsMessageText words.files words.message (DecodesFrom words) before.read now before.held
+      (λ files w. Gathering files words.files (Decoding files words) w) text
+  decode_text before mid now interface text on have first e is =
+      text_later before mid now (λ files. message_of files interface) (λ files w. Gathering files words.files (Decoding files words) w) words.files
+      words.message text (Showing schema (expected interface) words.interface words.handles) (DecodesFrom words) schema on
+      (interface_leads before.held interface have e) first (λ bytes work made. (interface, e, made)) is
 
   pub decode_unknown : (before now : FilesState) (refusal : ToolRefusal) → HaveSchemaOver before.held words.files schema
       → interface_named schema.interfaces words.interface ≡ None → refused_work refusal ≡ UnknownName words.interface

@@ -4,9 +4,10 @@ use Rattle.std.proofs.Common.{sym, subst, ap, ◌∙◌, append_assoc, append-ni
 use Rattle.std.specs.Prelude.{Option, MatchOption}
 use Rattle.std.specs.Option.{option_map, option_copied}
 use Rattle.std.specs.List.{HoldsAt}
+use Rattle.std.proofs.lemmas.List.{map-append}
 use Rattle.std.proofs.lemmas.Option.{slice_get-map, slice_get-get_or}
 use Rattle.mj_base.specs.declared.limits.TheConstants.{MAX_FILE_BYTES}
-use Rattle.mj_io.specs.Outside.{Named, find_file, FilesState, FilesGoOn}
+use Rattle.mj_io.specs.Outside.{Named, find_file, Fetch, FilesState, FilesGoOn}
 use Rattle.mj_schema.specs.declared.schema.Schema.{Schema}
 use Rattle.mojom_compile.specs.declared.schema_error.SchemaError.{SchemaError}
 use Rattle.mojom_compile.specs.declared.schema_error.SchemaError.TheVariants as errors
@@ -18,15 +19,18 @@ use Rattle.mojom_compile.specs.Schemas.{IsSchemaOfFiles, IsRefusalOf, IsWhy}
 use Rattle.schema_text.specs.Listing.{listing}
 use Rattle.mojo_tool.specs.Work.{Work, Missing, TooLong, Refuses, Rejects, Checks, FetchingAll, Leads, Tabling, Gathering, Listing, Checking, AskedFor}
 use Rattle.mojo_tool.specs.Work.{AreFetched, IsAmong, name_at, unchecked}
-use Rattle.mojo_tool.specs.Answers.{ReadFailed, refused_work, refused_name, IsCheckText}
+use Rattle.mojo_tool.specs.Answers.{ReadFailed, refused_work, refused_name, IsCheckText, IsSchemaRead, read_as}
 use Rattle.mojo_tool.specs.steps.Stops.{Stops, IsOf, HasBytes, IsLonger, IsLost, NotFetched}
 use Rattle.mojo_tool.specs.steps.Fetches.{AreBytes, HaveSchemaOver, IsFirstUnfetched, NotAllFetched, NotTabled, IsRefusedSet, NoSchema}
 use Rattle.mojo_tool.specs.steps.Messages.{Passes}
+use Rattle.mojo_tool.specs.Fetched.{FetchedAll, FetchedFront}
+use Rattle.mojo_tool.specs.steps.Made.{IsFetchedOnto, Unfetched, StoppedSo, StoppedEarly}
 use Rattle.mojo_tool.specs.declared.refusal.ToolRefusal.{ToolRefusal}
 use Rattle.mojo_tool.specs.declared.refusal.ToolRefusal.TheVariants as refusals
 use Rattle.mojo_tool.specs.declared.decide.Stop.{Stop}
 use Rattle.mojo_tool.specs.declared.decide.Stop.TheVariants.{Refused, ReadFault, NoMemory}
 use Rattle.mojo_tool.proofs.Asking.{stopped}
+use Rattle.mojo_tool.proofs.Made.{all_more, one_of_all}
 use Rattle.mojo_tool.proofs.Messages.{passed}
 
 -- files
@@ -81,11 +85,50 @@ bytes_up_to held names i sources name bytes at are found short =
     subst (λ (ns : List (List ℕ)). AreBytes held ns (sources ++ record { name = name; bytes = bytes } ∷ []))
     (sym (taken_more names i name at)) (bytes_more held (take i names) sources name bytes are found short)
 
-pub fetched_up_to : (held : Option (List Named)) (names : List (List ℕ)) (i : ℕ) (name bytes : List ℕ) (sources all : List Source) (source : Source)
-    → slice_get names i ≡ Some name → AreBytes held (take i names) sources → HasBytes held name bytes → length bytes ≤ MAX_FILE_BYTES
-    → source ≡ record { name = name; bytes = bytes } → all ≡ sources ++ source ∷ [] → AreBytes held (take (i + 1) names) all
-fetched_up_to held names i name bytes sources all source at are found short is whole =
-    rw (whole, is) (bytes_up_to held names i sources name bytes at are found short)
+-- a file that was fetched, behind others
+pub onto : (held : Option (List Named)) (before now : List Named) (name bytes : List ℕ) (old new : List Source) → HasBytes held name bytes
+    → length bytes ≤ MAX_FILE_BYTES → new ≡ old ++ record { name = name; bytes = bytes } ∷ []
+    → now ≡ before ++ record { name = name; bytes = bytes } ∷ [] → IsFetchedOnto held before now name old new
+onto held before now name bytes old new has short whole came = record { bytes = bytes; has = has; short = short; whole = whole; came = came }
+
+pub fetched_up_to : (before mid : Option (List Named)) (names : List (List ℕ)) (i : ℕ) (name : List ℕ) (was is : List Named) (sources all : List Source)
+    → slice_get names i ≡ Some name → AreBytes before (take i names) sources → mid ≡ before → IsFetchedOnto mid was is name sources all
+    → AreBytes before (take (i + 1) names) all
+fetched_up_to before mid names i name was is sources all at are same made =
+    rw made.whole (bytes_up_to before names i sources name made.bytes at are
+    (subst (λ (held : Option (List Named)). HasBytes held name made.bytes) same made.has) made.short)
+
+-- they have these names
+pub named_up_to : (held : Option (List Named)) (names : List (List ℕ)) (i : ℕ) (name : List ℕ) (was is : List Named) (sources all : List Source)
+    → slice_get names i ≡ Some name → map (λ (source : Source). source.name) sources ≡ take i names → IsFetchedOnto held was is name sources all
+    → map (λ (source : Source). source.name) all ≡ take (i + 1) names
+named_up_to held names i name was is sources all at named made =
+    ap (map (λ (source : Source). source.name)) made.whole
+    ∙ map-append (λ (source : Source). source.name) sources (record { name = name; bytes = made.bytes } ∷ [])
+    ∙ ap (λ (ns : List (List ℕ)). ns ++ name ∷ []) named ∙ sym (taken_more names i name at)
+
+-- and are all that came
+pub came_up_to : (held : Option (List Named)) (name : List ℕ) (first was is : List Named) (sources all : List Source) → was ≡ first ++ map read_as sources
+    → IsFetchedOnto held was is name sources all → is ≡ first ++ map read_as all
+came_up_to held name first was is sources all came made =
+    made.came ∙ ap (λ (files : List Named). files ++ record { name = name; bytes = made.bytes } ∷ []) came
+    ∙ append_assoc first (map read_as sources) (record { name = name; bytes = made.bytes } ∷ [])
+    ∙ ap (λ (files : List Named). first ++ files)
+    (sym (map-append read_as sources (record { name = name; bytes = made.bytes } ∷ [])) ∙ ap (map read_as) (sym made.whole))
+
+-- so are the fetches of the names
+pub all_up_to : (names : List (List ℕ)) (i : ℕ) (name : List ℕ) (before mid now : List Fetch) → slice_get names i ≡ Some name
+    → FetchedAll (take i names) before mid → FetchedAll (name ∷ []) mid now → FetchedAll (take (i + 1) names) before now
+all_up_to names i name before mid now at a b =
+    subst (λ (ns : List (List ℕ)). FetchedAll ns before now) (sym (taken_more names i name at)) (all_more (take i names) (name ∷ []) before mid now a b)
+
+-- a name of this number that was not fetched comes behind the fetches of those below it
+pub stopped_at : (names : List (List ℕ)) (i : ℕ) (name : List ℕ) (before mid now : List Fetch) (stop : Stop) → slice_get names i ≡ Some name
+    → FetchedAll (take i names) before mid
+    → StoppedSo (λ work. Unfetched (name ∷ []) work mid now) (FetchedFront (name ∷ []) mid now) stop → StoppedEarly names before now stop
+stopped_at names i name before mid now stop at a stopped =
+    subst (λ (ns : List (List ℕ)). StoppedEarly ns before now stop) (sym (split_at names i name at))
+    (one_of_all (take i names) (drop (suc i) names) name before mid now stop a stopped)
 
 -- files that were fetched lead on to what is asked for behind them
 leads_all : (files : List Named) (first left : List (List ℕ)) (before sources : List Source) (next : List Source → Work → Type 0) (work : Work)
@@ -289,7 +332,7 @@ refused_so (Some files) names sources next error work are is e =
     asked_of_all (Some files) names sources (tabled next) work are (inr (error, is, e files are))
 
 -- a refusal, where it isn't want of memory
-is_refusal : (sources : List Source) (error : SchemaError) → (error ≡ errors.Memory → ⊥) → IsWhy sources error → IsRefusalOf sources error
+pub is_refusal : (sources : List Source) (error : SchemaError) → (error ≡ errors.Memory → ⊥) → IsWhy sources error → IsRefusalOf sources error
 is_refusal sources error other (inl memory) = absurd (other memory)
 is_refusal sources error other (inr is) = is
 
@@ -334,6 +377,12 @@ pub refused_set : (held : Option (List Named)) (names : List (List ℕ)) (source
     → AreBytes held names sources → IsWhy sources error → NotTabled names error stop → IsRefusedSet held names stop
 refused_set held names sources error stop are why not = record { sources = sources; error = error; are = are; why = why; not = not }
 
+-- a schema of files that came
+pub schema_read : (names : List (List ℕ)) (before now : List Named) (sources : List Source) (schema : Schema)
+    → map (λ (source : Source). source.name) sources ≡ names → now ≡ before ++ map read_as sources → IsSchemaOfFiles sources schema
+    → IsSchemaRead names before now schema
+schema_read names before now sources schema named came is = record { sources = sources; named = named; came = came; schema_of = is }
+
 -- files that were fetched and have a schema
 pub have_schema : (held : Option (List Named)) (names : List (List ℕ)) (sources : List Source) (schema : Schema) → AreBytes held names sources
     → IsSchemaOfFiles sources schema → HaveSchemaOver held names schema
@@ -355,10 +404,12 @@ schema_leads (Some files) names schema next have =
     λ work asked. tables_lead files names have.sources schema next work have.are have.schema_of asked
 
 -- the text of the tables
-pub tables_text : (held : Option (List Named)) (names : List (List ℕ)) (schema : Schema) (text : List ℕ) → HaveSchemaOver held names schema
-    → text ≡ listing schema → IsCheckText held (λ files w. Checking files names w) text
-tables_text held names schema text have e = record {
+pub tables_text : (held : Option (List Named)) (before now : List Named) (names : List (List ℕ)) (schema : Schema) (text : List ℕ)
+    → HaveSchemaOver held names schema → IsSchemaRead names before now schema → text ≡ listing schema
+    → IsCheckText names before now held (λ files w. Checking files names w) text
+tables_text held before now names schema text have from e = record {
   schema = schema;
+  from = from;
   asked = passed held (λ files w. Listing schema w) (λ files w. Checking files names w) (Checks schema)
       (schema_leads held names schema (λ files. Listing) have) (same held);
   text_of = e;

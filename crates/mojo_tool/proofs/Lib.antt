@@ -1,13 +1,16 @@
 pub mod Asking
 pub mod Messages
-pub mod Dots
 pub mod Sealed
 pub mod Shown
 pub mod Fetching
+pub mod Made
+pub mod Late
+pub mod From
 pub mod Deciding
 pub mod Texts
 pub mod OneValue
 pub mod OneWork
+pub mod SomeWork
 pub mod Completes
 pub mod Reporting
 pub mod Running

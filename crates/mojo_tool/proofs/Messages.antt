@@ -1,11 +1,12 @@
 -- What is asked for further on, and so from the start.
-use Rattle.std.proofs.Common.{◌≡◌, ◌≤◌, ℕ, List, length, sym, subst, arith, inl, inr, Some, None}
+use Rattle.std.proofs.Common.{◌≡◌, ◌≤◌, ℕ, List, [], ◌∷◌, ◌++◌, length, sym, subst, arith, inl, inr, Some, None}
 use Rattle.std.specs.Prelude.{Option, IfSome}
 use Rattle.mj_base.specs.declared.limits.TheConstants.{MAX_FILE_BYTES}
 use Rattle.mj_io.specs.Outside.{Named, FilesState, FilesGoOn}
 use Rattle.mojo_tool.specs.Work.{Work, UnknownName, Missing, Fetching, Finding, Leads, AskedFor}
-use Rattle.mojo_tool.specs.Answers.{ReadFailed, refused_work, refused_name, IsMessageText}
-use Rattle.mojo_tool.specs.steps.Messages.{Passes, IsTextOfWork}
+use Rattle.mj_schema.specs.declared.schema.Schema.{Schema}
+use Rattle.mojo_tool.specs.Answers.{ReadFailed, refused_work, refused_name, IsMessageText, IsSchemaRead}
+use Rattle.mojo_tool.specs.steps.Messages.{Passes, IsTextOfWork, IsFileText}
 use Rattle.mojo_tool.specs.steps.Stops.{Stops, StopsAt, IsOf, HasBytes}
 use Rattle.mojo_tool.specs.declared.decide.Stop.{Stop}
 use Rattle.mojo_tool.specs.declared.decide.Stop.TheVariants.{Refused, ReadFault, NoMemory}
@@ -37,11 +38,17 @@ later before mid now further ask (ReadFault name) on passes stops = record {
 later before mid now further ask NoMemory on passes stops = tt
 
 -- a text further on
-pub text_later : (before mid : FilesState) (further ask : List Named → Work → Type 0) (text : List ℕ) → FilesGoOn before mid
-    → Passes before.held further ask → IsMessageText mid.held further text → IsMessageText before.held ask text
-text_later before mid further ask text on passes is = record {
+pub text_later : (before mid : FilesState) (now : List Named) (further ask : List Named → Work → Type 0) (names : List (List ℕ)) (name text : List ℕ)
+    (next : List ℕ → Work → Type 0) (From : Schema → List ℕ → Work → Type 0) (schema : Schema) → FilesGoOn before mid → Passes before.held further ask
+    → IsSchemaRead names before.read mid.read schema → ((bytes : List ℕ) (work : Work) → next bytes work → From schema bytes work)
+    → IsFileText name next mid.read now mid.held further text → IsMessageText names name From before.read now before.held ask text
+text_later before mid now further ask names name text next From schema on passes first from is = record {
+  schema = schema;
+  bytes = is.bytes;
   work = is.work;
   asked = passed before.held further ask is.work passes (subst (λ (held : Option (List Named)). AskedFor held further is.work) on.same is.asked);
+  from = record { mid = mid.read; first = first; came = is.came };
+  made = from is.bytes is.work is.made;
   text_of = is.text_of;
 }
 
@@ -57,9 +64,17 @@ stops_at before now further ask (Refused refusal) passes stops = at_once before.
 stops_at before now further ask (ReadFault name) passes stops = absurd stops
 stops_at before now further ask NoMemory passes stops = tt
 
-pub text_at : (held : Option (List Named)) (further : Work → Type 0) (ask : List Named → Work → Type 0) (text : List ℕ)
-    → Passes held (λ files. further) ask → IsTextOfWork further text → IsMessageText held ask text
-text_at held further ask text passes is = record { work = is.work; asked = at_once held further ask is.work passes is.asked; text_of = is.text_of }
+pub text_at : (held : Option (List Named)) (before now : List Named) (name bytes : List ℕ) (next : List ℕ → Work → Type 0)
+    (ask : List Named → Work → Type 0) (text : List ℕ) → Passes held (λ files. next bytes) ask → now ≡ before ++ record { name = name; bytes = bytes } ∷ []
+    → IsTextOfWork (next bytes) text → IsFileText name next before now held ask text
+text_at held before now name bytes next ask text passes came is = record {
+  bytes = bytes;
+  work = is.work;
+  asked = at_once held (next bytes) ask is.work passes is.asked;
+  came = came;
+  made = is.asked;
+  text_of = is.text_of;
+}
 
 -- the bytes of a file lead on
 pub bytes_lead : (held : Option (List Named)) (name bytes : List ℕ) (next : List ℕ → Work → Type 0) → HasBytes held name bytes

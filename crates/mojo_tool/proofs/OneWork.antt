@@ -23,7 +23,8 @@ use Rattle.wire_model.specs.Expected.{message_marks, struct_of}
 use Rattle.wire_encoder.specs.FirstFailed.{Met, Refusal}
 use Rattle.wire_encoder.specs.Prepared.{verdict}
 use Rattle.value_text.specs.Spelling.{spell}
-use Rattle.mojo_tool.specs.Targets.{side_of, message_named, expected_of}
+use Rattle.call_script.specs.Targets.{message_named}
+use Rattle.mojo_tool.specs.Targets.{side_of, expected_of}
 use Rattle.mojo_tool.specs.Work.{Work, Refuses, RefusesLine, Prints, BadText, Decodes, Leads, Parsing, Reading, Scripting, FetchingAll, Tabling}
 use Rattle.mojo_tool.specs.Work.{Gathering}
 use Rattle.mojo_tool.specs.Work.{Listing, Valuing, Sealing, Preparing, Writing, Finding, Encoding, Unhexing, IsShown, Judged, Judging, Showing, Decoding}

@@ -1,5 +1,5 @@
 -- What a run asks for: first the Mojom files, and then the script.
-use Rattle.std.proofs.Common.{◌≡◌, ◌≤◌, ℕ, List, length, refl, subst, inl, inr, Some, None}
+use Rattle.std.proofs.Common.{◌≡◌, ◌≤◌, ℕ, List, [], ◌∷◌, ◌++◌, length, refl, subst, inl, inr, Some, None}
 use Rattle.std.specs.Prelude.{Option}
 use Rattle.mj_base.specs.declared.limits.TheConstants.{MAX_FILE_BYTES}
 use Rattle.mj_io.specs.Outside.{Named, FilesState, FilesGoOn}
@@ -8,9 +8,9 @@ use Rattle.call_script.specs.declared.script.Script.{Script}
 use Rattle.call_script.specs.Script.{IsScriptOf}
 use Rattle.command_line.specs.Asked.{RunWords, Run}
 use Rattle.mojo_tool.specs.Work.{Work, Runs, Reading, Scripting, Running, AskedFor, IsAmong, HasSchemaAt, ComesTo}
-use Rattle.mojo_tool.specs.Answers.{IsTextOf, IsRunText}
+use Rattle.mojo_tool.specs.Answers.{IsTextOf, IsRunText, IsSchemaRead}
 use Rattle.mojo_tool.specs.steps.Fetches.{HaveSchemaOver, NoSchema}
-use Rattle.mojo_tool.specs.steps.Messages.{Passes}
+use Rattle.mojo_tool.specs.steps.Messages.{Passes, IsScriptText}
 use Rattle.mojo_tool.specs.steps.Stops.{Stops, StopsAt, IsOf, HasBytes, NoScript}
 use Rattle.mojo_tool.specs.declared.decide.Stop.{Stop}
 use Rattle.mojo_tool.specs.declared.decide.Stop.TheVariants.{Refused, ReadFault, NoMemory}
@@ -20,7 +20,7 @@ use Rattle.mojo_tool.proofs.Messages.{passed, later, stops_at, bytes_lead, of_st
 -- ## The script
 
 -- a line that is refused
-script_refused : (schema : Schema) (order : ℕ) (bytes : List ℕ) (stop : Stop) → NoScript schema bytes stop → StopsAt (Reading schema order bytes) stop
+pub script_refused : (schema : Schema) (order : ℕ) (bytes : List ℕ) (stop : Stop) → NoScript schema bytes stop → StopsAt (Reading schema order bytes) stop
 script_refused schema order bytes (Refused refusal) not = inr not
 script_refused schema order bytes (ReadFault name) not = absurd not
 script_refused schema order bytes NoMemory not = tt
@@ -34,12 +34,13 @@ no_script before now name order schema bytes stop has short not =
     (bytes_lead before.held name bytes (Reading schema order) has short) (script_refused schema order bytes stop not)
 
 -- the text of a run of the script in an order
-pub script_text : (held : Option (List Named)) (name bytes text : List ℕ) (order : ℕ) (schema : Schema) (script : Script) → HasBytes held name bytes
-    → length bytes ≤ MAX_FILE_BYTES → IsScriptOf schema bytes script → IsTextOf schema script order text
-    → IsRunText order held (λ files w. Scripting files name order schema w) text
-script_text held name bytes text order schema script has short is text_of = record {
-  schema = schema;
+pub script_text : (held : Option (List Named)) (before now : List Named) (name bytes text : List ℕ) (order : ℕ) (schema : Schema) (script : Script)
+    → HasBytes held name bytes → length bytes ≤ MAX_FILE_BYTES → now ≡ before ++ record { name = name; bytes = bytes } ∷ []
+    → IsScriptOf schema bytes script → IsTextOf schema script order text
+    → IsScriptText schema order name before now held (λ files w. Scripting files name order schema w) text
+script_text held before now name bytes text order schema script has short came is text_of = record {
   bytes = bytes;
+  came = came;
   script = script;
   asked = passed held (λ files w. Reading schema order bytes w) (λ files w. Scripting files name order schema w) (Runs schema bytes order)
       (bytes_lead held name bytes (Reading schema order) has short) (reads held);
@@ -73,17 +74,19 @@ module _ (words : RunWords) where
       later before mid now (λ files w. Scripting files words.script words.order schema w) (λ files w. Running files words w) stop on
       (script_leads before.held schema have) stops
 
-  pub right_text : (before mid : FilesState) (schema : Schema) (text : List ℕ) → FilesGoOn before mid → HaveSchemaOver before.held words.files schema
-      → IsRunText words.order mid.held (λ files w. Scripting files words.script words.order schema w) text
-      → IsRunText words.order before.held (λ files w. Running files words w) text
-  right_text before mid schema text on have right = record {
-    schema = right.schema;
+  pub right_text : (before mid : FilesState) (now : List Named) (schema : Schema) (text : List ℕ) → FilesGoOn before mid
+      → HaveSchemaOver before.held words.files schema → IsSchemaRead words.files before.read mid.read schema
+      → IsScriptText schema words.order words.script mid.read now mid.held (λ files w. Scripting files words.script words.order schema w) text
+      → IsRunText words before.read now before.held (λ files w. Running files words w) text
+  right_text before mid now schema text on have first right = record {
+    schema = schema;
     bytes = right.bytes;
     script = right.script;
+    from = record { mid = mid.read; first = first; came = right.came };
     asked = passed before.held (λ files w. Scripting files words.script words.order schema w) (λ files w. Running files words w)
-        (Runs right.schema right.bytes words.order)
+        (Runs schema right.bytes words.order)
         (script_leads before.held schema have)
-        (subst (λ (held : Option (List Named)). AskedFor held (λ files w. scripted files schema w) (Runs right.schema right.bytes words.order))
+        (subst (λ (held : Option (List Named)). AskedFor held (λ files w. scripted files schema w) (Runs schema right.bytes words.order))
         on.same right.asked);
     read = right.read;
     text_of = right.text_of;

@@ -1,7 +1,8 @@
 -- What each status says of the words, the files and the sinks, before the call and after it.
-use Rattle.std.specs.Prelude.{ℕ, ◌≡◌, List, reverse, Option, Some, None, Ok, IfSome, ◌⊎◌}
+use Rattle.std.specs.Prelude.{ℕ, ◌≡◌, List, [], ◌∷◌, ◌++◌, map, reverse, Option, Some, None, Ok, IfSome, ◌⊎◌}
 use Rattle.mj_io.specs.Outside.{Named, FilesState, SinkState, Rose, Wrote, WroteSome}
-use Rattle.command_line.specs.Asked.{Command, Run, Print, Check, Encode, Decode, command_of}
+use Rattle.command_line.specs.Asked.{Command, RunWords, EncodeWords, DecodeWords, Run, Print, Check, Encode, Decode, command_of}
+use Rattle.mj_schema.specs.Lookups.{interface_named}
 use Rattle.mj_schema.specs.declared.schema.Schema.{Schema}
 use Rattle.bind_model.specs.declared.event.Event.{Event}
 use Rattle.bind_model.specs.WireOf.{wire_of}
@@ -12,17 +13,25 @@ use Rattle.history_laws.specs.Owners.{OneOwner}
 use Rattle.reply_laws.specs.Once.{AllFirst}
 use Rattle.reply_laws.specs.Own.{AllOwn}
 use Rattle.mojom_ast.specs.declared.file.File.{File}
+use Rattle.mojom_compile.specs.Compiled.{IsParsed}
+use Rattle.mojom_compile.specs.Schemas.{IsSchemaOfFiles, IsRefusalOf}
+use Rattle.mojom_compile.specs.declared.schema_error.SchemaError.{SchemaError}
+use Rattle.mojom_compile.specs.declared.source.Source.{Source}
+use Rattle.wire_model.specs.declared.target.Target.{Target}
 use Rattle.mojom_print.specs.FileText.{file_text}
 use Rattle.schema_text.specs.Listing.{listing}
 use Rattle.call_script.specs.declared.script.Script.{Script}
 use Rattle.call_script.specs.Script.{IsScriptOf}
+use Rattle.call_script.specs.Targets.{message_named}
 use Rattle.script_run.specs.OfScript.{OfScript}
 use Rattle.history_reader.specs.Texts.{Tells}
 use Rattle.history_reader.specs.Whole as texts
 use Rattle.printed_laws.specs.Fitting.{AllFit}
 use Rattle.printed_laws.specs.Runs.{run_said, run_text}
 use Rattle.mojo_tool.specs.Work.{Work, Missing, TooLong, Refuses, Rejects, RefusesLine, UnknownName, BadText, Unfit, BadHex, Faulty}
-use Rattle.mojo_tool.specs.Work.{Runs, Prints, Checks, Encodes, Decodes, ComesTo, IsWork, AskedFor}
+use Rattle.mojo_tool.specs.Work.{Runs, Prints, Checks, Encodes, Decodes, ComesTo, Parsing, Reading, Writing, Showing, IsWork, AskedFor, unchecked}
+use Rattle.mojo_tool.specs.Targets.{side_of, expected_of}
+use Rattle.mojo_tool.specs.Fetched.{AllFetched, FetchedUpTo, PartFetched}
 use Rattle.mojo_tool.specs.Lines.{refusal_text, error_line, read_text, hex_line, shown_line}
 use Rattle.mojo_tool.specs.declared.refusal.ToolRefusal.{ToolRefusal}
 use Rattle.mojo_tool.specs.declared.refusal.ToolRefusal.TheVariants as refusals
@@ -85,25 +94,51 @@ pub record IsTextOf (schema : Schema) (script : Script) (order : ℕ) (text : Li
   -- it says this history, what became of its callbacks and what is left, and nothing else
   pub one : Tells (texts.history schema) text (Ok (run_said script.seqs history))
 
--- the text is that of a run in this order that is asked for, of the script that the bytes are
-pub record IsRunText (order : ℕ) (held : Option (List Named)) (ask : List Named → Work → Type 0) (text : List ℕ) : Type 0 where
+-- a file by its name and bytes
+abbrev pub read_as : Source → Named
+read_as source = record { name = source.name; bytes = source.bytes }
+
+-- the schema is that of files of these names, with the bytes that came, and no other file came
+pub record IsSchemaRead (names : List (List ℕ)) (before now : List Named) (schema : Schema) : Type 0 where
+  pub sources : List Source
+  pub named : map (λ (source : Source). source.name) sources ≡ names
+  pub came : now ≡ before ++ map read_as sources
+  pub schema_of : IsSchemaOfFiles sources schema
+
+-- and so are these bytes, of a file of this name behind them
+pub record IsReadBehind (names : List (List ℕ)) (last : List ℕ) (before now : List Named) (schema : Schema) (bytes : List ℕ) : Type 0 where
+  pub mid : List Named
+  pub first : IsSchemaRead names before mid schema
+  pub came : now ≡ mid ++ record { name = last; bytes = bytes } ∷ []
+
+-- the text is that of a run that is asked for, of the script that the bytes are, over the schema of the Mojom files; all came from the files
+-- that the words name
+pub record IsRunText (words : RunWords) (before now : List Named) (held : Option (List Named)) (ask : List Named → Work → Type 0)
+    (text : List ℕ) : Type 0 where
   pub schema : Schema
   pub bytes : List ℕ
   pub script : Script
-  pub asked : AskedFor held ask (Runs schema bytes order)
+  pub asked : AskedFor held ask (Runs schema bytes words.order)
+  pub from : IsReadBehind words.files words.script before now schema bytes
   pub read : IsScriptOf schema bytes script
-  pub text_of : IsTextOf schema script order text
+  pub text_of : IsTextOf schema script words.order text
 
--- the text is the canonical one of a tree that is asked for
-pub record IsPrintText (held : Option (List Named)) (ask : List Named → Work → Type 0) (text : List ℕ) : Type 0 where
+-- the text is the canonical one of a tree that is asked for, of the bytes that came
+pub record IsPrintText (name : List ℕ) (before now : List Named) (held : Option (List Named)) (ask : List Named → Work → Type 0)
+    (text : List ℕ) : Type 0 where
   pub tree : File
+  pub bytes : List ℕ
   pub asked : AskedFor held ask (Prints tree)
+  pub came : now ≡ before ++ record { name = name; bytes = bytes } ∷ []
+  pub parsed : IsParsed bytes tree
   pub text_of : text ≡ file_text tree
 
--- the text is that of the tables of a schema that is asked for
-pub record IsCheckText (held : Option (List Named)) (ask : List Named → Work → Type 0) (text : List ℕ) : Type 0 where
+-- the text is that of the tables of a schema that is asked for, of the files that came
+pub record IsCheckText (names : List (List ℕ)) (before now : List Named) (held : Option (List Named)) (ask : List Named → Work → Type 0)
+    (text : List ℕ) : Type 0 where
   pub schema : Schema
   pub asked : AskedFor held ask (Checks schema)
+  pub from : IsSchemaRead names before now schema
   pub text_of : text ≡ listing schema
 
 -- the text is that of a message or of its value
@@ -112,20 +147,83 @@ IsTextFor (Encodes message) text = text ≡ hex_line message
 IsTextFor (Decodes interface method request value) text = text ≡ shown_line interface method request value
 IsTextFor _ text = ⊥
 
--- the text is that of a message, or of the value of one, that is asked for
-pub record IsMessageText (held : Option (List Named)) (ask : List Named → Work → Type 0) (text : List ℕ) : Type 0 where
+-- what the bytes of a value ask for, by the schema
+abbrev pub EncodesFrom : EncodeWords → Schema → List ℕ → Work → Type 0
+EncodesFrom words schema bytes work =
+    (found : Target × ℕ) × (message_named schema (side_of words.side) words.method ≡ Some found) × Writing schema found bytes work
+
+-- what the bytes of a message ask for, by the schema
+abbrev pub DecodesFrom : DecodeWords → Schema → List ℕ → Work → Type 0
+DecodesFrom words schema bytes work =
+    (interface : ℕ) × (interface_named schema.interfaces words.interface ≡ Some interface)
+    × Showing schema (expected_of interface (side_of words.side)) words.interface words.handles bytes work
+
+-- the text is that of a message, or of the value of one, that is asked for, and that the bytes ask for that came
+pub record IsMessageText (names : List (List ℕ)) (last : List ℕ) (From : Schema → List ℕ → Work → Type 0) (before now : List Named)
+    (held : Option (List Named)) (ask : List Named → Work → Type 0) (text : List ℕ) : Type 0 where
+  pub schema : Schema
+  pub bytes : List ℕ
   pub work : Work
   pub asked : AskedFor held ask work
+  pub from : IsReadBehind names last before now schema bytes
+  pub made : From schema bytes work
   pub text_of : IsTextFor work text
 
--- the text is one that the words and the files ask for
-abbrev pub IsRightText : Option Command → Option (List Named) → (List Named → Work → Type 0) → List ℕ → Type 0
-IsRightText None held ask text = ⊥
-IsRightText (Some (Run words)) held ask text = IsRunText words.order held ask text
-IsRightText (Some (Print file)) held ask text = IsPrintText held ask text
-IsRightText (Some (Check names)) held ask text = IsCheckText held ask text
-IsRightText (Some (Encode words)) held ask text = IsMessageText held ask text
-IsRightText (Some (Decode words)) held ask text = IsMessageText held ask text
+-- the text is one that the words and the files ask for, and so do the files that came, whole, between these two moments
+abbrev pub IsRightText : Option Command → List Named → List Named → Option (List Named) → (List Named → Work → Type 0) → List ℕ → Type 0
+IsRightText None before now held ask text = ⊥
+IsRightText (Some (Run words)) before now held ask text = IsRunText words before now held ask text
+IsRightText (Some (Print file)) before now held ask text = IsPrintText file before now held ask text
+IsRightText (Some (Check names)) before now held ask text = IsCheckText names before now held ask text
+IsRightText (Some (Encode words)) before now held ask text = IsMessageText words.files words.value (EncodesFrom words) before now held ask text
+IsRightText (Some (Decode words)) before now held ask text = IsMessageText words.files words.message (DecodesFrom words) before now held ask text
+
+-- Mojom files of these names came, and no other, and are refused
+pub record AreRefused (names : List (List ℕ)) (before now : List Named) (work : Work) : Type 0 where
+  pub sources : List Source
+  pub error : SchemaError
+  pub named : map (λ (source : Source). source.name) sources ≡ names
+  pub came : now ≡ before ++ map read_as sources
+  pub refused : IsRefusalOf sources error
+  pub whole : work ≡ unchecked sources error
+
+-- they have a schema that lacks what a word names
+pub record IsUnknown (names : List (List ℕ)) (word : List ℕ) (Lacks : Schema → Type 0) (before now : List Named) (work : Work) : Type 0 where
+  pub schema : Schema
+  pub from : IsSchemaRead names before now schema
+  pub lacks : Lacks schema
+  pub whole : work ≡ UnknownName word
+
+-- a file of this name came, whose bytes ask for this
+abbrev pub FileAsks : List ℕ → (List ℕ → Work → Type 0) → List Named → List Named → Work → Type 0
+FileAsks name next before now work = (bytes : List ℕ) × (now ≡ before ++ record { name = name; bytes = bytes } ∷ []) × next bytes work
+
+-- they have a schema, and a file of this name came behind them, whose bytes ask for this
+pub record LastAsks (names : List (List ℕ)) (last : List ℕ) (From : Schema → List ℕ → Work → Type 0) (before now : List Named) (work : Work) : Type 0 where
+  pub schema : Schema
+  pub bytes : List ℕ
+  pub from : IsReadBehind names last before now schema bytes
+  pub made : From schema bytes work
+
+-- the files that came between these two moments are refused so
+abbrev pub RefusedFrom : Option Command → List Named → List Named → Work → Type 0
+RefusedFrom None before now work = ⊥
+RefusedFrom (Some (Run words)) before now work =
+    AreRefused words.files before now work ⊎ LastAsks words.files words.script (λ (schema : Schema). Reading schema words.order) before now work
+RefusedFrom (Some (Print file)) before now work = FileAsks file (Parsing file) before now work
+RefusedFrom (Some (Check names)) before now work = AreRefused names before now work
+RefusedFrom (Some (Encode words)) before now work =
+    AreRefused words.files before now work
+    ⊎ (IsUnknown words.files words.method (λ (schema : Schema). message_named schema (side_of words.side) words.method ≡ None) before now work
+    ⊎ LastAsks words.files words.value (EncodesFrom words) before now work)
+RefusedFrom (Some (Decode words)) before now work =
+    AreRefused words.files before now work
+    ⊎ (IsUnknown words.files words.interface (λ (schema : Schema). interface_named schema.interfaces words.interface ≡ None) before now work
+    ⊎ LastAsks words.files words.message (DecodesFrom words) before now work)
+
+-- the work is that of a file that is too long
+abbrev pub IsTooLong : Work → Type 0
+IsTooLong work = (name : List ℕ) × (work ≡ TooLong name)
 
 -- the work that a refusal is the answer to
 abbrev pub refused_work : ToolRefusal → Work
@@ -160,19 +258,23 @@ abbrev pub ReadFailed : Option (List Named) → (List Named → Work → Type 0)
 ReadFailed None ask name before now = Unit {0}
 ReadFailed (Some files) ask name before now = ask files (Missing name) ⊎ Rose before now
 
--- all was done, and the whole text written; nothing is said on standard error
+-- all was done, and the whole text written; nothing is said on standard error; all files that the words name were fetched
 pub record IsDone (s : Seen) : Type 0 where
   pub text : List ℕ
+  pub fetched : AllFetched (command_of s.words) s.files_before.fetches s.files.fetches
   pub wrote : Wrote s.out_before s.out text
-  pub right : IsRightText (command_of s.words) s.files_before.held (asked_by s) text
+  pub right : IsRightText (command_of s.words) s.files_before.read s.files.read s.files_before.held (asked_by s) text
   pub silent : s.err ≡ s.err_before
 
--- the first refusal that the files give, with its line; a file that the line names is one that a call comes to
+-- the first refusal that the files give, with its line; a file that the line names is one that a call comes to; no file was fetched behind
+-- those that give it, and those that came whole are what gives it, unless it is that one is too long
 pub record IsRefused (s : Seen) : Type 0 where
   pub refusal : ToolRefusal
+  pub fetched : FetchedUpTo (command_of s.words) (refused_work refusal) s.files_before.fetches s.files.fetches
   pub reached : IfSome (refused_name refusal) (ComesTo (command_of s.words) s.files_before.held)
   pub quiet : s.out ≡ s.out_before
   pub asked : AskedFor s.files_before.held (asked_by s) (refused_work refusal)
+  pub from : IsTooLong (refused_work refusal) ⊎ RefusedFrom (command_of s.words) s.files_before.read s.files.read (refused_work refusal)
   pub wrote : WroteOrFailed s.err_before s.err (error_line (refusal_text refusal))
 
 -- the words are no command, or ask for help, and no file is fetched
@@ -181,25 +283,28 @@ pub record IsWrongUse (s : Seen) : Type 0 where
   pub unread : s.files ≡ s.files_before
   pub wrong : command_of s.words ≡ None
 
--- a file that the words name, and that a call comes to, could not be fetched
+-- a file that the words name, and that a call comes to, could not be fetched: that of the last fetch, behind those of all before it
 pub record IsReadFault (s : Seen) : Type 0 where
   pub name : List ℕ
+  pub fetched : FetchedUpTo (command_of s.words) (Missing name) s.files_before.fetches s.files.fetches
   pub reached : ComesTo (command_of s.words) s.files_before.held name
   pub quiet : s.out ≡ s.out_before
   pub rose : Rose s.files_before.faults s.files.faults
   pub failed : ReadFailed s.files_before.held (asked_by s) name s.files_before.faults_on_present s.files.faults_on_present
   pub wrote : WroteOrFailed s.err_before s.err (error_line (read_text name))
 
--- a front of the text was written, and the sink failed; nothing is said on standard error
+-- a front of the text was written, and the sink failed; nothing is said on standard error; all files that the words name were fetched
 pub record IsWriteFault (s : Seen) : Type 0 where
   pub text : List ℕ
+  pub fetched : AllFetched (command_of s.words) s.files_before.fetches s.files.fetches
   pub part : WroteSome s.out_before s.out text
   pub rose : Rose s.out_before.faults s.out.faults
-  pub right : IsRightText (command_of s.words) s.files_before.held (asked_by s) text
+  pub right : IsRightText (command_of s.words) s.files_before.read s.files.read s.files_before.held (asked_by s) text
   pub silent : s.err ≡ s.err_before
 
--- want of memory is the one free answer, and nothing is written
+-- want of memory is the one free answer, and nothing is written; the first of the files were fetched
 pub record IsNoMemory (s : Seen) : Type 0 where
+  pub fetched : PartFetched (command_of s.words) s.files_before.fetches s.files.fetches
   pub quiet : s.out ≡ s.out_before
   pub silent : s.err ≡ s.err_before
 

@@ -1,5 +1,6 @@
 pub mod Targets
 pub mod Work
+pub mod Fetched
 pub mod Answers
 pub mod Complete
 pub mod LanguageCauses

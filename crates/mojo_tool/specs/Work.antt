@@ -42,7 +42,8 @@ use Rattle.wire_encoder.specs.declared.refusal.PrepareError.TheVariants as unfit
 use Rattle.byte_rules.specs.Judged.{Spells, IsBad}
 use Rattle.value_text.specs.Rules.{value}
 use Rattle.value_text.specs.Spelling.{spell}
-use Rattle.mojo_tool.specs.Targets.{side_of, message_named, expected_of}
+use Rattle.call_script.specs.Targets.{message_named}
+use Rattle.mojo_tool.specs.Targets.{side_of, expected_of}
 
 -- the name is one of these
 abbrev pub IsAmong : List (List ℕ) → List ℕ → Type 0

@@ -3,3 +3,4 @@ pub mod Reports
 pub mod Stops
 pub mod Fetches
 pub mod Messages
+pub mod Made

@@ -1,12 +1,14 @@
 //! From the names and the files to the text, or to why there is none.
 
-ghost use Rattle.std.specs.Prelude.{◌≡◌, ◌≤◌, ℕ, List, length, Some, IfOk, IfErr};
+ghost use Rattle.std.specs.Prelude.{◌≡◌, ◌≤◌, ◌∷◌, [], ◌++◌, ℕ, List, length, Some, IfOk, IfErr, OnOk};
 ghost use Rattle.mj_io.specs.Outside.{FilesGoOn};
 ghost use Rattle.mojom_compile.specs.Compiled.{IsParsed, IsUnread};
 ghost use Rattle.mojom_print.specs.FileText.{file_text};
 ghost use Rattle.command_line.specs.Asked.{Print, asked_of};
 ghost use Rattle.mojo_tool.specs.Work.{ComesTo, IsWork, Printing};
-ghost use Rattle.mojo_tool.specs.Answers.{IsPrintText, IsRightText};
+ghost use Rattle.mojo_tool.specs.Answers.{IsPrintText, IsRightText, RefusedFrom};
+ghost use Rattle.mojo_tool.specs.Fetched.{FetchedAll, mojoms_of, last_of};
+ghost use Rattle.mojo_tool.specs.steps.Made.{EndedWith, StoppedAfter, StoppedFrom};
 ghost use Rattle.mojo_tool.specs.steps.Stops.{Stops, IsOf, HasBytes, NotFetched, NotCompiled};
 
 use crate::check::decide_check;
@@ -38,6 +40,9 @@ pub fn fetch<'a, F: Files>(alloc: Global, files: &mut F, name: &'a str) -> Resul
     ensures short { IfOk result (λ bytes. length bytes.items ≤ MAX_FILE_BYTES) }
     ensures stop { IfErr result (λ stop. NotFetched (F.state files.old) (F.state files.new) name.now stop) }
     ensures named { IfErr result (IsOf (λ named. named ≡ name.now)) }
+    ensures whole { OnOk result (FetchedAll (name.now ∷ []) (F.state files.old).fetches (F.state files.new).fetches) }
+    ensures came { IfOk result (λ bytes. (F.state files.new).read ≡ (F.state files.old).read ++ record { name = name.now; bytes = bytes.items } ∷ []) }
+    ensures ended { IfErr result (λ stop. EndedWith name.now stop (F.state files.old).fetches (F.state files.new).fetches) }
 {
     let mut bytes = Vec::new(alloc);
     match files.fetch(alloc, name, MAX_FILE_BYTES, &mut bytes) {
@@ -81,9 +86,13 @@ fn decide_print<'a, F: Files>(
     files: &mut F,
 ) -> Result<Items<u8>, Stop<'a>>
     ensures on { FilesGoOn (F.state files.old) (F.state files.new) }
-    ensures text { IfOk result (λ text. IsPrintText (F.state files.old).held (λ files work. Printing files name.now work) text) }
+    ensures text { IfOk result (λ text. IsPrintText name.now (F.state files.old).read (F.state files.new).read (F.state files.old).held
+        (λ files work. Printing files name.now work) text) }
     ensures stop { IfErr result (λ stop. Stops (F.state files.old) (F.state files.new) (λ files work. Printing files name.now work) stop) }
     ensures reached { IfErr result (IsOf (ComesTo (Some (Print name.now)) (F.state files.old).held)) }
+    ensures whole { OnOk result (FetchedAll (name.now ∷ []) (F.state files.old).fetches (F.state files.new).fetches) }
+    ensures stopped { IfErr result (StoppedAfter (name.now ∷ []) [] (F.state files.old).fetches (F.state files.new).fetches) }
+    ensures refused { IfErr result (StoppedFrom (RefusedFrom (Some (Print name.now)) (F.state files.old).read (F.state files.new).read)) }
 {
     match fetch(alloc, files, name) {
         Err(stop) => Err(stop),
@@ -101,9 +110,15 @@ pub fn decide<'a, F: Files>(
     files: &mut F,
 ) -> Result<Items<u8>, Stop<'a>>
     ensures on { FilesGoOn (F.state files.old) (F.state files.new) }
-    ensures text { IfOk result (λ text. IsRightText (Some (asked_of command.entry)) (F.state files.old).held (IsWork (Some (asked_of command.entry))) text) }
+    ensures text { IfOk result (λ text. IsRightText (Some (asked_of command.entry)) (F.state files.old).read (F.state files.new).read
+        (F.state files.old).held (IsWork (Some (asked_of command.entry))) text) }
     ensures stop { IfErr result (λ stop. Stops (F.state files.old) (F.state files.new) (IsWork (Some (asked_of command.entry))) stop) }
     ensures reached { IfErr result (IsOf (ComesTo (Some (asked_of command.entry)) (F.state files.old).held)) }
+    ensures whole { OnOk result (FetchedAll (mojoms_of (asked_of command.entry) ++ last_of (asked_of command.entry))
+        (F.state files.old).fetches (F.state files.new).fetches) }
+    ensures stopped { IfErr result (StoppedAfter (mojoms_of (asked_of command.entry)) (last_of (asked_of command.entry))
+        (F.state files.old).fetches (F.state files.new).fetches) }
+    ensures refused { IfErr result (StoppedFrom (RefusedFrom (Some (asked_of command.entry)) (F.state files.old).read (F.state files.new).read)) }
 {
     match command {
         Command::Run {

@@ -1,12 +1,14 @@
 //! From an interface, a message and the files to its method and value, or to why there is none.
 
-ghost use Rattle.std.specs.Prelude.{◌≡◌, Some, map, IfOk, IfErr};
+ghost use Rattle.std.specs.Prelude.{◌≡◌, ◌∷◌, [], ◌++◌, Some, map, IfOk, IfErr, OnOk};
 ghost use Rattle.command_line.specs.Asked.{Decode, decode_words};
 ghost use Rattle.mj_io.specs.Outside.{FilesGoOn};
 ghost use Rattle.mojo_tool.specs.Work.{ComesTo, Fetching, Gathering, Decoding, Showing, Judging, IsShown};
-ghost use Rattle.mojo_tool.specs.Answers.{IsMessageText};
+ghost use Rattle.mojo_tool.specs.Answers.{DecodesFrom, FileAsks, IsMessageText, RefusedFrom};
 ghost use Rattle.mojo_tool.specs.Lines.{shown_line};
-ghost use Rattle.mojo_tool.specs.steps.Messages.{IsTextOfWork};
+ghost use Rattle.mojo_tool.specs.Fetched.{FetchedAll};
+ghost use Rattle.mojo_tool.specs.steps.Made.{StoppedLate, StoppedAfter, StoppedFrom};
+ghost use Rattle.mojo_tool.specs.steps.Messages.{IsFileText, IsTextOfWork};
 ghost use Rattle.mojo_tool.specs.steps.Stops.{Stops, StopsAt, IsOf};
 
 use crate::check::fetch_schema;
@@ -130,11 +132,16 @@ fn decode_file<'a, F: Files>(
     files: &mut F,
 ) -> Result<Items<u8>, Stop<'a>>
     ensures on { FilesGoOn (F.state files.old) (F.state files.new) }
-    ensures text { IfOk result (IsMessageText (F.state files.old).held
+    ensures text { IfOk result (IsFileText message.now (Showing schema.now expected name.now handles) (F.state files.old).read (F.state files.new).read
+        (F.state files.old).held
         (λ files work. Fetching files message.now (Showing schema.now expected name.now handles) work)) }
     ensures stop { IfErr result (Stops (F.state files.old) (F.state files.new)
         (λ files work. Fetching files message.now (Showing schema.now expected name.now handles) work)) }
     ensures named { IfErr result (IsOf (λ named. named ≡ message.now)) }
+    ensures whole { OnOk result (FetchedAll (message.now ∷ []) (F.state files.old).fetches (F.state files.new).fetches) }
+    ensures stopped { IfErr result (StoppedLate message.now (F.state files.old).fetches (F.state files.new).fetches) }
+    ensures refused { IfErr result (StoppedFrom (FileAsks message.now (Showing schema.now expected name.now handles)
+        (F.state files.old).read (F.state files.new).read)) }
 {
     match fetch(alloc, files, message) {
         Err(stop) => Err(stop),
@@ -153,7 +160,9 @@ pub fn decide_decode<'a, F: Files>(
     files: &mut F,
 ) -> Result<Items<u8>, Stop<'a>>
     ensures on { FilesGoOn (F.state files.old) (F.state files.new) }
-    ensures text { IfOk result (IsMessageText (F.state files.old).held
+    ensures text { IfOk result (IsMessageText (map (λ name. name.now) names.now) message.now
+        (DecodesFrom (decode_words interface.now side handles message.now (map (λ name. name.now) names.now)))
+        (F.state files.old).read (F.state files.new).read (F.state files.old).held
         (λ files work. Gathering files (map (λ name. name.now) names.now)
         (Decoding files (decode_words interface.now side handles message.now (map (λ name. name.now) names.now))) work)) }
     ensures stop { IfErr result (Stops (F.state files.old) (F.state files.new)
@@ -161,6 +170,12 @@ pub fn decide_decode<'a, F: Files>(
         (Decoding files (decode_words interface.now side handles message.now (map (λ name. name.now) names.now))) work)) }
     ensures reached { IfErr result (IsOf (ComesTo (Some (Decode (decode_words interface.now side handles message.now (map (λ name. name.now) names.now))))
         (F.state files.old).held)) }
+    ensures whole { OnOk result (FetchedAll (map (λ name. name.now) names.now ++ message.now ∷ []) (F.state files.old).fetches (F.state files.new).fetches) }
+    ensures stopped { IfErr result (StoppedAfter (map (λ name. name.now) names.now) (message.now ∷ [])
+        (F.state files.old).fetches (F.state files.new).fetches) }
+    ensures refused { IfErr result (StoppedFrom (RefusedFrom
+        (Some (Decode (decode_words interface.now side handles message.now (map (λ name. name.now) names.now))))
+        (F.state files.old).read (F.state files.new).read)) }
 {
     match fetch_schema(alloc, names, files) {
         Err(stop) => Err(stop),

@@ -1,15 +1,17 @@
 //! From a method, the text of a value and the files to a message, or to why there is none.
 
-ghost use Rattle.std.specs.Prelude.{◌≡◌, ◌≤◌, Some, map, IfOk, IfErr};
+ghost use Rattle.std.specs.Prelude.{◌≡◌, ◌≤◌, ◌∷◌, [], ◌++◌, Some, map, IfOk, IfErr, OnOk};
 ghost use Rattle.command_line.specs.Asked.{Encode, encode_words};
 ghost use Rattle.mj_io.specs.Outside.{FilesGoOn};
 ghost use Rattle.wire_encoder.specs.Prepared.{HasTarget, IsPrepared, parameters_of};
 ghost use Rattle.wire_model.specs.Stands.{up_from};
 ghost use Rattle.wire_model.specs.Trees.{view};
 ghost use Rattle.mojo_tool.specs.Work.{ComesTo, Encodes, Fetching, Gathering, Encoding, Preparing, Writing};
-ghost use Rattle.mojo_tool.specs.Answers.{IsMessageText};
+ghost use Rattle.mojo_tool.specs.Answers.{EncodesFrom, FileAsks, IsMessageText, RefusedFrom};
 ghost use Rattle.mojo_tool.specs.Lines.{hex_line};
-ghost use Rattle.mojo_tool.specs.steps.Messages.{IsTextOfWork, unfit_stop};
+ghost use Rattle.mojo_tool.specs.Fetched.{FetchedAll};
+ghost use Rattle.mojo_tool.specs.steps.Made.{StoppedLate, StoppedAfter, StoppedFrom};
+ghost use Rattle.mojo_tool.specs.steps.Messages.{IsFileText, IsTextOfWork, unfit_stop};
 ghost use Rattle.mojo_tool.specs.steps.Stops.{Stops, StopsAt, IsOf};
 
 use crate::check::fetch_schema;
@@ -143,10 +145,14 @@ fn encode_file<'a, F: Files>(
 ) -> Result<Items<u8>, Stop<'a>>
     requires { parameters_of schema.now target ≡ Some number }
     ensures on { FilesGoOn (F.state files.old) (F.state files.new) }
-    ensures text { IfOk result (IsMessageText (F.state files.old).held (λ files work. Fetching files name.now (Writing schema.now (target, number)) work)) }
+    ensures text { IfOk result (IsFileText name.now (Writing schema.now (target, number)) (F.state files.old).read (F.state files.new).read
+        (F.state files.old).held (λ files work. Fetching files name.now (Writing schema.now (target, number)) work)) }
     ensures stop { IfErr result (Stops (F.state files.old) (F.state files.new)
         (λ files work. Fetching files name.now (Writing schema.now (target, number)) work)) }
     ensures named { IfErr result (IsOf (λ named. named ≡ name.now)) }
+    ensures whole { OnOk result (FetchedAll (name.now ∷ []) (F.state files.old).fetches (F.state files.new).fetches) }
+    ensures stopped { IfErr result (StoppedLate name.now (F.state files.old).fetches (F.state files.new).fetches) }
+    ensures refused { IfErr result (StoppedFrom (FileAsks name.now (Writing schema.now (target, number)) (F.state files.old).read (F.state files.new).read)) }
 {
     match fetch(alloc, files, name) {
         Err(stop) => Err(stop),
@@ -164,7 +170,9 @@ pub fn decide_encode<'a, F: Files>(
     files: &mut F,
 ) -> Result<Items<u8>, Stop<'a>>
     ensures on { FilesGoOn (F.state files.old) (F.state files.new) }
-    ensures text { IfOk result (IsMessageText (F.state files.old).held
+    ensures text { IfOk result (IsMessageText (map (λ name. name.now) names.now) value.now
+        (EncodesFrom (encode_words method.now side value.now (map (λ name. name.now) names.now)))
+        (F.state files.old).read (F.state files.new).read (F.state files.old).held
         (λ files work. Gathering files (map (λ name. name.now) names.now)
         (Encoding files (encode_words method.now side value.now (map (λ name. name.now) names.now))) work)) }
     ensures stop { IfErr result (Stops (F.state files.old) (F.state files.new)
@@ -172,6 +180,11 @@ pub fn decide_encode<'a, F: Files>(
         (Encoding files (encode_words method.now side value.now (map (λ name. name.now) names.now))) work)) }
     ensures reached { IfErr result (IsOf (ComesTo (Some (Encode (encode_words method.now side value.now (map (λ name. name.now) names.now))))
         (F.state files.old).held)) }
+    ensures whole { OnOk result (FetchedAll (map (λ name. name.now) names.now ++ value.now ∷ []) (F.state files.old).fetches (F.state files.new).fetches) }
+    ensures stopped { IfErr result (StoppedAfter (map (λ name. name.now) names.now) (value.now ∷ [])
+        (F.state files.old).fetches (F.state files.new).fetches) }
+    ensures refused { IfErr result (StoppedFrom (RefusedFrom
+        (Some (Encode (encode_words method.now side value.now (map (λ name. name.now) names.now)))) (F.state files.old).read (F.state files.new).read)) }
 {
     match fetch_schema(alloc, names, files) {
         Err(stop) => Err(stop),

@@ -4,8 +4,9 @@ ghost use Rattle.std.specs.Prelude.{◌≡◌, ◌<◌, ◌^◌, length, option_
 ghost use Rattle.std.specs.Option.{option_copied};
 ghost use Rattle.mj_schema.specs.Lookups.{interface_named};
 ghost use Rattle.wire_encoder.specs.Prepared.{parameters_of};
-ghost use Rattle.mojo_tool.specs.Targets.{side_of, methods_of, method_named, target_in, target_named, message_named};
-ghost use Rattle.mojo_tool.specs.Targets.{later_dot, last_dot, split_word, target_between};
+ghost use Rattle.call_script.specs.Targets.{methods_of, method_named, target_in, target_named, message_named};
+ghost use Rattle.call_script.specs.Targets.{later_dot, last_dot, split_word, target_between};
+ghost use Rattle.mojo_tool.specs.Targets.{side_of};
 ghost use Rattle.mojo_tool.specs.Work.{parameters_kind};
 
 use command_line::Side;
@@ -89,7 +90,7 @@ fn later_dot(word: &[u8], place: usize, before: Option<usize>) -> Option<usize>
 }
 
 /// The place of the last dot of a word.
-#[tactic(auto, using(crate::proofs::Dots::dot_more))]
+#[tactic(auto, using(call_script::proofs::Dots::dot_more))]
 fn last_dot(word: &[u8]) -> Option<usize>
     ensures { result ≡ last_dot word.now (length word.now) }
 {
@@ -101,7 +102,7 @@ fn last_dot(word: &[u8]) -> Option<usize>
 }
 
 /// All before the last dot of a word, and the rest.
-#[tactic(auto, using(crate::proofs::Dots::dot_within))]
+#[tactic(auto, using(call_script::proofs::Dots::dot_within))]
 fn split_word(word: &[u8]) -> Option<(&[u8], &[u8])>
     ensures { option_map (λ parts. (parts.0.now, parts.1.now)) result ≡ split_word word.now }
 {
@@ -125,7 +126,7 @@ fn target_between(
 }
 
 /// What a word names: the interface is all before its last dot, the method the rest.
-#[tactic(auto, using(crate::proofs::Dots::target_is, crate::proofs::Dots::no_target))]
+#[tactic(auto, using(call_script::proofs::Dots::target_is, call_script::proofs::Dots::no_target))]
 fn target_named(schema: &Schema, side: MessageSide, word: &str) -> Option<Target>
     ensures { result ≡ target_named schema.now side word.now }
 {

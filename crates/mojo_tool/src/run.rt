@@ -1,6 +1,6 @@
 //! From a script, an order and the files to the text of its history, or to why there is none.
 
-ghost use Rattle.std.specs.Prelude.{ℕ, ◌≡◌, ◌≤◌, List, Some, length, map, IfOk, IfErr};
+ghost use Rattle.std.specs.Prelude.{ℕ, ◌≡◌, ◌≤◌, ◌∷◌, [], ◌++◌, List, Some, length, map, IfOk, IfErr, OnOk};
 ghost use Rattle.std.specs.Arc.{arc_value};
 ghost use Rattle.mj_io.specs.Outside.{FilesGoOn};
 ghost use Rattle.call_script.specs.Script.{IsScriptOf};
@@ -8,8 +8,11 @@ ghost use Rattle.call_script.specs.Sound.{IsScript};
 ghost use Rattle.command_line.specs.Asked.{Run, run_words};
 ghost use Rattle.mojom_compile.specs.Schemas.{IsSchemaOfFiles};
 ghost use Rattle.mojom_compile.specs.declared.source.Source.{Source as source};
-ghost use Rattle.mojo_tool.specs.Work.{ComesTo, Scripting, Running};
-ghost use Rattle.mojo_tool.specs.Answers.{IsTextOf, IsRunText};
+ghost use Rattle.mojo_tool.specs.Work.{ComesTo, Reading, Scripting, Running};
+ghost use Rattle.mojo_tool.specs.Answers.{FileAsks, IsTextOf, IsRunText, RefusedFrom};
+ghost use Rattle.mojo_tool.specs.Fetched.{FetchedAll};
+ghost use Rattle.mojo_tool.specs.steps.Made.{StoppedLate, StoppedAfter, StoppedFrom};
+ghost use Rattle.mojo_tool.specs.steps.Messages.{IsScriptText};
 ghost use Rattle.mojo_tool.specs.steps.Stops.{Stops, IsOf, NoScript};
 
 use crate::check::fetch_schema;
@@ -84,9 +87,13 @@ fn decide_script<'a, F: Files>(
 ) -> Result<Items<u8>, Stop<'a>>
     requires compiled { (sources : List source) × IsSchemaOfFiles sources schema }
     ensures on { FilesGoOn (F.state files.old) (F.state files.new) }
-    ensures text { IfOk result (IsRunText order (F.state files.old).held (λ files work. Scripting files name.now order schema work)) }
+    ensures text { IfOk result (IsScriptText schema order name.now (F.state files.old).read (F.state files.new).read (F.state files.old).held
+        (λ files work. Scripting files name.now order schema work)) }
     ensures stop { IfErr result (Stops (F.state files.old) (F.state files.new) (λ files work. Scripting files name.now order schema work)) }
     ensures named { IfErr result (IsOf (λ named. named ≡ name.now)) }
+    ensures whole { OnOk result (FetchedAll (name.now ∷ []) (F.state files.old).fetches (F.state files.new).fetches) }
+    ensures stopped { IfErr result (StoppedLate name.now (F.state files.old).fetches (F.state files.new).fetches) }
+    ensures refused { IfErr result (StoppedFrom (FileAsks name.now (Reading schema order) (F.state files.old).read (F.state files.new).read)) }
 {
     match fetch(alloc, files, name) {
         Err(stop) => Err(stop),
@@ -106,11 +113,17 @@ pub fn decide_run<'a, F: Files>(
     files: &mut F,
 ) -> Result<Items<u8>, Stop<'a>>
     ensures on { FilesGoOn (F.state files.old) (F.state files.new) }
-    ensures text { IfOk result (IsRunText order (F.state files.old).held
+    ensures text { IfOk result (IsRunText (run_words script.now order (map (λ name. name.now) names.now))
+        (F.state files.old).read (F.state files.new).read (F.state files.old).held
         (λ files work. Running files (run_words script.now order (map (λ name. name.now) names.now)) work)) }
     ensures stop { IfErr result (Stops (F.state files.old) (F.state files.new)
         (λ files work. Running files (run_words script.now order (map (λ name. name.now) names.now)) work)) }
     ensures reached { IfErr result (IsOf (ComesTo (Some (Run (run_words script.now order (map (λ name. name.now) names.now)))) (F.state files.old).held)) }
+    ensures whole { OnOk result (FetchedAll (map (λ name. name.now) names.now ++ script.now ∷ []) (F.state files.old).fetches (F.state files.new).fetches) }
+    ensures stopped { IfErr result (StoppedAfter (map (λ name. name.now) names.now) (script.now ∷ [])
+        (F.state files.old).fetches (F.state files.new).fetches) }
+    ensures refused { IfErr result (StoppedFrom (RefusedFrom (Some (Run (run_words script.now order (map (λ name. name.now) names.now))))
+        (F.state files.old).read (F.state files.new).read)) }
 {
     match fetch_schema(alloc, names, files) {
         Err(stop) => Err(stop),

@@ -7,7 +7,7 @@ ghost use Rattle.mojom_ast.specs.declared.file.File.{File};
 ghost use Rattle.mojom_compile.specs.Compiled.{IsParsed};
 ghost use Rattle.mojo_tool.specs.Again.{PrintsAgain};
 ghost use Rattle.mojo_tool.specs.Answers.{Answers, Seen, code_of, WroteOrFailed};
-ghost use Rattle.mojo_tool.specs.Complete.{IsComplete};
+ghost use Rattle.mojo_tool.specs.Complete.{IsComplete, HaveTooManyRows, ComesToScript};
 ghost use Rattle.mojo_tool.specs.steps.Reports.{Printed, Reported};
 ghost use Rattle.mojo_tool.specs.Lines.{refusal_text, error_line, read_text};
 ghost use Rattle.mojo_tool.specs.Work.{Work, IsWork};
@@ -17,11 +17,12 @@ use crate::decide::{Stop, decide};
 use crate::refusal::{ToolRefusal, push_refusal};
 use crate::status::Status;
 use command_line::{WordsError, read_words};
-use mj_io::{Files, Gate, Sink, write_all};
+use mj_io::{Files, Sink, write_all};
 use mojom_print::push_text;
 use std::alloc::{AllocError, Global};
 use std::sync::Wait;
 use std::thread::Threads;
+use step_gate::Gate;
 
 /// Writes a text to standard error. A fault of it changes nothing.
 fn complain<E: Sink>(err: &mut E, text: &[u8])
@@ -84,6 +85,7 @@ fn report<E: Sink>(alloc: Global, err: &mut E, stop: Stop) -> Status
 }
 
 /// All but runs with threads.
+#[tactic(auto, using(crate::proofs::Reporting::short_at_once))]
 fn alone<F: Files, O: Sink, E: Sink>(
     alloc: Global,
     words: &[String],
@@ -122,7 +124,8 @@ fn alone<F: Files, O: Sink, E: Sink>(
 /// first refusal that the files give, with its line on `err`; 2 the words are no command, or ask for
 /// help, and `err` has what is wrong or the help, a text that only tests look at; 3 a file could not
 /// be read, with its line on `err`; 4 `out` failed, and has a front of the text; 5 want of memory. At
-/// 0, 4 and 5 nothing is written to `err`, and at 2 no file is fetched.
+/// 0, 4 and 5 nothing is written to `err`, and at 2 no file is fetched; else each file that the words
+/// name is fetched once, in their order, up to the first with which the call can't go on, and no other.
 pub fn mojo_alone<F: Files, O: Sink, E: Sink>(
     alloc: Global,
     words: &[String],
@@ -187,6 +190,14 @@ pub fn complete()
 pub fn one_work()
     ensures { (words : List (List ℕ)) (files : List Named) (work other : Work) → IsWork (command_of words) files work
         → IsWork (command_of words) files other → work ≡ other }
+{}
+
+/// A law of the words: over files that say what they hold there is a work that they ask for, but where
+/// the Mojom files have more rows than a schema can have, or where a script is to be read: that each
+/// script either is one or has a first refusal is no law yet.
+pub fn some_work()
+    ensures { (words : List (List ℕ)) (files : List Named) → ((work : Work) × IsWork (command_of words) files work)
+        ⊎ (HaveTooManyRows files (command_of words) ⊎ ComesToScript files (command_of words)) }
 {}
 
 /// A law of printed texts: where a file has a tree, the text that is printed of it has a tree too, and

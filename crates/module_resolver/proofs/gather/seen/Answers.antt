@@ -1,4 +1,4 @@
-use Rattle.std.proofs.Common.{[], ◌∙◌, sym, ap, append-nil}
+use Rattle.std.proofs.Common.{◌∙◌, sym, ap, append-nil}
 use Rattle.std.specs.Prelude.{true, false}
 use Rattle.module_resolver.specs.NamesOf.{sees_number}
 use Rattle.module_resolver.proofs.SeenNames.{seen_more}

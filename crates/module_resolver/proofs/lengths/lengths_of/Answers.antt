@@ -1,4 +1,3 @@
-use Rattle.std.proofs.Common.{ℕ, List}
 use Rattle.indexmap.specs.IndexMap.{get_by_text}
 use Rattle.module_resolver.specs.steps.Lengths.{IsLesser}
 use Rattle.module_resolver.specs.steps.Owners.{HaveLengths}

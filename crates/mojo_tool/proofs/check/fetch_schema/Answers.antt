@@ -1,5 +1,8 @@
 use Rattle.std.proofs.Common.{inl, inr}
 use Rattle.mojo_tool.proofs.Fetching.{no_schema_reached, have_schema, refused_set}
+use Rattle.mojo_tool.proofs.Made.{tabled_early}
+use Rattle.mojo_tool.proofs.Fetching.{schema_read}
+use Rattle.mojo_tool.proofs.From.{early_from, tabled_from}
 use Rattle.mojo_tool.proofs.check.fetch_schema.Goals as goal
 
 pub returns-in-Err-clause-stop : goal.returns-in-Err-clause-stop
@@ -25,3 +28,19 @@ returns-clause-among g c =
 
 pub returns-in-Ok-compile-clause-compiled : goal.returns-in-Ok-compile-clause-compiled
 returns-in-Ok-compile-clause-compiled g c = (c.in-Ok.fetched.items, rw c.as_slice.ensures.value at c.in-Ok-compile.ensures.schema)
+
+pub returns-clause-stopped : goal.returns-clause-stopped
+returns-clause-stopped g c = tabled_early _ c.in-Err-compile.error c.refused.result _ _ c.refused.ensures c.in-Ok.ensures.whole
+
+pub returns-in-Ok-compile-clause-from : goal.returns-in-Ok-compile-clause-from
+returns-in-Ok-compile-clause-from g c =
+    schema_read _ _ _ c.in-Ok.fetched.items c.in-Ok-compile.schema c.in-Ok.ensures.named c.in-Ok.ensures.came
+    (rw c.as_slice.ensures.value at c.in-Ok-compile.ensures.schema)
+
+pub returns-in-Err-clause-refused : goal.returns-in-Err-clause-refused
+returns-in-Err-clause-refused g c = early_from _ _ _ c.in-Err.stop c.in-Err.ensures.long
+
+pub returns-clause-refused : goal.returns-clause-refused
+returns-clause-refused g c =
+    tabled_from _ c.in-Ok.fetched.items _ _ c.in-Ok.ensures.named c.in-Ok.ensures.came c.in-Err-compile.error c.refused.result
+    (rw c.as_slice.ensures.value at c.in-Err-compile.ensures.refused) c.refused.ensures

@@ -1,4 +1,4 @@
-use Rattle.std.proofs.Common.{◌≡◌, List, ℕ, Bor, sym, refl, inl, inr, ◌∙◌}
+use Rattle.std.proofs.Common.{◌≡◌, List, [], ◌∷◌, ℕ, Bor, sym, refl, inl, inr, ◌∙◌}
 use Rattle.std.specs.Prelude.{map}
 use Rattle.command_line.specs.Asked.{decode_words}
 use Rattle.mojo_tool.specs.Work.{Decoding}
@@ -7,6 +7,8 @@ use Rattle.mojo_tool.proofs.Asking.{ok_goes, err_goes}
 use Rattle.mojo_tool.proofs.Fetching.{no_schema_stops}
 use Rattle.mojo_tool.proofs.Messages.{of_stops}
 use Rattle.mojo_tool.proofs.Deciding.{decode_stops, decode_text, decode_unknown, has_interface}
+use Rattle.mojo_tool.proofs.Made.{early_stop, late_stops, all_more, also}
+use Rattle.mojo_tool.proofs.From.{decode_early, decode_from, decode_lacks}
 use Rattle.mojo_tool.proofs.decode.decide_decode.Goals as goal
 
 pub returns-in-Err-clause-stop : goal.returns-in-Err-clause-stop
@@ -32,8 +34,9 @@ returns-clause-text g c =
     let now : Bor (List ℕ) → List ℕ = λ name. name.now in
     let words = decode_words c.args.interface.now c.args.side c.args.handles c.args.message.now (map now c.args.names.now) in
     ok_goes _ _ _
-    (λ text is. decode_text words c.in-Ok.schema _ _ c.in-Some.number text
-    c.in-Ok.ensures.on c.in-Ok.ensures.schema (sym c.find_interface.ensures ∙ c.in-Some.is) (rw c.side_of.ensures at is)) c.decode_file.ensures.text
+    (λ text is. decode_text words c.in-Ok.schema _ _ _ c.in-Some.number text
+    c.in-Ok.ensures.on c.in-Ok.ensures.schema c.in-Ok.ensures.from (sym c.find_interface.ensures ∙ c.in-Some.is)
+    (rw c.side_of.ensures at is)) c.decode_file.ensures.text
 
 pub returns-clause-stop : goal.returns-clause-stop
 returns-clause-stop g c =
@@ -51,3 +54,35 @@ returns-clause-reached g c =
     (λ why named. of_stops (λ name. name ≡ c.args.message.now) _ why
     (λ name is. inr (is, has_interface words c.in-Ok.schema _ c.in-Some.number c.in-Ok.ensures.schema (sym c.find_interface.ensures ∙ c.in-Some.is))) named)
     c.decode_file.ensures.named
+
+pub returns-in-Err-clause-stopped : goal.returns-in-Err-clause-stopped
+returns-in-Err-clause-stopped g c = early_stop _ (c.args.message.now ∷ []) _ _ c.in-Err.stop c.in-Err.ensures.stopped
+
+pub returns-in-None-clause-stopped : goal.returns-in-None-clause-stopped
+returns-in-None-clause-stopped g c = c.in-Ok.ensures.whole
+
+pub returns-clause-whole : goal.returns-clause-whole
+returns-clause-whole g c = also c.decode_file.result _ _ (all_more _ (c.args.message.now ∷ []) _ _ _ c.in-Ok.ensures.whole) c.decode_file.ensures.whole
+
+pub returns-clause-stopped : goal.returns-clause-stopped
+returns-clause-stopped g c =
+    late_stops c.decode_file.result _ c.args.message.now _ _ _ c.in-Ok.ensures.whole c.decode_file.ensures.stopped
+
+pub returns-in-Err-clause-refused : goal.returns-in-Err-clause-refused
+returns-in-Err-clause-refused g c =
+    let now : Bor (List ℕ) → List ℕ = λ name. name.now in
+    let words = decode_words c.args.interface.now c.args.side c.args.handles c.args.message.now (map now c.args.names.now) in
+    decode_early words _ _ c.in-Err.stop c.in-Err.ensures.refused
+
+pub returns-in-None-clause-refused : goal.returns-in-None-clause-refused
+returns-in-None-clause-refused g c =
+    let now : Bor (List ℕ) → List ℕ = λ name. name.now in
+    let words = decode_words c.args.interface.now c.args.side c.args.handles c.args.message.now (map now c.args.names.now) in
+    decode_lacks words _ _ c.in-Ok.schema (refusals.UnknownName c.args.interface) c.in-Ok.ensures.from (sym c.find_interface.ensures ∙ c.in-None.is) refl
+
+pub returns-clause-refused : goal.returns-clause-refused
+returns-clause-refused g c =
+    let now : Bor (List ℕ) → List ℕ = λ name. name.now in
+    let words = decode_words c.args.interface.now c.args.side c.args.handles c.args.message.now (map now c.args.names.now) in
+    decode_from c.decode_file.result words _ _ _ c.in-Ok.schema
+    c.in-Some.number c.in-Ok.ensures.from (sym c.find_interface.ensures ∙ c.in-Some.is) (rw c.side_of.ensures at c.decode_file.ensures.refused)

@@ -1,6 +1,9 @@
 use Rattle.mojo_tool.specs.Work.{Showing}
 use Rattle.mojo_tool.proofs.Asking.{stopped, ok_goes, err_goes}
 use Rattle.mojo_tool.proofs.Messages.{text_at, stops_at, bytes_lead, of_none}
+use Rattle.mojo_tool.proofs.Late.{showing_late}
+use Rattle.mojo_tool.proofs.Made.{one_late, asked_late, whatever}
+use Rattle.mojo_tool.proofs.From.{fetch_from, file_from}
 use Rattle.mojo_tool.proofs.decode.decode_file.Goals as goal
 
 pub returns-in-Err-clause-stop : goal.returns-in-Err-clause-stop
@@ -10,9 +13,9 @@ returns-in-Err-clause-stop g c =
 pub returns-in-Ok-clause-text : goal.returns-in-Ok-clause-text
 returns-in-Ok-clause-text g c =
     ok_goes _ _ _
-    (λ text is. text_at _ _ _ text
+    (λ text is. text_at _ _ _ c.args.message.now c.in-Ok.bytes.items (Showing c.args.schema.now c.args.expected c.args.name.now c.args.handles) _ text
     (bytes_lead _ c.args.message.now c.in-Ok.bytes.items (Showing c.args.schema.now c.args.expected c.args.name.now c.args.handles)
-    c.in-Ok.ensures.bytes c.in-Ok.ensures.short)
+    c.in-Ok.ensures.bytes c.in-Ok.ensures.short) c.in-Ok.ensures.came
     (rw c.as_slice.ensures.value at is)) c.decode_bytes.ensures.text
 
 pub returns-in-Ok-clause-stop : goal.returns-in-Ok-clause-stop
@@ -25,3 +28,28 @@ returns-in-Ok-clause-stop g c =
 
 pub returns-in-Ok-clause-named : goal.returns-in-Ok-clause-named
 returns-in-Ok-clause-named g c = err_goes _ _ _ (λ why none. of_none _ why none) c.decode_bytes.ensures.named
+
+pub returns-in-Err-clause-stopped : goal.returns-in-Err-clause-stopped
+returns-in-Err-clause-stopped g c = one_late c.args.message.now c.in-Err.stop _ _ c.in-Err.ensures.ended
+
+pub returns-in-Ok-clause-whole : goal.returns-in-Ok-clause-whole
+returns-in-Ok-clause-whole g c = whatever c.decode_bytes.result _ c.in-Ok.ensures.whole
+
+pub returns-in-Ok-clause-stopped : goal.returns-in-Ok-clause-stopped
+returns-in-Ok-clause-stopped g c =
+    err_goes _ _ _
+    (λ why stops. asked_late _ c.args.message.now why _ _
+    (showing_late c.args.schema.now c.args.expected c.args.name.now c.args.handles c.in-Ok.bytes.items)
+    (rw c.as_slice.ensures.value at stops) c.in-Ok.ensures.whole)
+    c.decode_bytes.ensures.stop
+
+pub returns-in-Err-clause-refused : goal.returns-in-Err-clause-refused
+returns-in-Err-clause-refused g c =
+    fetch_from c.args.message.now (Showing c.args.schema.now c.args.expected c.args.name.now c.args.handles) _ _ c.in-Err.stop _ _ c.in-Err.ensures.ended
+
+pub returns-in-Ok-clause-refused : goal.returns-in-Ok-clause-refused
+returns-in-Ok-clause-refused g c =
+    err_goes _ _ _
+    (λ why stops. file_from c.args.message.now c.in-Ok.bytes.items (Showing c.args.schema.now c.args.expected c.args.name.now c.args.handles)
+    _ _ why c.in-Ok.ensures.came
+    (rw c.as_slice.ensures.value at stops)) c.decode_bytes.ensures.stop

@@ -1,5 +1,5 @@
 use Rattle.std.proofs.Common.{◌≡◌}
-use Rattle.mojo_tool.specs.Targets.{last_dot}
+use Rattle.call_script.specs.Targets.{last_dot}
 use Rattle.mojo_tool.proofs.lookup.last_dot.Given as goal
 
 -- the last one so far

@@ -1,4 +1,4 @@
-use Rattle.mojo_tool.proofs.Dots.{dot_place}
+use Rattle.call_script.proofs.Dots.{dot_place}
 use Rattle.mojo_tool.proofs.lookup.split_word.Goals as goal
 
 pub slice_bounds-result-end : goal.slice_bounds-result-end

@@ -1,4 +1,4 @@
-use Rattle.std.proofs.Common.{◌≡◌, ◌-◌, ◌<◌, ◌≤◌, ℕ, length, get_or}
+use Rattle.std.proofs.Common.{◌-◌, ◌<◌, ◌≤◌, ℕ, length, get_or}
 use Rattle.module_resolver.proofs.fronts.Fronts.first_within.Given as goal
 
 abbrev pub invariant-loop-low : goal.invariant-loop-low

@@ -1,0 +1,6 @@
+//! Each kind of file and of sink once. They stand apart, since a crate with tests is proved once more
+//! with them.
+#![tactic(auto)]
+
+#[cfg(test)]
+mod file_tests;

@@ -1,0 +1,214 @@
+-- There is a work that a command asks for.
+use Rattle.std.proofs.Common.{◌≡◌, ◌≤◌, ◌<◌, ℕ, List, [], ◌∷◌, ◌++◌, length, Some, None, Ok, Err, refl, sym, subst, append_assoc, append-nil, inl, inr}
+use Rattle.std.specs.Prelude.{Option, Result, ◌⊎◌}
+use Rattle.std.proofs.lemmas.Bool.{cases_lt}
+use Rattle.hex.specs.Hex.{decode_of}
+use Rattle.hex.specs.declared.error.FromHexError.{FromHexError}
+use Rattle.mj_base.specs.declared.limits.TheConstants.{MAX_FILE_BYTES}
+use Rattle.mj_base.specs.declared.fault.Fault.{Fault}
+use Rattle.mj_io.specs.Outside.{Named, find_file}
+use Rattle.mj_schema.specs.Lookups.{interface_named}
+use Rattle.mj_schema.specs.declared.rows.MethodRow.{MethodRow}
+use Rattle.mj_schema.specs.declared.schema.Schema.{Schema}
+use Rattle.command_line.specs.Asked.{Command, Run, Print, Check, Encode, Decode}
+use Rattle.mojom_ast.specs.declared.file.File.{File}
+use Rattle.mojom_compile.specs.Compiled.{IsParsed, IsUnread}
+use Rattle.mojom_compile.specs.declared.error.FileRefusal.{FileRefusal}
+use Rattle.mojom_compile.specs.Schemas.{IsSchemaOfFiles, IsRefusalOf, HasTooManyRows}
+use Rattle.mojom_compile.specs.declared.schema_error.SchemaError.{SchemaError}
+use Rattle.mojom_compile.specs.declared.source.Source.{Source}
+use Rattle.mojom_compile.proofs.Readings.{one_tree}
+use Rattle.mojom_compile.proofs.OneSchemaOfFiles.{one_schema}
+use Rattle.bounds_claims.specs.declared.claims.Claims.{Claims}
+use Rattle.bounds_claims.specs.Runs.{run}
+use Rattle.message_validator.specs.Before.{before_payload}
+use Rattle.message_validator.proofs.WholeMessage.{stand}
+use Rattle.wire_encoder.specs.FirstFailed.{Met, Refusal}
+use Rattle.wire_encoder.specs.Prepared.{verdict, payload_for}
+use Rattle.wire_encoder.specs.declared.refusal.PrepareError.TheVariants as unfit
+use Rattle.wire_model.specs.HeaderMarks.{header_marks}
+use Rattle.wire_model.specs.Expected.{Stands, message_marks, method_marks, method_named, parameter_marks, struct_of}
+use Rattle.wire_model.specs.Marks.{Mark, Test, Object, Handle, Id}
+use Rattle.wire_model.specs.Message.{message, payload_start, request_read}
+use Rattle.wire_model.specs.Stands.{IsFine}
+use Rattle.wire_model.specs.Tight.{MAX_PAYLOAD_BYTES, value_of}
+use Rattle.wire_model.specs.Trees.{Tree}
+use Rattle.wire_model.specs.declared.target.Expected.{Expected}
+use Rattle.wire_model.specs.declared.target.Target.{Target}
+use Rattle.byte_rules.specs.Lang.{Lang}
+use Rattle.byte_rules.specs.steps.Reading.{Judges}
+use Rattle.byte_rules.specs.steps.Reading as reading
+use Rattle.byte_rules.proofs.Judging.{judged}
+use Rattle.value_text.proofs.KindLaws.{good_kind}
+use Rattle.value_text.specs.Rules.{value}
+use Rattle.value_text.specs.Spelling.{spell}
+use Rattle.call_script.specs.Targets.{message_named}
+use Rattle.mojo_tool.specs.Targets.{side_of, expected_of}
+use Rattle.mojo_tool.specs.Work.{Work, WrongWords, Missing, TooLong, Refuses, UnknownName, BadText, Unfit, BadHex, Faulty, Checks, Prints, Encodes, Decodes}
+use Rattle.mojo_tool.specs.Work.{AreFetched, HaveSchema, Leads, Parsing, Tabling, FetchingAll, Gathering, Scripting, Listing, Sealing}
+use Rattle.mojo_tool.specs.Work.{Preparing, Writing}
+use Rattle.mojo_tool.specs.Work.{Finding, Encoding, Unhexing, IsShown, Judged, Judging, Showing, Decoding, IsWork, unchecked, flaw_at, head_of}
+use Rattle.mojo_tool.specs.Work.{MAX_BRACKETS, parameters_kind, without_line_end}
+use Rattle.mojo_tool.specs.Complete.{HaveTooManyRows, ComesToScript}
+
+-- a work is asked for, or this holds
+abbrev Some_or : Type 0 → (Work → Type 0) → Type 0
+Some_or Else ask = ((work : Work) × ask work) ⊎ Else
+
+also : (Else : Type 0) (P Q : Work → Type 0) → ((w : Work) → P w → Q w) → Some_or Else P → Some_or Else Q
+also Else P Q goes (inl some) = inl (some.0, goes some.0 some.1)
+also Else P Q goes (inr other) = inr other
+
+-- a fetch leads on where what is behind it does
+leads_some : (Else : Type 0) (name : List ℕ) (next : List ℕ → Work → Type 0) (found : Option (List ℕ))
+    → ((bytes : List ℕ) → found ≡ Some bytes → length bytes ≤ MAX_FILE_BYTES → Some_or Else (next bytes)) → Some_or Else (Leads name next found)
+leads_some Else name next None more = inl (Missing name, refl)
+leads_some Else name next (Some bytes) more = go (cases_lt MAX_FILE_BYTES (length bytes))
+  where
+    go : (MAX_FILE_BYTES < length bytes) ⊎ (length bytes ≤ MAX_FILE_BYTES) → Some_or Else (Leads name next (Some bytes))
+    go (inl long) = inl (TooLong name, inl (long, refl))
+    go (inr short) = also Else (next bytes) (Leads name next (Some bytes)) (λ w is. inr (short, is)) (more bytes refl short)
+
+all_some : (Else : Type 0) (files : List Named) (names : List (List ℕ)) (fetched : List Source) (next : List Source → Work → Type 0)
+    → ((sources : List Source) → AreFetched files names sources → Some_or Else (next (fetched ++ sources)))
+    → Some_or Else (FetchingAll files names fetched next)
+all_some Else files [] fetched next more = subst (λ (ss : List Source). Some_or Else (next ss)) (append-nil fetched) (more [] tt)
+all_some Else files (name ∷ names) fetched next more =
+    leads_some Else name (λ (bytes : List ℕ) w. FetchingAll files names (fetched ++ record { name = name; bytes = bytes } ∷ []) next w) (find_file files name)
+    (λ bytes found short. all_some Else files names (fetched ++ record { name = name; bytes = bytes } ∷ []) next
+    (λ sources are. subst (λ (ss : List Source). Some_or Else (next ss))
+    (sym (append_assoc fetched (record { name = name; bytes = bytes } ∷ []) sources))
+    (more (record { name = name; bytes = bytes } ∷ sources) (refl, found, short, are))))
+
+-- the Mojom files of these names have more rows than a schema can have
+abbrev Many : List Named → List (List ℕ) → Type 0
+Many files names = (sources : List Source) × AreFetched files names sources × HasTooManyRows sources
+
+gathering_some : (Else : Type 0) (files : List Named) (names : List (List ℕ)) (next : Schema → Work → Type 0) → (Many files names → Else)
+    → ((schema : Schema) → HaveSchema files names schema → Some_or Else (next schema)) → Some_or Else (Gathering files names next)
+gathering_some Else files names next too_many more =
+    all_some Else files names [] (λ sources w. Tabling next sources w) (λ sources are. tabled sources are (one_schema sources).some)
+  where
+    tabled : (sources : List Source) → AreFetched files names sources
+        → ((schema : Schema) × IsSchemaOfFiles sources schema) ⊎ (((error : SchemaError) × IsRefusalOf sources error) ⊎ HasTooManyRows sources)
+        → Some_or Else (λ w. Tabling next sources w)
+    tabled sources are (inl some) =
+        also Else (next some.0) (λ w. Tabling next sources w) (λ w is. inl (some.0, some.1, is))
+        (more some.0 (record { sources = sources; are = are; schema_of = some.1 }))
+    tabled sources are (inr (inl refused)) = inl (unchecked sources refused.0, inr (refused.0, refused.1, refl))
+    tabled sources are (inr (inr many)) = inr (too_many (sources, are, many))
+
+parsing_some : (Else : Type 0) (name bytes : List ℕ) → Some_or Else (Parsing name bytes)
+parsing_some Else name bytes = go (one_tree bytes).some
+  where
+    go : ((tree : File) × IsParsed bytes tree) ⊎ ((refusal : FileRefusal) × IsUnread bytes refusal) → Some_or Else (Parsing name bytes)
+    go (inl some) = inl (Prints some.0, inl (some.0, some.1, refl))
+    go (inr some) = inl (Refuses name some.0, inr (some.0, some.1, refl))
+
+finding_some : {A : Type 0} (Else : Type 0) (word : List ℕ) (next : A → Work → Type 0) (found : Option A) → ((x : A) → Some_or Else (next x))
+    → Some_or Else (Finding word next found)
+finding_some Else word next None more = inl (UnknownName word, refl)
+finding_some Else word next (Some x) more = more x
+
+-- values
+
+sealing_some : (Else : Type 0) (schema : Schema) (target : Target) (tree : Tree) (r : Result Met Refusal) → Some_or Else (Sealing schema target tree r)
+sealing_some Else schema target tree (Err wrong) = inl (Unfit (flaw_at wrong.flaw wrong.path), refl)
+sealing_some Else schema target tree (Ok met) = go (cases_lt MAX_PAYLOAD_BYTES (length (payload_for schema target tree)))
+  where
+    go : (MAX_PAYLOAD_BYTES < length (payload_for schema target tree)) ⊎ (length (payload_for schema target tree) ≤ MAX_PAYLOAD_BYTES)
+        → Some_or Else (Sealing schema target tree (Ok met))
+    go (inl long) = inl (Unfit unfit.TooLong, inl (long, refl))
+    go (inr short) = inl (Encodes (message (head_of schema target met) (payload_for schema target tree)), inr (short, refl))
+
+writing_some : (Else : Type 0) (schema : Schema) (found : Target × ℕ) (bytes : List ℕ) → Some_or Else (Writing schema found bytes)
+writing_some Else schema (target, number) bytes =
+    go (reading.verdict (length text) (rule.read text)) (judged rule (good_kind schema MAX_BRACKETS (parameters_kind number)) text)
+  where
+    text : List ℕ
+    text = without_line_end bytes
+
+    rule : Lang Tree
+    rule = value schema MAX_BRACKETS (parameters_kind number)
+
+    go : (r : Result Tree ℕ) → Judges rule text r → Some_or Else (Writing schema (target, number) bytes)
+    go (Ok tree) is =
+        also Else (Preparing schema target tree) (Writing schema (target, number) bytes) (λ w asked. inl (tree, is, asked))
+        (sealing_some Else schema target tree (verdict schema target tree))
+    go (Err at) is = inl (BadText at, inr (at, is, refl))
+
+-- messages
+
+-- a message that stands has a method with parameters
+shown_some : (Else : Type 0) (schema : Schema) (expected : Expected) (name bytes : List ℕ) → IsFine (message_marks schema expected bytes)
+    → Some_or Else (IsShown schema expected name bytes)
+unfolding message_marks
+shown_some Else schema expected name bytes fine =
+    named (method_named schema expected bytes) refl
+    (right (header_marks bytes) (method_marks schema expected.side bytes (method_named schema expected bytes)) fine)
+  where
+    right : (xs ys : List Mark) → IsFine (xs ++ ys) → IsFine ys
+    right [] ys f = f
+    right (Test holds kind at ∷ xs) ys f = right xs ys f.1
+    right (Object start size extra ok header ∷ xs) ys f = right xs ys f.1.1
+    right (Handle index at ∷ xs) ys f = right xs ys f
+    right (Id index at ∷ xs) ys f = right xs ys f
+
+    taken : (method : MethodRow) (number : Option ℕ) → method_named schema expected bytes ≡ Some method → struct_of expected.side method ≡ number
+        → IsFine (parameter_marks schema expected.side bytes method number) → Some_or Else (IsShown schema expected name bytes)
+    taken method None is of f = absurd (let e = f.0 in cc)
+    taken method (Some number) is of f = inl (
+      Decodes name method.name (request_read bytes) (spell schema (parameters_kind number) (value_of schema bytes (payload_start bytes) number)),
+      record { method = method; number = number; named = is; parameters = of; whole = refl },
+    )
+
+    named : (method : Option MethodRow) → method_named schema expected bytes ≡ method → IsFine (method_marks schema expected.side bytes method)
+        → Some_or Else (IsShown schema expected name bytes)
+    named None is f = absurd (let e = f.0 in cc)
+    named (Some method) is f = taken method (struct_of expected.side method) is refl f
+
+judging_some : (Else : Type 0) (schema : Schema) (expected : Expected) (name : List ℕ) (handles : ℕ) (bytes : List ℕ)
+    → Some_or Else (Judging schema expected name handles bytes)
+judging_some Else schema expected name handles bytes = go (run (before_payload bytes handles) (message_marks schema expected bytes)) refl
+  where
+    go : (r : Result Claims Fault) → run (before_payload bytes handles) (message_marks schema expected bytes) ≡ r
+        → Some_or Else (Judged schema expected name handles bytes (elim r [ Ok after ↦ None | Err fault ↦ Some fault ]))
+    go (Ok after) ran =
+        let stands : Stands schema expected bytes handles = stand schema expected bytes handles after ran in
+        also Else (IsShown schema expected name bytes) (Judged schema expected name handles bytes None) (λ w is. (stands, is))
+        (shown_some Else schema expected name bytes stands.settled.fine)
+    go (Err fault) ran = inl (Faulty fault, refl)
+
+showing_some : (Else : Type 0) (schema : Schema) (expected : Expected) (name : List ℕ) (handles : ℕ) (bytes : List ℕ)
+    → Some_or Else (Showing schema expected name handles bytes)
+showing_some Else schema expected name handles bytes = go (decode_of (without_line_end bytes))
+  where
+    go : (r : Result (List ℕ) FromHexError) → Some_or Else (λ w. Unhexing (Judging schema expected name handles) r w)
+    go (Ok digits) = judging_some Else schema expected name handles digits
+    go (Err error) = inl (BadHex, refl)
+
+-- all commands
+
+pub some_work : (command : Option Command) (files : List Named)
+    → Some_or (HaveTooManyRows files command ⊎ ComesToScript files command) (IsWork command files)
+some_work None files = inl (WrongWords, refl)
+some_work (Some (Run words)) files =
+    gathering_some (Many files words.files ⊎ ComesToScript files (Some (Run words))) files words.files (Scripting files words.script words.order) inl
+    (λ schema have. leads_some _ words.script _ (find_file files words.script) (λ bytes found short. inr (inr (schema, have, bytes, found, short))))
+some_work (Some (Print file)) files = leads_some _ file (Parsing file) (find_file files file) (λ bytes found short. parsing_some _ file bytes)
+some_work (Some (Check names)) files =
+    gathering_some (Many files names ⊎ ⊥) files names Listing inl (λ schema have. inl (Checks schema, refl))
+some_work (Some (Encode words)) files =
+    gathering_some (Many files words.files ⊎ ⊥) files words.files (Encoding files words) inl
+    (λ schema have. finding_some _ words.method (λ found w. Leads words.value (Writing schema found) (find_file files words.value) w)
+    (message_named schema (side_of words.side) words.method)
+    (λ found. leads_some _ words.value (Writing schema found) (find_file files words.value) (λ bytes at short. writing_some _ schema found bytes)))
+some_work (Some (Decode words)) files =
+    gathering_some (Many files words.files ⊎ ⊥) files words.files (Decoding files words) inl
+    (λ schema have. finding_some _ words.interface
+    (λ interface w. Leads words.message (Showing schema (expected_of interface (side_of words.side)) words.interface words.handles)
+    (find_file files words.message) w)
+    (interface_named schema.interfaces words.interface)
+    (λ interface. leads_some _ words.message (Showing schema (expected_of interface (side_of words.side)) words.interface words.handles)
+    (find_file files words.message)
+    (λ bytes at short. showing_some _ schema (expected_of interface (side_of words.side)) words.interface words.handles bytes)))

@@ -1,0 +1,6 @@
+use Rattle.command_line.specs.Asked.{command_of}
+use Rattle.mojo_tool.proofs.SomeWork.{some_work}
+use Rattle.mojo_tool.proofs.top.some_work.Goals as goal
+
+pub returns : goal.returns
+returns c = λ words files. some_work (command_of words) files
