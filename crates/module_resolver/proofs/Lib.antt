@@ -7,3 +7,5 @@ pub mod MarkedLengths
 pub mod SeenNames
 pub mod LesserLengths
 pub mod Falls
+pub mod Held
+pub mod Enums

@@ -97,12 +97,14 @@ one_more None make None number false false = refl
 pub number_noted : (old mid new : List ℕ → Option (List Target)) (make : ℕ → Target) (file : ℕ) (names : List (List ℕ)) (number : ℕ) (d : List ℕ)
     → file_of (make number) ≡ file → number < length names
     → Notes old mid (λ (p : ℕ → Bool) (q : List ℕ). where_seen p file (option_map make (number_of q (take number names))))
-    → Notes mid new (λ (p : ℕ → Bool) (q : List ℕ). if bytes_eq q (get_or names number d) then where_seen p (file_of (make number)) (Some (make number)) else None)
+    → Notes mid new
+    (λ (p : ℕ → Bool) (q : List ℕ). if bytes_eq q (get_or names number d) then where_seen p (file_of (make number)) (Some (make number)) else None)
     → Notes old new (λ (p : ℕ → Bool) (q : List ℕ). where_seen p file (option_map make (number_of q (take (number + 1) names))))
 number_noted old mid new make file names number d at lt before here = λ p q.
     let more = number_more q names number d lt in
+    let one = if bytes_eq q (get_or names number d) then where_seen p (file_of (make number)) (Some (make number)) else None in
     here p q
-    ∙ (ap (λ (o : Option Target). option_or o (if bytes_eq q (get_or names number d) then where_seen p (file_of (make number)) (Some (make number)) else None)) (before p q)
+    ∙ (ap (λ (o : Option Target). option_or o one) (before p q)
     ∙ (ap
     (λ (f : ℕ).
     option_or (option_or (owner old p q) (where_seen p file (option_map make (number_of q (take number names)))))

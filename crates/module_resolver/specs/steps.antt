@@ -4,3 +4,5 @@ pub mod Cuts
 pub mod Owners
 pub mod Seen
 pub mod Lengths
+pub mod Held
+pub mod Enums

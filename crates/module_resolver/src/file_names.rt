@@ -1,5 +1,6 @@
 //! The names of files.
 
+use crate::enumerator_names::EnumeratorNames;
 use crate::fronts::Fronts;
 use crate::indexed_files::IndexedFiles;
 use crate::seen::Seen;
@@ -15,7 +16,7 @@ pub struct FileNames {
     /// What each definition is.
     pub sorts: Items<DefinitionSort>,
     /// The full names of its enumerators, by their numbers.
-    pub enumerators: Items<Text>,
+    pub enumerators: EnumeratorNames,
     /// The numbers of the file itself and of those that it imports, in resolved order.
     pub seen: Seen,
     /// The module's name and each shorter front of it, the longest first.

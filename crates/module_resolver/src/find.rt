@@ -1,51 +1,66 @@
 //! The look-up of a name.
 
-ghost use Rattle.std.specs.Prelude.{◌≡◌, ◌<◌, ◌≤◌, ◌+◌, ◌^◌, ℕ, [], length, get_or, IfOk, IfSome};
+ghost use Rattle.std.specs.Prelude.{◌≡◌, ◌<◌, ◌≤◌, ◌+◌, ◌^◌, ℕ, [], length, get_or, Some, IfSome};
 ghost use Rattle.std.specs.Option.{unwrap_or};
 ghost use Rattle.mojom_files.specs.Names.{within};
 ghost use Rattle.mojom_files.specs.Refusals.{first_of};
-ghost use Rattle.indexmap.specs.IndexMap.{get_by_text};
 ghost use Rattle.import_order.specs.Imports.{has};
 ghost use Rattle.module_resolver.specs.LookUp.{candidates};
 ghost use Rattle.module_resolver.specs.steps.Owners.{owner, HaveLengths};
+ghost use Rattle.module_resolver.specs.steps.Held.{node_of, held, AreNodes};
 ghost use Rattle.module_resolver.specs.steps.Lengths.{IsBetween};
 
 use crate::file_names::{FileNames, Names};
 use crate::fronts::Fronts;
 use crate::lengths::{has_length, limit_of};
-use crate::owners::Owners;
-use crate::seen::Seen;
+use crate::name_index::NameIndex;
+use crate::prefixes::behind_dot;
 use crate::target::{DefinitionSort, Target};
-use indexmap::IndexMap;
 use mj_base::Text;
-use mojom_files::within;
 use std::alloc::{AllocError, Global};
 
-/// What has this full name in the files that are seen: a definition, or else an enumerator.
-fn meant_by(index: &IndexMap<String, Owners>, seen: &Seen, full: &str) -> Option<Target>
-    ensures { result ≡ owner (get_by_text index.now) (has seen.now) full.now }
+/// The node of a full name, looked for from the node of another on where the name begins with that one.
+fn node_from(index: &NameIndex, around: &str, node: u32, name: &str) -> Option<u32>
+    requires { node_of index.now 0 around.now ≡ Some node }
+    ensures { result ≡ node_of index.now 0 name.now }
 {
-    index.get(full)?.first_seen(seen)
+    match behind_dot(around, name) {
+        Some(rest) => index.below(node, rest),
+        None => index.below(0, name),
+    }
 }
 
-/// What has the full name of this in that in the files that are seen. The full name is made only
-/// where anything may have one of its length.
+/// The node of a full name, in a file where these are the nodes of the fronts of its module: the name of
+/// the module is not walked through again.
+fn node_in(index: &NameIndex, fronts: &Fronts, nodes: &[u32], name: &str) -> Option<u32>
+    requires { AreNodes index.now fronts.now nodes.now }
+    ensures { result ≡ node_of index.now 0 name.now }
+{
+    if fronts.len() == 0 {
+        return index.below(0, name);
+    }
+    node_from(index, fronts.at(0), nodes[0], name)
+}
+
+/// What has the full name of this in that in the files that are seen. It is looked for only where anything
+/// may have a name of its length.
 fn meant_within(
-    alloc: Global,
-    index: &IndexMap<String, Owners>,
+    index: &NameIndex,
     lengths: &[usize],
-    seen: &Seen,
+    nodes: &[u32],
+    here: &FileNames,
     outer: &str,
     name: &str,
-) -> Result<Option<Target>, AllocError>
-    requires { HaveLengths lengths.now (get_by_text index.now) }
-    ensures { IfOk result (λ target. target ≡ owner (get_by_text index.now) (has seen.now) (within outer.now name.now)) }
+) -> Option<Target>
+    requires lengths { HaveLengths lengths.now (held index.now) }
+    requires nodes { AreNodes index.now here.now.fronts nodes.now }
+    ensures { result ≡ owner (held index.now) (has here.now.seen) (within outer.now name.now) }
 {
     if !has_length(lengths, outer, name) {
-        return Ok(None);
+        return None;
     }
-    let full = within(alloc, outer, name)?;
-    Ok(meant_by(index, seen, full.as_str()))
+    let node = node_in(index, &here.fronts, nodes, outer)?;
+    index.meant(&here.seen, node, name)
 }
 
 /// The number of the first front, from this number on, in which a name may have a length of a full
@@ -67,35 +82,35 @@ fn next_front(lengths: &[usize], fronts: &Fronts, number: usize, name: &str) -> 
     }
 }
 
-/// What a name means in a file.
+/// What a name means in a file, where these are the nodes of the fronts of its module.
 pub(crate) fn look_up_from(
-    alloc: Global,
-    index: &IndexMap<String, Owners>,
+    index: &NameIndex,
     lengths: &[usize],
+    nodes: &[u32],
     here: &FileNames,
     enclosing: &Option<Text>,
     name: &str,
-) -> Result<Option<Target>, AllocError>
-    requires { HaveLengths lengths.now (get_by_text index.now) }
-    ensures { IfOk result (λ target. target
-        ≡ first_of (owner (get_by_text index.now) (has here.now.seen)) (candidates enclosing.now here.now.fronts name.now)) }
+) -> Option<Target>
+    requires lengths { HaveLengths lengths.now (held index.now) }
+    requires nodes { AreNodes index.now here.now.fronts nodes.now }
+    ensures { result ≡ first_of (owner (held index.now) (has here.now.seen)) (candidates enclosing.now here.now.fronts name.now) }
 {
     let seen = &here.seen;
     if let Some(outer) = enclosing {
-        let found = meant_within(alloc, index, lengths, seen, outer.as_str(), name)?;
+        let found = meant_within(index, lengths, nodes, here, outer.as_str(), name);
         if found.is_some() {
-            return Ok(found);
+            return found;
         }
     }
     let mut number = 0;
     while let Some(next) = next_front(lengths, &here.fronts, number, name) {
-        let found = meant_within(alloc, index, lengths, seen, here.fronts.at(next), name)?;
+        let found = index.meant(seen, nodes[next], name);
         if found.is_some() {
-            return Ok(found);
+            return found;
         }
         number = next + 1;
     }
-    Ok(meant_by(index, seen, name))
+    index.meant(seen, 0, name)
 }
 
 impl Names {
@@ -106,14 +121,14 @@ impl Names {
     /// exactly where nothing that the file sees has one of the full names for which it may stand.
     pub fn look_up(
         &self,
-        alloc: Global,
+        _alloc: Global,
         file: u32,
         enclosing: &Option<Text>,
         name: &str,
     ) -> Result<Option<Target>, AllocError>
         ensures { IfOk result (λ target. target ≡ look_up self.now.files file enclosing.now name.now) }
     {
-        self.files.look_up(alloc, file, enclosing, name)
+        Ok(self.files.look_up(file, enclosing, name))
     }
 
     /// What the definition is that a name means; none exactly where it means no definition.

@@ -14,12 +14,12 @@ pub struct Fronts {
     ends: Vec<usize>,
 }
 
-/// These numbers, the last first.
-fn reversed(mut ends: Vec<usize>) -> Vec<usize>
-    ensures { result.items ≡ reverse ends.items }
+/// These, the last first.
+pub(crate) fn reversed<T>(mut items: Vec<T>) -> Vec<T>
+    ensures { result.items ≡ reverse items.items }
 {
-    ends.as_mut_slice().reverse();
-    ends
+    items.as_mut_slice().reverse();
+    items
 }
 
 impl Model for Fronts {
@@ -66,6 +66,12 @@ impl Fronts {
             whole,
             ends: reversed(ends),
         })
+    }
+
+    /// The whole name; an empty text where there are no fronts. Look-ups are faster by it, and what they
+    /// answer doesn't depend on it.
+    pub(crate) fn whole(&self) -> &str {
+        self.whole.as_str()
     }
 
     /// How many fronts there are.

@@ -6,8 +6,10 @@ ghost use Rattle.mojom_files.specs.Names.{within};
 ghost use Rattle.mojom_files.specs.Definitions.{enumerator_names};
 ghost use Rattle.mojom_files.specs.Views.{item_view};
 ghost use Rattle.module_resolver.specs.NamesOf.{sort_of_item, module_fronts, sees, sees_number, names_in, names_of};
+ghost use Rattle.module_resolver.specs.steps.Enums.{names_in_enum};
 ghost use Rattle.module_resolver.specs.steps.Seen.{ArePaths};
 
+use crate::enumerator_names::{EnumNames, EnumeratorNames};
 use crate::file_names::{FileNames, Names};
 use crate::fronts::Fronts;
 use crate::indexed_files::IndexedFiles;
@@ -16,7 +18,7 @@ use crate::target::DefinitionSort;
 use indexmap::IndexSet;
 use mj_base::{Items, Text};
 use mojom_ast::{Enumerator, Import, ModuleStatement};
-use mojom_files::{DefinitionView, ItemView, NamedFile, definitions, within};
+use mojom_files::{DefinitionView, ItemView, NamedFile, definitions};
 use std::alloc::{AllocError, Global};
 
 /// The full names of definitions.
@@ -54,33 +56,43 @@ fn sorts(alloc: Global, views: &[DefinitionView<'_>]) -> Result<Items<Definition
     Ok(Items::from_vec(sorts))
 }
 
-/// Adds the full names of the enumerators of an enum.
-fn add_enumerators(
+/// The own names of enumerators.
+fn own_names(alloc: Global, enumerators: &[Enumerator]) -> Result<Items<Text>, AllocError>
+    ensures { IfOk result (λ names. names ≡ map (λ e. e.name.text) enumerators.now) }
+{
+    let mut names = Vec::new(alloc);
+    for enumerator in enumerators {
+        names.push(Text::from_str(alloc, enumerator.name.text.as_str())?)?;
+    }
+    Ok(Items::from_vec(names))
+}
+
+/// Adds the enumerators of an enum of this full name.
+fn add_enum(
     alloc: Global,
-    names: &mut Vec<Text>,
+    enums: &mut Vec<EnumNames>,
     outer: &str,
     enumerators: &[Enumerator],
 ) -> Result<(), AllocError>
-    ensures { OnOk result (names.new.items ≡ names.old.items ++ map (λ e. within outer.now e.name.text) enumerators.now) }
+    ensures { OnOk result (flat_map names_in_enum enums.new.items
+        ≡ flat_map names_in_enum enums.old.items ++ map (λ e. within outer.now e.name.text) enumerators.now) }
 {
-    for enumerator in enumerators {
-        names.push(within(alloc, outer, enumerator.name.text.as_str())?)?;
-    }
+    let names = own_names(alloc, enumerators)?;
+    let outer = Text::from_str(alloc, outer)?;
+    enums.push(EnumNames { outer, names })?;
     Ok(())
 }
 
-/// Adds the full names of the enumerators of a definition.
+/// Adds the enumerators of a definition.
 fn add_of_definition(
     alloc: Global,
-    names: &mut Vec<Text>,
+    enums: &mut Vec<EnumNames>,
     view: &DefinitionView<'_>,
 ) -> Result<(), AllocError>
-    ensures { OnOk result (names.new.items ≡ names.old.items ++ enumerator_names view.now) }
+    ensures { OnOk result (flat_map names_in_enum enums.new.items ≡ flat_map names_in_enum enums.old.items ++ enumerator_names view.now) }
 {
     match view.item() {
-        ItemView::Enum(item) => {
-            add_enumerators(alloc, names, view.full(), item.enumerators.as_slice())
-        }
+        ItemView::Enum(item) => add_enum(alloc, enums, view.full(), item.enumerators.as_slice()),
         ItemView::Struct(_) | ItemView::Union(_) | ItemView::Interface(_) | ItemView::Const(_) => {
             Ok(())
         }
@@ -88,14 +100,17 @@ fn add_of_definition(
 }
 
 /// The full names of the enumerators of definitions.
-fn enumerator_names(alloc: Global, views: &[DefinitionView<'_>]) -> Result<Items<Text>, AllocError>
+fn enumerator_names(
+    alloc: Global,
+    views: &[DefinitionView<'_>],
+) -> Result<EnumeratorNames, AllocError>
     ensures { IfOk result (λ names. names ≡ flat_map enumerator_names views.now) }
 {
-    let mut names = Vec::new(alloc);
+    let mut enums = Vec::new(alloc);
     for view in views {
-        add_of_definition(alloc, &mut names, view)?;
+        add_of_definition(alloc, &mut enums, view)?;
     }
-    Ok(Items::from_vec(names))
+    Ok(EnumeratorNames::from_vec(enums))
 }
 
 /// The names of the files that are imported.
@@ -187,6 +202,6 @@ pub fn names_of(alloc: Global, files: &[NamedFile], order: &[u32]) -> Result<Nam
         all.push(names_in(alloc, files, order, file)?)?;
     }
     Ok(Names {
-        files: IndexedFiles::new(alloc, Items::from_vec(all), order)?,
+        files: IndexedFiles::new(alloc, files, Items::from_vec(all), order)?,
     })
 }

@@ -3,22 +3,23 @@
 use crate::file_names::FileNames;
 use crate::find::look_up_from;
 use crate::index::index_of;
-use crate::lengths::lengths_of;
-use crate::owners::Owners;
+use crate::module_nodes::nodes_of;
+use crate::name_index::NameIndex;
 use crate::target::Target;
-use indexmap::IndexMap;
 use mj_base::{Items, Text};
+use mojom_files::NamedFile;
 use std::alloc::{AllocError, Global};
 use std::marker::Model;
 
 /// The names of all files, in the order in which these were given. Contracts see them alone; beside
-/// them is kept what has each full name in any file, so that a look-up of one takes one probe, and which
-/// lengths full names have.
+/// them is kept what has each full name in any file, which lengths full names have, and for each file the
+/// nodes of the fronts of its module.
 #[derive(Drop)]
 pub struct IndexedFiles {
     files: Items<FileNames>,
-    owners: IndexMap<String, Owners>,
+    index: NameIndex,
     lengths: Vec<usize>,
+    nodes: Items<Items<u32>>,
 }
 
 impl Model for IndexedFiles {
@@ -27,34 +28,36 @@ impl Model for IndexedFiles {
 
     ghost Value = { List FileNames };
 
-    ghost use Rattle.indexmap.specs.IndexMap.{get_by_text};
-    ghost use Rattle.module_resolver.specs.steps.Owners.{IsIndex};
+    ghost use Rattle.module_resolver.specs.steps.Held.{IsIndex};
 
     ghost view = { λ f. f.files };
 
-    ghost invariant = { λ f. IsIndex f.files (get_by_text f.owners) f.lengths.items };
+    ghost invariant = { λ f. IsIndex f.files f.index f.lengths.items f.nodes };
 }
 
 impl IndexedFiles {
-    ghost use Rattle.std.specs.Prelude.{◌≡◌, IfOk};
+    ghost use Rattle.std.specs.Prelude.{◌≡◌, IfOk, map};
     ghost use Rattle.module_resolver.specs.LookUp.{look_up};
-    ghost use Rattle.module_resolver.specs.steps.Owners.{SeeInOrder};
+    ghost use Rattle.module_resolver.specs.NamesOf.{names_in};
 
-    /// The names of these files, each of which sees files in this order.
+    /// The names of these files, where this is their resolved order.
     pub(crate) fn new(
         alloc: Global,
-        files: Items<FileNames>,
+        files: &[NamedFile],
+        names: Items<FileNames>,
         order: &[u32],
     ) -> Result<IndexedFiles, AllocError>
-        requires { SeeInOrder files order.now }
-        ensures { IfOk result (λ made. made ≡ files) }
+        requires { names ≡ map (names_in files.now order.now) files.now }
+        ensures { IfOk result (λ made. made ≡ names) }
     {
-        let owners = index_of(alloc, files.as_slice(), order)?;
-        let lengths = lengths_of(alloc, &owners)?;
+        let mut index = index_of(alloc, names.as_slice(), order)?;
+        let lengths = index.lengths(alloc)?;
+        let nodes = nodes_of(alloc, &mut index, files)?;
         Ok(IndexedFiles {
-            files,
-            owners,
+            files: names,
+            index,
             lengths,
+            nodes,
         })
     }
 
@@ -66,25 +69,19 @@ impl IndexedFiles {
     }
 
     /// What a name means in the file of this number, within the definition of this full name.
-    pub(crate) fn look_up(
-        &self,
-        alloc: Global,
-        file: u32,
-        enclosing: &Option<Text>,
-        name: &str,
-    ) -> Result<Option<Target>, AllocError>
-        ensures { IfOk result (λ target. target ≡ look_up self.now file enclosing.now name.now) }
+    pub(crate) fn look_up(&self, file: u32, enclosing: &Option<Text>, name: &str) -> Option<Target>
+        ensures { result ≡ look_up self.now file enclosing.now name.now }
     {
-        match self.files.as_slice().get(file as usize) {
-            Some(here) => look_up_from(
-                alloc,
-                &self.owners,
-                self.lengths.as_slice(),
-                here,
-                enclosing,
-                name,
-            ),
-            None => Ok(None),
-        }
+        let here = self.files.as_slice().get(file as usize)?;
+        let nodes = self.nodes.as_slice().get(file as usize)?;
+        let lengths = self.lengths.as_slice();
+        look_up_from(
+            &self.index,
+            lengths,
+            nodes.as_slice(),
+            here,
+            enclosing,
+            name,
+        )
     }
 }

@@ -1,18 +1,13 @@
 //! The lengths of full names.
 
-ghost use Rattle.std.specs.Prelude.{◌≡◌, ◌+◌, ℕ, ◌||◌, ◌==◌, Bool, false, get_or, slice_get, length, string_bytes, if◌then◌else◌, IfOk, OnOk};
-ghost use Rattle.std.specs.Option.{option_map_or};
-ghost use Rattle.indexmap.specs.IndexMap.{get_by_text};
+ghost use Rattle.std.specs.Prelude.{◌≡◌, ◌+◌, ℕ, ◌||◌, ◌==◌, Bool, false, get_or, length, if◌then◌else◌, IfOk, OnOk};
 ghost use Rattle.mojom_files.specs.Names.{within};
-ghost use Rattle.module_resolver.specs.steps.Owners.{HaveMarks, HaveLengths};
 ghost use Rattle.module_resolver.specs.steps.Lengths.{IsLesser, IsBetween, reached, limit_of};
 
-use crate::owners::Owners;
-use indexmap::IndexMap;
 use std::alloc::{AllocError, Global};
 
 /// Marks a length.
-fn mark(lengths: &mut Vec<bool>, len: usize) -> Result<(), AllocError>
+pub(crate) fn mark(lengths: &mut Vec<bool>, len: usize) -> Result<(), AllocError>
     ensures { OnOk result ((k : ℕ) → get_or lengths.new.items k false ≡ (get_or lengths.old.items k false || (k == len))) }
 {
     while lengths.len() <= len {
@@ -20,27 +15,6 @@ fn mark(lengths: &mut Vec<bool>, len: usize) -> Result<(), AllocError>
     }
     lengths[len] = true;
     Ok(())
-}
-
-/// How many bytes the name at a place has; 0 where there is none.
-fn len_at(owners: &IndexMap<String, Owners>, number: usize) -> usize
-    ensures { result ≡ option_map_or (λ entry. length (string_bytes entry.0)) (slice_get owners.now.entries number) 0 }
-{
-    match owners.get_index(number) {
-        Some((name, _)) => name.as_str().len(),
-        None => 0,
-    }
-}
-
-/// Marks of the lengths in bytes of all full names that anything has.
-fn marks_of(alloc: Global, owners: &IndexMap<String, Owners>) -> Result<Vec<bool>, AllocError>
-    ensures { IfOk result (λ marks. HaveMarks marks.items (get_by_text owners.now)) }
-{
-    let mut marks = Vec::new(alloc);
-    for number in 0..owners.len() {
-        mark(&mut marks, len_at(owners, number))?;
-    }
-    Ok(marks)
 }
 
 /// The last length that is marked, where it was this one before.
@@ -51,7 +25,7 @@ fn last_marked(last: usize, len: usize, mark: bool) -> usize
 }
 
 /// For each length the greatest that is marked and not above it; 0 where there is none.
-fn lesser_of(alloc: Global, marks: &[bool]) -> Result<Vec<usize>, AllocError>
+pub(crate) fn lesser_of(alloc: Global, marks: &[bool]) -> Result<Vec<usize>, AllocError>
     ensures { IfOk result (λ lesser. IsLesser marks.now lesser.items) }
 {
     let mut lesser = Vec::new(alloc);
@@ -61,17 +35,6 @@ fn lesser_of(alloc: Global, marks: &[bool]) -> Result<Vec<usize>, AllocError>
         lesser.push(last)?;
     }
     Ok(lesser)
-}
-
-/// For each length in bytes the greatest, not above it, of a full name that anything has.
-pub(crate) fn lengths_of(
-    alloc: Global,
-    owners: &IndexMap<String, Owners>,
-) -> Result<Vec<usize>, AllocError>
-    ensures { IfOk result (λ lengths. HaveLengths lengths.items (get_by_text owners.now)) }
-{
-    let marks = marks_of(alloc, owners)?;
-    lesser_of(alloc, marks.as_slice())
 }
 
 /// The greatest length of a full name that anything has, not above that of a name of so many bytes in an

@@ -45,8 +45,3 @@ HaveMarks marks owners = (name : List ℕ) → get_or marks (length name) false 
 -- where the length of a name stands between two of full names, nothing has the name
 abbrev pub HaveLengths : List ℕ → (List ℕ → Option (List Target)) → Type 0
 HaveLengths lengths owners = (name : List ℕ) → IsBetween lengths (length name) → owners name ≡ None
-
--- what is kept beside the names of files for look-ups
-pub record IsIndex (files : List FileNames) (owners : List ℕ → Option (List Target)) (lengths : List ℕ) : Type 0 where
-  pub are_owners : AreOwners files owners
-  pub have_lengths : HaveLengths lengths owners

@@ -1,13 +1,10 @@
-use Rattle.std.proofs.Common.{◌≡◌, map, ◌∙◌, ap}
+use Rattle.std.proofs.Common.{map, ◌∙◌, ap}
 use Rattle.std.proofs.lemmas.List.{take_all}
 use Rattle.module_resolver.specs.NamesOf.{names_in}
-use Rattle.module_resolver.proofs.Owned.{in_order}
 use Rattle.module_resolver.proofs.gather.names_of.Goals as goal
 
 pub new-requires : goal.new-requires
 new-requires c =
     let files = c.args.files.now in
     let order = c.args.order.now in
-    let all : c.from_vec.result ≡ map (names_in files order) files =
-    c.from_vec.ensures ∙ (c.loop-file.invariant ∙ ap (map (names_in files order)) (take_all c.loop-file.file-index files c.loop-file-test.false)) in
-    rw all (in_order files order)
+    c.from_vec.ensures ∙ (c.loop-file.invariant ∙ ap (map (names_in files order)) (take_all c.loop-file.file-index files c.loop-file-test.false))

@@ -1,11 +1,13 @@
 use Rattle.std.proofs.Common.{take}
 use Rattle.std.specs.Prelude.{filter}
-use Rattle.indexmap.specs.IndexMap.{get_by_text}
 use Rattle.mojom_files.specs.Refusals.{first_of}
 use Rattle.module_resolver.specs.LookUp.{defined_in}
 use Rattle.module_resolver.specs.steps.Owners.{Notes}
+use Rattle.module_resolver.specs.steps.Held.{held, IsSound}
 use Rattle.module_resolver.proofs.index.note_all_defined.Given as goal
 
 abbrev pub invariant-loop-file : goal.invariant-loop-file
-invariant-loop-file l =
-    Notes (get_by_text l.initial.index) (get_by_text l.index) (λ p q. first_of (defined_in l.files q) (filter p (take l.file-index l.order)))
+invariant-loop-file l = record {
+  sound : IsSound l.index;
+  notes : Notes (held l.initial.index) (held l.index) (λ p q. first_of (defined_in l.files q) (filter p (take l.file-index l.order)));
+}

@@ -1,11 +1,15 @@
 use Rattle.std.proofs.Common.{ℕ, List}
-use Rattle.indexmap.specs.IndexMap.{get_by_text}
+use Rattle.module_resolver.specs.steps.Held.{held}
 use Rattle.module_resolver.specs.LookUp.{enumerated_in}
 use Rattle.module_resolver.proofs.Owned.{file_noted}
 use Rattle.module_resolver.proofs.index.note_all_enumerated.Goals as goal
 
 pub loop-file-preserved : goal.loop-file-preserved
 loop-file-preserved c =
-    file_noted (get_by_text c.args.index.now) (get_by_text c.loop-file.index) (get_by_text c.note_enumerated.new.index)
-    (λ (q : List ℕ). enumerated_in c.args.files.now q) c.args.order.now c.loop-file.file-index c.loop-file-test.true c.loop-file.invariant
-    c.in_ok-note_enumerated.ensures
+    record {
+      sound = c.in_ok-note_enumerated.ensures.sound;
+      notes =
+          file_noted (held c.args.index.now) (held c.loop-file.index) (held c.note_enumerated.new.index)
+          (λ (q : List ℕ). enumerated_in c.args.files.now q) c.args.order.now c.loop-file.file-index c.loop-file-test.true c.loop-file.invariant.notes
+          c.in_ok-note_enumerated.ensures.notes;
+    }

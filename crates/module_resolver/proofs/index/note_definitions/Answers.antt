@@ -1,11 +1,24 @@
 use Rattle.std.proofs.Common.{◌≡◌, ℕ, List, get_or, refl, ◌∙◌, subst}
 use Rattle.std.specs.Prelude.{Bool, Some, None, if◌then◌else◌}
 use Rattle.std.specs.Str.{bytes_eq}
-use Rattle.indexmap.specs.IndexMap.{get_by_text}
 use Rattle.module_resolver.specs.declared.target.Target.TheVariants.{Definition}
 use Rattle.module_resolver.specs.steps.Owners.{where_seen, Notes}
-use Rattle.module_resolver.proofs.Owned.{number_noted}
+use Rattle.module_resolver.specs.steps.Held.{held}
+use Rattle.module_resolver.proofs.Owned.{none_noted, number_noted}
+use Rattle.module_resolver.proofs.Held.{owner_kept}
 use Rattle.module_resolver.proofs.index.note_definitions.Goals as goal
+
+pub enter-requires-clause-there : goal.enter-requires-clause-there
+enter-requires-clause-there c = c.requires.root
+
+pub loop-number-init : goal.loop-number-init
+loop-number-init c =
+    let both = c.in_ok-node.ensures.entered in
+    record {
+      sound = both.sound;
+      node = c.in_ok-node.ensures.is;
+      notes = λ p q. owner_kept c.args.index.now c.enter.new.self both p q ∙ none_noted p c.args.file _;
+    }
 
 pub loop-number-preserved : goal.loop-number-preserved
 loop-number-preserved c =
@@ -13,10 +26,15 @@ loop-number-preserved c =
     let number = c.loop-number.number in
     let item = c.index-names-number.result in
     let text : c.as_str.result.now ≡ get_or names number item = c.as_str.ensures ∙ c.index-names-number.is in
-    number_noted (get_by_text c.args.index.now) (get_by_text c.loop-number.index) (get_by_text c.note.new.index) (λ (n : ℕ). Definition c.args.file n)
-    c.args.file names number item refl c.loop-number-test.true c.loop-number.invariant
-    (subst
-    (λ (name : List ℕ).
-    Notes (get_by_text c.loop-number.index) (get_by_text c.note.new.index)
-    (λ (p : ℕ → Bool) (q : List ℕ). if bytes_eq q name then where_seen p c.args.file (Some (Definition c.args.file number)) else None)) text
-    c.in_ok-note.ensures)
+    record {
+      sound = c.in_ok-note.ensures.sound;
+      node = c.in_ok-note.ensures.nodes c.args.around.now c.in_ok-node.node c.loop-number.invariant.node;
+      notes =
+          number_noted (held c.args.index.now) (held c.loop-number.index) (held c.note.new.index) (λ (n : ℕ). Definition c.args.file n)
+          c.args.file names number item refl c.loop-number-test.true c.loop-number.invariant.notes
+          (subst
+          (λ (name : List ℕ).
+          Notes (held c.loop-number.index) (held c.note.new.index)
+          (λ (p : ℕ → Bool) (q : List ℕ). if bytes_eq q name then where_seen p c.args.file (Some (Definition c.args.file number)) else None)) text
+          c.in_ok-note.ensures.notes);
+    }

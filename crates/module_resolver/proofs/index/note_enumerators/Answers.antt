@@ -1,22 +1,63 @@
-use Rattle.std.proofs.Common.{◌≡◌, ℕ, List, get_or, refl, ◌∙◌, subst}
-use Rattle.std.specs.Prelude.{Bool, Some, None, if◌then◌else◌}
-use Rattle.std.specs.Str.{bytes_eq}
-use Rattle.indexmap.specs.IndexMap.{get_by_text}
+use Rattle.std.proofs.Common.{rules, ◌≡◌, ◌+◌, ◌++◌, ℕ, List, length, take, sym, ◌∙◌, ap, subst, length-append}
+use Rattle.std.specs.Prelude.{Bool}
+use Rattle.std.specs.List.{flat_map}
+use Rattle.std.specs.Option.{option_map}
+use Rattle.std.proofs.lemmas.List.{take_all, length-map}
+use Rattle.import_order.specs.Numbers.{number_of}
+use Rattle.mojom_files.specs.Names.{within}
 use Rattle.module_resolver.specs.declared.target.Target.TheVariants.{Enumerator}
+use Rattle.module_resolver.specs.steps.Enums.{names_in_enum}
 use Rattle.module_resolver.specs.steps.Owners.{where_seen, Notes}
-use Rattle.module_resolver.proofs.Owned.{number_noted}
+use Rattle.module_resolver.specs.steps.Held.{held}
+use Rattle.module_resolver.proofs.OneMore.{take_item}
+use Rattle.module_resolver.proofs.Owned.{none_noted}
+use Rattle.module_resolver.proofs.Held.{owner_kept}
+use Rattle.module_resolver.proofs.Enums.{flat_pushed, names_noted}
 use Rattle.module_resolver.proofs.index.note_enumerators.Goals as goal
 
-pub loop-number-preserved : goal.loop-number-preserved
-loop-number-preserved c =
-    let names = c.args.names.now in
-    let number = c.loop-number.number in
-    let item = c.index-names-number.result in
-    let text : c.as_str.result.now ≡ get_or names number item = c.as_str.ensures ∙ c.index-names-number.is in
-    number_noted (get_by_text c.args.index.now) (get_by_text c.loop-number.index) (get_by_text c.note.new.index) (λ (n : ℕ). Enumerator c.args.file n)
-    c.args.file names number item refl c.loop-number-test.true c.loop-number.invariant
-    (subst
-    (λ (name : List ℕ).
-    Notes (get_by_text c.loop-number.index) (get_by_text c.note.new.index)
-    (λ (p : ℕ → Bool) (q : List ℕ). if bytes_eq q name then where_seen p c.args.file (Some (Enumerator c.args.file number)) else None)) text
-    c.in_ok-note.ensures)
+pub enter-requires-clause-there : goal.enter-requires-clause-there
+enter-requires-clause-there c = c.requires.root
+
+pub loop-one-init : goal.loop-one-init
+loop-one-init c =
+    let both = c.in_ok-node.ensures.entered in
+    record {
+      sound = both.sound;
+      node = c.in_ok-node.ensures.is;
+      first = search rules;
+      notes = λ p q. owner_kept c.args.index.now c.enter.new.self both p q ∙ none_noted p c.args.file _;
+    }
+
+pub loop-one-preserved : goal.loop-one-preserved
+loop-one-preserved c =
+    let enums = c.enums-enums.result.now in
+    let i = c.loop-one.one-index in
+    let one = c.one-item.result in
+    let before = flat_map names_in_enum (take i enums) in
+    let next : flat_map names_in_enum (take (i + 1) enums) ≡ before ++ names_in_enum one =
+    flat_pushed names_in_enum (take i enums) (take (i + 1) enums) one (take_item enums i one c.loop-one-test.true c.one-item.is) in
+    record {
+      sound = c.in_ok-note_enum.ensures.sound;
+      node = c.in_ok-note_enum.ensures.nodes c.args.around.now c.in_ok-node.node c.loop-one.invariant.node;
+      first =
+          c.in_ok-first.ensures
+          ∙ (ap (λ (n : ℕ). c.loop-one.first + n) c.len.ensures
+          ∙ (ap (λ (n : ℕ). n + length one.names) c.loop-one.invariant.first
+          ∙ (ap (λ (n : ℕ). length before + n) (sym (length-map one.names (within one.outer)))
+          ∙ sym (ap (λ (ns : List (List ℕ)). length ns) next ∙ length-append before (names_in_enum one)))));
+      notes =
+          names_noted (held c.args.index.now) (held c.loop-one.index) (held c.note_enum.new.index) (λ (n : ℕ). Enumerator c.args.file n) c.args.file
+          c.loop-one.first before (names_in_enum one) (flat_map names_in_enum (take (i + 1) enums)) c.loop-one.invariant.first next
+          c.loop-one.invariant.notes c.in_ok-note_enum.ensures.notes;
+    }
+
+pub returns-clause-notes : goal.returns-clause-notes
+returns-clause-notes c =
+    let enums = c.enums-enums.result.now in
+    let all : flat_map names_in_enum (take c.loop-one.one-index enums) ≡ c.args.names.now =
+    ap (flat_map names_in_enum) (take_all c.loop-one.one-index enums c.loop-one-test.false) ∙ c.enums-enums.ensures in
+    subst
+    (λ (ns : List (List ℕ)).
+    Notes (held c.args.index.now) (held c.loop-one.index)
+    (λ (p : ℕ → Bool) (q : List ℕ). where_seen p c.args.file (option_map (λ (n : ℕ). Enumerator c.args.file n) (number_of q ns)))) all
+    c.loop-one.invariant.notes

@@ -1,5 +1,6 @@
 use Rattle.std.proofs.Common.{ℕ, length, sym, ◌∙◌, ap}
 use Rattle.std.specs.Prelude.{None}
+use Rattle.std.proofs.lemmas.Result.{err_from_is_err_and}
 use Rattle.mojom_files.specs.Refusals.{best_of}
 use Rattle.module_resolver.specs.steps.Sets.{holds}
 use Rattle.module_resolver.specs.NameRefusals.{refusals_at}
@@ -30,3 +31,7 @@ returns-in-Some-clause-refused c =
     let first = λ (k : ℕ). best_of None (refusals_at files order k) in
     let some = sym (c.in_ok-refusal.ensures.first ∙ ap (best_of None) here) ∙ c.in-Some.is in
     c.loop-number.invariant.left ∙ found_place first i (length order) c.in-Some.refusal c.loop-number-test.true some
+
+pub returns-in_err-refusal-clause-refused : goal.returns-in_err-refusal-clause-refused
+returns-in_err-refusal-clause-refused c =
+    let p = err_from_is_err_and c.from_residual-in_err-refusal.result c.from_residual-in_err-refusal.ensures.1 in rw (p.1, p.2) tt

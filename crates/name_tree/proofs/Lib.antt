@@ -1,0 +1,4 @@
+pub mod Walks
+pub mod Steps
+pub mod Numbers
+pub mod Owners
