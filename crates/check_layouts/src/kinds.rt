@@ -8,38 +8,75 @@ pub fn kind_named(alloc: Global, word: &str) -> Result<Option<Kind>, AllocError>
     let nullable = false;
     let kind = match word {
         "array<bool>" => KindNode::Array {
-            of: Box::new(alloc, KindNode::Bool)?,
+            of: Box::new(alloc, KindNode::Bool { nullable: false })?,
             count: None,
             nullable,
         },
         "map<int8,int8>" => KindNode::Map {
-            key: Box::new(alloc, integer(Width::Bits8))?,
-            value: Box::new(alloc, integer(Width::Bits8))?,
+            key: Box::new(alloc, integer(Width::Bits8, false))?,
+            value: Box::new(alloc, integer(Width::Bits8, false))?,
             nullable,
         },
-        other => return Ok(plain_kind(other).or(endpoint(other)).map(Kind::new)),
+        other => {
+            let number = number_kind(other).or(flagged_kind(other));
+            return Ok(
+                number
+                    .or(plain_kind(other))
+                    .or(endpoint(other))
+                    .map(Kind::new),
+            );
+        }
     };
     Ok(Some(Kind::new(kind)))
 }
 
-fn integer(width: Width) -> KindNode {
+fn integer(width: Width, nullable: bool) -> KindNode {
     KindNode::Int {
         width,
         signed: true,
+        nullable,
     }
 }
 
-/// A kind that holds no other.
+/// A bool, an integer or an enum.
+fn number_kind(word: &str) -> Option<KindNode> {
+    let nullable = false;
+    match word {
+        "bool" => Some(KindNode::Bool { nullable }),
+        "int8" | "uint8" => Some(integer(Width::Bits8, nullable)),
+        "int16" => Some(integer(Width::Bits16, nullable)),
+        "int32" | "uint32" => Some(integer(Width::Bits32, nullable)),
+        "int64" => Some(integer(Width::Bits64, nullable)),
+        "enum" => Some(KindNode::Enum {
+            number: 0,
+            nullable,
+        }),
+        _ => None,
+    }
+}
+
+/// A bool, an integer or an enum that may be null.
+fn flagged_kind(word: &str) -> Option<KindNode> {
+    let nullable = true;
+    match word {
+        "bool?" => Some(KindNode::Bool { nullable }),
+        "int8?" => Some(integer(Width::Bits8, nullable)),
+        "int16?" => Some(integer(Width::Bits16, nullable)),
+        "int32?" => Some(integer(Width::Bits32, nullable)),
+        "int64?" => Some(integer(Width::Bits64, nullable)),
+        "enum?" => Some(KindNode::Enum {
+            number: 0,
+            nullable,
+        }),
+        _ => None,
+    }
+}
+
+/// Another kind that holds no other.
 fn plain_kind(word: &str) -> Option<KindNode> {
     let nullable = false;
     let number = 0;
     match word {
-        "bool" => Some(KindNode::Bool),
-        "int8" | "uint8" => Some(integer(Width::Bits8)),
-        "int16" => Some(integer(Width::Bits16)),
-        "int32" | "uint32" => Some(integer(Width::Bits32)),
-        "int64" => Some(integer(Width::Bits64)),
-        "enum" => Some(KindNode::Enum { number }),
         "string" => Some(KindNode::Text { nullable }),
         "struct" => Some(KindNode::Struct { number, nullable }),
         "union" => Some(KindNode::Union { number, nullable }),

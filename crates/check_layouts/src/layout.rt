@@ -102,6 +102,7 @@ fn packed(alloc: Global, fields: Vec<DraftField>) -> Result<Option<String>, Allo
         places.push(Place {
             offset: field.offset,
             bit: field.bit,
+            flag: field.flag,
         })?;
     }
     Ok(Some(shown(alloc, &places, row.versions.as_slice())?))
@@ -112,8 +113,12 @@ fn shown(alloc: Global, places: &[Place], rows: &[VersionRow]) -> Result<String,
     let mut text = String::new(alloc);
     for (k, place) in places.iter().enumerate() {
         let gap = if k == 0 { "" } else { " " };
-        let place = format!(in alloc; "{gap}{}.{}", place.offset, place.bit)?;
-        text.push_str(place.as_str())?;
+        let value = format!(in alloc; "{gap}{}.{}", place.offset, place.bit)?;
+        text.push_str(value.as_str())?;
+        if let Some(flag) = place.flag {
+            let flag = format!(in alloc; ":{}.{}", flag.offset, flag.bit)?;
+            text.push_str(flag.as_str())?;
+        }
     }
     for (k, row) in rows.iter().enumerate() {
         let gap = if k == 0 { "; " } else { ", " };

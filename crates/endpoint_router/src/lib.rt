@@ -11,6 +11,3 @@ mod row;
 pub use next::Next;
 pub use router::Router;
 pub use row::Row;
-
-#[cfg(test)]
-mod tests;

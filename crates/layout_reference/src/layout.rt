@@ -1,12 +1,12 @@
 //! The layout of structs, computed literally: each place by trying all bit addresses in turn.
 
-use mj_schema::{DraftField, Kind, KindNode, Place, VersionRow, Width};
+use mj_schema::{DraftField, Flag, Kind, KindNode, Place, VersionRow, Width};
 use std::alloc::{AllocError, Global};
 
-/// How many bits a field takes, and what its bit address is a multiple of.
+/// How many bits a value takes, and what its bit address is a multiple of.
 fn room(kind: &Kind) -> (usize, usize) {
     match kind.node() {
-        KindNode::Bool => (1, 1),
+        KindNode::Bool { .. } => (1, 1),
         KindNode::Int { width, .. } => match width {
             Width::Bits8 => (8, 8),
             Width::Bits16 => (16, 16),
@@ -24,6 +24,16 @@ fn room(kind: &Kind) -> (usize, usize) {
         KindNode::Remote { .. } => (64, 32),
         KindNode::AssociatedRemote { .. } => (64, 32),
         KindNode::Union { .. } => (128, 64),
+    }
+}
+
+/// Whether a bit before the value says that there is one.
+fn has_flag(kind: &Kind) -> bool {
+    match kind.node() {
+        KindNode::Bool { nullable } => *nullable,
+        KindNode::Int { nullable, .. } => *nullable,
+        KindNode::Enum { nullable, .. } => *nullable,
+        _ => false,
     }
 }
 
@@ -52,15 +62,30 @@ pub fn places(alloc: Global, fields: &[DraftField]) -> Result<Vec<Place>, AllocE
     let mut taken = Vec::new(alloc);
     let mut places = Vec::new(alloc);
     for field in fields {
+        let flag = if has_flag(&field.kind) {
+            let (offset, bit) = take_least(&mut taken, 1, 1)?;
+            Some(Flag { offset, bit })
+        } else {
+            None
+        };
         let (size, alignment) = room(&field.kind);
-        let at = least(&taken, size, alignment);
-        take_bits(&mut taken, at, size)?;
-        places.push(Place {
-            offset: u32::try_from(at / 8).unwrap_or(0),
-            bit: u32::try_from(at % 8).unwrap_or(0),
-        })?;
+        let (offset, bit) = take_least(&mut taken, size, alignment)?;
+        places.push(Place { offset, bit, flag })?;
     }
     Ok(places)
+}
+
+/// Takes the least place that fits, and answers its byte and bit.
+fn take_least(
+    taken: &mut Vec<bool>,
+    size: usize,
+    alignment: usize,
+) -> Result<(u32, u32), AllocError> {
+    let at = least(taken, size, alignment);
+    take_bits(taken, at, size)?;
+    let offset = u32::try_from(at / 8).unwrap_or(0);
+    let bit = u32::try_from(at % 8).unwrap_or(0);
+    Ok((offset, bit))
 }
 
 /// Marks so many bits from a bit address on as taken.
@@ -87,6 +112,9 @@ fn version_row(fields: &[DraftField], places: &[Place], version: u32) -> Version
             let bits = place.offset.saturating_mul(8).saturating_add(place.bit);
             count = count.saturating_add(1);
             end = end.max(bits.saturating_add(size).div_ceil(8));
+            if let Some(flag) = place.flag {
+                end = end.max(flag.offset.saturating_add(1));
+            }
         }
     }
     let mut bytes = end.saturating_add(8);

@@ -9,6 +9,3 @@ mod settled;
 
 pub use key::Key;
 pub use responses::ResponseMap;
-
-#[cfg(test)]
-mod tests;

@@ -1,5 +1,5 @@
 -- Declared fields at their places are laid out.
-use Rattle.std.proofs.Common.{◌≡◌, ℕ, suc, ◌+◌, ◌≤◌, true, List, [], ◌∷◌, length, refl, ap, arith}
+use Rattle.std.proofs.Common.{◌≡◌, ℕ, suc, ◌+◌, ◌≤◌, true, List, [], ◌∷◌, ◌++◌, length, refl, ap, arith}
 use Rattle.std.specs.Prelude.{map}
 use Rattle.std.proofs.lemmas.Bool.{and_from}
 use Rattle.std.proofs.lemmas.Bool.Decides.{Decides-eqb}
@@ -10,7 +10,7 @@ use Rattle.mj_schema.specs.declared.rows.DraftStruct.{DraftStruct}
 use Rattle.mj_schema.specs.declared.rows.FieldRow.{FieldRow}
 use Rattle.mj_schema.specs.declared.rows.Place.{Place}
 use Rattle.mj_schema.specs.declared.rows.VersionRow.{VersionRow}
-use Rattle.mj_schema.specs.Layout.{Slot, slot_at, address_of, ArePacked, kind_of, place_of, are_numbered, never_fall, are_small, field_rows, draft_field, draft_of, IsLaidOut}
+use Rattle.mj_schema.specs.Layout.{Slot, part_slots, ArePacked, kind_of, place_of, are_numbered, never_fall, are_small, field_rows, draft_field, draft_of, IsLaidOut}
 use Rattle.mj_schema.specs.Versions.{version_rows}
 use Rattle.version_tables.proofs.Growing.{length-field_rows}
 
@@ -19,7 +19,7 @@ pub packed_length : (taken : List Slot) (ks : List KindTree) (ps : List Place) �
 packed_length taken [] [] h = refl
 packed_length taken [] (p ∷ ps) h = absurd h
 packed_length taken (k ∷ ks) [] h = absurd h
-packed_length taken (k ∷ ks) (p ∷ ps) h = ap suc (packed_length (slot_at k (address_of p) ∷ taken) ks ps h.1)
+packed_length taken (k ∷ ks) (p ∷ ps) h = ap suc (packed_length (part_slots k p ++ taken) ks ps h.1)
 
 numbered : (k : ℕ) (fs : List DraftField) (ps : List Place) → are_numbered k (field_rows k fs ps) ≡ true
 numbered k [] ps = refl
@@ -48,7 +48,8 @@ kept k (f ∷ fs) (p ∷ ps) same =
 
 -- the struct that `lay_out` gives is laid out, and has its draft
 pub laid_out : (name : List ℕ) (fs : List DraftField) (ps : List Place) (rows : List FieldRow) (versions : List VersionRow) → length fs ≤ MAX_FIELDS
-    → never_fall 0 (map (λ (f : DraftField). f.min_version) fs) ≡ true → are_small (map (λ (f : DraftField). f.min_version) fs) ≡ true → ArePacked [] (map (λ (f : DraftField). f.kind) fs) ps → length ps ≡ length fs
+    → never_fall 0 (map (λ (f : DraftField). f.min_version) fs) ≡ true
+    → are_small (map (λ (f : DraftField). f.min_version) fs) ≡ true → ArePacked [] (map (λ (f : DraftField). f.kind) fs) ps → length ps ≡ length fs
     → rows ≡ field_rows 0 fs ps → versions ≡ version_rows (field_rows 0 fs ps)
     → IsLaidOut (record { name = name; fields = rows; versions = versions }) × (draft_of (record { name = name; fields = rows; versions = versions })
     ≡ record { name = name; fields = fs })

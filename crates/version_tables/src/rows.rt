@@ -1,17 +1,15 @@
 //! One row for each version of a struct.
 
-ghost use Rattle.std.specs.Prelude.{◌≡◌, ◌≤◌, ◌<◌, ◌^◌, ◌+◌, All, Contains, IfOk, IsTrue, length, map};
+ghost use Rattle.std.specs.Prelude.{◌≡◌, ◌≤◌, ◌<◌, ◌^◌, ◌+◌, All, IfOk, IsTrue, length, map, max};
 ghost use Rattle.mj_base.specs.Bytes.{rounded8};
 ghost use Rattle.mj_schema.specs.declared.rows.DraftField.{DraftField};
-ghost use Rattle.mj_schema.specs.declared.rows.Place.{Place};
 ghost use Rattle.mj_schema.specs.declared.rows.VersionRow.{VersionRow};
-ghost use Rattle.mj_schema.specs.Layout.{are_small, field_rows, never_fall};
-ghost use Rattle.mj_schema.specs.Versions.{bytes_of, version_rows, is_table};
-ghost use Rattle.version_tables.specs.steps.Rows.{found_in};
+ghost use Rattle.mj_schema.specs.Layout.{are_small, field_rows, never_fall, IsNear};
+ghost use Rattle.mj_schema.specs.Versions.{bytes_of, flag_end, version_rows};
 
 use mj_base::limits::MAX_FIELDS;
 use mj_base::round8;
-use mj_schema::{DraftField, Place, VersionRow};
+use mj_schema::{DraftField, Flag, Place, VersionRow};
 use std::alloc::{AllocError, Global};
 
 /// The rows of a struct that has these fields at these places: one for each version that occurs, 0
@@ -24,7 +22,7 @@ pub fn table(
 ) -> Result<Vec<VersionRow>, AllocError>
     requires few { length fields.now ≤ MAX_FIELDS }
     requires places { length places.now ≡ length fields.now }
-    requires near { All (λ (place : Place). place.offset < 2 ^ 17) places.now }
+    requires near { All IsNear places.now }
     requires rising { IsTrue (never_fall 0 (map (λ (field : DraftField). field.min_version) fields.now)) }
     ensures rows { IfOk result (λ rows. rows.items ≡ version_rows (field_rows 0 fields.now places.now)) }
     ensures small { IfOk result (λ _. IsTrue (are_small (map (λ (field : DraftField). field.min_version) fields.now))) }
@@ -51,13 +49,24 @@ fn since(field: &DraftField) -> u32
     field.min_version
 }
 
-/// The byte behind a field, counted from the end of the struct's header.
+/// The byte behind the parts of a field, counted from the end of the struct's header.
 fn end_of(field: &DraftField, place: Place) -> u32
-    requires { place.offset < 2 ^ 17 }
-    ensures value { result ≡ place.offset + bytes_of field.now.kind }
+    requires { IsNear place }
+    ensures value { result ≡ max (flag_end place.flag) (place.offset + bytes_of field.now.kind) }
     ensures near { result < 2 ^ 17 + 16 }
 {
-    place.offset + field.kind.size().div_ceil(8)
+    flag_end(place.flag).max(place.offset + field.kind.size().div_ceil(8))
+}
+
+/// The byte behind a flag, 0 where there is none.
+fn flag_end(flag: Option<Flag>) -> u32
+    requires { flag_end flag ≤ 2 ^ 17 }
+    ensures { result ≡ flag_end flag }
+{
+    match flag {
+        Some(flag) => flag.offset + 1,
+        None => 0,
+    }
 }
 
 /// The row of a version that has so many fields, the last of which ends before this byte.
@@ -71,32 +80,4 @@ fn row(version: u32, fields: usize, end: u32) -> VersionRow
         fields: fields as u32,
         bytes: round8(8 + u64::from(end)) as u32,
     }
-}
-
-/// The row with the greatest version that is not above this one. The rows begin with version 0, and
-/// their versions rise.
-pub fn row_for(rows: &[VersionRow], version: u32) -> VersionRow
-    requires { IsTrue (is_table rows.now) }
-    ensures there { Contains rows.now result }
-    ensures not_above { result.version ≤ version }
-    ensures greatest { All (λ (row : VersionRow). row.version ≤ version → row.version ≤ result.version) rows.now }
-{
-    match rows {
-        [first, rest @ ..] => last_up_to(*first, rest, version),
-        [] => unreachable!(),
-    }
-}
-
-/// The last row before the first whose version is above this one.
-fn last_up_to(first: VersionRow, rest: &[VersionRow], version: u32) -> VersionRow
-    ensures { result ≡ found_in first version rest.now }
-{
-    let mut found = first;
-    for row in rest {
-        if row.version > version {
-            return found;
-        }
-        found = *row;
-    }
-    found
 }

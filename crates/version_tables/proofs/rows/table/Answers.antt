@@ -1,11 +1,12 @@
 use Rattle.std.proofs.Common.{Vec, Global, List, [], ◌≡◌, ◌+◌, ◌<◌, ◌^◌, max, map, drop, get_or, length, refl, sym, ap, ◌∙◌, arith}
+use Rattle.std.specs.Prelude.{None}
 use Rattle.std.proofs.lemmas.List.{drop_all}
 use Rattle.mj_base.specs.Bytes.{rounded8}
 use Rattle.mj_schema.specs.declared.rows.DraftField.{DraftField}
 use Rattle.mj_schema.specs.declared.rows.Place.{Place}
 use Rattle.mj_schema.specs.declared.rows.VersionRow.{VersionRow}
 use Rattle.mj_schema.specs.Layout.{are_small}
-use Rattle.mj_schema.specs.Versions.{bytes_of}
+use Rattle.mj_schema.specs.Versions.{bytes_of, flag_end}
 use Rattle.version_tables.proofs.Growing.{next_same, next_newer, small_next, all_fields}
 use Rattle.version_tables.proofs.rows.table.Goals as goal
 use Rattle.version_tables.proofs.rows.table.Goals.{then-since-version+in_ok-push, else-since-version}
@@ -16,10 +17,10 @@ loop-count-preserved c =
     let ps = c.args.places.now in
     let i = c.loop-count.count in
     let f = c.index-fields-count.result in
-    let e : Place = record { offset = 0; bit = 0 } in
+    let e : Place = record { offset = 0; bit = 0; flag = None } in
     let p : Place = get_or ps i e in
     let g = c.loop-count.invariant in
-    let end : c.max-end.result ≡ max c.loop-count.end (p.offset + bytes_of f.kind) = c.max-end.ensures
+    let end : c.max-end.result ≡ max c.loop-count.end (max (flag_end p.flag) (p.offset + bytes_of f.kind)) = c.max-end.ensures
     ∙ ap (λ n. max c.loop-count.end n) c.end_of.ensures.value in
     let near : c.max-end.result < 2 ^ 17 + 16 = omega (arith, c.max-end.ensures, c.end_of.ensures.near, g.near) in
     let few : f.min_version < 2 ^ 32 = rw c.since-since.ensures at c.since-since.type_inv in
@@ -27,7 +28,8 @@ loop-count-preserved c =
     elim c.if-since-version.branch [
       | then-since-version+in_ok-push w ↦
           let next = next_newer fs ps i c.loop-count.version c.loop-count.end c.max-end.result c.loop-count.rows.items c.if-since-version.rows.items f
-          p c.requires.places c.loop-count-test.true c.index-fields-count.is e refl g.grown g.rising end w.row.result (rw c.since-since.ensures at w.if-since-version.true)
+          p c.requires.places c.loop-count-test.true c.index-fields-count.is e refl g.grown g.rising end w.row.result
+          (rw c.since-since.ensures at w.if-since-version.true)
           w.row.ensures (ap (λ (v : Vec VersionRow Global). v.items) w.rows-is ∙ w.in_ok-push.ensures.items) in
           let is = w.version-is ∙ c.since-since.ensures in
           record { grown = rw is next.grown; near = near; small = small; rising = rw is next.rising }

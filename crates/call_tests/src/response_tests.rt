@@ -3,8 +3,8 @@
 ghost use Rattle.std.specs.Prelude.{◌≡◌, ◌<◌, None, OnOk};
 ghost use Rattle.std.specs.FinMap as map;
 
-use crate::{Key, ResponseMap};
 use mj_base::EndId;
+use response_map::{Key, ResponseMap};
 use std::process::Abort;
 use std::test::Fail;
 

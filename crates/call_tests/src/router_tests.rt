@@ -3,8 +3,8 @@
 ghost use Rattle.std.specs.Prelude.{◌≡◌, Some, IfOk};
 ghost use Rattle.endpoint_router.specs.Rows.{row_at, row_of};
 
-use crate::{Next, Router, Row};
 use bind_model::{Endpoint, State};
+use endpoint_router::{Next, Router, Row};
 use handle_table::{Thing, TokenId};
 use message_pipe::Message;
 use mj_base::{Fault, FaultKind, Items, SeqId, push_le32};

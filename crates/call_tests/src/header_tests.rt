@@ -1,0 +1,150 @@
+//! Messages as bytes that were written down by hand.
+
+use message_header::{Head, read_control, read_header, write_control, write_header, write_ids};
+use mj_base::{Fault, FaultKind, Span, push_le32};
+use std::alloc::{AllocError, Global};
+use std::test::Fail;
+
+/// A message of version 2 with a struct that holds one endpoint, and that endpoint's id.
+const CARRYING: [u32; 20] = [
+    48,
+    2,
+    0,
+    0,
+    0,
+    0,
+    0,
+    0,
+    16,
+    0,
+    24,
+    0,
+    16,
+    0,
+    0,
+    0,
+    12,
+    1,
+    0x8000_0001,
+    0,
+];
+
+/// The bytes of numbers.
+fn bytes_of(alloc: Global, numbers: &[u32]) -> Result<Vec<u8>, AllocError> {
+    let mut bytes = Vec::new(alloc);
+    for number in numbers {
+        push_le32(&mut bytes, *number)?;
+    }
+    Ok(bytes)
+}
+
+/// Whether the message with another number in one place is refused so.
+fn is_refused(
+    alloc: Global,
+    place: usize,
+    number: u32,
+    kind: FaultKind,
+    at: u64,
+) -> Result<bool, AllocError> {
+    let mut numbers = CARRYING;
+    if place < 20 {
+        numbers[place] = number;
+    }
+    let bytes = bytes_of(alloc, &numbers)?;
+    Ok(match read_header(&bytes) {
+        Ok(_) => false,
+        Err(fault) => fault == Fault { kind, at },
+    })
+}
+
+#[test]
+fn a_header_with_ids_is_written_and_read(rt: HostRuntime) -> Result<(), Fail> {
+    let alloc = rt.alloc();
+    let head = Head {
+        interface_id: 0,
+        name: 0,
+        flags: 0,
+        request_id: 9,
+        moment: None,
+        ids: &[0x8000_0001],
+    };
+    let mut message = Vec::new(alloc);
+    write_header(&mut message, &head, 16)?;
+    message.extend_from_slice(&[16, 0, 0, 0, 0, 0, 0, 0, 0, 0, 0, 0, 0, 0, 0, 0])?;
+    write_ids(&mut message, head.ids)?;
+    let wanted = bytes_of(alloc, &CARRYING)?;
+    assert_eq!(rt; message.as_slice(), wanted.as_slice());
+    let payload = Span { start: 48, len: 16 };
+    let ids = Span { start: 72, len: 4 };
+    let read = match read_header(&message) {
+        Ok(header) => header.payload == payload && header.ids == ids && header.request_id == 0,
+        Err(_) => false,
+    };
+    assert!(rt; read);
+    Ok(())
+}
+
+#[test]
+fn a_header_with_a_moment_is_written_and_read(rt: HostRuntime) -> Result<(), Fail> {
+    let alloc = rt.alloc();
+    let head = Head {
+        interface_id: 0,
+        name: 0,
+        flags: 0,
+        request_id: 9,
+        moment: Some(-1),
+        ids: &[],
+    };
+    let mut header = Vec::new(alloc);
+    write_header(&mut header, &head, 16)?;
+    let none = 0xffff_ffff;
+    let wanted = bytes_of(alloc, &[56, 3, 0, 0, 0, 0, 0, 0, 24, 0, 0, 0, none, none])?;
+    assert_eq!(rt; header.as_slice(), wanted.as_slice());
+    header.extend_from_slice(&[16, 0, 0, 0, 0, 0, 0, 0, 0, 0, 0, 0, 0, 0, 0, 0])?;
+    let read = match read_header(&header) {
+        Ok(header) => header.moment == Some(-1) && header.payload == Span { start: 56, len: 16 },
+        Err(_) => false,
+    };
+    assert!(rt; read);
+    Ok(())
+}
+
+#[test]
+fn the_first_test_that_fails_is_told(rt: HostRuntime) -> Result<(), Fail> {
+    let alloc = rt.alloc();
+    let start = is_refused(alloc, 0, 7, FaultKind::UnexpectedStructHeader, 0)?
+        && is_refused(alloc, 0, 81, FaultKind::IllegalMemoryRange, 0)?
+        && is_refused(alloc, 4, 3, FaultKind::MessageHeaderInvalidFlags, 16)?;
+    assert!(rt; start);
+    let payload = is_refused(alloc, 8, 0, FaultKind::UnexpectedNullPointer, 32)?
+        && is_refused(alloc, 8, 17, FaultKind::MisalignedObject, 49)?
+        && is_refused(alloc, 8, 8, FaultKind::IllegalMemoryRange, 40)?
+        && is_refused(alloc, 9, 1, FaultKind::IllegalPointer, 32)?;
+    assert!(rt; payload);
+    let ids = is_refused(alloc, 10, 8, FaultKind::IllegalMemoryRange, 48)?
+        && is_refused(alloc, 10, 16, FaultKind::UnexpectedArrayHeader, 56)?
+        && is_refused(alloc, 17, 2, FaultKind::UnexpectedArrayHeader, 64)?
+        && is_refused(alloc, 18, 0, FaultKind::IllegalInterfaceId, 72)?;
+    assert!(rt; ids);
+    Ok(())
+}
+
+#[test]
+fn a_control_is_written_and_read(rt: HostRuntime) -> Result<(), Fail> {
+    let alloc = rt.alloc();
+    let control = write_control(alloc, 5)?;
+    let wanted = bytes_of(alloc, &[24, 0, 0xffff_ffff, 0, 0, 0, 16, 0, 1, 5])?;
+    assert_eq!(rt; control.as_slice(), wanted.as_slice());
+    let id = match read_header(&control) {
+        Ok(header) => {
+            if header.interface_id == 0xffff_ffff {
+                read_control(&control, &header).ok()
+            } else {
+                None
+            }
+        }
+        Err(_) => None,
+    };
+    assert!(rt; id == Some(5));
+    Ok(())
+}
