@@ -1,0 +1,2 @@
+pub mod WorkedPlaces
+pub mod Worked
