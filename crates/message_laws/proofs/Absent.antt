@@ -20,16 +20,19 @@ use Rattle.wire_model.specs.Depth.{levels, levels_in, AreOfKinds}
 use Rattle.wire_model.specs.Rows.{row_for, last_or, no_row}
 use Rattle.wire_model.specs.Slots.{field_slot}
 use Rattle.message_laws.specs.Filled.{IsFilled}
-use Rattle.message_laws.proofs.Cases.{by_test, max_least}
+use Rattle.same_messages.proofs.Cases.{by_test, max_least}
 
 -- a string by default is the only object
 absent_deep : (schema : Schema) (default : Option Literal) (k : KindTree) → levels true (absent_field schema default k) ≤ 1
 absent_deep schema (Some (literals.Bool b)) k = omega arith
 absent_deep schema (Some (literals.Whole n)) k = omega arith
 absent_deep schema (Some (literals.Text bs)) k = omega arith
-absent_deep schema None kinds.BoolKind = omega arith
-absent_deep schema None (kinds.IntKind w s) = omega arith
-absent_deep schema None (kinds.EnumKind n) = omega arith
+absent_deep schema None (kinds.BoolKind true) = omega arith
+absent_deep schema None (kinds.BoolKind false) = omega arith
+absent_deep schema None (kinds.IntKind w s true) = omega arith
+absent_deep schema None (kinds.IntKind w s false) = omega arith
+absent_deep schema None (kinds.EnumKind n true) = omega arith
+absent_deep schema None (kinds.EnumKind n false) = omega arith
 absent_deep schema None (kinds.TextKind n) = omega arith
 absent_deep schema None (kinds.HandleKind s n) = omega arith
 absent_deep schema None (kinds.ArrayKind o c n) = omega arith

@@ -30,11 +30,11 @@ use Rattle.wire_model.specs.Values.{Behind, pointer_value, slots_value, struct_v
 use Rattle.wire_laws.proofs.Elements.{content_as_slots}
 use Rattle.message_laws.specs.Filled.{AreBytes, IsFilled, IsFilledSchema}
 use Rattle.message_laws.proofs.Absent.{absents_deep, absents_kinded, lacked_late}
-use Rattle.message_laws.proofs.Fine.{fine_left, fine_right}
+use Rattle.same_messages.proofs.Fine.{fine_left, fine_right}
 use Rattle.message_laws.specs.steps.Kinded.{AreKindedBehind, AreValues, IsPointed, IsThere, IsValue}
 use Rattle.message_laws.proofs.KindedSlots.{inline_less, pointed_more, pointer_kinded, slots_kinded, union_kinded}
 use Rattle.message_laws.proofs.RowsThere.{elements_there, fields_there, found}
-use Rattle.message_laws.proofs.Cases.{by_test}
+use Rattle.same_messages.proofs.Cases.{by_test}
 
 -- what holds of each of a list holds of the one at a place
 all_at : {A : Type 0} (P : A → Type 0) (xs : List A) (i : ℕ) (x : A) → All P xs → slice_get xs i ≡ Some x → P x
@@ -186,9 +186,9 @@ module _ (schema : Schema) (filled : IsFilledSchema schema) (bytes : List ℕ) (
     object_kinded : (p : ℕ) (k : KindTree) → IsPointed k → IsThere schema k → IsFine (object_marks next schema bytes p k)
         → IsValue schema false k (object_value then_ schema bytes p k) (suc most)
     unfolding object_marks object_value
-    object_kinded p kinds.BoolKind pointed there fine = absurd pointed
-    object_kinded p (kinds.IntKind w s) pointed there fine = absurd pointed
-    object_kinded p (kinds.EnumKind n) pointed there fine = absurd pointed
+    object_kinded p (kinds.BoolKind nb) pointed there fine = absurd pointed
+    object_kinded p (kinds.IntKind w s nb) pointed there fine = absurd pointed
+    object_kinded p (kinds.EnumKind n nb) pointed there fine = absurd pointed
     object_kinded p (kinds.HandleKind s n) pointed there fine = absurd pointed
     object_kinded p (kinds.RemoteKind i n) pointed there fine = absurd pointed
     object_kinded p (kinds.ReceiverKind i n) pointed there fine = absurd pointed

@@ -11,21 +11,21 @@ use Rattle.mj_schema.specs.declared.schema.Schema.{Schema}
 use Rattle.wire_model.specs.Bytes.{number32, number64}
 use Rattle.wire_model.specs.Cells.{NO_INDEX}
 use Rattle.wire_model.specs.Depth.{IsOfKind, levels}
-use Rattle.wire_model.specs.Kinded.{is_nullable}
+use Rattle.wire_model.specs.Kinded.{is_nullable, OrNull}
 use Rattle.wire_model.specs.Marks as marks
-use Rattle.wire_model.specs.Marks.{Mark, Next, pointer_marks, index_marks, cell_marks, member_marks, found_union_marks, union_marks, slot_marks, slots_marks}
+use Rattle.wire_model.specs.Marks.{Mark, Next, pointer_marks, index_marks, cell_marks, member_marks, found_union_marks, union_marks, slot_marks, has_value, marks_if, slots_marks}
 use Rattle.wire_model.specs.Rows.{kind_in, kind_of_tag}
 use Rattle.wire_model.specs.Slots.{Slot}
 use Rattle.wire_model.specs.Stands.{IsFine}
 use Rattle.wire_model.specs.Trees as values
 use Rattle.wire_model.specs.Trees.{Tree, Trees}
-use Rattle.wire_model.specs.Values.{Behind, pointer_value, or_null, cell_value, member_value, found_union_value, union_value, slot_value, slots_value}
+use Rattle.wire_model.specs.Values.{Behind, pointer_value, or_null, cell_value, member_value, found_union_value, union_value, slot_value, value_if, slots_value}
 use Rattle.message_laws.specs.Filled.{AreBytes}
-use Rattle.message_laws.proofs.Fine.{fine_left, fine_right}
+use Rattle.same_messages.proofs.Fine.{fine_left, fine_right}
 use Rattle.message_laws.proofs.Numbers.{small32, in_range, member_in_range}
 use Rattle.message_laws.specs.steps.Kinded.{AreKindedBehind, AreThere, AreValues, IsPointed, IsThere, IsValue}
 use Rattle.message_laws.proofs.RowsThere.{found, member_there}
-use Rattle.message_laws.proofs.Cases.{by_test, max_least}
+use Rattle.same_messages.proofs.Cases.{by_test, max_least}
 
 -- an inline union adds no level, any other one
 pub inline_less : (t : Tree) → levels true t ≤ levels false t
@@ -58,6 +58,22 @@ pointed_more (values.Endpoint i) = omega arith
 pointed_more (values.EndpointRemote i v) = omega arith
 pointed_more values.Null = omega arith
 
+-- what may stand somewhere by itself may also stand where there is a flag
+may_stand : (flag : ℕ) (t : Tree) (P : Type 0) → P → OrNull (Some flag) t P
+may_stand flag (values.Flag b) P p = p
+may_stand flag (values.Whole n) P p = p
+may_stand flag (values.Text bs) P p = p
+may_stand flag (values.Items ts) P p = p
+may_stand flag (values.Pairs ts) P p = p
+may_stand flag (values.Fields ts) P p = p
+may_stand flag (values.Member tag t) P p = p
+may_stand flag (values.Unknown tag) P p = p
+may_stand flag (values.Handle i) P p = p
+may_stand flag (values.Remote i v) P p = p
+may_stand flag (values.Endpoint i) P p = p
+may_stand flag (values.EndpointRemote i v) P p = p
+may_stand flag values.Null P p = tt
+
 module _ (schema : Schema) (bytes : List ℕ) (small : AreBytes bytes) (next : Next) (then_ : Behind) (most : ℕ)
     (behind : AreKindedBehind schema next then_ most) where
   pub pointer_kinded : (p : ℕ) (k : KindTree) (nullable : Bool) → IsPointed k → IsThere schema k → is_nullable k ≡ nullable
@@ -86,9 +102,9 @@ module _ (schema : Schema) (bytes : List ℕ) (small : AreBytes bytes) (next : N
   pub cell_kinded : (p bit : ℕ) (k : KindTree) → IsThere schema k → IsFine (cell_marks next schema bytes p k)
       → IsValue schema false k (cell_value then_ bytes p bit k) most
   unfolding cell_marks cell_value IsOfKind
-  cell_kinded p bit kinds.BoolKind there fine = record { kind = refl; deep = omega arith }
-  cell_kinded p bit (kinds.IntKind w s) there fine = record { kind = in_range bytes small w s p; deep = omega arith }
-  cell_kinded p bit (kinds.EnumKind n) there fine = record { kind = (member_in_range bytes small p, fine.0); deep = omega arith }
+  cell_kinded p bit (kinds.BoolKind nb) there fine = record { kind = (nb, refl); deep = omega arith }
+  cell_kinded p bit (kinds.IntKind w s nb) there fine = record { kind = in_range bytes small w s p; deep = omega arith }
+  cell_kinded p bit (kinds.EnumKind n nb) there fine = record { kind = (member_in_range bytes small p, fine.0); deep = omega arith }
   cell_kinded p bit (kinds.HandleKind sort n) there fine =
       index_kinded _ _ p (kinds.HandleKind sort n) n (values.Handle (number32 bytes p)) refl
       (λ lt. record { kind = (inl (sort, n, refl), lt); deep = omega arith }) fine
@@ -157,9 +173,9 @@ module _ (schema : Schema) (bytes : List ℕ) (small : AreBytes bytes) (next : N
       → IsValue schema true k (slot_value then_ schema bytes p bit k) most
   unfolding slot_marks slot_value
   slot_kinded p bit (kinds.UnionKind m n) there fine = union_kinded p m n there fine
-  slot_kinded p bit kinds.BoolKind there fine = inlined _ _ (cell_kinded p bit kinds.BoolKind there fine)
-  slot_kinded p bit (kinds.IntKind w s) there fine = inlined _ _ (cell_kinded p bit (kinds.IntKind w s) there fine)
-  slot_kinded p bit (kinds.EnumKind n) there fine = inlined _ _ (cell_kinded p bit (kinds.EnumKind n) there fine)
+  slot_kinded p bit (kinds.BoolKind nb) there fine = inlined _ _ (cell_kinded p bit (kinds.BoolKind nb) there fine)
+  slot_kinded p bit (kinds.IntKind w s nb) there fine = inlined _ _ (cell_kinded p bit (kinds.IntKind w s nb) there fine)
+  slot_kinded p bit (kinds.EnumKind n nb) there fine = inlined _ _ (cell_kinded p bit (kinds.EnumKind n nb) there fine)
   slot_kinded p bit (kinds.TextKind n) there fine = inlined _ _ (cell_kinded p bit (kinds.TextKind n) there fine)
   slot_kinded p bit (kinds.HandleKind s n) there fine = inlined _ _ (cell_kinded p bit (kinds.HandleKind s n) there fine)
   slot_kinded p bit (kinds.ArrayKind o c n) there fine = inlined _ _ (cell_kinded p bit (kinds.ArrayKind o c n) there fine)
@@ -170,14 +186,26 @@ module _ (schema : Schema) (bytes : List ℕ) (small : AreBytes bytes) (next : N
   slot_kinded p bit (kinds.AssociatedRemoteKind i n) there fine = inlined _ _ (cell_kinded p bit (kinds.AssociatedRemoteKind i n) there fine)
   slot_kinded p bit (kinds.AssociatedReceiverKind i n) there fine = inlined _ _ (cell_kinded p bit (kinds.AssociatedReceiverKind i n) there fine)
 
+  -- a slot is read where it has a value
+  read_kinded : (base : ℕ) (flag : Option ℕ) (k : KindTree) (ms : List Mark) (t : Tree) (held : Bool) → has_value bytes base flag ≡ held
+      → (IsFine ms → IsValue schema true k t most) → IsFine (marks_if held ms)
+      → OrNull flag (value_if held t) (IsOfKind schema k (value_if held t)) × (levels true (value_if held t) ≤ most)
+  read_kinded base None k ms t true e read fine = let v = read fine in (v.kind, v.deep)
+  read_kinded base None k ms t false e read fine = absurd cc
+  read_kinded base (Some flag) k ms t true e read fine = let v = read fine in (may_stand flag t (IsOfKind schema k t) v.kind, v.deep)
+  read_kinded base (Some flag) k ms t false e read fine = (tt, omega arith)
+
   -- slots that were read, before others
   pub slots_kinded : (base : ℕ) (ss others : List Slot) (rest : Trees) → AreThere schema ss → IsFine (slots_marks next schema bytes base ss)
       → AreValues schema others rest most → AreValues schema (ss ++ others) (slots_value then_ schema bytes base ss rest) most
   unfolding slots_marks slots_value IsOfKind
   slots_kinded base [] others rest there fine h = h
   slots_kinded base (s ∷ ss) others rest there fine h =
-      let here = slot_marks next schema bytes (base + s.place / 8) s.kind in
+      let held = has_value bytes base s.flag in
+      let met = slot_marks next schema bytes (base + s.place / 8) s.kind in
+      let here = marks_if held met in
       let after = slots_marks next schema bytes base ss in
-      let one = slot_kinded (base + s.place / 8) (s.place % 8) s.kind there.0 (fine_left here after fine) in
+      let read = slot_kinded (base + s.place / 8) (s.place % 8) s.kind there.0 in
+      let one = read_kinded base s.flag s.kind met _ held refl read (fine_left here after fine) in
       let more = slots_kinded base ss others rest there.1 (fine_right here after fine) h in
-      record { kinds = (one.kind, more.kinds); deep = max_least _ _ most one.deep more.deep }
+      record { kinds = (one.0, more.kinds); deep = max_least _ _ most one.1 more.deep }

@@ -1,5 +1,3 @@
-pub mod Cases
-pub mod Fine
 pub mod RowsThere
 pub mod Numbers
 pub mod Absent
@@ -7,8 +5,3 @@ pub mod KindedSlots
 pub mod KindedObjects
 pub mod Open
 pub mod OfItsKind
-pub mod SameNumbers
-pub mod SameSlots
-pub mod SameObjects
-pub mod SameHeaders
-pub mod SameMessages

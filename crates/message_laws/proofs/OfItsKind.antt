@@ -19,7 +19,7 @@ use Rattle.value_text.specs.Texts.{Tells, ReadsBack}
 use Rattle.value_text.specs.declared.text_error.TextError.{TextError}
 use Rattle.value_text.proofs.RoundTrip.{reads_back}
 use Rattle.message_laws.specs.Filled.{AreBytes, IsFilledSchema}
-use Rattle.message_laws.proofs.Fine.{fine_right}
+use Rattle.same_messages.proofs.Fine.{fine_right}
 use Rattle.message_laws.proofs.KindedObjects.{visited_kinded}
 use Rattle.message_laws.specs.steps.Kinded.{IsValue}
 use Rattle.message_laws.proofs.Open.{open_behind}

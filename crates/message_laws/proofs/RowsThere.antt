@@ -25,7 +25,7 @@ use Rattle.wire_model.specs.declared.target.Expected.{Expected}
 use Rattle.wire_model.specs.declared.target.MessageSide.{MessageSide}
 use Rattle.wire_model.specs.declared.target.MessageSide.TheVariants.{Request, Response}
 use Rattle.message_laws.specs.steps.Kinded.{counts, IsThere, AreThere}
-use Rattle.message_laws.proofs.Cases.{by_test}
+use Rattle.same_messages.proofs.Cases.{by_test}
 
 -- a row whose number is below their count
 found_below : {A : Type 0} (xs : List A) (i : ℕ) → i < length xs → (x : A) × (slice_get xs i ≡ Some x)

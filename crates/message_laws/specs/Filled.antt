@@ -4,11 +4,16 @@ use Rattle.mj_schema.specs.declared.rows.FieldRow.{FieldRow}
 use Rattle.mj_schema.specs.declared.rows.StructRow.{StructRow}
 use Rattle.mj_schema.specs.declared.schema.Schema.{Schema}
 use Rattle.wire_model.specs.Absent.{absent_field}
+use Rattle.mj_schema.specs.Parts.{flag_place}
 use Rattle.wire_model.specs.Depth.{IsOfKind}
+use Rattle.wire_model.specs.Kinded.{OrNull}
 
--- what a field of a later version than 0 reads as where it is absent is a value of its kind; a field of version 0 never is
+-- what a field of a later version than 0 reads as where it is absent is a value of its kind, or null where the field has a flag; a field of
+-- version 0 is never absent
 abbrev pub IsFilled : Schema → FieldRow → Type 0
-IsFilled schema field = 0 < field.min_version → IsOfKind schema field.kind (absent_field schema field.default field.kind)
+IsFilled schema field =
+    let read = absent_field schema field.default field.kind in
+    0 < field.min_version → OrNull (flag_place field.flag) read (IsOfKind schema field.kind read)
 
 -- so it is with each field of each struct
 pub record IsFilledSchema (schema : Schema) : Type 0 where

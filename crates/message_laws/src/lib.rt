@@ -1,5 +1,4 @@
-//! Laws of messages that stand for a value: it is of its kind, its text is read back, and it depends
-//! on nothing but the bytes that are claimed.
+//! Laws of messages that stand for a value: it is of its kind, and its text is read back.
 #![tactic(auto)]
 
 ghost use Rattle.std.specs.Prelude.{◌≡◌, ◌+◌, ◌≤◌, ℕ, false, List, Result, Some, option_and_then};
@@ -14,7 +13,6 @@ ghost use Rattle.value_text.specs.Rules.{value};
 ghost use Rattle.value_text.specs.Spelling.{spell};
 ghost use Rattle.value_text.specs.Texts.{Tells, ReadsBack};
 ghost use Rattle.value_text.specs.declared.text_error.TextError.{TextError};
-ghost use Rattle.message_laws.specs.Agree.{AgreesWhereRead};
 ghost use Rattle.message_laws.specs.Filled.{AreBytes, IsFilledSchema};
 
 /// What a message stands for is a value of its kind, the struct that its method has for the side,
@@ -37,16 +35,4 @@ pub fn decoded_text_is_read_back()
         → option_and_then (struct_of expected.side) (method_named schema expected bytes) ≡ Some number
         → Tells (value schema 512 (StructKind number false)) (spell schema (StructKind number false) (message_value schema bytes number).value) read
         → ReadsBack (message_value schema bytes number).value read }
-{}
-
-/// What a message stands for depends on the bytes where it is read alone: another message that is at
-/// least as long, and has the same bytes in the header, in the array of ids and in each object that
-/// the first claims, stands with as many handles, and for the same. So nothing depends on bytes in
-/// gaps, nor on any behind. This is a law and does nothing.
-pub fn independent()
-    ensures { (schema : Schema) (expected : Expected) (bytes other : List ℕ) (handle_count : ℕ)
-        → Stands schema expected bytes handle_count → AgreesWhereRead schema expected bytes other
-        → Stands schema expected other handle_count
-        × ((number : ℕ) → option_and_then (struct_of expected.side) (method_named schema expected bytes) ≡ Some number
-        → message_value schema other number ≡ message_value schema bytes number) }
 {}

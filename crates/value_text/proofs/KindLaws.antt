@@ -1,10 +1,11 @@
 -- The laws of the text of a value, kind by kind.
 use Rattle.std.proofs.Common.{◌≡◌, ℕ, zero, suc, ◌-◌, ◌^◌, ◌≤◌, ◌<◌, List, [], ◌∷◌, Option, Some, None, map, Bool, true, false, ◌==◌}
 use Rattle.std.proofs.Common.{◌||◌, refl, arith}
-use Rattle.std.specs.Prelude.{pos, slice_get}
+use Rattle.std.specs.Prelude.{pos, slice_get, is_some}
 use Rattle.std.proofs.lemmas.Bool.Decides.{nat_tests}
 use Rattle.mj_schema.specs.KindTrees as kinds
 use Rattle.mj_schema.specs.KindTrees.{KindTree}
+use Rattle.mj_schema.specs.Parts.{has_flag}
 use Rattle.wire_model.specs.Kinded.{is_nullable}
 use Rattle.wire_model.specs.Rows.{kind_of_tag}
 use Rattle.wire_model.specs.Trees.{Tree}
@@ -21,7 +22,7 @@ use Rattle.byte_rules.proofs.Good.{Good, Apart, nothing, with_starts, good_value
 use Rattle.byte_rules.proofs.Good.{good_listed, good_exactly, good_wider}
 use Rattle.value_text.specs.Numbers.{is_digit, number, integer, whole, index}
 use Rattle.value_text.specs.Rules.{boolean, null_word, opened, fields_after, fields, items_of, fields_of, elements, array, structure, pair, pairs_of}
-use Rattle.value_text.specs.Rules.{member, union, base, or_null, value}
+use Rattle.value_text.specs.Rules.{member, union, base, or_null, slot_value, value}
 use Rattle.value_text.proofs.NumberLaws.{good_number}
 use Rattle.value_text.proofs.ListedNumbers.{number_starts, good_integer, good_index, good_number_of, good_tag}
 use Rattle.value_text.proofs.CharacterLaws.{good_text}
@@ -157,38 +158,38 @@ in_close b e = grind (arith, nat_tests)
 abbrev any_byte : ℕ → Bool
 any_byte b = true
 
-module _ (inside : KindTree → Lang Tree) (good : (k : KindTree) → Good value_starts is_digit (inside k)) where
-  good_after : (ks : List KindTree) → Good field_ends nothing (fields_after inside ks)
+module _ (inside : Bool → KindTree → Lang Tree) (good : (flagged : Bool) (k : KindTree) → Good value_starts is_digit (inside flagged k)) where
+  good_after : (fs : List FieldRow) → Good field_ends nothing (fields_after inside fs)
   unfolding fields_after
   good_after [] = good_wider field_ends nothing (good_closed 41 []) in_close (λ b e. refl)
-  good_after (k ∷ ks) = good_wider field_ends nothing
-      (good_before 44 (good_then _ (good k) (λ v. good_value (λ vs. v ∷ vs) (good_after ks)) apart_field)) in_comma (λ b e. refl)
+  good_after (f ∷ fs) = good_wider field_ends nothing
+      (good_before 44 (good_then _ (good (is_some f.flag) f.kind) (λ v. good_value (λ vs. v ∷ vs) (good_after fs)) apart_field)) in_comma (λ b e. refl)
 
-  good_fields : (ks : List KindTree) → Good any_byte nothing (fields inside ks)
+  good_fields : (fs : List FieldRow) → Good any_byte nothing (fields inside fs)
   unfolding fields
   good_fields [] = good_wider any_byte nothing (good_closed 41 []) (λ b e. refl) (λ b e. refl)
-  good_fields (k ∷ ks) = good_wider any_byte nothing (good_then _ (good k) (λ v. good_value (λ vs. v ∷ vs) (good_after ks)) apart_field) (λ b e. refl)
-      (λ b e. refl)
+  good_fields (f ∷ fs) = good_wider any_byte nothing
+      (good_then _ (good (is_some f.flag) f.kind) (λ v. good_value (λ vs. v ∷ vs) (good_after fs)) apart_field) (λ b e. refl) (λ b e. refl)
 
-  good_elements : (of : KindTree) (count : Option ℕ) → Good (with_starts (λ b. b == 93) value_starts) nothing (elements (inside of) count)
-  good_elements of None = good_listed 93 (good of) apart_square square_no_digit refl refl
-  good_elements of (Some n) = good_exactly 93 (good of) refl square_no_digit n
+  good_elements : (of : KindTree) (count : Option ℕ) → Good (with_starts (λ b. b == 93) value_starts) nothing (elements (inside false of) count)
+  good_elements of None = good_listed 93 (good false of) apart_square square_no_digit refl refl
+  good_elements of (Some n) = good_exactly 93 (good false of) refl square_no_digit n
 
-  good_array : (of : KindTree) (count : Option ℕ) → Good (with_starts (λ b. b == 93) value_starts) nothing (array (inside of) count)
+  good_array : (of : KindTree) (count : Option ℕ) → Good (with_starts (λ b. b == 93) value_starts) nothing (array (inside false of) count)
   good_array of count = good_value items_of (good_elements of count)
 
-  good_pair : (key one : KindTree) → Good value_starts is_digit (pair (inside key) (inside one))
+  good_pair : (key one : KindTree) → Good value_starts is_digit (pair (inside false key) (inside false one))
   unfolding pair
-  good_pair key one = good_then _ (good key) (λ k. good_before 58 (good_value (λ v. (k, v)) (good one))) colon_no_digit
+  good_pair key one = good_then _ (good false key) (λ k. good_before 58 (good_value (λ v. (k, v)) (good false one))) colon_no_digit
 
   good_structure : (row : Option StructRow) → Good any_byte nothing (structure inside row)
   good_structure None = good_wider any_byte nothing (good_never values.Null) (λ b e. refl) (λ b e. refl)
-  good_structure (Some row) = good_value fields_of (good_fields (map (λ (f : FieldRow). f.kind) row.fields))
+  good_structure (Some row) = good_value fields_of (good_fields row.fields)
 
   good_member : (tag : ℕ) (k : Option KindTree) → Good member_starts nothing (member inside tag k)
   good_member tag None = good_wider member_starts nothing (good_closed 62 (values.Unknown tag)) in_end (λ b e. refl)
   good_member tag (Some k) = good_wider member_starts nothing
-      (good_before 58 (good_then _ (good k) (λ v. good_closed 62 (values.Member tag v)) angle_no_digit)) in_colon (λ b e. refl)
+      (good_before 58 (good_then _ (good false k) (λ v. good_closed 62 (values.Member tag v)) angle_no_digit)) in_colon (λ b e. refl)
 
   good_union : (row : Option UnionRow) → Good any_byte nothing (union inside row)
   good_union None = good_wider any_byte nothing (good_never values.Null) (λ b e. refl) (λ b e. refl)
@@ -197,9 +198,9 @@ module _ (inside : KindTree → Lang Tree) (good : (k : KindTree) → Good value
       (λ tag. good_member tag (kind_of_tag row.fields tag)) apart_member) (λ b e. refl) (λ b e. refl)
 
   good_base : (schema : Schema) (room : Bool) (k : KindTree) → Good base_starts is_digit (base schema room inside k)
-  good_base schema room kinds.BoolKind = good_boolean
-  good_base schema room (kinds.IntKind w signed) = good_value values.Whole (good_whole w signed)
-  good_base schema room (kinds.EnumKind n) =
+  good_base schema room (kinds.BoolKind nullable) = good_boolean
+  good_base schema room (kinds.IntKind w signed nullable) = good_value values.Whole (good_whole w signed)
+  good_base schema room (kinds.EnumKind n nullable) =
       good_value values.Whole (good_wider base_starts is_digit (good_number_of (slice_get schema.enums n)) in_number (λ b e. e))
   good_base schema room (kinds.TextKind nullable) = good_value values.Text (wide good_text in_quote)
   good_base schema room (kinds.HandleKind sort nullable) = good_one 37 values.Handle in_percent
@@ -223,10 +224,14 @@ good_or_null : {one : Lang Tree} (nullable : Bool) → Good base_starts is_digit
 good_or_null false o = good_wider value_starts is_digit o in_value (λ b e. e)
 good_or_null true o = good_choice (good_wider (λ b. b == 110) is_digit good_null (λ b e. e) (λ b e. refl)) o apart_null
 
-good_nowhere : (k : KindTree) → Good value_starts is_digit (never values.Null)
-good_nowhere k = good_wider value_starts is_digit (good_never values.Null) (λ b e. absurd (cc)) (λ b e. refl)
+good_nowhere : (flagged : Bool) (k : KindTree) → Good value_starts is_digit (never values.Null)
+good_nowhere flagged k = good_wider value_starts is_digit (good_never values.Null) (λ b e. absurd (cc)) (λ b e. refl)
+
+pub good_slot : (schema : Schema) (left : ℕ) (flagged : Bool) (k : KindTree) → Good value_starts is_digit (slot_value schema left flagged k)
+unfolding slot_value
+good_slot schema zero flagged k = good_or_null (flagged || is_nullable k) (good_base (λ flagged k. never values.Null) good_nowhere schema false k)
+good_slot schema (suc left) flagged k = good_or_null (flagged || is_nullable k) (good_base (slot_value schema left) (good_slot schema left) schema true k)
 
 pub good_kind : (schema : Schema) (left : ℕ) (k : KindTree) → Good value_starts is_digit (value schema left k)
 unfolding value
-good_kind schema zero k = good_or_null (is_nullable k) (good_base (λ k. never values.Null) good_nowhere schema false k)
-good_kind schema (suc left) k = good_or_null (is_nullable k) (good_base (value schema left) (good_kind schema left) schema true k)
+good_kind schema left k = good_slot schema left (has_flag k) k

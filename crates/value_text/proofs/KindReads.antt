@@ -1,6 +1,7 @@
 -- How the text of a kind is read, by cases as the functions make them.
 use Rattle.std.proofs.Common.{◌≡◌, ℕ, zero, suc, ◌-◌, ◌+◌, ◌<◌, ◌≤◌, List, [], ◌∷◌, ◌++◌, length, map, drop, take, Option, Some, Ok, Err, Bool, true}
 use Rattle.std.proofs.Common.{false, ◌==◌, refl, sym, ap, ◌∙◌, subst, append_assoc, arith, get_or, add-one, drop-cons}
+use Rattle.std.specs.Prelude.{is_some, ◌||◌}
 use Rattle.std.specs.List.{flat_map}
 use Rattle.std.proofs.lemmas.List.{append-nil}
 use Rattle.mj_schema.specs.KindTrees.{KindTree}
@@ -16,16 +17,16 @@ use Rattle.byte_rules.specs.declared.stop.Stop.TheVariants as stops
 use Rattle.byte_rules.specs.Lang.{Lang, Read, ◌>>=◌, front_is, byte, closed, as_value, ◌then◌, ◌▸◌, never, listed, exactly, rest_of}
 use Rattle.byte_rules.specs.Reading.{Fails}
 use Rattle.byte_rules.specs.steps.Reading.{with_front}
-use Rattle.value_text.specs.Rules.{null_word, opened, array, structure, fields, fields_after, union, or_null, value}
-use Rattle.value_text.specs.steps.Reading.{has_room, inside, base_at}
-use Rattle.value_text.specs.Rules.{fields_of, pair, pairs_of, fields_kinds}
+use Rattle.value_text.specs.Rules.{null_word, opened, array, structure, fields, fields_after, union, or_null, slot_value}
+use Rattle.value_text.specs.steps.Reading.{has_room, inside, inner, base_at}
+use Rattle.value_text.specs.Rules.{fields_of, pair, pairs_of}
 use Rattle.value_text.specs.steps.Reading.{pair_of}
 
-value_is : (schema : Schema) (left : ℕ) (k : KindTree) (bs : List ℕ)
-    → (value schema left k).read bs ≡ (or_null (is_nullable k) (base_at schema left k)).read bs
-unfolding value
-value_is schema zero k bs = refl
-value_is schema (suc left) k bs = refl
+value_is : (schema : Schema) (left : ℕ) (flagged : Bool) (k : KindTree) (bs : List ℕ)
+    → (slot_value schema left flagged k).read bs ≡ (or_null (flagged || is_nullable k) (base_at schema left k)).read bs
+unfolding slot_value
+value_is schema zero flagged k bs = refl
+value_is schema (suc left) flagged k bs = refl
 
 null_at : (n : Bool) (one : Lang Tree) (bs : List ℕ) → n ≡ true → front_is (λ b. b == 110) bs ≡ true → (or_null n one).read bs ≡ null_word.read bs
 null_at true one bs e f = rw f refl
@@ -39,17 +40,17 @@ other_at : (n : Bool) (one : Lang Tree) (bs : List ℕ) → front_is (λ b. b ==
 other_at true one bs e = rw e refl
 other_at false one bs e = refl
 
-pub value_null : (schema : Schema) (left : ℕ) (k : KindTree) (bs : List ℕ) → is_nullable k ≡ true → front_is (λ b. b == 110) bs ≡ true
-    → (value schema left k).read bs ≡ null_word.read bs
-value_null schema left k bs e f = value_is schema left k bs ∙ null_at (is_nullable k) (base_at schema left k) bs e f
+pub value_null : (schema : Schema) (left : ℕ) (flagged : Bool) (k : KindTree) (bs : List ℕ) → (flagged || is_nullable k) ≡ true
+    → front_is (λ b. b == 110) bs ≡ true → (slot_value schema left flagged k).read bs ≡ null_word.read bs
+value_null schema left flagged k bs e f = value_is schema left flagged k bs ∙ null_at (flagged || is_nullable k) (base_at schema left k) bs e f
 
-pub value_never_null : (schema : Schema) (left : ℕ) (k : KindTree) (bs : List ℕ) → is_nullable k ≡ false
-    → (value schema left k).read bs ≡ (base_at schema left k).read bs
-value_never_null schema left k bs e = value_is schema left k bs ∙ none_at (is_nullable k) (base_at schema left k) bs e
+pub value_never_null : (schema : Schema) (left : ℕ) (flagged : Bool) (k : KindTree) (bs : List ℕ) → (flagged || is_nullable k) ≡ false
+    → (slot_value schema left flagged k).read bs ≡ (base_at schema left k).read bs
+value_never_null schema left flagged k bs e = value_is schema left flagged k bs ∙ none_at (flagged || is_nullable k) (base_at schema left k) bs e
 
-pub value_other : (schema : Schema) (left : ℕ) (k : KindTree) (bs : List ℕ) → front_is (λ b. b == 110) bs ≡ false
-    → (value schema left k).read bs ≡ (base_at schema left k).read bs
-value_other schema left k bs e = value_is schema left k bs ∙ other_at (is_nullable k) (base_at schema left k) bs e
+pub value_other : (schema : Schema) (left : ℕ) (flagged : Bool) (k : KindTree) (bs : List ℕ) → front_is (λ b. b == 110) bs ≡ false
+    → (slot_value schema left flagged k).read bs ≡ (base_at schema left k).read bs
+value_other schema left flagged k bs e = value_is schema left flagged k bs ∙ other_at (flagged || is_nullable k) (base_at schema left k) bs e
 
 pub never_read : {A : Type 0} (x : A) (bs : List ℕ) → (never x).read bs ≡ Err (length bs)
 never_read x [] = refl
@@ -62,23 +63,23 @@ opened_full c (suc left) one bs e = absurd (cc)
 
 -- one may
 pub array_room : (schema : Schema) (left : ℕ) (of : KindTree) (count : Option ℕ) (bs : List ℕ) → 0 < left
-    → (opened (has_room left) 91 (array (inside schema left of) count)).read bs ≡ (91 ▸ array (value schema (left - 1) of) count).read bs
+    → (opened (has_room left) 91 (array (inside schema left false of) count)).read bs ≡ (91 ▸ array (inner schema (left - 1) of) count).read bs
 array_room schema zero of count bs h = absurd (omega (arith, h))
 array_room schema (suc left) of count bs h = let e : suc left - 1 ≡ left = omega arith in rw e refl
 
 pub map_room : (schema : Schema) (left : ℕ) (key one : KindTree) (bs : List ℕ) → 0 < left
-    → (opened (has_room left) 123 (as_value pairs_of (listed 125 (pair (inside schema left key) (inside schema left one))))).read bs
+    → (opened (has_room left) 123 (as_value pairs_of (listed 125 (pair (inside schema left false key) (inside schema left false one))))).read bs
     ≡ (123 ▸ as_value pairs_of (listed 125 (pair_of schema (left - 1) key one))).read bs
 map_room schema zero key one bs h = absurd (omega (arith, h))
 map_room schema (suc left) key one bs h = let e : suc left - 1 ≡ left = omega arith in rw e refl
 
 pub struct_room : (schema : Schema) (left : ℕ) (row : Option StructRow) (bs : List ℕ) → 0 < left
-    → (opened (has_room left) 40 (structure (inside schema left) row)).read bs ≡ (40 ▸ structure (value schema (left - 1)) row).read bs
+    → (opened (has_room left) 40 (structure (inside schema left) row)).read bs ≡ (40 ▸ structure (slot_value schema (left - 1)) row).read bs
 struct_room schema zero row bs h = absurd (omega (arith, h))
 struct_room schema (suc left) row bs h = let e : suc left - 1 ≡ left = omega arith in rw e refl
 
 pub union_room : (schema : Schema) (left : ℕ) (row : Option UnionRow) (bs : List ℕ) → 0 < left
-    → (opened (has_room left) 60 (union (inside schema left) row)).read bs ≡ (60 ▸ union (value schema (left - 1)) row).read bs
+    → (opened (has_room left) 60 (union (inside schema left) row)).read bs ≡ (60 ▸ union (slot_value schema (left - 1)) row).read bs
 union_room schema zero row bs h = absurd (omega (arith, h))
 union_room schema (suc left) row bs h = let e : suc left - 1 ≡ left = omega arith in rw e refl
 
@@ -92,7 +93,7 @@ first_and_more x (Ok y) = ap (λ (l : List Tree). Ok (x ∷ l, y.1)) (singles y.
 first_and_more x (Err n) = refl
 
 -- fields, one after the other
-module _ (within : KindTree → Lang Tree) where
+module _ (within : Bool → KindTree → Lang Tree) where
   after_one : (front : List Tree) (x : Tree) (r : Read (List Tree))
       → with_front (λ t. t ∷ []) front (r >>= λ y. Ok (x ∷ y.0, y.1)) ≡ with_front (λ t. t ∷ []) (front ++ x ∷ []) r
   after_one front x (Ok y) = ap (λ (xs : List Tree). Ok (xs, y.1)) (sym (append_assoc front (x ∷ []) (flat_map (λ t. t ∷ []) y.0)))
@@ -105,23 +106,25 @@ module _ (within : KindTree → Lang Tree) where
       of (Ok x) = refl
       of (Err n) = refl
 
-  pub field_on : (front : List Tree) (k : KindTree) (ks : List KindTree) (ts next : List ℕ) (x : Tree) (total : Read (List Tree))
-      → (44 ▸ within k).read ts ≡ Ok (x, next) → with_front (λ t. t ∷ []) front ((fields_after within (k ∷ ks)).read ts) ≡ total
-      → with_front (λ t. t ∷ []) (front ++ x ∷ []) ((fields_after within ks).read next) ≡ total
+  pub field_on : (front : List Tree) (f : FieldRow) (fs : List FieldRow) (ts next : List ℕ) (x : Tree) (total : Read (List Tree))
+      → (44 ▸ within (is_some f.flag) f.kind).read ts ≡ Ok (x, next) → with_front (λ t. t ∷ []) front ((fields_after within (f ∷ fs)).read ts) ≡ total
+      → with_front (λ t. t ∷ []) (front ++ x ∷ []) ((fields_after within fs).read next) ≡ total
   unfolding fields_after
-  field_on front k ks ts next x total a so_far =
-      let here : (fields_after within (k ∷ ks)).read ts ≡ ((fields_after within ks).read next >>= λ y. Ok (x ∷ y.0, y.1)) =
-      regrouped (within k) (λ v. as_value (λ vs. v ∷ vs) (fields_after within ks)) ts
-      ∙ ap (λ (r : Read Tree). r >>= λ x. (as_value (λ vs. x.0 ∷ vs) (fields_after within ks)).read x.1) a in
-      sym (after_one front x ((fields_after within ks).read next)) ∙ ap (with_front (λ t. t ∷ []) front) (sym here) ∙ so_far
+  field_on front f fs ts next x total a so_far =
+      let here : (fields_after within (f ∷ fs)).read ts ≡ ((fields_after within fs).read next >>= λ y. Ok (x ∷ y.0, y.1)) =
+      regrouped (within (is_some f.flag) f.kind) (λ v. as_value (λ vs. v ∷ vs) (fields_after within fs)) ts
+      ∙ ap (λ (r : Read Tree). r >>= λ x. (as_value (λ vs. x.0 ∷ vs) (fields_after within fs)).read x.1) a in
+      sym (after_one front x ((fields_after within fs).read next)) ∙ ap (with_front (λ t. t ∷ []) front) (sym here) ∙ so_far
 
-  pub no_field : (e : Stop) (front : List Tree) (k : KindTree) (ks : List KindTree) (ts : List ℕ) (total : Read (List Tree))
-      → Fails e ((44 ▸ within k).read ts) → with_front (λ t. t ∷ []) front ((fields_after within (k ∷ ks)).read ts) ≡ total → Fails e total
+  pub no_field : (e : Stop) (front : List Tree) (f : FieldRow) (fs : List FieldRow) (ts : List ℕ) (total : Read (List Tree))
+      → Fails e ((44 ▸ within (is_some f.flag) f.kind).read ts) → with_front (λ t. t ∷ []) front ((fields_after within (f ∷ fs)).read ts) ≡ total
+      → Fails e total
   unfolding fields_after
-  no_field stops.Memory front k ks ts total a so_far = tt
-  no_field (stops.Left n) front k ks ts total a so_far =
-      let here : (fields_after within (k ∷ ks)).read ts ≡ Err n = regrouped (within k) (λ v. as_value (λ vs. v ∷ vs) (fields_after within ks)) ts
-      ∙ ap (λ (r : Read Tree). r >>= λ x. (as_value (λ vs. x.0 ∷ vs) (fields_after within ks)).read x.1) a in
+  no_field stops.Memory front f fs ts total a so_far = tt
+  no_field (stops.Left n) front f fs ts total a so_far =
+      let here : (fields_after within (f ∷ fs)).read ts ≡ Err n =
+      regrouped (within (is_some f.flag) f.kind) (λ v. as_value (λ vs. v ∷ vs) (fields_after within fs)) ts
+      ∙ ap (λ (r : Read Tree). r >>= λ x. (as_value (λ vs. x.0 ∷ vs) (fields_after within fs)).read x.1) a in
       sym so_far ∙ ap (with_front (λ t. t ∷ []) front) here
 
   pub fields_end : (front : List Tree) (ts next : List ℕ) (total : Read (List Tree)) → (byte 41).read ts ≡ Ok (41, next)
@@ -145,42 +148,45 @@ pushed {A} {B} f xs x new e = ap (map f) e ∙ of xs
     of (y ∷ ys) = ap (λ (l : List B). f y ∷ l) (of ys)
 
 -- a struct that is there
-pub structure_ok : (inside : KindTree → Lang Tree) (found : Option StructRow) (row : StructRow) (bs : List ℕ) (vs : List Tree) (rest : List ℕ)
-    → Some row ≡ found → (fields inside (map (λ (f : FieldRow). f.kind) row.fields)).read bs ≡ Ok (vs, rest)
+pub structure_ok : (inside : Bool → KindTree → Lang Tree) (found : Option StructRow) (row : StructRow) (bs : List ℕ) (vs : List Tree) (rest : List ℕ)
+    → Some row ≡ found → (fields inside row.fields).read bs ≡ Ok (vs, rest)
     → (structure inside found).read bs ≡ Ok (fields_of vs, rest)
 structure_ok inside found row bs vs rest e r = subst (λ (o : Option StructRow). (structure inside o).read bs ≡ Ok (fields_of vs, rest)) e (rw r refl)
 
-pub structure_err : (inside : KindTree → Lang Tree) (found : Option StructRow) (row : StructRow) (bs : List ℕ) (stop : Stop) → Some row ≡ found
-    → Fails stop ((fields inside (map (λ (f : FieldRow). f.kind) row.fields)).read bs) → Fails stop ((structure inside found).read bs)
+pub structure_err : (inside : Bool → KindTree → Lang Tree) (found : Option StructRow) (row : StructRow) (bs : List ℕ) (stop : Stop) → Some row ≡ found
+    → Fails stop ((fields inside row.fields).read bs) → Fails stop ((structure inside found).read bs)
 structure_err inside found row bs stops.Memory e r = tt
 structure_err inside found row bs (stops.Left n) e r = subst (λ (o : Option StructRow). (structure inside o).read bs ≡ Err n) e (rw r refl)
 
 -- the first field of some
-pub first_field : (inside : KindTree → Lang Tree) (k : KindTree) (ks : List KindTree) (bs rest : List ℕ) (x : Tree) → (inside k).read bs ≡ Ok (x, rest)
-    → (fields inside (k ∷ ks)).read bs ≡ with_front (λ t. t ∷ []) (x ∷ []) ((fields_after inside ks).read rest)
+pub first_field : (inside : Bool → KindTree → Lang Tree) (f : FieldRow) (fs : List FieldRow) (bs rest : List ℕ) (x : Tree)
+    → (inside (is_some f.flag) f.kind).read bs ≡ Ok (x, rest)
+    → (fields inside (f ∷ fs)).read bs ≡ with_front (λ t. t ∷ []) (x ∷ []) ((fields_after inside fs).read rest)
 unfolding fields
-first_field inside k ks bs rest x r = rw r (sym (first_and_more x ((fields_after inside ks).read rest)))
+first_field inside f fs bs rest x r = rw r (sym (first_and_more x ((fields_after inside fs).read rest)))
 
--- the kinds of fields from a place on
-pub kinds_at : (row : List FieldRow) (i : ℕ) (f : FieldRow) → i < length row → f ≡ get_or row i f
-    → fields_kinds (drop i row) ≡ f.kind ∷ fields_kinds (drop (i + 1) row)
-kinds_at row i f lt e =
+-- the fields from a place on
+pub fields_at : (row : List FieldRow) (i : ℕ) (f : FieldRow) → i < length row → f ≡ get_or row i f → drop i row ≡ f ∷ drop (i + 1) row
+fields_at row i f lt e =
     let cut : drop i row ≡ get_or row i f ∷ drop (i + 1) row = rw (add-one, drop-cons row i f) refl in
-    ap fields_kinds cut ∙ ap (λ (g : FieldRow). g.kind ∷ fields_kinds (drop (i + 1) row)) (sym e)
+    cut ∙ ap (λ (g : FieldRow). g ∷ drop (i + 1) row) (sym e)
 
-pub kinds_end : (row : List FieldRow) (i : ℕ) → length row ≤ i → fields_kinds (drop i row) ≡ []
-kinds_end [] zero le = refl
-kinds_end [] (suc i) le = refl
-kinds_end (f ∷ fs) zero le = absurd (omega (arith, le))
-kinds_end (f ∷ fs) (suc i) le = kinds_end fs i (omega (arith, le))
+pub fields_gone : (row : List FieldRow) (i : ℕ) → length row ≤ i → drop i row ≡ []
+fields_gone [] zero le = refl
+fields_gone [] (suc i) le = refl
+fields_gone (f ∷ fs) zero le = absurd (omega (arith, le))
+fields_gone (f ∷ fs) (suc i) le = fields_gone fs i (omega (arith, le))
 
-pub fields_first : (inside : KindTree → Lang Tree) (row : List FieldRow) (f : FieldRow) (k : KindTree) (bs rest : List ℕ) (x : Tree) (vs : List Tree)
-    → 1 ≤ length row → f ≡ get_or row 0 f → k ≡ f.kind → (inside k).read bs ≡ Ok (x, rest) → vs ≡ x ∷ []
-    → (fields inside (fields_kinds row)).read bs ≡ with_front (λ t. t ∷ []) vs ((fields_after inside (fields_kinds (drop 1 row))).read rest)
-fields_first inside row f k bs rest x vs le e same r v =
-    ap (λ (ks : List KindTree). (fields inside ks).read bs) (kinds_at row 0 f (omega (arith, le)) e)
-    ∙ first_field inside f.kind (fields_kinds (drop 1 row)) bs rest x (subst (λ (k : KindTree). (inside k).read bs ≡ Ok (x, rest)) same r)
-    ∙ ap (λ (l : List Tree). with_front (λ t. t ∷ []) l ((fields_after inside (fields_kinds (drop 1 row))).read rest)) (sym v)
+pub fields_first : (inside : Bool → KindTree → Lang Tree) (row : List FieldRow) (f : FieldRow) (flagged : Bool) (k : KindTree) (bs rest : List ℕ) (x : Tree)
+    (vs : List Tree) → 1 ≤ length row → f ≡ get_or row 0 f → flagged ≡ is_some f.flag → k ≡ f.kind → (inside flagged k).read bs ≡ Ok (x, rest) → vs ≡ x ∷ []
+    → (fields inside row).read bs ≡ with_front (λ t. t ∷ []) vs ((fields_after inside (drop 1 row)).read rest)
+fields_first inside row f flagged k bs rest x vs le e flag same r v =
+    let here : (inside (is_some f.flag) f.kind).read bs ≡ Ok (x, rest) =
+    subst (λ (k : KindTree). (inside (is_some f.flag) k).read bs ≡ Ok (x, rest)) same
+    (subst (λ (b : Bool). (inside b k).read bs ≡ Ok (x, rest)) flag r) in
+    ap (λ (fs : List FieldRow). (fields inside fs).read bs) (fields_at row 0 f (omega (arith, le)) e)
+    ∙ first_field inside f (drop 1 row) bs rest x here
+    ∙ ap (λ (l : List Tree). with_front (λ t. t ∷ []) l ((fields_after inside (drop 1 row)).read rest)) (sym v)
 
 all_taken : {A : Type 0} (xs : List A) → take (length xs) xs ≡ xs
 all_taken [] = refl

@@ -27,7 +27,7 @@ use Rattle.byte_rules.specs.Lang.{Lang, as_value, ◌▸◌, ◌then◌}
 use Rattle.byte_rules.specs.Among.{IsAmong}
 use Rattle.byte_rules.proofs.Shown.{Shown, shown_value, shown_then, shown_before, shown_first, shown_second, shown_words, shown_among}
 use Rattle.value_text.specs.Numbers.{numbers, number, minus, integer, whole, index, is_int32, members_numbers, enum_number, number_of}
-use Rattle.value_text.specs.Rules.{boolean, null_word, value, or_null}
+use Rattle.value_text.specs.Rules.{boolean, null_word, slot_value, or_null}
 use Rattle.value_text.specs.steps.Reading.{base_at}
 use Rattle.value_text.specs.Spelling.{flag_text}
 
@@ -41,15 +41,23 @@ or_nothing true one e m K q h = inl (refl, (refl, (refl, (refl, h))))
 or_nothing false one e m K q h = absurd (cc)
 
 -- a value that isn't null, and null
-pub lift : (schema : Schema) (left : ℕ) (k : KindTree) (t : Tree) (w : List ℕ) → Shown (base_at schema left k) t w → Shown (value schema left k) t w
-unfolding value
-lift schema zero k t w s = or_lift (is_nullable k) (base_at schema 0 k) t w s
-lift schema (suc left) k t w s = or_lift (is_nullable k) (base_at schema (suc left) k) t w s
+pub lift : (schema : Schema) (left : ℕ) (flagged : Bool) (k : KindTree) (t : Tree) (w : List ℕ) → Shown (base_at schema left k) t w
+    → Shown (slot_value schema left flagged k) t w
+unfolding slot_value
+lift schema zero flagged k t w s = or_lift (flagged || is_nullable k) (base_at schema 0 k) t w s
+lift schema (suc left) flagged k t w s = or_lift (flagged || is_nullable k) (base_at schema (suc left) k) t w s
 
-pub null_shown : (schema : Schema) (left : ℕ) (k : KindTree) → is_nullable k ≡ true → Shown (value schema left k) values.Null (codes "null")
-unfolding value
-null_shown schema zero k e = or_nothing (is_nullable k) (base_at schema 0 k) e
-null_shown schema (suc left) k e = or_nothing (is_nullable k) (base_at schema (suc left) k) e
+pub null_shown : (schema : Schema) (left : ℕ) (flagged : Bool) (k : KindTree) → (flagged || is_nullable k) ≡ true
+    → Shown (slot_value schema left flagged k) values.Null (codes "null")
+unfolding slot_value
+null_shown schema zero flagged k e = or_nothing (flagged || is_nullable k) (base_at schema 0 k) e
+null_shown schema (suc left) flagged k e = or_nothing (flagged || is_nullable k) (base_at schema (suc left) k) e
+
+-- null by itself
+pub null_alone : (schema : Schema) (left : ℕ) (flagged : Bool) (k : KindTree) → is_nullable k ≡ true
+    → Shown (slot_value schema left flagged k) values.Null (codes "null")
+null_alone schema left false k e = null_shown schema left false k e
+null_alone schema left true k e = null_shown schema left true k refl
 
 pub flag_shown : (b : Bool) → Shown boolean (values.Flag b) (flag_text b)
 unfolding boolean
@@ -132,8 +140,8 @@ number_of_shown (Some row) z f e = enum_shown row.extensible row.members z f e
 
 pub whole_shown : (schema : Schema) (left : ℕ) (k : KindTree) (z : ℤ) → IsWhole schema k z
     → Shown (base_at schema left k) (values.Whole z) (signed_decimal z)
-whole_shown schema left (kinds.IntKind w signed) z f = shown_value values.Whole (whole w signed) z (signed_decimal z) (int_shown w signed z f)
-whole_shown schema left (kinds.EnumKind n) z f =
+whole_shown schema left (kinds.IntKind w signed nullable) z f = shown_value values.Whole (whole w signed) z (signed_decimal z) (int_shown w signed z f)
+whole_shown schema left (kinds.EnumKind n nullable) z f =
     shown_value values.Whole (number_of (slice_get schema.enums n)) z (signed_decimal z) (number_of_shown (slice_get schema.enums n) z f.0 f.1)
 whole_shown schema left _ z f = absurd f
 

@@ -1,11 +1,13 @@
 -- A value has one text of a kind.
 use Rattle.std.proofs.Common.{◌≡◌, ℕ, ℤ, zero, suc, List, [], ◌∷◌, ◌++◌, Option, Some, None, Bool, true, false, ◌==◌, ◌⊎◌, inl, inr, refl, sym, ap, ◌∙◌}
 use Rattle.std.proofs.Common.{subst, append_assoc}
-use Rattle.std.specs.Prelude.{decimal, codes, slice_get, unwrap_or}
+use Rattle.std.specs.Prelude.{decimal, codes, slice_get, unwrap_or, is_some, ◌||◌}
 use Rattle.std.specs.Fmt.{signed_decimal}
 use Rattle.std.proofs.lemmas.List.{append-nil}
 use Rattle.mj_schema.specs.KindTrees as kinds
 use Rattle.mj_schema.specs.KindTrees.{KindTree}
+use Rattle.mj_schema.specs.Parts.{has_flag}
+use Rattle.mj_schema.specs.declared.rows.FieldRow.{FieldRow}
 use Rattle.mj_schema.specs.declared.rows.StructRow.{StructRow}
 use Rattle.mj_schema.specs.declared.rows.UnionRow.{UnionRow}
 use Rattle.mj_schema.specs.declared.schema.Schema.{Schema}
@@ -20,9 +22,9 @@ use Rattle.byte_rules.proofs.Parts.{parts_exactly}
 use Rattle.value_text.specs.Escapes.{quoted}
 use Rattle.value_text.specs.Numbers.{index, whole, number_of, tag_of, fields_tags}
 use Rattle.value_text.specs.Characters.{text}
-use Rattle.value_text.specs.Rules.{letters, boolean, null_word, opened, fields_after, fields, items_of, fields_of, elements, array, fields_kinds, structure}
-use Rattle.value_text.specs.Rules.{pair, keys_of, values_of, pairs_of, member, union, base, or_null, value}
-use Rattle.value_text.specs.Spelling.{flag_text, row_kinds, next_pairs, first_pair, spell, first_item, next_items, both_lists, each_text}
+use Rattle.value_text.specs.Rules.{letters, boolean, null_word, opened, fields_after, fields, items_of, fields_of, elements, array, structure}
+use Rattle.value_text.specs.Rules.{pair, keys_of, values_of, pairs_of, member, union, base, or_null, slot_value, value}
+use Rattle.value_text.specs.Spelling.{flag_text, fields_kinds, row_kinds, next_pairs, first_pair, spell, first_item, next_items, both_lists, each_text}
 use Rattle.value_text.specs.Spelling.{first_field, next_fields}
 use Rattle.value_text.proofs.TextParts.{index_parts, whole_parts, number_of_parts, tag_parts, text_parts}
 
@@ -154,12 +156,12 @@ module _ (schema : Schema) where
       ∙ ap (λ (l : List ℕ). spell schema key h.0.0 ++ 58 ∷ (spell schema one h.0.1 ++ l)) (all_pairs key one h.1 h.3 h.6)
       ∙ ap (λ (l : List (Tree × Tree)). first_pair (each_text schema key (trees (keys_of l))) (each_text schema one (trees (values_of l)))) (sym h.4)
 
-  module _ (inside : KindTree → Lang Tree) (each : (k : KindTree) → Parts (Is k) (inside k)) where
-    elements_parts : (k : KindTree) (n : Option ℕ) → Parts (λ ts w. w ≡ first_item schema k (trees ts)) (elements (inside k) n)
-    elements_parts k None = parts_wider (Listed (Is k) 93) (λ ts w. w ≡ first_item schema k (trees ts)) (listed 93 (inside k)) (listed_items k)
-        (parts_listed (Is k) 93 (inside k) (each k))
-    elements_parts k (Some n) = parts_wider (Listed (Is k) 93) (λ ts w. w ≡ first_item schema k (trees ts)) (exactly 93 n (inside k)) (listed_items k)
-        (parts_exactly (Is k) 93 n (inside k) (each k))
+  module _ (inside : Bool → KindTree → Lang Tree) (each : (flagged : Bool) (k : KindTree) → Parts (Is k) (inside flagged k)) where
+    elements_parts : (k : KindTree) (n : Option ℕ) → Parts (λ ts w. w ≡ first_item schema k (trees ts)) (elements (inside false k) n)
+    elements_parts k None = parts_wider (Listed (Is k) 93) (λ ts w. w ≡ first_item schema k (trees ts)) (listed 93 (inside false k)) (listed_items k)
+        (parts_listed (Is k) 93 (inside false k) (each false k))
+    elements_parts k (Some n) = parts_wider (Listed (Is k) 93) (λ ts w. w ≡ first_item schema k (trees ts)) (exactly 93 n (inside false k)) (listed_items k)
+        (parts_exactly (Is k) 93 n (inside false k) (each false k))
 
     -- a bracket and what is behind it
     opened_parts : (k : KindTree) (room : Bool) (c : ℕ) (one : Lang Tree) (R : Tree → List ℕ → Type 0)
@@ -169,22 +171,22 @@ module _ (schema : Schema) where
         parts_wider (λ y w. (v : List ℕ) × R y v × (w ≡ c ∷ v)) (Is k) (c ▸ one) (λ y w h. h.2 ∙ f y h.0 h.1) (parts_before R c one o)
 
     array_parts : (room : Bool) (k : KindTree) (n : Option ℕ) (nullable : Bool)
-        → Parts (Is (kinds.ArrayKind k n nullable)) (opened room 91 (array (inside k) n))
+        → Parts (Is (kinds.ArrayKind k n nullable)) (opened room 91 (array (inside false k) n))
     unfolding spell
     array_parts room k n nullable =
-        opened_parts (kinds.ArrayKind k n nullable) room 91 (array (inside k) n)
+        opened_parts (kinds.ArrayKind k n nullable) room 91 (array (inside false k) n)
         (λ y v. (ts : List Tree) × (v ≡ first_item schema k (trees ts)) × (items_of ts ≡ y))
         (λ y v h. ap (λ (l : List ℕ). 91 ∷ l) h.1 ∙ ap (spell schema (kinds.ArrayKind k n nullable)) h.2)
-        (parts_value (λ ts w. w ≡ first_item schema k (trees ts)) items_of (elements (inside k) n) (elements_parts k n))
+        (parts_value (λ ts w. w ≡ first_item schema k (trees ts)) items_of (elements (inside false k) n) (elements_parts k n))
 
-    pair_parts : (key one : KindTree) → Parts (IsPair key one) (pair (inside key) (inside one))
+    pair_parts : (key one : KindTree) → Parts (IsPair key one) (pair (inside false key) (inside false one))
     unfolding pair
     pair_parts key one =
         parts_wider (λ p w. (k : Tree) × (v u : List ℕ) × Is key k v × Second k p u × (w ≡ v ++ u)) (IsPair key one)
-        (inside key then λ k. 58 ▸ as_value (λ v. (k, v)) (inside one)) of
-        (parts_then (Is key) Second (inside key) (λ k. 58 ▸ as_value (λ v. (k, v)) (inside one)) (each key)
-        (λ k. parts_before (λ p u. (v : Tree) × Is one v u × ((k, v) ≡ p)) 58 (as_value (λ v. (k, v)) (inside one))
-        (parts_value (Is one) (λ v. (k, v)) (inside one) (each one))))
+        (inside false key then λ k. 58 ▸ as_value (λ v. (k, v)) (inside false one)) of
+        (parts_then (Is key) Second (inside false key) (λ k. 58 ▸ as_value (λ v. (k, v)) (inside false one)) (each false key)
+        (λ k. parts_before (λ p u. (v : Tree) × Is one v u × ((k, v) ≡ p)) 58 (as_value (λ v. (k, v)) (inside false one))
+        (parts_value (Is one) (λ v. (k, v)) (inside false one) (each false one))))
       where
         Second : Tree → Tree × Tree → List ℕ → Type 0
         Second k p w = (u : List ℕ) × ((v : Tree) × Is one v u × ((k, v) ≡ p)) × (w ≡ 58 ∷ u)
@@ -196,57 +198,58 @@ module _ (schema : Schema) where
             ∙ ap (λ (q : Tree × Tree). spell schema key q.0 ++ 58 ∷ spell schema one q.1) s.1.2
 
     map_parts : (room : Bool) (key one : KindTree) (nullable : Bool)
-        → Parts (Is (kinds.MapKind key one nullable)) (opened room 123 (as_value pairs_of (listed 125 (pair (inside key) (inside one)))))
+        → Parts (Is (kinds.MapKind key one nullable)) (opened room 123 (as_value pairs_of (listed 125 (pair (inside false key) (inside false one)))))
     unfolding spell both_lists
     map_parts room key one nullable =
-        opened_parts (kinds.MapKind key one nullable) room 123 (as_value pairs_of (listed 125 (pair (inside key) (inside one))))
+        opened_parts (kinds.MapKind key one nullable) room 123 (as_value pairs_of (listed 125 (pair (inside false key) (inside false one))))
         (λ y v. (ps : List (Tree × Tree)) × Listed (IsPair key one) 125 ps v × (pairs_of ps ≡ y))
         (λ y v h. ap (λ (l : List ℕ). 123 ∷ l) (listed_pairs key one h.0 v h.1) ∙ ap (spell schema (kinds.MapKind key one nullable)) h.2)
-        (parts_value (Listed (IsPair key one) 125) pairs_of (listed 125 (pair (inside key) (inside one)))
-        (parts_listed (IsPair key one) 125 (pair (inside key) (inside one)) (pair_parts key one)))
+        (parts_value (Listed (IsPair key one) 125) pairs_of (listed 125 (pair (inside false key) (inside false one)))
+        (parts_listed (IsPair key one) 125 (pair (inside false key) (inside false one)) (pair_parts key one)))
 
     -- fields
-    after_parts : (ks : List KindTree) → Parts (λ ts w. w ≡ next_fields schema ks (trees ts)) (fields_after inside ks)
+    after_parts : (fs : List FieldRow) → Parts (λ ts w. w ≡ next_fields schema (fields_kinds fs) (trees ts)) (fields_after inside fs)
     unfolding fields_after next_fields
     after_parts [] = parts_wider (λ ts w. (ts ≡ []) × (w ≡ 41 ∷ [])) (λ ts w. w ≡ 41 ∷ []) (closed 41 []) (λ ts w h. h.1) (parts_closed 41 [])
-    after_parts (k ∷ ks) =
-        parts_wider (λ ts w. (l : List ℕ) × Both ts l × (w ≡ 44 ∷ l)) (λ ts w. w ≡ next_fields schema (k ∷ ks) (trees ts))
-        (44 ▸ inside k then λ v. as_value (λ vs. v ∷ vs) (fields_after inside ks)) of
-        (parts_before Both 44 (inside k then λ v. as_value (λ vs. v ∷ vs) (fields_after inside ks))
-        (parts_then (Is k) Rest (inside k) (λ v. as_value (λ vs. v ∷ vs) (fields_after inside ks)) (each k)
-        (λ v. parts_value (λ ts w. w ≡ next_fields schema ks (trees ts)) (λ vs. v ∷ vs) (fields_after inside ks) (after_parts ks))))
+    after_parts (f ∷ fs) =
+        parts_wider (λ ts w. (l : List ℕ) × Both ts l × (w ≡ 44 ∷ l)) (λ ts w. w ≡ next_fields schema (fields_kinds (f ∷ fs)) (trees ts))
+        (44 ▸ inside (is_some f.flag) f.kind then λ v. as_value (λ vs. v ∷ vs) (fields_after inside fs)) of
+        (parts_before Both 44 (inside (is_some f.flag) f.kind then λ v. as_value (λ vs. v ∷ vs) (fields_after inside fs))
+        (parts_then (Is f.kind) Rest (inside (is_some f.flag) f.kind) (λ v. as_value (λ vs. v ∷ vs) (fields_after inside fs)) (each (is_some f.flag) f.kind)
+        (λ v. parts_value (λ ts w. w ≡ next_fields schema (fields_kinds fs) (trees ts)) (λ vs. v ∷ vs) (fields_after inside fs) (after_parts fs))))
       where
         Rest : Tree → List Tree → List ℕ → Type 0
-        Rest t ts w = (us : List Tree) × (w ≡ next_fields schema ks (trees us)) × (t ∷ us ≡ ts)
+        Rest t ts w = (us : List Tree) × (w ≡ next_fields schema (fields_kinds fs) (trees us)) × (t ∷ us ≡ ts)
 
         Both : List Tree → List ℕ → Type 0
-        Both ts l = (t : Tree) × (v u : List ℕ) × Is k t v × Rest t ts u × (l ≡ v ++ u)
+        Both ts l = (t : Tree) × (v u : List ℕ) × Is f.kind t v × Rest t ts u × (l ≡ v ++ u)
 
-        of : (ts : List Tree) (w : List ℕ) → (l : List ℕ) × Both ts l × (w ≡ 44 ∷ l) → w ≡ next_fields schema (k ∷ ks) (trees ts)
+        of : (ts : List Tree) (w : List ℕ) → (l : List ℕ) × Both ts l × (w ≡ 44 ∷ l) → w ≡ next_fields schema (fields_kinds (f ∷ fs)) (trees ts)
         of ts w h =
             let b = h.1 in
             let r = b.4 in
-            h.2 ∙ ap (λ (l : List ℕ). 44 ∷ l) (b.5 ∙ ap (λ (l : List ℕ). l ++ b.2) b.3 ∙ ap (λ (l : List ℕ). spell schema k b.0 ++ l) r.1)
-            ∙ ap (λ (l : List Tree). next_fields schema (k ∷ ks) (trees l)) r.2
+            h.2 ∙ ap (λ (l : List ℕ). 44 ∷ l) (b.5 ∙ ap (λ (l : List ℕ). l ++ b.2) b.3 ∙ ap (λ (l : List ℕ). spell schema f.kind b.0 ++ l) r.1)
+            ∙ ap (λ (l : List Tree). next_fields schema (fields_kinds (f ∷ fs)) (trees l)) r.2
 
-    fields_parts : (ks : List KindTree) → Parts (λ ts w. w ≡ first_field schema ks (trees ts)) (fields inside ks)
+    fields_parts : (fs : List FieldRow) → Parts (λ ts w. w ≡ first_field schema (fields_kinds fs) (trees ts)) (fields inside fs)
     unfolding fields first_field
     fields_parts [] = parts_wider (λ ts w. (ts ≡ []) × (w ≡ 41 ∷ [])) (λ ts w. w ≡ 41 ∷ []) (closed 41 []) (λ ts w h. h.1) (parts_closed 41 [])
-    fields_parts (k ∷ ks) =
-        parts_wider (λ ts l. (t : Tree) × (v u : List ℕ) × Is k t v × Rest t ts u × (l ≡ v ++ u)) (λ ts w. w ≡ first_field schema (k ∷ ks) (trees ts))
-        (inside k then λ v. as_value (λ vs. v ∷ vs) (fields_after inside ks)) of
-        (parts_then (Is k) Rest (inside k) (λ v. as_value (λ vs. v ∷ vs) (fields_after inside ks)) (each k)
-        (λ v. parts_value (λ ts w. w ≡ next_fields schema ks (trees ts)) (λ vs. v ∷ vs) (fields_after inside ks) (after_parts ks)))
+    fields_parts (f ∷ fs) =
+        parts_wider (λ ts l. (t : Tree) × (v u : List ℕ) × Is f.kind t v × Rest t ts u × (l ≡ v ++ u))
+        (λ ts w. w ≡ first_field schema (fields_kinds (f ∷ fs)) (trees ts))
+        (inside (is_some f.flag) f.kind then λ v. as_value (λ vs. v ∷ vs) (fields_after inside fs)) of
+        (parts_then (Is f.kind) Rest (inside (is_some f.flag) f.kind) (λ v. as_value (λ vs. v ∷ vs) (fields_after inside fs)) (each (is_some f.flag) f.kind)
+        (λ v. parts_value (λ ts w. w ≡ next_fields schema (fields_kinds fs) (trees ts)) (λ vs. v ∷ vs) (fields_after inside fs) (after_parts fs)))
       where
         Rest : Tree → List Tree → List ℕ → Type 0
-        Rest t ts w = (us : List Tree) × (w ≡ next_fields schema ks (trees us)) × (t ∷ us ≡ ts)
+        Rest t ts w = (us : List Tree) × (w ≡ next_fields schema (fields_kinds fs) (trees us)) × (t ∷ us ≡ ts)
 
-        of : (ts : List Tree) (w : List ℕ) → (t : Tree) × (v u : List ℕ) × Is k t v × Rest t ts u × (w ≡ v ++ u)
-            → w ≡ first_field schema (k ∷ ks) (trees ts)
+        of : (ts : List Tree) (w : List ℕ) → (t : Tree) × (v u : List ℕ) × Is f.kind t v × Rest t ts u × (w ≡ v ++ u)
+            → w ≡ first_field schema (fields_kinds (f ∷ fs)) (trees ts)
         of ts w b =
             let r = b.4 in
-            b.5 ∙ ap (λ (l : List ℕ). l ++ b.2) b.3 ∙ ap (λ (l : List ℕ). spell schema k b.0 ++ l) r.1
-            ∙ ap (λ (l : List Tree). first_field schema (k ∷ ks) (trees l)) r.2
+            b.5 ∙ ap (λ (l : List ℕ). l ++ b.2) b.3 ∙ ap (λ (l : List ℕ). spell schema f.kind b.0 ++ l) r.1
+            ∙ ap (λ (l : List Tree). first_field schema (fields_kinds (f ∷ fs)) (trees l)) r.2
 
     abbrev IsStruct : Option StructRow → Tree → List ℕ → Type 0
     IsStruct row y v = (ts : List Tree) × (v ≡ first_field schema (row_kinds row) (trees ts)) × (fields_of ts ≡ y)
@@ -254,7 +257,7 @@ module _ (schema : Schema) where
     structure_parts : (row : Option StructRow) → Parts (IsStruct row) (structure inside row)
     structure_parts None = parts_never (IsStruct None) values.Null
     structure_parts (Some row) = parts_value (λ ts w. w ≡ first_field schema (fields_kinds row.fields) (trees ts)) fields_of
-        (fields inside (fields_kinds row.fields)) (fields_parts (fields_kinds row.fields))
+        (fields inside row.fields) (fields_parts row.fields)
 
     struct_parts : (room : Bool) (n : ℕ) (nullable : Bool)
         → Parts (Is (kinds.StructKind n nullable)) (opened room 40 (structure inside (slice_get schema.structs n)))
@@ -274,9 +277,10 @@ module _ (schema : Schema) where
         parts_wider (λ y w. (y ≡ values.Unknown tag) × (w ≡ 62 ∷ [])) (IsMember k (Some row) tag) (closed 62 (values.Unknown tag))
         (λ y w h. inr (h.1, sym h.0)) (parts_closed 62 (values.Unknown tag))
     member_parts k row tag (Some h) e =
-        parts_wider (λ y w. (l : List ℕ) × Both y l × (w ≡ 58 ∷ l)) (IsMember k (Some row) tag) (58 ▸ inside h then λ v. closed 62 (values.Member tag v)) of
-        (parts_before Both 58 (inside h then λ v. closed 62 (values.Member tag v))
-        (parts_then (Is h) (λ t y w. (y ≡ values.Member tag t) × (w ≡ 62 ∷ [])) (inside h) (λ v. closed 62 (values.Member tag v)) (each h)
+        parts_wider (λ y w. (l : List ℕ) × Both y l × (w ≡ 58 ∷ l)) (IsMember k (Some row) tag)
+        (58 ▸ inside false h then λ v. closed 62 (values.Member tag v)) of
+        (parts_before Both 58 (inside false h then λ v. closed 62 (values.Member tag v))
+        (parts_then (Is h) (λ t y w. (y ≡ values.Member tag t) × (w ≡ 62 ∷ [])) (inside false h) (λ v. closed 62 (values.Member tag v)) (each false h)
         (λ v. parts_closed 62 (values.Member tag v))))
       where
         Both : Tree → List ℕ → Type 0
@@ -321,9 +325,10 @@ module _ (schema : Schema) where
 
     base_parts : (room : Bool) (k : KindTree) → Parts (Is k) (base schema room inside k)
     unfolding spell
-    base_parts room kinds.BoolKind = flag_parts kinds.BoolKind
-    base_parts room (kinds.IntKind w signed) = whole_made (kinds.IntKind w signed) (whole w signed) (whole_parts w signed)
-    base_parts room (kinds.EnumKind n) = whole_made (kinds.EnumKind n) (number_of (slice_get schema.enums n)) (number_of_parts (slice_get schema.enums n))
+    base_parts room (kinds.BoolKind nullable) = flag_parts (kinds.BoolKind nullable)
+    base_parts room (kinds.IntKind w signed nullable) = whole_made (kinds.IntKind w signed nullable) (whole w signed) (whole_parts w signed)
+    base_parts room (kinds.EnumKind n nullable) =
+        whole_made (kinds.EnumKind n nullable) (number_of (slice_get schema.enums n)) (number_of_parts (slice_get schema.enums n))
     base_parts room (kinds.TextKind nullable) = text_made (kinds.TextKind nullable)
     base_parts room (kinds.HandleKind sort nullable) = one_made 37 values.Handle (kinds.HandleKind sort nullable) (λ i. refl)
     base_parts room (kinds.ArrayKind of count nullable) = array_parts room of count nullable
@@ -348,11 +353,16 @@ module _ (schema : Schema) where
       (parts_choice (Is k) (Is k) (λ b. b == 110) null_word one (null_parts k) o)
 
   -- what is followed whole is the text of the value, and then the rest
+  slot_parts : (left : ℕ) (flagged : Bool) (k : KindTree) → Parts (Is k) (slot_value schema left flagged k)
+  unfolding slot_value
+  slot_parts zero flagged k = or_parts (flagged || is_nullable k) k (base schema false (λ flagged k. never values.Null) k)
+      (base_parts (λ flagged k. never values.Null) (λ flagged k. parts_never (Is k) values.Null) false k)
+  slot_parts (suc left) flagged k = or_parts (flagged || is_nullable k) k (base schema true (slot_value schema left) k)
+      (base_parts (slot_value schema left) (slot_parts left) true k)
+
   pub value_parts : (left : ℕ) (k : KindTree) → Parts (Is k) (value schema left k)
   unfolding value
-  value_parts zero k = or_parts (is_nullable k) k (base schema false (λ k. never values.Null) k)
-      (base_parts (λ k. never values.Null) (λ k. parts_never (Is k) values.Null) false k)
-  value_parts (suc left) k = or_parts (is_nullable k) k (base schema true (value schema left) k) (base_parts (value schema left) (value_parts left) true k)
+  value_parts left k = slot_parts left (has_flag k) k
 
   -- bytes that spell a value are its text
   pub one_text : (left : ℕ) (k : KindTree) (t : Tree) (bytes : List ℕ) → Spells (value schema left k) t bytes → bytes ≡ spell schema k t

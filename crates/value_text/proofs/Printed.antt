@@ -11,8 +11,7 @@ use Rattle.wire_model.specs.Rows.{kind_in, kind_of_tag}
 use Rattle.wire_model.specs.Trees.{Trees, trees, view, none, more}
 use Rattle.wire_model.specs.declared.value.Value.{Value}
 use Rattle.value_text.specs.Brackets.{brackets, brackets_in}
-use Rattle.value_text.specs.Rules.{fields_kinds}
-use Rattle.value_text.specs.Spelling.{spell, first_item, next_items, each_text, first_pair, next_pairs, first_field, next_fields, held}
+use Rattle.value_text.specs.Spelling.{fields_kinds, spell, first_item, next_items, each_text, first_pair, next_pairs, first_field, next_fields, held}
 
 abbrev pub trees_in : List Value → Trees
 trees_in vs = trees (map view vs)

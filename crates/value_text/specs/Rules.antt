@@ -1,16 +1,17 @@
 -- The text of a value, kind by kind.
-use Rattle.std.specs.Prelude.{ℕ, zero, suc, ◌==◌, ◌++◌, Bool, true, false, List, [], ◌∷◌, Option, Some, None, map, codes, slice_get}
+use Rattle.std.specs.Prelude.{ℕ, zero, suc, ◌==◌, ◌||◌, Bool, true, false, List, [], ◌∷◌, Option, Some, None, is_some, map, codes, slice_get}
 use Rattle.mj_schema.specs.KindTrees as kinds
 use Rattle.mj_schema.specs.KindTrees.{KindTree}
 use Rattle.mj_schema.specs.declared.schema.Schema.{Schema}
 use Rattle.mj_schema.specs.declared.rows.StructRow.{StructRow}
 use Rattle.mj_schema.specs.declared.rows.UnionRow.{UnionRow}
 use Rattle.mj_schema.specs.declared.rows.FieldRow.{FieldRow}
+use Rattle.mj_schema.specs.Parts.{has_flag}
 use Rattle.wire_model.specs.Kinded.{is_nullable}
 use Rattle.wire_model.specs.Rows.{kind_of_tag}
 use Rattle.wire_model.specs.Trees.{Tree, trees}
 use Rattle.wire_model.specs.Trees as values
-use Rattle.byte_rules.specs.Lang.{Lang, choice, as_value, never, closed, ◌then◌, ◌▸◌, many, listed, exactly}
+use Rattle.byte_rules.specs.Lang.{Lang, choice, as_value, never, closed, ◌then◌, ◌▸◌, listed, exactly}
 use Rattle.value_text.specs.Numbers.{whole, index, number_of, fields_tags, tag_of}
 use Rattle.value_text.specs.Characters.{text}
 
@@ -33,15 +34,16 @@ abbrev pub opened : Bool → ℕ → Lang Tree → Lang Tree
 opened false c one = never values.Null
 opened true c one = c ▸ one
 
--- one value for each field, each behind a comma, and the bracket that ends them
-unfoldable pub fields_after : (KindTree → Lang Tree) → List KindTree → Lang (List Tree)
+-- one value for each field, null too where it has a flag, each behind a comma, and the bracket that ends them; `inside` are the values
+-- of slots, whether they have a flag and of which kind
+unfoldable pub fields_after : (Bool → KindTree → Lang Tree) → List FieldRow → Lang (List Tree)
 fields_after inside [] = closed 41 []
-fields_after inside (k ∷ ks) = 44 ▸ inside k then λ v. as_value (λ vs. v ∷ vs) (fields_after inside ks)
+fields_after inside (f ∷ fs) = 44 ▸ inside (is_some f.flag) f.kind then λ v. as_value (λ vs. v ∷ vs) (fields_after inside fs)
 
 -- one value for each field with commas between, and the bracket that ends them
-unfoldable pub fields : (KindTree → Lang Tree) → List KindTree → Lang (List Tree)
+unfoldable pub fields : (Bool → KindTree → Lang Tree) → List FieldRow → Lang (List Tree)
 fields inside [] = closed 41 []
-fields inside (k ∷ ks) = inside k then λ v. as_value (λ vs. v ∷ vs) (fields_after inside ks)
+fields inside (f ∷ fs) = inside (is_some f.flag) f.kind then λ v. as_value (λ vs. v ∷ vs) (fields_after inside fs)
 
 -- the array of these elements, and the struct of these fields
 abbrev pub items_of : List Tree → Tree
@@ -58,14 +60,10 @@ elements one (Some n) = exactly 93 n one
 abbrev pub array : Lang Tree → Option ℕ → Lang Tree
 array one count = as_value items_of (elements one count)
 
--- the kinds of a struct's fields
-abbrev pub fields_kinds : List FieldRow → List KindTree
-fields_kinds row = map (λ (field : FieldRow). field.kind) row
-
 -- the fields of a struct; of one that isn't there no byte goes on
-abbrev pub structure : (KindTree → Lang Tree) → Option StructRow → Lang Tree
+abbrev pub structure : (Bool → KindTree → Lang Tree) → Option StructRow → Lang Tree
 structure inside None = never values.Null
-structure inside (Some row) = as_value fields_of (fields inside (fields_kinds row.fields))
+structure inside (Some row) = as_value fields_of (fields inside row.fields)
 
 -- a key and its value
 unfoldable pub pair : Lang Tree → Lang Tree → Lang (Tree × Tree)
@@ -86,24 +84,25 @@ abbrev pub pairs_of : List (Tree × Tree) → Tree
 pairs_of ps = map_of (keys_of ps) (values_of ps)
 
 -- what stands behind a tag
-abbrev pub member : (KindTree → Lang Tree) → ℕ → Option KindTree → Lang Tree
+abbrev pub member : (Bool → KindTree → Lang Tree) → ℕ → Option KindTree → Lang Tree
 member inside tag None = closed 62 (values.Unknown tag)
-member inside tag (Some k) = 58 ▸ inside k then λ v. closed 62 (values.Member tag v)
+member inside tag (Some k) = 58 ▸ inside false k then λ v. closed 62 (values.Member tag v)
 
 -- a tag and what stands behind it; of a union that isn't there no byte goes on
-abbrev pub union : (KindTree → Lang Tree) → Option UnionRow → Lang Tree
+abbrev pub union : (Bool → KindTree → Lang Tree) → Option UnionRow → Lang Tree
 union inside None = never values.Null
 union inside (Some row) = tag_of row.extensible (fields_tags row.fields) then λ tag. member inside tag (kind_of_tag row.fields tag)
 
--- a value that isn't null; `inside` are the values between its brackets, of which it has some where `room` says so
-abbrev pub base : Schema → Bool → (KindTree → Lang Tree) → KindTree → Lang Tree
-base schema room inside kinds.BoolKind = boolean
-base schema room inside (kinds.IntKind w signed) = as_value values.Whole (whole w signed)
-base schema room inside (kinds.EnumKind n) = as_value values.Whole (number_of (slice_get schema.enums n))
+-- a value that isn't null; `inside` are the values of slots between its brackets, of which it has some where
+-- `room` says so
+abbrev pub base : Schema → Bool → (Bool → KindTree → Lang Tree) → KindTree → Lang Tree
+base schema room inside (kinds.BoolKind nullable) = boolean
+base schema room inside (kinds.IntKind w signed nullable) = as_value values.Whole (whole w signed)
+base schema room inside (kinds.EnumKind n nullable) = as_value values.Whole (number_of (slice_get schema.enums n))
 base schema room inside (kinds.TextKind nullable) = as_value values.Text text
 base schema room inside (kinds.HandleKind sort nullable) = 37 ▸ as_value values.Handle index
-base schema room inside (kinds.ArrayKind of count nullable) = opened room 91 (array (inside of) count)
-base schema room inside (kinds.MapKind key one nullable) = opened room 123 (as_value pairs_of (listed 125 (pair (inside key) (inside one))))
+base schema room inside (kinds.ArrayKind of count nullable) = opened room 91 (array (inside false of) count)
+base schema room inside (kinds.MapKind key one nullable) = opened room 123 (as_value pairs_of (listed 125 (pair (inside false key) (inside false one))))
 base schema room inside (kinds.StructKind n nullable) = opened room 40 (structure inside (slice_get schema.structs n))
 base schema room inside (kinds.UnionKind n nullable) = opened room 60 (union inside (slice_get schema.unions n))
 base schema room inside (kinds.RemoteKind interface nullable) = 37 ▸ index then λ i. 64 ▸ as_value (values.Remote i) index
@@ -111,12 +110,16 @@ base schema room inside (kinds.ReceiverKind interface nullable) = 37 ▸ as_valu
 base schema room inside (kinds.AssociatedRemoteKind interface nullable) = 94 ▸ index then λ i. 64 ▸ as_value (values.EndpointRemote i) index
 base schema room inside (kinds.AssociatedReceiverKind interface nullable) = 94 ▸ as_value values.Endpoint index
 
--- null too, where the kind may be null
+-- null too, where the slot may be null
 abbrev pub or_null : Bool → Lang Tree → Lang Tree
 or_null false one = one
 or_null true one = choice (λ b. b == 110) null_word one
 
--- the values of a kind, where so many brackets may be open at once
+-- the values of a slot, where so many brackets may be open at once: null where the slot has a flag, or its kind may be null by itself
+unfoldable pub slot_value : Schema → ℕ → (flagged : Bool) → KindTree → Lang Tree
+slot_value schema zero flagged k = or_null (flagged || is_nullable k) (base schema false (λ flagged k. never values.Null) k)
+slot_value schema (suc left) flagged k = or_null (flagged || is_nullable k) (base schema true (slot_value schema left) k)
+
+-- the values of a kind as of a field: null where the kind may be null
 unfoldable pub value : Schema → ℕ → KindTree → Lang Tree
-value schema zero k = or_null (is_nullable k) (base schema false (λ k. never values.Null) k)
-value schema (suc left) k = or_null (is_nullable k) (base schema true (value schema left) k)
+value schema left k = slot_value schema left (has_flag k) k

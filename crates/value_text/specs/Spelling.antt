@@ -1,15 +1,15 @@
 -- The one text of a value.
-use Rattle.std.specs.Prelude.{ℕ, ◌++◌, Bool, true, false, List, [], ◌∷◌, Option, Some, None, codes, decimal, unwrap_or}
+use Rattle.std.specs.Prelude.{ℕ, ◌++◌, Bool, true, false, List, [], ◌∷◌, Option, Some, None, codes, decimal, map, unwrap_or}
 use Rattle.std.specs.Fmt.{signed_decimal}
 use Rattle.mj_schema.specs.KindTrees as kinds
 use Rattle.mj_schema.specs.KindTrees.{KindTree}
+use Rattle.mj_schema.specs.declared.rows.FieldRow.{FieldRow}
 use Rattle.mj_schema.specs.declared.rows.StructRow.{StructRow}
 use Rattle.mj_schema.specs.declared.schema.Schema.{Schema}
 use Rattle.wire_model.specs.Rows.{member_kind, row_of}
 use Rattle.wire_model.specs.Trees.{Tree, Trees, none, more}
 use Rattle.wire_model.specs.Trees as values
 use Rattle.value_text.specs.Escapes.{quoted}
-use Rattle.value_text.specs.Rules.{fields_kinds}
 
 -- a bool
 abbrev pub flag_text : Bool → List ℕ
@@ -29,7 +29,11 @@ abbrev pub value_of : KindTree → KindTree
 value_of (kinds.MapKind key one nullable) = one
 value_of k = k
 
--- the kinds of a struct's fields; none where there is no such struct
+-- the kinds of a struct's fields
+abbrev pub fields_kinds : List FieldRow → List KindTree
+fields_kinds row = map (λ (field : FieldRow). field.kind) row
+
+-- those of a struct that may not be there
 abbrev pub row_kinds : Option StructRow → List KindTree
 row_kinds None = []
 row_kinds (Some row) = fields_kinds row.fields

@@ -7,8 +7,7 @@ ghost use Rattle.wire_model.specs.Trees.{view, trees};
 ghost use Rattle.byte_rules.specs.Judged.{Spells};
 ghost use Rattle.value_text.specs.Brackets.{brackets};
 ghost use Rattle.value_text.specs.Rules as rules;
-ghost use Rattle.value_text.specs.Rules.{fields_kinds};
-ghost use Rattle.value_text.specs.Spelling.{spell, first_item, each_text, first_pair, first_field, element_of, key_of, value_of, field_kinds, held};
+ghost use Rattle.value_text.specs.Spelling.{fields_kinds, spell, first_item, each_text, first_pair, first_field, element_of, key_of, value_of, field_kinds, held};
 
 use crate::rows::{find_struct, find_union, kind_of_tag};
 use crate::writing::{push_index, push_text, push_versioned, push_whole};

@@ -18,11 +18,18 @@ use wire_model::Value;
 const MAX_BRACKETS: u32 = 512;
 
 /// What the reading of a kind says of all the bytes.
-#[tactic(auto, using(crate::proofs::Whole::rest_within, crate::proofs::Whole::left_within))]
+#[tactic(auto, unfolding(crate::specs::Rules::value), using(crate::proofs::Whole::rest_within, crate::proofs::Whole::left_within))]
 fn judge(alloc: Global, schema: &Schema, kind: &Kind, bytes: &[u8]) -> Result<Value, TextError>
     ensures { Agrees result (verdict (length bytes.now) ((value schema.now 512 kind.now).read bytes.now)) }
 {
-    match value(alloc, schema, MAX_BRACKETS, kind.node(), bytes) {
+    match value(
+        alloc,
+        schema,
+        MAX_BRACKETS,
+        kind.node(),
+        kind.has_flag(),
+        bytes,
+    ) {
         Ok((value, rest)) => {
             if rest.is_empty() {
                 return Ok(value);

@@ -1,12 +1,12 @@
 //! Rows of a schema by their numbers, and kinds by their tags.
 
-ghost use Rattle.std.specs.Prelude.{◌≡◌, slice_get};
+ghost use Rattle.std.specs.Prelude.{◌≡◌, ◌||◌, slice_get, is_some};
 ghost use Rattle.std.specs.Option.{option_copied};
 ghost use Rattle.mj_schema.specs.KindTrees.{kind_view};
 ghost use Rattle.wire_model.specs.Kinded.{is_nullable};
 ghost use Rattle.wire_model.specs.Rows.{kind_of_tag};
 
-use mj_schema::{EnumRow, Kind, KindNode, Schema, StructRow, UnionFieldRow, UnionRow};
+use mj_schema::{EnumRow, FieldRow, Kind, KindNode, Schema, StructRow, UnionFieldRow, UnionRow};
 
 /// The row of the struct of this number; none exactly where there is none.
 pub fn find_struct(schema: &Schema, number: u32) -> Option<&StructRow>
@@ -41,12 +41,12 @@ pub fn kind_of_tag(fields: &[UnionFieldRow], tag: u32) -> Option<&Kind>
     None
 }
 
-/// Whether a value of the kind may be null.
-pub fn is_nullable(kind: &KindNode) -> bool
+/// Whether a value of the kind may be null by itself.
+fn is_nullable(kind: &KindNode) -> bool
     ensures { result ≡ is_nullable (kind_view kind.now) }
 {
     match kind {
-        KindNode::Bool | KindNode::Int { .. } | KindNode::Enum { .. } => false,
+        KindNode::Bool { .. } | KindNode::Int { .. } | KindNode::Enum { .. } => false,
         KindNode::Text { nullable }
         | KindNode::Handle { nullable, .. }
         | KindNode::Array { nullable, .. }
@@ -58,4 +58,18 @@ pub fn is_nullable(kind: &KindNode) -> bool
         | KindNode::AssociatedRemote { nullable, .. }
         | KindNode::AssociatedReceiver { nullable, .. } => *nullable,
     }
+}
+
+/// Whether a slot may be null: it has a flag, or its kind may be null by itself.
+pub fn may_be_null(flagged: bool, kind: &KindNode) -> bool
+    ensures { result ≡ (flagged || is_nullable (kind_view kind.now)) }
+{
+    flagged || is_nullable(kind)
+}
+
+/// Whether the field has a flag.
+pub fn has_flag(field: &FieldRow) -> bool
+    ensures { result ≡ is_some field.now.flag }
+{
+    field.flag.is_some()
 }

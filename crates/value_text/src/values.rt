@@ -7,14 +7,14 @@ ghost use Rattle.wire_model.specs.Trees as values;
 ghost use Rattle.byte_rules.specs.Lang.{as_value, closed, listed, exactly, rest_of, ◌▸◌};
 ghost use Rattle.byte_rules.specs.Reading.{Gives};
 ghost use Rattle.byte_rules.specs.steps.Reading.{gathered, with_front};
-ghost use Rattle.value_text.specs.Rules.{value, opened, elements, array};
-ghost use Rattle.value_text.specs.steps.Reading.{inside, has_room, base_at, more_of};
-ghost use Rattle.value_text.specs.Rules.{fields, fields_after, fields_kinds, structure, union, member};
+ghost use Rattle.value_text.specs.Rules.{slot_value, opened, elements, array};
+ghost use Rattle.value_text.specs.steps.Reading.{inside, inner, has_room, base_at, more_of};
+ghost use Rattle.value_text.specs.Rules.{fields, fields_after, structure, union, member};
 ghost use Rattle.value_text.specs.Rules.{pair, pairs_of};
 ghost use Rattle.value_text.specs.steps.Reading.{pair_of, more_pairs_of, add_pairs};
 
 use crate::entries::{Entries, map_of, struct_of};
-use crate::rows::{find_struct, find_union, is_nullable, kind_of_tag};
+use crate::rows::{find_struct, find_union, has_flag, kind_of_tag, may_be_null};
 use crate::scalars::{
     boolean, endpoint, endpoint_remote, enum_value, handle, int, null, remote, string, tag,
 };
@@ -23,7 +23,8 @@ use mj_schema::{FieldRow, KindNode, Schema};
 use std::alloc::Global;
 use wire_model::Value;
 
-/// A value of the kind, with so many brackets at most, and the bytes after it.
+/// A value of a slot of the kind, which may have a flag, with so many brackets at most, and the bytes
+/// after it.
 #[cycle(value)]
 #[tactic(auto, using(crate::proofs::KindReads::value_null, crate::proofs::KindReads::value_never_null, crate::proofs::KindReads::value_other))]
 pub fn value<'a>(
@@ -31,11 +32,12 @@ pub fn value<'a>(
     schema: &Schema,
     left: u32,
     kind: &KindNode,
+    flagged: bool,
     bytes: &'a [u8],
 ) -> Result<(Value, &'a [u8]), Stop>
-    ensures { Gives (λ x. (view x.0, x.1.now)) result ((value schema.now left (kind_view kind.now)).read bytes.now) }
+    ensures { Gives (λ x. (view x.0, x.1.now)) result ((slot_value schema.now left flagged (kind_view kind.now)).read bytes.now) }
 {
-    if is_nullable(kind) && is_next(bytes, 110) {
+    if may_be_null(flagged, kind) && is_next(bytes, 110) {
         return null(bytes);
     }
     base(alloc, schema, left, kind, bytes)
@@ -53,9 +55,9 @@ fn base<'a>(
     ensures { Gives (λ x. (view x.0, x.1.now)) result ((base_at schema.now left (kind_view kind.now)).read bytes.now) }
 {
     match kind {
-        KindNode::Bool => boolean(bytes),
-        KindNode::Int { width, signed } => int(*width, *signed, bytes),
-        KindNode::Enum { number } => enum_value(alloc, schema, *number, bytes),
+        KindNode::Bool { .. } => boolean(bytes),
+        KindNode::Int { width, signed, .. } => int(*width, *signed, bytes),
+        KindNode::Enum { number, .. } => enum_value(alloc, schema, *number, bytes),
         KindNode::Text { .. } => string(alloc, bytes),
         KindNode::Handle { .. } | KindNode::Receiver { .. } => handle(bytes),
         KindNode::Array { of, count, .. } => array(alloc, schema, left, of, *count, bytes),
@@ -80,7 +82,7 @@ fn array<'a>(
     bytes: &'a [u8],
 ) -> Result<(Value, &'a [u8]), Stop>
     ensures { Gives (λ x. (view x.0, x.1.now)) result
-        ((opened (has_room left) 91 (array (inside schema.now left (kind_view of.now)) count)).read bytes.now) }
+        ((opened (has_room left) 91 (array (inside schema.now left false (kind_view of.now)) count)).read bytes.now) }
 {
     if left == 0 {
         return Err(Stop::Left(bytes.len()));
@@ -100,7 +102,7 @@ fn elements<'a>(
     count: Option<u32>,
     bytes: &'a [u8],
 ) -> Result<(Vec<Value>, &'a [u8]), Stop>
-    ensures { Gives (λ x. (map view x.0.items, x.1.now)) result ((elements (value schema.now left (kind_view of.now)) count).read bytes.now) }
+    ensures { Gives (λ x. (map view x.0.items, x.1.now)) result ((elements (inner schema.now left (kind_view of.now)) count).read bytes.now) }
 {
     match count {
         Some(count) => so_many(alloc, schema, left, of, count, bytes),
@@ -118,14 +120,14 @@ fn list<'a>(
     of: &KindNode,
     bytes: &'a [u8],
 ) -> Result<(Vec<Value>, &'a [u8]), Stop>
-    ensures { Gives (λ x. (map view x.0.items, x.1.now)) result ((listed 93 (value schema.now left (kind_view of.now))).read bytes.now) }
+    ensures { Gives (λ x. (map view x.0.items, x.1.now)) result ((listed 93 (inner schema.now left (kind_view of.now))).read bytes.now) }
 {
     let mut items = Vec::new(alloc);
     if is_next(bytes, 93) {
         let rest = expect(bytes, 93)?;
         return Ok((items, rest));
     }
-    let (first, rest) = value(alloc, schema, left, of, bytes)?;
+    let (first, rest) = value(alloc, schema, left, of, false, bytes)?;
     items.push(first)?;
     more(alloc, schema, left, of, items, rest)
 }
@@ -140,31 +142,32 @@ fn so_many<'a>(
     count: u32,
     bytes: &'a [u8],
 ) -> Result<(Vec<Value>, &'a [u8]), Stop>
-    ensures { Gives (λ x. (map view x.0.items, x.1.now)) result ((exactly 93 count (value schema.now left (kind_view of.now))).read bytes.now) }
+    ensures { Gives (λ x. (map view x.0.items, x.1.now)) result ((exactly 93 count (inner schema.now left (kind_view of.now))).read bytes.now) }
 {
     let mut items = Vec::new(alloc);
     if count == 0 {
         let rest = expect(bytes, 93)?;
         return Ok((items, rest));
     }
-    let (first, rest) = value(alloc, schema, left, of, bytes)?;
+    let (first, rest) = value(alloc, schema, left, of, false, bytes)?;
     items.push(first)?;
     as_many(alloc, schema, left, of, count - 1, items, rest)
 }
 
-/// A comma and a value.
+/// A comma and a value of a slot, which may have a flag.
 #[cycle(value)]
 fn next<'a>(
     alloc: Global,
     schema: &Schema,
     left: u32,
     of: &KindNode,
+    flagged: bool,
     bytes: &'a [u8],
 ) -> Result<(Value, &'a [u8]), Stop>
-    ensures { Gives (λ x. (view x.0, x.1.now)) result ((44 ▸ value schema.now left (kind_view of.now)).read bytes.now) }
+    ensures { Gives (λ x. (view x.0, x.1.now)) result ((44 ▸ slot_value schema.now left flagged (kind_view of.now)).read bytes.now) }
 {
     let rest = expect(bytes, 44)?;
-    value(alloc, schema, left, of, rest)
+    value(alloc, schema, left, of, flagged, rest)
 }
 
 /// Values, each after a comma, behind those of `items`, up to the bracket, and the bytes after it.
@@ -187,7 +190,7 @@ fn more<'a>(
             let rest = expect(rest, 93)?;
             return Ok((items, rest));
         }
-        let (item, after) = next(alloc, schema, left, of, rest)?;
+        let (item, after) = next(alloc, schema, left, of, false, rest)?;
         items.push(item)?;
         rest = after;
     }
@@ -207,12 +210,12 @@ fn as_many<'a>(
     bytes: &'a [u8],
 ) -> Result<(Vec<Value>, &'a [u8]), Stop>
     ensures { Gives (λ x. (map view x.0.items, x.1.now)) result
-        (with_front (λ t. t ∷ []) (map view items.items) ((rest_of 93 count (value schema.now left (kind_view of.now))).read bytes.now)) }
+        (with_front (λ t. t ∷ []) (map view items.items) ((rest_of 93 count (inner schema.now left (kind_view of.now))).read bytes.now)) }
 {
     let mut items = items;
     let mut rest = bytes;
     for _ in 0..count {
-        let (item, after) = next(alloc, schema, left, of, rest)?;
+        let (item, after) = next(alloc, schema, left, of, false, rest)?;
         items.push(item)?;
         rest = after;
     }
@@ -233,7 +236,8 @@ fn dictionary<'a>(
 ) -> Result<(Value, &'a [u8]), Stop>
     ensures { Gives (λ x. (view x.0, x.1.now)) result
         ((opened (has_room left) 123
-        (as_value pairs_of (listed 125 (pair (inside schema.now left (kind_view key.now)) (inside schema.now left (kind_view one.now)))))).read bytes.now) }
+        (as_value pairs_of (listed 125 (pair (inside schema.now left false (kind_view key.now))
+        (inside schema.now left false (kind_view one.now)))))).read bytes.now) }
 {
     if left == 0 {
         return Err(Stop::Left(bytes.len()));
@@ -282,9 +286,9 @@ fn pair<'a>(
 ) -> Result<(Value, Value, &'a [u8]), Stop>
     ensures { Gives (λ x. ((view x.0, view x.1), x.2.now)) result ((pair_of schema.now left (kind_view key.now) (kind_view one.now)).read bytes.now) }
 {
-    let (first, rest) = value(alloc, schema, left, key, bytes)?;
+    let (first, rest) = value(alloc, schema, left, key, false, bytes)?;
     let rest = expect(rest, 58)?;
-    let (second, rest) = value(alloc, schema, left, one, rest)?;
+    let (second, rest) = value(alloc, schema, left, one, false, rest)?;
     Ok((first, second, rest))
 }
 
@@ -364,7 +368,7 @@ fn all_fields<'a>(
     number: u32,
     bytes: &'a [u8],
 ) -> Result<(Value, &'a [u8]), Stop>
-    ensures { Gives (λ x. (view x.0, x.1.now)) result ((structure (value schema.now left) (slice_get schema.now.structs number)).read bytes.now) }
+    ensures { Gives (λ x. (view x.0, x.1.now)) result ((structure (slot_value schema.now left) (slice_get schema.now.structs number)).read bytes.now) }
 {
     let Some(row) = find_struct(schema, number) else {
         return Err(Stop::Left(bytes.len()));
@@ -383,12 +387,19 @@ fn fields<'a>(
     row: &[FieldRow],
     bytes: &'a [u8],
 ) -> Result<(Vec<Value>, &'a [u8]), Stop>
-    ensures { Gives (λ x. (map view x.0.items, x.1.now)) result ((fields (value schema.now left) (fields_kinds row.now)).read bytes.now) }
+    ensures { Gives (λ x. (map view x.0.items, x.1.now)) result ((fields (slot_value schema.now left) row.now).read bytes.now) }
 {
     let mut values = Vec::new(alloc);
     match row {
         [field, others @ ..] => {
-            let (first, rest) = value(alloc, schema, left, field.kind.node(), bytes)?;
+            let (first, rest) = value(
+                alloc,
+                schema,
+                left,
+                field.kind.node(),
+                has_flag(field),
+                bytes,
+            )?;
             values.push(first)?;
             fields_after(alloc, schema, left, others, values, rest)
         }
@@ -410,12 +421,19 @@ fn fields_after<'a>(
     bytes: &'a [u8],
 ) -> Result<(Vec<Value>, &'a [u8]), Stop>
     ensures { Gives (λ x. (map view x.0.items, x.1.now)) result
-        (with_front (λ t. t ∷ []) (map view values.items) ((fields_after (value schema.now left) (fields_kinds row.now)).read bytes.now)) }
+        (with_front (λ t. t ∷ []) (map view values.items) ((fields_after (slot_value schema.now left) row.now).read bytes.now)) }
 {
     let mut values = values;
     let mut rest = bytes;
     for field in row {
-        let (value, after) = next(alloc, schema, left, field.kind.node(), rest)?;
+        let (value, after) = next(
+            alloc,
+            schema,
+            left,
+            field.kind.node(),
+            has_flag(field),
+            rest,
+        )?;
         values.push(value)?;
         rest = after;
     }
@@ -453,7 +471,7 @@ fn tagged<'a>(
     number: u32,
     bytes: &'a [u8],
 ) -> Result<(Value, &'a [u8]), Stop>
-    ensures { Gives (λ x. (view x.0, x.1.now)) result ((union (value schema.now left) (slice_get schema.now.unions number)).read bytes.now) }
+    ensures { Gives (λ x. (view x.0, x.1.now)) result ((union (slot_value schema.now left) (slice_get schema.now.unions number)).read bytes.now) }
 {
     let Some(row) = find_union(schema, number) else {
         return Err(Stop::Left(bytes.len()));
@@ -475,10 +493,10 @@ fn member<'a>(
     kind: &KindNode,
     bytes: &'a [u8],
 ) -> Result<(Value, &'a [u8]), Stop>
-    ensures { Gives (λ x. (view x.0, x.1.now)) result ((member (value schema.now left) tag (Some (kind_view kind.now))).read bytes.now) }
+    ensures { Gives (λ x. (view x.0, x.1.now)) result ((member (slot_value schema.now left) tag (Some (kind_view kind.now))).read bytes.now) }
 {
     let rest = expect(bytes, 58)?;
-    let (held, rest) = value(alloc, schema, left, kind, rest)?;
+    let (held, rest) = value(alloc, schema, left, kind, false, rest)?;
     let rest = expect(rest, 62)?;
     let value = Box::new(alloc, held)?;
     Ok((Value::Union { tag, value }, rest))

@@ -1,7 +1,6 @@
 -- The elements of an array as slots.
-use Rattle.std.proofs.Common.{◌≡◌, ℕ, zero, suc, ◌+◌, ◌*◌, ◌/◌, ◌%◌, Bool, List, [], ◌∷◌, ◌++◌, refl, sym, ap, ◌∙◌, arith}
+use Rattle.std.proofs.Common.{◌≡◌, ℕ, zero, suc, ◌+◌, ◌/◌, ◌%◌, Bool, List, [], ◌++◌, refl, sym, ap, ◌∙◌, arith}
 use Rattle.mj_schema.specs.declared.kind.Width.{Width}
-use Rattle.mj_schema.specs.declared.kind.Width.TheVariants.{Bits8, Bits16, Bits32, Bits64}
 use Rattle.mj_schema.specs.declared.schema.Schema.{Schema}
 use Rattle.mj_schema.specs.KindTrees as kinds
 use Rattle.mj_schema.specs.KindTrees.{KindTree}
@@ -22,15 +21,15 @@ module _ (next : Next) (schema : Schema) (bytes : List ℕ) (base : ℕ) where
       (ap (λ (p : ℕ). elements_marks next schema bytes p k n) (same_place place (size_of k) a)
       ∙ elements_as_slots k (place + size_of k) n (omega (arith, a, b)) b)
 
-  flags_as_slots : (place n : ℕ) → [] ≡ slots_marks next schema bytes base (element_slots kinds.BoolKind place n)
+  flags_as_slots : (x : Bool) (place n : ℕ) → [] ≡ slots_marks next schema bytes base (element_slots (kinds.BoolKind x) place n)
   unfolding slots_marks slot_marks cell_marks
-  flags_as_slots place zero = refl
-  flags_as_slots place (suc n) = flags_as_slots (place + 1) n
+  flags_as_slots x place zero = refl
+  flags_as_slots x place (suc n) = flags_as_slots x (place + 1) n
 
-  ints_as_slots : (w : Width) (s : Bool) (place n : ℕ) → [] ≡ slots_marks next schema bytes base (element_slots (kinds.IntKind w s) place n)
+  ints_as_slots : (w : Width) (s x : Bool) (place n : ℕ) → [] ≡ slots_marks next schema bytes base (element_slots (kinds.IntKind w s x) place n)
   unfolding slots_marks slot_marks cell_marks
-  ints_as_slots w s place zero = refl
-  ints_as_slots w s place (suc n) = ints_as_slots w s (place + size_of (kinds.IntKind w s)) n
+  ints_as_slots w s x place zero = refl
+  ints_as_slots w s x place (suc n) = ints_as_slots w s x (place + size_of (kinds.IntKind w s x)) n
 
   first_place : base + 0 / 8 ≡ base
   first_place = omega arith
@@ -41,9 +40,9 @@ module _ (next : Next) (schema : Schema) (bytes : List ℕ) (base : ℕ) where
 
   pub content_as_slots : (k : KindTree) (n : ℕ) → content_marks next schema bytes base k n ≡ slots_marks next schema bytes base (element_slots k 0 n)
   unfolding content_marks
-  content_as_slots kinds.BoolKind n = flags_as_slots 0 n
-  content_as_slots (kinds.IntKind w s) n = ints_as_slots w s 0 n
-  content_as_slots (kinds.EnumKind x) n = content_from (kinds.EnumKind x) n refl
+  content_as_slots (kinds.BoolKind x) n = flags_as_slots x 0 n
+  content_as_slots (kinds.IntKind w s x) n = ints_as_slots w s x 0 n
+  content_as_slots (kinds.EnumKind e x) n = content_from (kinds.EnumKind e x) n refl
   content_as_slots (kinds.TextKind x) n = content_from (kinds.TextKind x) n refl
   content_as_slots (kinds.HandleKind s x) n = content_from (kinds.HandleKind s x) n refl
   content_as_slots (kinds.ReceiverKind i x) n = content_from (kinds.ReceiverKind i x) n refl

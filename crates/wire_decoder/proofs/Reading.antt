@@ -1,7 +1,7 @@
 -- What readable marks say of their parts.
-use Rattle.std.proofs.Common.{◌≡◌, ℕ, zero, suc, ◌+◌, ◌-◌, ◌*◌, ◌/◌, ◌%◌, ◌^◌, ◌<◌, ◌≤◌, Bool, true, false, Option, None, List, [], ◌∷◌, ◌++◌, length, get_or, take, drop, map, add-one, drop-cons, refl, sym, ap, subst, ◌∙◌, arith}
+use Rattle.std.proofs.Common.{◌≡◌, ℕ, suc, ◌+◌, ◌-◌, ◌*◌, ◌/◌, ◌^◌, ◌<◌, ◌≤◌, Bool, true, false, Option, None, List, [], ◌∷◌, ◌++◌, length, get_or, drop, map, add-one, drop-cons, refl, sym, ap, subst, ◌∙◌, arith}
 use Rattle.std.proofs.lemmas.Bool.Decides.{nat_tests}
-use Rattle.std.specs.Prelude.{◌==◌, ◌&&◌}
+use Rattle.std.specs.Prelude.{◌==◌, ◌&&◌, slice_get}
 use Rattle.mj_schema.specs.Versions.{bytes_of}
 use Rattle.mj_schema.specs.KindTrees as kinds
 use Rattle.mj_schema.specs.KindTrees.{KindTree}
@@ -11,13 +11,16 @@ use Rattle.mj_schema.specs.declared.rows.StructRow.{StructRow}
 use Rattle.mj_schema.specs.declared.rows.VersionRow.{VersionRow}
 use Rattle.mj_schema.specs.declared.schema.Schema.{Schema}
 use Rattle.wire_model.specs.Bytes.{number32, number64}
-use Rattle.wire_model.specs.Trees.{Tree, Trees, Items, none}
-use Rattle.wire_model.specs.Values.{Behind, value, pointer_value, object_value, union_value, slot_value, slots_value}
-use Rattle.wire_model.specs.Marks.{visit, object_marks, Mark, Test, Object, Handle, Id, Next, slot_marks, slots_marks, content_marks, array_marks, text_marks, map_marks, struct_marks, pointer_marks, slots_up_to, row_fits}
+use Rattle.wire_model.specs.Trees.{Trees, Items, none}
+use Rattle.wire_model.specs.Values.{Behind, value, pointer_value, object_value, slot_value, slots_value}
+use Rattle.wire_model.specs.Marks.{visit, object_marks, Mark, Test, Object, Handle, Id, Next, has_value, marks_if, union_marks, found_union_marks, slot_marks, slots_marks, content_marks, array_marks, text_marks, map_marks, struct_marks, found_struct_marks, pointer_marks, slots_up_to, row_fits}
 use Rattle.wire_model.specs.Rows.{row_for}
-use Rattle.wire_model.specs.Slots.{Slot, element_bytes, element_slots, field_slot}
+use Rattle.wire_model.specs.Slots.{element_bytes, element_slots, field_slot}
+use Rattle.wire_model.specs.Tight.{MAX_DEPTH, marks_of}
 use Rattle.wire_model.specs.Stands.{IsFine, IsOrderly, objects}
 use Rattle.wire_decoder.specs.steps.Readable.{AreReadable}
+use Rattle.wire_decoder.specs.steps.Rooms.{field_marks}
+use Rattle.mj_schema.specs.Parts.{flag_place}
 
 pub readable_left : (n : ℕ) (xs ys : List Mark) → AreReadable n (xs ++ ys) → AreReadable n xs
 readable_left n [] ys h = tt
@@ -96,23 +99,24 @@ unfolding row_fits
 fits_long rows v size e = grind (arith, nat_tests)
 
 module _ (n : ℕ) (next : Next) (schema : Schema) (bytes : List ℕ) (base : ℕ) where
-  field_first : (f : FieldRow) (fs : List FieldRow) → f.bit < 8
+  pub field_first : (f : FieldRow) (fs : List FieldRow) → f.bit < 8
       → slots_marks next schema bytes base (map field_slot (f ∷ fs))
-      ≡ slot_marks next schema bytes (base + f.offset) f.kind ++ slots_marks next schema bytes base (map field_slot fs)
+      ≡ field_marks next schema bytes base f ++ slots_marks next schema bytes base (map field_slot fs)
   unfolding slots_marks
   field_first f fs lt =
       let e : (8 * f.offset + f.bit) / 8 ≡ f.offset = omega arith in
-      ap (λ o. slot_marks next schema bytes (base + o) f.kind ++ slots_marks next schema bytes base (map field_slot fs)) e
+      ap (λ o. marks_if (has_value bytes base (flag_place f.flag)) (slot_marks next schema bytes (base + o) f.kind)
+      ++ slots_marks next schema bytes base (map field_slot fs)) e
 
   -- a field and those behind it
   pub readable_field : (fields : List FieldRow) (i : ℕ) (f : FieldRow) → f.bit < 8 → i < length fields → f ≡ get_or fields i f
       → AreReadable n (slots_marks next schema bytes base (map field_slot (drop i fields)))
-      → AreReadable n (slot_marks next schema bytes (base + f.offset) f.kind)
+      → AreReadable n (field_marks next schema bytes base f)
       × AreReadable n (slots_marks next schema bytes base (map field_slot (drop (i + 1) fields)))
   readable_field fields i f bit lt is h =
       let e : drop i fields ≡ f ∷ drop (i + 1) fields = rw (add-one, drop-cons fields i f) (ap (λ g. g ∷ drop (suc i) fields) (sym is)) in
       let parts = subst (AreReadable n) (ap (λ fs. slots_marks next schema bytes base (map field_slot fs)) e ∙ field_first f (drop (i + 1) fields) bit) h in
-      let here = slot_marks next schema bytes (base + f.offset) f.kind in
+      let here = field_marks next schema bytes base f in
       let rest = slots_marks next schema bytes base (map field_slot (drop (i + 1) fields)) in
       (readable_left n here rest parts, readable_right n here rest parts)
 
@@ -170,6 +174,14 @@ module _ (n : ℕ) (next : Next) (schema : Schema) (bytes : List ℕ) (p : ℕ) 
       let marks = subst (λ x. AreReadable n (object_marks next schema bytes p x)) e h in
       subst (λ x. (p + bytes_of x ≤ n) × AreReadable n (slot_marks next schema bytes p x)) (sym e) (omega (arith, marks.1.0), marks.1.1)
 
+  -- a union that isn't null
+  pub union_readable : (k : KindTree) (number : ℕ) (nullable : Bool) → k ≡ kinds.UnionKind number nullable → (number32 bytes p ≡ 0 → ⊥)
+      → AreReadable n (slot_marks next schema bytes p k) → AreReadable n (found_union_marks next schema bytes p (slice_get schema.unions number))
+  unfolding slot_marks union_marks
+  union_readable k number nullable e some h =
+      let marks = subst (λ x. AreReadable n (slot_marks next schema bytes p x)) e h in
+      rw (not_zero (number32 bytes p) (number32 bytes p) refl some) at marks
+
 module _ (next : Behind) (schema : Schema) (bytes : List ℕ) (p : ℕ) where
   pub array_value : (of : KindTree) (count : Option ℕ) (nullable : Bool) (ts : Trees)
       → ts ≡ slots_value next schema bytes (p + 8) (element_slots of 0 (number32 bytes (p + 4))) none
@@ -181,3 +193,13 @@ module _ (next : Behind) (schema : Schema) (bytes : List ℕ) (p : ℕ) where
       → object_value next schema bytes p k ≡ slot_value next schema bytes p 0 k
   unfolding object_value slot_value
   union_is_slot k number nullable e = subst (λ x. object_value next schema bytes p x ≡ slot_value next schema bytes p 0 x) (sym e) refl
+
+-- the marks of a field that has a value
+pub value_readable : (n : ℕ) (has : Bool) (ms : List Mark) → has ≡ true → AreReadable n (marks_if has ms) → AreReadable n ms
+value_readable n has ms e h = rw e at h
+
+-- the marks of parameters are those of their struct
+pub parameters_readable : (n : ℕ) (schema : Schema) (bytes : List ℕ) (start number : ℕ) → AreReadable n (marks_of schema bytes start number)
+    → AreReadable n (found_struct_marks (visit (MAX_DEPTH - 1) schema bytes) schema bytes start (slice_get schema.structs number))
+unfolding visit object_marks
+parameters_readable n schema bytes start number h = h

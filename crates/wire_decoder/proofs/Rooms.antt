@@ -1,18 +1,15 @@
 -- What lies within the bytes of a message.
-use Rattle.std.proofs.Common.{◌≡◌, ℕ, zero, suc, ◌+◌, ◌-◌, ◌*◌, ◌/◌, ◌%◌, ◌<◌, ◌≤◌, Bool, List, [], ◌++◌, length, get_or, take, refl, sym, ap, subst, ◌∙◌, arith}
-use Rattle.std.specs.Prelude.{All, Contains}
+use Rattle.std.proofs.Common.{◌≡◌, ℕ, ◌+◌, ◌*◌, ◌/◌, ◌<◌, ◌≤◌, List, length, get_or, sym, subst, arith}
+use Rattle.std.specs.Prelude.{All}
 use Rattle.std.proofs.lemmas.List.Elements.{All-weaker, All-get_or}
 use Rattle.mj_schema.specs.KindTrees as kinds
 use Rattle.mj_schema.specs.KindTrees.{KindTree}
 use Rattle.mj_schema.specs.Sizes.{size_of}
-use Rattle.mj_schema.specs.Versions.{bytes_of}
-use Rattle.mj_schema.specs.declared.kind.Width.{Width}
+use Rattle.mj_schema.specs.Versions.{bytes_of, flag_end}
 use Rattle.mj_schema.specs.declared.kind.Width.TheVariants.{Bits8, Bits16, Bits32, Bits64}
 use Rattle.mj_schema.specs.declared.rows.FieldRow.{FieldRow}
-use Rattle.mj_schema.specs.declared.schema.Schema.{Schema}
-use Rattle.wire_model.specs.Marks.{Mark, Next, slot_marks, cell_marks, slots_marks, elements_marks, content_marks}
 use Rattle.wire_model.specs.Readable.{EndsWithin}
-use Rattle.wire_model.specs.Slots.{element_bytes, element_slots}
+use Rattle.wire_model.specs.Slots.{element_bytes}
 use Rattle.wire_model.specs.steps.Cells.{cell_size}
 use Rattle.wire_decoder.specs.steps.Rooms.{EndsIn}
 
@@ -21,7 +18,10 @@ pub within_bytes : (fields : List FieldRow) (row_bytes p size n : ℕ) → All (
     → All (EndsIn (p + 8) n) fields
 within_bytes fields row_bytes p size n h a b =
     All-weaker (EndsWithin row_bytes) (EndsIn (p + 8) n)
-    (λ f le. let room : 8 + f.offset + bytes_of f.kind ≤ row_bytes = le.room in record { bit = le.bit; room = omega arith }) fields h
+    (λ f le.
+    let room : 8 + f.offset + bytes_of f.kind ≤ row_bytes = le.room in
+    let flag_room : 8 + flag_end f.flag ≤ row_bytes = le.flag_room in
+    record { bit = le.bit; flag_bit = le.flag_bit; room = omega arith; flag_room = omega arith }) fields h
 
 -- one of the fields
 pub field_in : (base n : ℕ) (fields : List FieldRow) (i : ℕ) (f : FieldRow) → i < length fields → f ≡ get_or fields i f
@@ -31,12 +31,12 @@ field_in base n fields i f lt is h = subst (EndsIn base n) (sym is) (All-get_or 
 -- a slot that isn't a union is a cell
 -- what is held in a union has 8 bytes
 pub cell_room : (k : KindTree) → (cell_size k + 7) / 8 ≤ 8
-cell_room kinds.BoolKind = omega arith
-cell_room (kinds.IntKind Bits8 signed) = omega arith
-cell_room (kinds.IntKind Bits16 signed) = omega arith
-cell_room (kinds.IntKind Bits32 signed) = omega arith
-cell_room (kinds.IntKind Bits64 signed) = omega arith
-cell_room (kinds.EnumKind number) = omega arith
+cell_room (kinds.BoolKind nullable) = omega arith
+cell_room (kinds.IntKind Bits8 signed nullable) = omega arith
+cell_room (kinds.IntKind Bits16 signed nullable) = omega arith
+cell_room (kinds.IntKind Bits32 signed nullable) = omega arith
+cell_room (kinds.IntKind Bits64 signed nullable) = omega arith
+cell_room (kinds.EnumKind number nullable) = omega arith
 cell_room (kinds.TextKind nullable) = omega arith
 cell_room (kinds.HandleKind sort nullable) = omega arith
 cell_room (kinds.ArrayKind of count nullable) = omega arith
@@ -68,12 +68,12 @@ of_128 : (place i n : ℕ) → i < n → place ≡ i * 128 → place / 8 + (128 
 of_128 place i n lt is = omega arith
 
 pub element_room : (k : KindTree) (place i n : ℕ) → i < n → place ≡ i * size_of k → place / 8 + bytes_of k ≤ element_bytes k n
-element_room kinds.BoolKind place i n lt is = flags place i n lt is
-element_room (kinds.IntKind Bits8 signed) place i n lt is = of_8 place i n lt is
-element_room (kinds.IntKind Bits16 signed) place i n lt is = of_16 place i n lt is
-element_room (kinds.IntKind Bits32 signed) place i n lt is = of_32 place i n lt is
-element_room (kinds.IntKind Bits64 signed) place i n lt is = of_64 place i n lt is
-element_room (kinds.EnumKind number) place i n lt is = of_32 place i n lt is
+element_room (kinds.BoolKind nullable) place i n lt is = flags place i n lt is
+element_room (kinds.IntKind Bits8 signed nullable) place i n lt is = of_8 place i n lt is
+element_room (kinds.IntKind Bits16 signed nullable) place i n lt is = of_16 place i n lt is
+element_room (kinds.IntKind Bits32 signed nullable) place i n lt is = of_32 place i n lt is
+element_room (kinds.IntKind Bits64 signed nullable) place i n lt is = of_64 place i n lt is
+element_room (kinds.EnumKind number nullable) place i n lt is = of_32 place i n lt is
 element_room (kinds.TextKind nullable) place i n lt is = of_64 place i n lt is
 element_room (kinds.HandleKind sort nullable) place i n lt is = of_32 place i n lt is
 element_room (kinds.ArrayKind of count nullable) place i n lt is = of_64 place i n lt is

@@ -72,9 +72,15 @@ fn absent_kind(schema: &Schema, kind: &KindNode) -> Value
     ensures { view result ≡ absent_kind schema.now (kind_view kind.now) }
 {
     match kind {
-        KindNode::Bool => Value::Bool(false),
-        KindNode::Int { .. } => Value::Whole(0),
-        KindNode::Enum { number } => {
+        KindNode::Bool { nullable: false } => Value::Bool(false),
+        KindNode::Int {
+            nullable: false,
+            ..
+        } => Value::Whole(0),
+        KindNode::Enum {
+            number,
+            nullable: false,
+        } => {
             let number = enum_number(find_enum(schema, *number));
             Value::Whole(i128::from(number))
         }

@@ -17,6 +17,15 @@ fn number_at(bytes: &[u8], at: u64, width: u64) -> u64 {
     number
 }
 
+/// A bit of a byte, the lowest first.
+pub fn bit_at(bytes: &[u8], at: u64, bit: u32) -> bool {
+    let mut byte = byte_at(bytes, at);
+    for _ in 0..bit {
+        byte /= 2;
+    }
+    byte % 2 == 1
+}
+
 /// The number of 16 bits at a place.
 pub fn number16(bytes: &[u8], at: u64) -> u64 {
     number_at(bytes, at, 2)

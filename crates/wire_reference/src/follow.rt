@@ -1,7 +1,7 @@
 //! The tree of a message: each pointer is followed, as long as the object that it leads to has room
 //! for itself.
 
-use crate::bytes::{are_there, number32, number64};
+use crate::bytes::{are_there, bit_at, number32, number64};
 use crate::nodes::{Node, What};
 use crate::rows::{bits, goes_with, has_field, held, room, struct_of};
 use mj_schema::{FieldRow, KindNode, Schema, StructRow};
@@ -72,15 +72,28 @@ fn has_room(bytes: &[u8], at: u64, extra: u64) -> bool {
     size >= extra.saturating_add(8) && are_there(bytes, at, size)
 }
 
+/// Whether a field has a flag that is 0, where its struct's fields begin at a place.
+fn has_no_value(bytes: &[u8], fields: u64, field: &FieldRow) -> bool {
+    match field.flag {
+        Some(flag) => !bit_at(
+            bytes,
+            fields.saturating_add(u64::from(flag.offset)),
+            flag.bit,
+        ),
+        None => false,
+    }
+}
+
 /// The node of a field.
-fn field_node<'a>(node: Node<'a>, field: &'a FieldRow, version: u64) -> Node<'a> {
+fn field_node<'a>(bytes: &[u8], node: Node<'a>, field: &'a FieldRow, version: u64) -> Node<'a> {
     if !has_field(field, version) {
         return Node::new(What::Absent(field), node.at, node.depth);
     }
-    let at = node
-        .at
-        .saturating_add(8)
-        .saturating_add(u64::from(field.offset));
+    let fields = node.at.saturating_add(8);
+    if has_no_value(bytes, fields, field) {
+        return Node::new(What::NoValue, node.at, node.depth);
+    }
+    let at = fields.saturating_add(u64::from(field.offset));
     Node {
         bit: field.bit,
         ..Node::new(What::Slot(field.kind.node()), at, node.depth)
@@ -99,7 +112,7 @@ fn add_fields<'a>(
         return Ok(());
     }
     for field in row.fields.as_slice() {
-        parts.push(field_node(node, field, version))?;
+        parts.push(field_node(bytes, node, field, version))?;
     }
     Ok(())
 }

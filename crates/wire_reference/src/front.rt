@@ -11,13 +11,14 @@ use wire_model::{Expected, MessageSide};
 /// The id of control messages.
 const CONTROL: u64 = 0xffff_ffff;
 
-/// What the header says: where the payload is, how many ids there are, and the request id.
+/// What the header says: where the payload is, how many ids there are, the request id, and the moment.
 #[derive(Clone, Copy)]
 pub struct Bounds {
     pub start: u64,
     pub end: u64,
     pub ids: u64,
     pub request: u64,
+    pub moment: Option<i64>,
 }
 
 /// What the header says; meaningful where its tests pass.
@@ -31,6 +32,7 @@ pub fn bounds_of(bytes: &[u8]) -> Bounds {
             end,
             ids: 0,
             request,
+            moment: None,
         };
     }
     let start = number64(bytes, 32).saturating_add(32);
@@ -45,7 +47,16 @@ pub fn bounds_of(bytes: &[u8]) -> Bounds {
         end,
         ids,
         request,
+        moment: moment_of(bytes, version),
     }
+}
+
+/// The moment, which versions below 3 lack.
+fn moment_of(bytes: &[u8], version: u64) -> Option<i64> {
+    if version < 3 {
+        return None;
+    }
+    Some(number64(bytes, 48).cast_signed())
 }
 
 /// The bytes of a header of this version.
@@ -54,7 +65,8 @@ fn header_fits(version: u64, size: u64) -> bool {
         0 => size == 24,
         1 => size == 32,
         2 => size == 48,
-        _ => size >= 48,
+        3 => size == 56,
+        _ => size >= 56,
     }
 }
 

@@ -65,8 +65,8 @@ fn add_cell(
     let at = node.at;
     let nullable = is_nullable(kind);
     match kind {
-        KindNode::Bool | KindNode::Int { .. } => {}
-        KindNode::Enum { number } => {
+        KindNode::Bool { .. } | KindNode::Int { .. } => {}
+        KindNode::Enum { number, .. } => {
             let value = word(bytes, at).cast_signed();
             let is_fine = is_known(schema, *number, value);
             tests.push(Test::new(is_fine, FaultKind::UnknownEnumValue, at))?;
@@ -199,7 +199,7 @@ fn add_first(
         What::Map { .. } => add_map(bytes, at, tests),
         What::Text => add_text(bytes, at, tests),
         What::Union(_) => add_pointed_union(at, tests),
-        What::Absent(_) | What::Nothing => Ok(()),
+        What::Absent(_) | What::NoValue | What::Nothing => Ok(()),
     }
 }
 

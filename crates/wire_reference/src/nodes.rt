@@ -13,6 +13,8 @@ pub enum What<'a> {
     List(&'a KindNode),
     /// A field that the version of its struct lacks.
     Absent(&'a FieldRow),
+    /// A field whose flag says that there is no value.
+    NoValue,
     /// A struct, as an object.
     Struct(&'a StructRow),
     /// An array, as an object.

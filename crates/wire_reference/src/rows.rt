@@ -5,7 +5,7 @@ use mj_schema::{EnumRow, FieldRow, Kind, KindNode, Schema, StructRow, UnionRow};
 /// The room of a slot in bits.
 pub fn bits(kind: &KindNode) -> u64 {
     match kind {
-        KindNode::Bool => 1,
+        KindNode::Bool { .. } => 1,
         KindNode::Int { width, .. } => u64::from(width.bits()),
         KindNode::Enum { .. } | KindNode::Handle { .. } => 32,
         KindNode::Receiver { .. } | KindNode::AssociatedReceiver { .. } => 32,
@@ -24,8 +24,10 @@ pub fn room(of: &KindNode, count: u64) -> u64 {
 /// Whether a kind may be null.
 pub fn is_nullable(kind: &KindNode) -> bool {
     match kind {
-        KindNode::Bool | KindNode::Int { .. } | KindNode::Enum { .. } => false,
-        KindNode::Text { nullable }
+        KindNode::Bool { nullable }
+        | KindNode::Int { nullable, .. }
+        | KindNode::Enum { nullable, .. }
+        | KindNode::Text { nullable }
         | KindNode::Handle { nullable, .. }
         | KindNode::Array { nullable, .. }
         | KindNode::Map { nullable, .. }

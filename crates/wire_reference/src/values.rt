@@ -1,6 +1,6 @@
 //! The value of a tree.
 
-use crate::bytes::{byte_at, number16, number32, number64, word};
+use crate::bytes::{bit_at, byte_at, number16, number32, number64, word};
 use crate::list::{NO_INDEX, text_at};
 use crate::nodes::{Node, What};
 use crate::rows::{enum_of, has_member, is_nullable};
@@ -45,15 +45,6 @@ fn index_at(bytes: &[u8], at: u64, kind: &KindNode) -> Value {
     }
 }
 
-/// A bit of a byte, the lowest first.
-fn bit_at(bytes: &[u8], at: u64, bit: u32) -> bool {
-    let mut byte = byte_at(bytes, at);
-    for _ in 0..bit {
-        byte /= 2;
-    }
-    byte % 2 == 1
-}
-
 /// The value of a union where it lies, which holds this.
 fn union_value(
     alloc: Global,
@@ -77,8 +68,8 @@ fn union_value(
 /// The value of a slot that holds no union, whose pointer leads to this.
 fn cell_value(bytes: &[u8], node: Node<'_>, kind: &KindNode, target: Option<Value>) -> Value {
     match kind {
-        KindNode::Bool => Value::Bool(bit_at(bytes, node.at, node.bit)),
-        KindNode::Int { width, signed } => {
+        KindNode::Bool { .. } => Value::Bool(bit_at(bytes, node.at, node.bit)),
+        KindNode::Int { width, signed, .. } => {
             Value::Whole(whole_at(bytes, node.at, *width, *signed))
         }
         KindNode::Enum { .. } => Value::Whole(whole_at(bytes, node.at, Width::Bits32, true)),
@@ -122,9 +113,9 @@ fn absent_value(alloc: Global, schema: &Schema, field: &FieldRow) -> Result<Valu
             Ok(Value::Text(bytes))
         }
         (None, kind) if is_nullable(kind) => Ok(Value::Null),
-        (None, KindNode::Bool) => Ok(Value::Bool(false)),
+        (None, KindNode::Bool { .. }) => Ok(Value::Bool(false)),
         (None, KindNode::Int { .. }) => Ok(Value::Whole(0)),
-        (None, KindNode::Enum { number }) => {
+        (None, KindNode::Enum { number, .. }) => {
             Ok(Value::Whole(i128::from(enum_absent(schema, *number))))
         }
         (None, _) => Ok(Value::Null),
@@ -144,6 +135,7 @@ fn value_of(
         What::Struct(_) => Ok(Value::Struct(parts)),
         What::Array { .. } => Ok(Value::List(parts)),
         What::Absent(field) => absent_value(alloc, schema, field),
+        What::NoValue => Ok(Value::Null),
         What::Map { .. } => {
             let mut lists = parts;
             let values = elements(alloc, lists.pop());

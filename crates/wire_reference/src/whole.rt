@@ -12,11 +12,12 @@ use mj_schema::{Schema, StructRow};
 use std::alloc::{AllocError, Global};
 use wire_model::{Expected, Value};
 
-/// What a message stands for: the ordinal of its method, its request id, and its parameters.
+/// What a message stands for: the ordinal of its method, its request id, its moment, and its parameters.
 #[derive(Drop)]
 pub struct Message {
     pub method: u32,
     pub request: u64,
+    pub moment: Option<i64>,
     pub value: Value,
 }
 
@@ -87,6 +88,7 @@ fn read_payload(
     Ok(Outcome::Message(Message {
         method: word(bytes, 12),
         request: bounds.request,
+        moment: bounds.moment,
         value: root_value(alloc, schema, bytes, &nodes)?,
     }))
 }

@@ -2,8 +2,7 @@ use Rattle.std.proofs.Common.{◌≡◌, ℕ, ◌<◌, ◌≤◌, ◌⊎◌, inl
 use Rattle.mj_schema.specs.KindTrees.{KindTree, kind_view}
 use Rattle.mj_schema.specs.declared.rows.FieldRow.{FieldRow}
 use Rattle.wire_model.specs.Trees.{view}
-use Rattle.value_text.specs.Rules.{fields_kinds}
-use Rattle.value_text.specs.Spelling.{spell, first_item, each_text, first_pair, first_field, key_of, value_of}
+use Rattle.value_text.specs.Spelling.{fields_kinds, spell, first_item, each_text, first_pair, first_field, key_of, value_of}
 use Rattle.value_text.proofs.Printed.{trees_in, item_on, items_done, field_on, fields_done, pair_on, pairs_done}
 use Rattle.value_text.proofs.printing.+push.Goals.{push_list-then-i-gt0+in_ok-push-2, push_list-else-i-gt0}
 use Rattle.value_text.proofs.printing.+push.Goals.{push_map-then-i-gt0+in_ok-push-2, push_map-else-i-gt0, push_map-then-loop-i-test+else-i-values}

@@ -2,8 +2,7 @@ use Rattle.std.proofs.Common.{◌≡◌, ◌∷◌, ◌++◌, ◌+◌, ◌*◌, 
 use Rattle.mj_schema.specs.KindTrees.{kind_view}
 use Rattle.wire_model.specs.Trees.{view}
 use Rattle.value_text.specs.Brackets.{brackets, brackets_in}
-use Rattle.value_text.specs.Rules.{fields_kinds}
-use Rattle.value_text.specs.Spelling.{first_item, each_text, first_pair, first_field, key_of, value_of}
+use Rattle.value_text.specs.Spelling.{fields_kinds, first_item, each_text, first_pair, first_field, key_of, value_of}
 use Rattle.value_text.proofs.Printed.{trees_in, items_from, pairs_from, fields_from}
 use Rattle.value_text.proofs.printing.+push.Given as goal
 

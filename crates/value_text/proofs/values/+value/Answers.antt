@@ -1,7 +1,8 @@
-use Rattle.std.proofs.Common.{◌≡◌, ◌∷◌, [], ◌++◌, ◌+◌, ◌-◌, List, Ok, length, map, drop, slice_get, sym, ap, subst, ◌∙◌, arith}
+use Rattle.std.proofs.Common.{◌≡◌, ◌∷◌, [], ◌++◌, ◌+◌, ◌-◌, List, Ok, Bool, length, map, drop, slice_get, sym, ap, subst, ◌∙◌, arith}
 use Rattle.wire_model.specs.declared.value.Value.{Value}
 use Rattle.std.proofs.lemmas.Result.{err_from_is_err_and}
 use Rattle.mj_schema.specs.KindTrees.{KindTree, kind_view}
+use Rattle.std.specs.Prelude.{is_some}
 use Rattle.wire_model.specs.Trees.{Tree, view}
 use Rattle.byte_rules.specs.Lang.{many, rest_of, ◌▸◌}
 use Rattle.byte_rules.specs.Reading.{Fails, Gives}
@@ -9,28 +10,28 @@ use Rattle.byte_rules.specs.steps.Reading.{gathered, with_front}
 use Rattle.byte_rules.proofs.Loops.{halts_ok, done_ok, done_err, goes_on, ends, goes_exactly, ends_exactly, exactly_ok, exactly_err}
 use Rattle.byte_rules.proofs.Gathers as gathers
 use Rattle.value_text.proofs.PairReads.{none_added, one_added, map_ok, map_err}
-use Rattle.value_text.specs.Rules.{value, fields, fields_after, fields_kinds}
-use Rattle.value_text.specs.steps.Reading.{more_of, pair_of, add_pairs}
+use Rattle.value_text.specs.Rules.{slot_value, fields, fields_after}
+use Rattle.value_text.specs.steps.Reading.{inner, more_of, pair_of, add_pairs}
 use Rattle.value_text.proofs.KindReads.{value_null, map_room, pushed, structure_ok, structure_err, field_on, no_field, fields_end, no_end}
-use Rattle.value_text.proofs.KindReads.{kinds_at, kinds_end, fields_first, rest_is, none_ok, none_err, first_exactly, fails_exactly}
+use Rattle.value_text.proofs.KindReads.{fields_at, fields_gone, fields_first, rest_is, none_ok, none_err, first_exactly, fails_exactly}
 use Rattle.mj_schema.specs.declared.rows.FieldRow.{FieldRow}
 use Rattle.value_text.proofs.values.+value.Goals as goal
 
 pub value-returns-then-is_next : goal.value-returns-then-is_next
 value-returns-then-is_next t c = rw
-    (value_null c.args.schema.now c.args.left (kind_view c.args.kind.now) c.args.bytes.now (sym c.is_nullable.ensures ∙ c.if-is_nullable.true)
+    (value_null c.args.schema.now c.args.left c.args.flagged (kind_view c.args.kind.now) c.args.bytes.now (sym c.may_be_null.ensures ∙ c.if-may_be_null.true)
     (sym c.is_next.ensures ∙ c.if-is_next.true)) c.null.ensures
 
 pub more-returns-then-is_next : goal.more-returns-then-is_next
 more-returns-then-is_next t c =
-    let one = 44 ▸ value c.args.schema.now c.args.left (kind_view c.args.of.now) in
+    let one = 44 ▸ inner c.args.schema.now c.args.left (kind_view c.args.of.now) in
     halts_ok (λ t. t ∷ []) 93 one (map view c.loop.items.items) (length c.args.bytes.now) c.loop.counter c.loop.rest.now c.in_ok-rest.rest.now 93
     (with_front (λ t. t ∷ []) (map view c.args.items.items) ((more_of c.args.schema.now c.args.left (kind_view c.args.of.now)).read c.args.bytes.now))
     (sym c.is_next.ensures ∙ c.if-is_next.true) c.in_ok-rest.ensures c.loop.invariant
 
 pub more-returns-in_err-item : goal.more-returns-in_err-item
 more-returns-in_err-item t c =
-    let one = 44 ▸ value c.args.schema.now c.args.left (kind_view c.args.of.now) in
+    let one = 44 ▸ inner c.args.schema.now c.args.left (kind_view c.args.of.now) in
     let p = err_from_is_err_and c.from_residual-in_err-item.result c.from_residual-in_err-item.ensures.1 in
     rw (p.1, p.2) (ends (λ t. t ∷ []) 93 one c.in_err-item.field-0.0 (map view c.loop.items.items) (length c.args.bytes.now) c.loop.counter c.loop.rest.now
     (with_front (λ t. t ∷ []) (map view c.args.items.items)
@@ -39,7 +40,7 @@ more-returns-in_err-item t c =
 
 pub more-loop-preserved : goal.more-loop-preserved
 more-loop-preserved t c =
-    let one = 44 ▸ value c.args.schema.now c.args.left (kind_view c.args.of.now) in
+    let one = 44 ▸ inner c.args.schema.now c.args.left (kind_view c.args.of.now) in
     rw (pushed view c.loop.items.items c.in_ok-item.item c.push.new.self.items c.in_ok-push.ensures.items)
     (goes_on (λ t. t ∷ []) 93 one (map view c.loop.items.items) (length c.args.bytes.now) c.loop.counter c.loop.rest.now
     (view c.in_ok-item.item) c.in_ok-item.after.now
@@ -49,7 +50,7 @@ more-loop-preserved t c =
 
 pub more-returns-in_err-rest-2 : goal.more-returns-in_err-rest-2
 more-returns-in_err-rest-2 t c =
-    let one = 44 ▸ value c.args.schema.now c.args.left (kind_view c.args.of.now) in
+    let one = 44 ▸ inner c.args.schema.now c.args.left (kind_view c.args.of.now) in
     let p = err_from_is_err_and c.from_residual-in_err-rest-2.result c.from_residual-in_err-rest-2.ensures.1 in
     rw (p.1, p.2) (done_err (λ t. t ∷ []) 93 one c.in_err-rest-2.field-0.0 (map view c.loop.items.items)
     (length c.args.bytes.now) c.loop.counter c.loop.rest.now
@@ -59,7 +60,7 @@ more-returns-in_err-rest-2 t c =
 
 pub more-returns : goal.more-returns
 more-returns t c =
-    let one = 44 ▸ value c.args.schema.now c.args.left (kind_view c.args.of.now) in
+    let one = 44 ▸ inner c.args.schema.now c.args.left (kind_view c.args.of.now) in
     done_ok (λ t. t ∷ []) 93 one (map view c.loop.items.items) (length c.args.bytes.now) c.loop.counter c.loop.rest.now c.in_ok-rest-2.rest.now 93
     (with_front (λ t. t ∷ []) (map view c.args.items.items)
     ((more_of c.args.schema.now c.args.left (kind_view c.args.of.now)).read c.args.bytes.now)) c.loop-test.false c.in_ok-rest-2.ensures c.loop.invariant
@@ -67,16 +68,16 @@ more-returns t c =
 pub all_fields-returns-in_err-values : goal.all_fields-returns-in_err-values
 all_fields-returns-in_err-values t c =
     let p = err_from_is_err_and c.from_residual.result c.from_residual.ensures.1 in
-    rw (p.1, p.2) (structure_err (value c.args.schema.now c.args.left)
+    rw (p.1, p.2) (structure_err (slot_value c.args.schema.now c.args.left)
     (slice_get c.args.schema.now.structs c.args.number) c.in-Some.row.now c.args.bytes.now c.in_err-values.field-0.0 c.in-Some.ensures
     (subst (λ (fs : List FieldRow). Fails c.in_err-values.field-0.0
-    ((fields (value c.args.schema.now c.args.left) (fields_kinds fs)).read c.args.bytes.now)) c.as_slice.ensures c.in_err-values.ensures))
+    ((fields (slot_value c.args.schema.now c.args.left) fs).read c.args.bytes.now)) c.as_slice.ensures c.in_err-values.ensures))
 
 pub all_fields-returns : goal.all_fields-returns
-all_fields-returns t c = structure_ok (value c.args.schema.now c.args.left)
+all_fields-returns t c = structure_ok (slot_value c.args.schema.now c.args.left)
     (slice_get c.args.schema.now.structs c.args.number) c.in-Some.row.now c.args.bytes.now
     (map view c.in_ok-values.values.items) c.in_ok-values.rest.now c.in-Some.ensures
-    (subst (λ (fs : List FieldRow). (fields (value c.args.schema.now c.args.left) (fields_kinds fs)).read c.args.bytes.now ≡ Ok
+    (subst (λ (fs : List FieldRow). (fields (slot_value c.args.schema.now c.args.left) fs).read c.args.bytes.now ≡ Ok
     (map view c.in_ok-values.values.items, c.in_ok-values.rest.now)) c.as_slice.ensures c.in_ok-values.ensures)
     ∙ ap (λ (t : Tree). Ok (t, c.in_ok-values.rest.now)) (sym c.struct_of.ensures)
 
@@ -84,64 +85,67 @@ pub fields-returns-in_ok-push-in-len1-up : goal.fields-returns-in_ok-push-in-len
 fields-returns-in_ok-push-in-len1-up t c =
     let one = pushed view [] c.in_ok-first-in-len1-up.first c.push.new.self.items
     (c.in_ok-push-in-len1-up.ensures.items ∙ ap (λ (vs : List Value). vs ++ c.in_ok-first-in-len1-up.first ∷ []) c.new-values.ensures.items) in
-    let eq = fields_first (value c.args.schema.now c.args.left) c.args.row.now c.field-item.result
+    let eq = fields_first (slot_value c.args.schema.now c.args.left) c.args.row.now c.field-item.result c.has_flag.result
     (kind_view c.node.result.now) c.args.bytes.now c.in_ok-first-in-len1-up.rest.now (view c.in_ok-first-in-len1-up.first)
-    (map view c.push.new.self.items) c.in-len1-up.len_at_least c.field-item.is c.node.ensures c.in_ok-first-in-len1-up.ensures one in
+    (map view c.push.new.self.items) c.in-len1-up.len_at_least c.field-item.is c.has_flag.ensures c.node.ensures c.in_ok-first-in-len1-up.ensures one in
     rw eq (subst (λ (fs : List FieldRow). Gives (λ x. (map view x.0.items, x.1.now)) c.fields_after.result
     (with_front (λ t. t ∷ []) (map view c.push.new.self.items)
-    ((fields_after (value c.args.schema.now c.args.left) (fields_kinds fs)).read c.in_ok-first-in-len1-up.rest.now)))
+    ((fields_after (slot_value c.args.schema.now c.args.left) fs).read c.in_ok-first-in-len1-up.rest.now)))
     (rest_is c.args.row.now) c.fields_after.ensures)
 
 pub fields_after-returns-in_err-value : goal.fields_after-returns-in_err-value
 fields_after-returns-in_err-value t c =
-    let inside = value c.args.schema.now c.args.left in
-    let total = with_front (λ t. t ∷ []) (map view c.args.values.items) ((fields_after inside (fields_kinds c.args.row.now)).read c.args.bytes.now) in
+    let inside = slot_value c.args.schema.now c.args.left in
+    let total = with_front (λ t. t ∷ []) (map view c.args.values.items) ((fields_after inside c.args.row.now).read c.args.bytes.now) in
     let p = err_from_is_err_and c.from_residual.result c.from_residual.ensures.1 in
     let f = c.field-item.result in
-    let so_far = subst (λ (ks : List KindTree). with_front (λ t. t ∷ []) (map view c.loop-field.values.items)
-    ((fields_after inside ks).read c.loop-field.rest.now) ≡ total)
-    (kinds_at c.args.row.now c.loop-field.field-index f c.loop-field-test.true c.field-item.is) c.loop-field.invariant in
-    rw (p.1, p.2) (no_field inside c.in_err-value.field-0.0 (map view c.loop-field.values.items) f.kind
-    (fields_kinds (drop (c.loop-field.field-index + 1) c.args.row.now)) c.loop-field.rest.now total
-    (subst (λ (k : KindTree). Fails c.in_err-value.field-0.0
-    ((44 ▸ inside k).read c.loop-field.rest.now)) c.node.ensures c.in_err-value.ensures) so_far)
+    let so_far = subst (λ (fs : List FieldRow). with_front (λ t. t ∷ []) (map view c.loop-field.values.items)
+    ((fields_after inside fs).read c.loop-field.rest.now) ≡ total)
+    (fields_at c.args.row.now c.loop-field.field-index f c.loop-field-test.true c.field-item.is) c.loop-field.invariant in
+    rw (p.1, p.2) (no_field inside c.in_err-value.field-0.0 (map view c.loop-field.values.items) f
+    (drop (c.loop-field.field-index + 1) c.args.row.now) c.loop-field.rest.now total
+    (subst (λ (k : KindTree). Fails c.in_err-value.field-0.0 ((44 ▸ inside (is_some f.flag) k).read c.loop-field.rest.now)) c.node.ensures
+    (subst (λ (b : Bool). Fails c.in_err-value.field-0.0 ((44 ▸ inside b (kind_view c.node.result.now)).read c.loop-field.rest.now))
+    c.has_flag.ensures c.in_err-value.ensures)) so_far)
 
 pub fields_after-loop-field-preserved : goal.fields_after-loop-field-preserved
 fields_after-loop-field-preserved t c =
-    let inside = value c.args.schema.now c.args.left in
-    let total = with_front (λ t. t ∷ []) (map view c.args.values.items) ((fields_after inside (fields_kinds c.args.row.now)).read c.args.bytes.now) in
+    let inside = slot_value c.args.schema.now c.args.left in
+    let total = with_front (λ t. t ∷ []) (map view c.args.values.items) ((fields_after inside c.args.row.now).read c.args.bytes.now) in
     let f = c.field-item.result in
-    let so_far = subst (λ (ks : List KindTree). with_front (λ t. t ∷ []) (map view c.loop-field.values.items)
-    ((fields_after inside ks).read c.loop-field.rest.now) ≡ total)
-    (kinds_at c.args.row.now c.loop-field.field-index f c.loop-field-test.true c.field-item.is) c.loop-field.invariant in
+    let so_far = subst (λ (fs : List FieldRow). with_front (λ t. t ∷ []) (map view c.loop-field.values.items)
+    ((fields_after inside fs).read c.loop-field.rest.now) ≡ total)
+    (fields_at c.args.row.now c.loop-field.field-index f c.loop-field-test.true c.field-item.is) c.loop-field.invariant in
     let one = pushed view c.loop-field.values.items c.in_ok-value.value c.push.new.self.items c.in_ok-push.ensures.items in
-    rw one (field_on inside (map view c.loop-field.values.items) f.kind
-    (fields_kinds (drop (c.loop-field.field-index + 1) c.args.row.now)) c.loop-field.rest.now c.in_ok-value.after.now (view c.in_ok-value.value) total
-    (subst (λ (k : KindTree). (44 ▸ inside k).read c.loop-field.rest.now ≡ Ok
-    (view c.in_ok-value.value, c.in_ok-value.after.now)) c.node.ensures c.in_ok-value.ensures) so_far)
+    rw one (field_on inside (map view c.loop-field.values.items) f
+    (drop (c.loop-field.field-index + 1) c.args.row.now) c.loop-field.rest.now c.in_ok-value.after.now (view c.in_ok-value.value) total
+    (subst (λ (k : KindTree). (44 ▸ inside (is_some f.flag) k).read c.loop-field.rest.now ≡ Ok
+    (view c.in_ok-value.value, c.in_ok-value.after.now)) c.node.ensures
+    (subst (λ (b : Bool). (44 ▸ inside b (kind_view c.node.result.now)).read c.loop-field.rest.now ≡ Ok
+    (view c.in_ok-value.value, c.in_ok-value.after.now)) c.has_flag.ensures c.in_ok-value.ensures)) so_far)
 
 pub fields_after-returns-in_err-rest : goal.fields_after-returns-in_err-rest
 fields_after-returns-in_err-rest t c =
-    let inside = value c.args.schema.now c.args.left in
-    let total = with_front (λ t. t ∷ []) (map view c.args.values.items) ((fields_after inside (fields_kinds c.args.row.now)).read c.args.bytes.now) in
+    let inside = slot_value c.args.schema.now c.args.left in
+    let total = with_front (λ t. t ∷ []) (map view c.args.values.items) ((fields_after inside c.args.row.now).read c.args.bytes.now) in
     let p = err_from_is_err_and c.from_residual-in_err-rest.result c.from_residual-in_err-rest.ensures.1 in
-    let so_far = subst (λ (ks : List KindTree). with_front (λ t. t ∷ []) (map view c.loop-field.values.items)
-    ((fields_after inside ks).read c.loop-field.rest.now) ≡ total)
-    (kinds_end c.args.row.now c.loop-field.field-index c.loop-field-test.false) c.loop-field.invariant in
+    let so_far = subst (λ (fs : List FieldRow). with_front (λ t. t ∷ []) (map view c.loop-field.values.items)
+    ((fields_after inside fs).read c.loop-field.rest.now) ≡ total)
+    (fields_gone c.args.row.now c.loop-field.field-index c.loop-field-test.false) c.loop-field.invariant in
     rw (p.1, p.2) (no_end inside c.in_err-rest.field-0.0 (map view c.loop-field.values.items) c.loop-field.rest.now total c.in_err-rest.ensures so_far)
 
 pub fields_after-returns : goal.fields_after-returns
 fields_after-returns t c =
-    let inside = value c.args.schema.now c.args.left in
-    let total = with_front (λ t. t ∷ []) (map view c.args.values.items) ((fields_after inside (fields_kinds c.args.row.now)).read c.args.bytes.now) in
-    let so_far = subst (λ (ks : List KindTree). with_front (λ t. t ∷ []) (map view c.loop-field.values.items)
-    ((fields_after inside ks).read c.loop-field.rest.now) ≡ total)
-    (kinds_end c.args.row.now c.loop-field.field-index c.loop-field-test.false) c.loop-field.invariant in
+    let inside = slot_value c.args.schema.now c.args.left in
+    let total = with_front (λ t. t ∷ []) (map view c.args.values.items) ((fields_after inside c.args.row.now).read c.args.bytes.now) in
+    let so_far = subst (λ (fs : List FieldRow). with_front (λ t. t ∷ []) (map view c.loop-field.values.items)
+    ((fields_after inside fs).read c.loop-field.rest.now) ≡ total)
+    (fields_gone c.args.row.now c.loop-field.field-index c.loop-field-test.false) c.loop-field.invariant in
     fields_end inside (map view c.loop-field.values.items) c.loop-field.rest.now c.in_ok-rest.rest.now total c.in_ok-rest.ensures so_far
 
 pub as_many-returns-in_err-item : goal.as_many-returns-in_err-item
 as_many-returns-in_err-item t c =
-    let one = value c.args.schema.now c.args.left (kind_view c.args.of.now) in
+    let one = inner c.args.schema.now c.args.left (kind_view c.args.of.now) in
     let total = with_front (λ t. t ∷ []) (map view c.args.items.items) ((rest_of 93 c.args.count one).read c.args.bytes.now) in
     let p = err_from_is_err_and c.from_residual.result c.from_residual.ensures.1 in
     rw (p.1, p.2) (ends_exactly (λ t. t ∷ []) 93 one c.in_err-item.field-0.0
@@ -149,7 +153,7 @@ as_many-returns-in_err-item t c =
 
 pub as_many-loop-preserved : goal.as_many-loop-preserved
 as_many-loop-preserved t c =
-    let one = value c.args.schema.now c.args.left (kind_view c.args.of.now) in
+    let one = inner c.args.schema.now c.args.left (kind_view c.args.of.now) in
     let total = with_front (λ t. t ∷ []) (map view c.args.items.items) ((rest_of 93 c.args.count one).read c.args.bytes.now) in
     rw (pushed view c.loop.items.items c.in_ok-item.item c.push.new.self.items c.in_ok-push.ensures.items)
     (goes_exactly (λ t. t ∷ []) 93 one (map view c.loop.items.items) c.args.count c.loop.counter c.loop.rest.now
@@ -157,7 +161,7 @@ as_many-loop-preserved t c =
 
 pub as_many-returns-in_err-rest : goal.as_many-returns-in_err-rest
 as_many-returns-in_err-rest t c =
-    let one = value c.args.schema.now c.args.left (kind_view c.args.of.now) in
+    let one = inner c.args.schema.now c.args.left (kind_view c.args.of.now) in
     let total = with_front (λ t. t ∷ []) (map view c.args.items.items) ((rest_of 93 c.args.count one).read c.args.bytes.now) in
     let p = err_from_is_err_and c.from_residual-in_err-rest.result c.from_residual-in_err-rest.ensures.1 in
     rw (p.1, p.2) (exactly_err (λ t. t ∷ []) 93 one c.in_err-rest.field-0.0
@@ -165,7 +169,7 @@ as_many-returns-in_err-rest t c =
 
 pub as_many-returns : goal.as_many-returns
 as_many-returns t c =
-    let one = value c.args.schema.now c.args.left (kind_view c.args.of.now) in
+    let one = inner c.args.schema.now c.args.left (kind_view c.args.of.now) in
     let total = with_front (λ t. t ∷ []) (map view c.args.items.items) ((rest_of 93 c.args.count one).read c.args.bytes.now) in
     exactly_ok (λ t. t ∷ []) 93 one
     (map view c.loop.items.items) c.args.count c.loop.counter c.loop.rest.now c.in_ok-rest.rest.now 93 total
@@ -222,24 +226,24 @@ pub so_many-returns-in_err-rest : goal.so_many-returns-in_err-rest
 so_many-returns-in_err-rest t c =
     let p = err_from_is_err_and c.from_residual.result c.from_residual.ensures.1 in
     rw (p.1, p.2) (none_err c.in_err-rest.field-0.0
-    (value c.args.schema.now c.args.left (kind_view c.args.of.now)) c.args.count c.args.bytes.now c.if-count-eq0.true c.in_err-rest.ensures)
+    (inner c.args.schema.now c.args.left (kind_view c.args.of.now)) c.args.count c.args.bytes.now c.if-count-eq0.true c.in_err-rest.ensures)
 
 pub so_many-returns-then-count-eq0 : goal.so_many-returns-then-count-eq0
 so_many-returns-then-count-eq0 t c =
-    none_ok (value c.args.schema.now c.args.left (kind_view c.args.of.now)) c.args.count c.args.bytes.now c.in_ok-rest.rest.now
+    none_ok (inner c.args.schema.now c.args.left (kind_view c.args.of.now)) c.args.count c.args.bytes.now c.in_ok-rest.rest.now
     (map view c.new-items.result.items) c.if-count-eq0.true c.in_ok-rest.ensures (ap (map view) c.new-items.ensures.items)
 
 pub so_many-returns-in_err-first : goal.so_many-returns-in_err-first
 so_many-returns-in_err-first t c =
     let p = err_from_is_err_and c.from_residual-in_err-first.result c.from_residual-in_err-first.ensures.1 in
-    rw (p.1, p.2) (fails_exactly c.in_err-first.field-0.0 (value c.args.schema.now c.args.left (kind_view c.args.of.now)) c.args.count c.args.bytes.now
+    rw (p.1, p.2) (fails_exactly c.in_err-first.field-0.0 (inner c.args.schema.now c.args.left (kind_view c.args.of.now)) c.args.count c.args.bytes.now
     (omega (arith, c.if-count-eq0.false)) c.in_err-first.ensures)
 
 pub so_many-returns : goal.so_many-returns
 so_many-returns t c =
     let one = pushed view [] c.in_ok-first.first c.push.new.self.items
     (c.in_ok-push.ensures.items ∙ ap (λ (vs : List Value). vs ++ c.in_ok-first.first ∷ []) c.new-items.ensures.items) in
-    rw (first_exactly (value c.args.schema.now c.args.left (kind_view c.args.of.now)) c.args.count c.args.bytes.now c.in_ok-first.rest.now
+    rw (first_exactly (inner c.args.schema.now c.args.left (kind_view c.args.of.now)) c.args.count c.args.bytes.now c.in_ok-first.rest.now
     (view c.in_ok-first.first) (map view c.push.new.self.items) (omega (arith, c.if-count-eq0.false)) c.in_ok-first.ensures one) c.as_many.ensures
 
 pub base-returns-in-Map : goal.base-returns-in-Map

@@ -3,8 +3,8 @@ use Rattle.mj_schema.specs.KindTrees.{kind_view}
 use Rattle.wire_model.specs.Trees.{view}
 use Rattle.byte_rules.specs.Lang.{until, rest_of, ◌▸◌}
 use Rattle.byte_rules.specs.steps.Reading.{gathered, with_front}
-use Rattle.value_text.specs.Rules.{value, fields_after, fields_kinds}
-use Rattle.value_text.specs.steps.Reading.{more_of, pair_of, more_pairs_of, add_pairs}
+use Rattle.value_text.specs.Rules.{slot_value, fields_after}
+use Rattle.value_text.specs.steps.Reading.{inner, more_of, pair_of, more_pairs_of, add_pairs}
 use Rattle.value_text.proofs.values.+value.Given as goal
 
 abbrev pub decreases-value : goal.decreases-value
@@ -72,13 +72,13 @@ decreases-member l = 8 * l.left + 3
 
 abbrev pub invariant-more-loop : goal.invariant-more-loop
 invariant-more-loop l =
-    with_front (λ t. t ∷ []) (map view l.items.items) ((until 93 (length l.bytes - l.counter) (44 ▸ value l.schema l.left (kind_view l.of))).read l.rest)
+    with_front (λ t. t ∷ []) (map view l.items.items) ((until 93 (length l.bytes - l.counter) (44 ▸ inner l.schema l.left (kind_view l.of))).read l.rest)
     ≡ with_front (λ t. t ∷ []) (map view l.initial.items.items) ((more_of l.schema l.left (kind_view l.of)).read l.bytes)
 
 abbrev pub invariant-as_many-loop : goal.invariant-as_many-loop
 invariant-as_many-loop l =
-    with_front (λ t. t ∷ []) (map view l.items.items) ((rest_of 93 (l.count - l.counter) (value l.schema l.left (kind_view l.of))).read l.rest)
-    ≡ with_front (λ t. t ∷ []) (map view l.initial.items.items) ((rest_of 93 l.count (value l.schema l.left (kind_view l.of))).read l.bytes)
+    with_front (λ t. t ∷ []) (map view l.items.items) ((rest_of 93 (l.count - l.counter) (inner l.schema l.left (kind_view l.of))).read l.rest)
+    ≡ with_front (λ t. t ∷ []) (map view l.initial.items.items) ((rest_of 93 l.count (inner l.schema l.left (kind_view l.of))).read l.bytes)
 
 abbrev pub invariant-more_pairs-loop : goal.invariant-more_pairs-loop
 invariant-more_pairs-loop l =
@@ -89,5 +89,5 @@ invariant-more_pairs-loop l =
 
 abbrev pub invariant-fields_after-loop-field : goal.invariant-fields_after-loop-field
 invariant-fields_after-loop-field l =
-    with_front (λ t. t ∷ []) (map view l.values.items) ((fields_after (value l.schema l.left) (fields_kinds (drop l.field-index l.row))).read l.rest)
-    ≡ with_front (λ t. t ∷ []) (map view l.initial.values.items) ((fields_after (value l.schema l.left) (fields_kinds l.row)).read l.bytes)
+    with_front (λ t. t ∷ []) (map view l.values.items) ((fields_after (slot_value l.schema l.left) (drop l.field-index l.row)).read l.rest)
+    ≡ with_front (λ t. t ∷ []) (map view l.initial.values.items) ((fields_after (slot_value l.schema l.left) l.row).read l.bytes)
