@@ -144,9 +144,9 @@ fn ordinal_forms(letter: char) -> &'static str {
         'r' => "[MinVersion=1] $W|[MinVersion=1] $W|[MinVersion=1] $p|$p",
         'u' => "[MinVersion=2] $W|[MinVersion=2] $W|[MinVersion=2] $p|[MinVersion=1] $W|$M$p",
         'W' =>
-            "int8|bool|uint16|E|string?|Z?|handle?|array<int8>?|int64|V?|pending_receiver<J>?|map<E, V>?",
+            "int8|bool|uint16|E|string?|Z?|handle?|array<int8>?|int64|V?|pending_receiver<J>?|map<E, V>?|int32?|bool?|E?",
         'p' =>
-            "int8|bool|bool|int64|string?|Z?|V|E|string|uint16|array<V>|map<int8, E>|pending_remote<J>|handle",
+            "int8|bool|bool|int64|string?|Z?|V|E|string|uint16|array<V>|map<int8, E>|pending_remote<J>|handle|bool?|int16?|E?",
         'P' => "|||@0|@1|@2|$U",
         'Q' => "||||||@3|@7|@1|$U",
         'U' => "@4294967295|@4294967296|@0x2|@18446744073709551615",

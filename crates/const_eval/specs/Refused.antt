@@ -1,5 +1,6 @@
 -- What is refused of the values and the numbers of a file.
-use Rattle.std.specs.Prelude.{ℕ, ◌+◌, ◌==◌, ◌&&◌, not, Bool, false, if◌then◌else◌, List, [], ◌∷◌, ◌++◌, map, length, Option, Some, None}
+use Rattle.std.specs.Prelude.{ℕ, ◌+◌, ◌==◌, ◌&&◌, not, Bool, true, false, if◌then◌else◌}
+use Rattle.std.specs.Prelude.{List, [], ◌∷◌, ◌++◌, map, length, Option, Some, None}
 use Rattle.std.specs.List.{flat_map}
 use Rattle.std.specs.Option.{option_map_or}
 use Rattle.mojom_ast.specs.TypeTrees.{BaseTree, Named, ArrayOf, MapOf, HandleOf, PendingOf}
@@ -213,11 +214,21 @@ refused_default_as file name at basics.Float value = wrong_literal file name ∷
 refused_default_as file name at basics.Double value = wrong_literal file name ∷ []
 refused_default_as file name at kind value = of_known (refused_value file name at kind) value
 
--- a default, by the kind of its field first: only that of a basic kind is tested by its value
-abbrev pub refused_default_of : Site → Option (List ℕ) → Field → Value → Option Basic → List Refusal
-refused_default_of site enclosing f value None = refused_enum_default site enclosing f value
-refused_default_of site enclosing f value (Some kind) =
+-- a default by its kind: that of a basic kind is tested by its value
+abbrev pub refused_default_by : Site → Option (List ℕ) → Field → Value → Option Basic → List Refusal
+refused_default_by site enclosing f value None = refused_enum_default site enclosing f value
+refused_default_by site enclosing f value (Some kind) =
     refused_default_as site.file f.name (place_of_value value) kind (value_in site.consts site.names site.file enclosing value)
+
+-- string
+abbrev pub is_string : Option Basic → Bool
+is_string (Some basics.Text) = true
+is_string _ = false
+
+-- a default, by the kind of its field first: of the kinds with `?` only string takes one, so no bool, integer or enum that may be null
+abbrev pub refused_default_of : Site → Option (List ℕ) → Field → Value → Option Basic → List Refusal
+refused_default_of site enclosing f value kind =
+    if f.kind.nullable && not (is_string kind) then wrong_literal site.file f.name ∷ [] else refused_default_by site enclosing f value kind
 
 abbrev pub refused_default : Site → Option (List ℕ) → Field → Option Value → List Refusal
 refused_default site enclosing f None = []

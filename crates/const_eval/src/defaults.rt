@@ -3,7 +3,8 @@
 ghost use Rattle.std.specs.Prelude.{◌≡◌, IfOk, OnOk, Some};
 ghost use Rattle.mojom_ast.specs.TypeTrees.{base_view};
 ghost use Rattle.mojom_files.specs.Refusals.{best_of};
-ghost use Rattle.const_eval.specs.Refused.{meant_by_base, meant_by_value, is_enumerator_of, refused_enum_default, refused_default_of, refused_default};
+ghost use Rattle.const_eval.specs.Refused.{meant_by_base, meant_by_value, is_enumerator_of, refused_enum_default};
+ghost use Rattle.const_eval.specs.Refused.{is_string, refused_default_by, refused_default};
 ghost use Rattle.const_eval.specs.steps.Views.{site_of};
 
 use crate::file_things::{FileThings, owner_of};
@@ -104,7 +105,7 @@ fn check_basic_default(
     value: &Value,
     kind: Basic,
 ) -> Result<(), AllocError>
-    ensures { OnOk result (best.new ≡ best_of best.old (refused_default_of (site_of here.now) enclosing.now field.now value.now (Some kind))) }
+    ensures { OnOk result (best.new ≡ best_of best.old (refused_default_by (site_of here.now) enclosing.now field.now value.now (Some kind))) }
 {
     match kind {
         Basic::Float | Basic::Double => refuse_literal(alloc, best, here.file, &field.name),
@@ -116,7 +117,31 @@ fn check_basic_default(
     }
 }
 
-/// Tests the default of a field, where it has one.
+/// Tests a default by the kind of its field: this basic kind, or none that is basic.
+fn check_default_by(
+    alloc: Global,
+    best: &mut Option<Refusal>,
+    here: &Here<'_>,
+    enclosing: &Option<Text>,
+    field: &Field,
+    value: &Value,
+    kind: Option<Basic>,
+) -> Result<(), AllocError>
+    ensures { OnOk result (best.new ≡ best_of best.old (refused_default_by (site_of here.now) enclosing.now field.now value.now kind)) }
+{
+    match kind {
+        Some(kind) => check_basic_default(alloc, best, here, enclosing, field, value, kind),
+        None => check_enum_default(alloc, best, here, enclosing, field, value),
+    }
+}
+
+fn is_string(kind: Option<Basic>) -> bool
+    ensures { result ≡ is_string kind }
+{
+    matches!(kind, Some(Basic::Text))
+}
+
+/// Tests the default of a field, where it has one: of the kinds with `?` only `string` takes one.
 pub fn check_default(
     alloc: Global,
     best: &mut Option<Refusal>,
@@ -129,8 +154,11 @@ pub fn check_default(
     let Some(value) = &field.default else {
         return Ok(());
     };
-    match basic_of_base(&field.kind.node().base) {
-        Some(kind) => check_basic_default(alloc, best, here, enclosing, field, value, kind),
-        None => check_enum_default(alloc, best, here, enclosing, field, value),
+    let node = field.kind.node();
+    let kind = basic_of_base(&node.base);
+    if node.nullable && !is_string(kind) {
+        refuse_literal(alloc, best, here.file, &field.name)
+    } else {
+        check_default_by(alloc, best, here, enclosing, field, value, kind)
     }
 }

@@ -31,15 +31,15 @@ use Rattle.draft_rows.specs.RowCounts.{rows_before}
 
 -- the kind of a basic name; none of float and double
 abbrev pub basic_kind : Bool → Basic → Option KindTree
-basic_kind nullable basics.Bool = Some BoolKind
-basic_kind nullable basics.Int8 = Some (IntKind Bits8 true)
-basic_kind nullable basics.Int16 = Some (IntKind Bits16 true)
-basic_kind nullable basics.Int32 = Some (IntKind Bits32 true)
-basic_kind nullable basics.Int64 = Some (IntKind Bits64 true)
-basic_kind nullable basics.Uint8 = Some (IntKind Bits8 false)
-basic_kind nullable basics.Uint16 = Some (IntKind Bits16 false)
-basic_kind nullable basics.Uint32 = Some (IntKind Bits32 false)
-basic_kind nullable basics.Uint64 = Some (IntKind Bits64 false)
+basic_kind nullable basics.Bool = Some (BoolKind nullable)
+basic_kind nullable basics.Int8 = Some (IntKind Bits8 true nullable)
+basic_kind nullable basics.Int16 = Some (IntKind Bits16 true nullable)
+basic_kind nullable basics.Int32 = Some (IntKind Bits32 true nullable)
+basic_kind nullable basics.Int64 = Some (IntKind Bits64 true nullable)
+basic_kind nullable basics.Uint8 = Some (IntKind Bits8 false nullable)
+basic_kind nullable basics.Uint16 = Some (IntKind Bits16 false nullable)
+basic_kind nullable basics.Uint32 = Some (IntKind Bits32 false nullable)
+basic_kind nullable basics.Uint64 = Some (IntKind Bits64 false nullable)
 basic_kind nullable basics.Text = Some (TextKind nullable)
 basic_kind nullable basics.Float = None
 basic_kind nullable basics.Double = None
@@ -48,7 +48,7 @@ basic_kind nullable basics.Double = None
 abbrev pub row_kind : Bool → DefinitionSort → Counts → Option KindTree
 row_kind nullable sorts.Struct counts = Some (StructKind counts.structs nullable)
 row_kind nullable sorts.Union counts = Some (UnionKind counts.unions nullable)
-row_kind nullable sorts.Enum counts = Some (EnumKind counts.enums)
+row_kind nullable sorts.Enum counts = Some (EnumKind counts.enums nullable)
 row_kind nullable sorts.Interface counts = None
 row_kind nullable sorts.Const counts = None
 

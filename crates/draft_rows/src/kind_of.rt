@@ -18,10 +18,14 @@ use mojom_files::{Basic, dotted};
 use std::alloc::{AllocError, Global};
 
 /// An integer of this width.
-fn int(width: Width, signed: bool) -> Option<KindNode>
-    ensures { option_map kind_view result ≡ Some (IntKind width signed) }
+fn int(width: Width, signed: bool, nullable: bool) -> Option<KindNode>
+    ensures { option_map kind_view result ≡ Some (IntKind width signed nullable) }
 {
-    Some(KindNode::Int { width, signed })
+    Some(KindNode::Int {
+        width,
+        signed,
+        nullable,
+    })
 }
 
 /// The kind of a basic name; none exactly of float and double.
@@ -29,15 +33,15 @@ fn basic_kind(nullable: bool, basic: Basic) -> Option<KindNode>
     ensures { option_map kind_view result ≡ basic_kind nullable basic }
 {
     match basic {
-        Basic::Bool => Some(KindNode::Bool),
-        Basic::Int8 => int(Width::Bits8, true),
-        Basic::Int16 => int(Width::Bits16, true),
-        Basic::Int32 => int(Width::Bits32, true),
-        Basic::Int64 => int(Width::Bits64, true),
-        Basic::Uint8 => int(Width::Bits8, false),
-        Basic::Uint16 => int(Width::Bits16, false),
-        Basic::Uint32 => int(Width::Bits32, false),
-        Basic::Uint64 => int(Width::Bits64, false),
+        Basic::Bool => Some(KindNode::Bool { nullable }),
+        Basic::Int8 => int(Width::Bits8, true, nullable),
+        Basic::Int16 => int(Width::Bits16, true, nullable),
+        Basic::Int32 => int(Width::Bits32, true, nullable),
+        Basic::Int64 => int(Width::Bits64, true, nullable),
+        Basic::Uint8 => int(Width::Bits8, false, nullable),
+        Basic::Uint16 => int(Width::Bits16, false, nullable),
+        Basic::Uint32 => int(Width::Bits32, false, nullable),
+        Basic::Uint64 => int(Width::Bits64, false, nullable),
         Basic::Text => Some(KindNode::Text { nullable }),
         Basic::Float | Basic::Double => None,
     }
@@ -58,6 +62,7 @@ fn row_kind(nullable: bool, sort: DefinitionSort, counts: Counts) -> Option<Kind
         }),
         DefinitionSort::Enum => Some(KindNode::Enum {
             number: counts.enums,
+            nullable,
         }),
         DefinitionSort::Interface | DefinitionSort::Const => None,
     }

@@ -15,7 +15,7 @@ use std::alloc::Global;
 
 /// The tables of files in resolved order, where fields have no places yet; or the first refusal of
 /// kinds, ordinals and versions: of the first file that has any the one that stands first, and at one
-/// place the one whose cause is named first in `Cause`.
+/// place the one whose cause has the least `Cause::rank`.
 pub fn check_kinds(
     alloc: Global,
     files: &[NamedFile],

@@ -36,7 +36,7 @@ limit_of UnionFields = MAX_UNION_FIELDS
 limit_of Methods = MAX_METHODS
 limit_of Parameters = MAX_PARAMETERS
 
--- structs and lists of parameters have each ordinal below the number of members, and versions
+-- fields of structs and parameters have each ordinal below the number of members, and versions, and may be numbers that are null
 abbrev pub is_struct : ListSort → Bool
 is_struct Fields = true
 is_struct UnionFields = false
@@ -65,7 +65,7 @@ refused_numbers scope owner sort members =
 abbrev pub refused_list : Scope → Identifier → ListSort → List Member → List Refusal
 refused_list scope owner sort members =
     refused_count scope owner (limit_of sort) (length members)
-    ++ (flat_map (refused_in_member scope) members ++ refused_numbers scope owner sort (numbered members))
+    ++ (flat_map (refused_in_member scope (is_struct sort)) members ++ refused_numbers scope owner sort (numbered members))
 
 -- the lists of a method: the request first, and then the response where it has one
 
@@ -107,7 +107,7 @@ refused_item scope full (items.Enum item) = refused_enum scope item
 refused_item scope full (items.Interface item) =
     refused_list (inside scope full) item.name Methods (flat_map method_of item.members)
     ++ flat_map (refused_in_interface (inside scope full)) item.members
-refused_item scope full (items.Const item) = refused_in_type scope item.name item.kind
+refused_item scope full (items.Const item) = refused_in_type scope item.name false item.kind
 
 abbrev pub refused_definition : List FileNames → Consts → ℕ → Defined → List Refusal
 refused_definition names consts file d = refused_item (around names consts file d.enclosing) d.full d.item

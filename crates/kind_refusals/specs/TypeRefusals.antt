@@ -70,28 +70,29 @@ abbrev pub is_zero : Option Number → Bool
 is_zero None = false
 is_zero (Some count) = count.value == 0
 
--- all refusals in a type without its `?`, which stands where it is nullable: they go by the identifier of the member or the constant
-abbrev pub refused_in_base : Scope → Identifier → BaseTree → Bool → List Refusal
-refused_in_base scope member (Named name) nullable =
+-- all refusals in a type without its `?`, which stands where it is nullable: they go by the identifier of the member or the constant.
+-- A bool, an integer or an enum may be null where it is the type of a field of a struct or of a parameter; a key with `?` is refused as such.
+abbrev pub refused_in_base : Scope → Identifier → (field : Bool) → BaseTree → Bool → List Refusal
+refused_in_base scope member field (Named name) nullable =
     where_true (is_float (meant_in scope name.parts)) (refused scope member (FloatField member.text))
-    ++ where_true (nullable && is_number scope (meant_in scope name.parts)) (refused scope member (BadNullable member.text))
-refused_in_base scope member (ArrayOf of inner count) nullable =
-    where_true (is_zero count) (refused scope member (ZeroLengthArray member.text)) ++ refused_in_base scope member of inner
-refused_in_base scope member (MapOf key of_key value of_value) nullable =
+    ++ where_true (not field && (nullable && is_number scope (meant_in scope name.parts))) (refused scope member (BadNullable member.text))
+refused_in_base scope member field (ArrayOf of inner count) nullable =
+    where_true (is_zero count) (refused scope member (ZeroLengthArray member.text)) ++ refused_in_base scope member false of inner
+refused_in_base scope member field (MapOf key of_key value of_value) nullable =
     where_true (not (is_key scope key)) (refused scope member (BadMapKey member.text))
     ++ (where_true of_key (refused scope member (NullableKey member.text))
-    ++ (refused_in_base scope member key of_key ++ refused_in_base scope member value of_value))
-refused_in_base scope member (HandleOf sort) nullable = []
-refused_in_base scope member (PendingOf sort interface) nullable = []
+    ++ (refused_in_base scope member true key of_key ++ refused_in_base scope member false value of_value))
+refused_in_base scope member field (HandleOf sort) nullable = []
+refused_in_base scope member field (PendingOf sort interface) nullable = []
 
--- all refusals in a type
-abbrev pub refused_in_type : Scope → Identifier → TypeTree → List Refusal
-refused_in_type scope member kind = refused_in_base scope member kind.base kind.nullable
+-- all refusals in a type, which is that of a field of a struct or of a parameter, or else that of another member or a constant
+abbrev pub refused_in_type : Scope → Identifier → (field : Bool) → TypeTree → List Refusal
+refused_in_type scope member field kind = refused_in_base scope member field kind.base kind.nullable
 
 -- all refusals in the type of a member that has one
-abbrev pub refused_in_option : Scope → Identifier → Option TypeTree → List Refusal
-refused_in_option scope member None = []
-refused_in_option scope member (Some kind) = refused_in_type scope member kind
+abbrev pub refused_in_option : Scope → Identifier → (field : Bool) → Option TypeTree → List Refusal
+refused_in_option scope member field None = []
+refused_in_option scope member field (Some kind) = refused_in_type scope member field kind
 
-abbrev pub refused_in_member : Scope → Member → List Refusal
-refused_in_member scope member = refused_in_option scope member.name member.kind
+abbrev pub refused_in_member : Scope → (field : Bool) → Member → List Refusal
+refused_in_member scope field member = refused_in_option scope member.name field member.kind

@@ -141,7 +141,7 @@ fn check_within(
             check_method_list(alloc, best, inner, item)?;
             check_methods(alloc, best, inner, item.members.as_slice())
         }
-        ItemView::Const(item) => check_type(alloc, best, scope, &item.name, &item.kind),
+        ItemView::Const(item) => check_type(alloc, best, scope, &item.name, false, &item.kind),
     }
 }
 

@@ -39,17 +39,18 @@ pub fn check_count(
     )
 }
 
-/// Notes what is refused in the types of members.
+/// Notes what is refused in the types of members: of `fields` of a struct or parameters, or else of others.
 fn check_types(
     alloc: Global,
     best: &mut Option<Refusal>,
     scope: &ScopeView<'_>,
+    fields: bool,
     members: &[MemberView<'_>],
 ) -> Result<(), AllocError>
-    ensures { OnOk result (best.new ≡ best_of best.old (flat_map (refused_in_member (scope_view scope.now)) (map member_view members.now))) }
+    ensures { OnOk result (best.new ≡ best_of best.old (flat_map (refused_in_member (scope_view scope.now) fields) (map member_view members.now))) }
 {
     for member in members {
-        check_member(alloc, best, scope, member)?;
+        check_member(alloc, best, scope, fields, member)?;
     }
     Ok(())
 }
@@ -117,7 +118,7 @@ pub fn check_list(
     ensures { OnOk result (best.new ≡ best_of best.old (refused_list (scope_view scope.now) owner.now sort (map member_view members.now))) }
 {
     check_count(alloc, best, scope, owner, sort.limit(), members.len())?;
-    check_types(alloc, best, scope, members)?;
+    check_types(alloc, best, scope, sort.is_struct(), members)?;
     let ones = numbered(alloc, members)?;
     check_numbers(alloc, best, scope, owner, sort, ones.as_slice())
 }

@@ -29,7 +29,8 @@ impl ListSort {
         }
     }
 
-    /// Whether the list is that of a struct, or is made one: parameters are.
+    /// Whether the list is that of a struct, or is made one: parameters are. In these lists a bool, an
+    /// integer or an enum may be null.
     pub fn is_struct(self) -> bool
         ensures { result ≡ is_struct self }
     {

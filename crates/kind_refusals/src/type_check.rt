@@ -36,17 +36,20 @@ fn is_zero(count: Option<Number>) -> bool
     }
 }
 
-/// Notes what is refused in a type, which goes by the identifier of its member or its constant.
+/// Notes what is refused in a type, which goes by the identifier of its member or its constant. A bool,
+/// an integer or an enum may be null where this is the type of a `field` of a struct or of a parameter,
+/// and a key with `?` is refused as such.
 #[cycle(types)]
 fn check_base(
     alloc: Global,
     best: &mut Option<Refusal>,
     scope: &ScopeView<'_>,
     member: &Identifier,
+    field: bool,
     base: &BaseNode,
     nullable: bool,
 ) -> Result<(), AllocError>
-    ensures { OnOk result (best.new ≡ best_of best.old (refused_in_base (scope_view scope.now) member.now (base_view base.now) nullable)) }
+    ensures { OnOk result (best.new ≡ best_of best.old (refused_in_base (scope_view scope.now) member.now field (base_view base.now) nullable)) }
 {
     match base {
         BaseNode::Name(name) => {
@@ -59,51 +62,63 @@ fn check_base(
                 member,
                 NamedCause::FloatField,
             )?;
-            let is_bad = nullable && is_number(scope, meant);
+            let is_bad = !field && (nullable && is_number(scope, meant));
             refuse(alloc, best, is_bad, scope, member, NamedCause::BadNullable)
         }
         BaseNode::Array { of, count } => {
             let cause = NamedCause::ZeroLengthArray;
             refuse(alloc, best, is_zero(*count), scope, member, cause)?;
-            check_base(alloc, best, scope, member, &of.base, of.nullable)
+            check_base(alloc, best, scope, member, false, &of.base, of.nullable)
         }
         BaseNode::Map { key, value } => {
             let is_bad = !is_key(alloc, scope, &key.base)?;
             refuse(alloc, best, is_bad, scope, member, NamedCause::BadMapKey)?;
             let cause = NamedCause::NullableKey;
             refuse(alloc, best, key.nullable, scope, member, cause)?;
-            check_base(alloc, best, scope, member, &key.base, key.nullable)?;
-            check_base(alloc, best, scope, member, &value.base, value.nullable)
+            check_base(alloc, best, scope, member, true, &key.base, key.nullable)?;
+            check_base(
+                alloc,
+                best,
+                scope,
+                member,
+                false,
+                &value.base,
+                value.nullable,
+            )
         }
         BaseNode::Handle(_) | BaseNode::Pending { .. } => Ok(()),
     }
 }
 
-/// Notes what is refused in a type, which goes by the identifier of its member or its constant.
+/// Notes what is refused in a type, which goes by the identifier of its member or its constant: it is
+/// that of a `field` of a struct or of a parameter, or else that of another member or a constant.
 pub fn check_type(
     alloc: Global,
     best: &mut Option<Refusal>,
     scope: &ScopeView<'_>,
     member: &Identifier,
+    field: bool,
     kind: &Type,
 ) -> Result<(), AllocError>
-    ensures { OnOk result (best.new ≡ best_of best.old (refused_in_type (scope_view scope.now) member.now kind.now)) }
+    ensures { OnOk result (best.new ≡ best_of best.old (refused_in_type (scope_view scope.now) member.now field kind.now)) }
 {
     let node = kind.node();
-    check_base(alloc, best, scope, member, &node.base, node.nullable)
+    check_base(alloc, best, scope, member, field, &node.base, node.nullable)
 }
 
-/// Notes what is refused in the type of a member that has one.
+/// Notes what is refused in the type of a member that has one: of a `field` of a struct or a parameter,
+/// or else of another member.
 pub fn check_member(
     alloc: Global,
     best: &mut Option<Refusal>,
     scope: &ScopeView<'_>,
+    field: bool,
     member: &MemberView<'_>,
 ) -> Result<(), AllocError>
-    ensures { OnOk result (best.new ≡ best_of best.old (refused_in_member (scope_view scope.now) (member_view member.now))) }
+    ensures { OnOk result (best.new ≡ best_of best.old (refused_in_member (scope_view scope.now) field (member_view member.now))) }
 {
     match member.kind {
-        Some(kind) => check_type(alloc, best, scope, member.name, kind),
+        Some(kind) => check_type(alloc, best, scope, member.name, field, kind),
         None => Ok(()),
     }
 }

@@ -2,7 +2,7 @@
 
 use crate::here::Here;
 use crate::orders::ordinals_of;
-use crate::parts::parts_of;
+use crate::parts::{Stand, parts_of};
 use crate::value_reasons::{add_const, add_default, add_found, add_range, add_versions, start_of};
 use mj_base::Text;
 use mojom_ast::{BaseNode, TypeNode};
@@ -57,7 +57,7 @@ fn add_lengths(
     reasons: &mut Vec<Reason>,
     kind: &TypeNode,
 ) -> Result<(), AllocError> {
-    for part in &parts_of(alloc, kind)? {
+    for part in &parts_of(alloc, kind, Stand::Other)? {
         if let BaseNode::Array {
             count: Some(count),
             ..

@@ -5,16 +5,16 @@ use crate::orders::{ordinals_of, places_along};
 use crate::type_text::push_type;
 use layout_reference::layout;
 use mj_base::Text;
-use mj_schema::{DraftField, HandleSort, Kind, KindNode, Place, VersionRow, Width};
+use mj_schema::{DraftField, Flag, HandleSort, Kind, KindNode, Place, VersionRow, Width};
 use mojom_ast::{BaseNode, PendingSort};
 use mojom_files::Basic;
 use names_reference::{Member, MemberList};
 use std::alloc::{AllocError, Global};
 
 /// A kind that takes the room of a basic kind. What is behind a pointer takes that of a string.
-fn basic_room(basic: Basic) -> KindNode {
+fn basic_room(basic: Basic, nullable: bool) -> KindNode {
     let width = match basic {
-        Basic::Bool => return KindNode::Bool,
+        Basic::Bool => return KindNode::Bool { nullable },
         Basic::Int8 | Basic::Uint8 => Width::Bits8,
         Basic::Int16 | Basic::Uint16 => Width::Bits16,
         Basic::Int32 | Basic::Uint32 => Width::Bits32,
@@ -24,6 +24,7 @@ fn basic_room(basic: Basic) -> KindNode {
     KindNode::Int {
         width,
         signed: true,
+        nullable,
     }
 }
 
@@ -42,13 +43,16 @@ fn pending_room(sort: PendingSort) -> KindNode {
 }
 
 /// A kind that takes the room of a type.
-fn room(base: &BaseNode, sort: Sort) -> KindNode {
+fn room(base: &BaseNode, sort: Sort, nullable: bool) -> KindNode {
     if let BaseNode::Pending { sort, .. } = base {
         return pending_room(*sort);
     }
     match sort {
-        Sort::Basic(basic) => basic_room(basic),
-        Sort::Enum(_) => KindNode::Enum { number: 0 },
+        Sort::Basic(basic) => basic_room(basic, nullable),
+        Sort::Enum(_) => KindNode::Enum {
+            number: 0,
+            nullable,
+        },
         Sort::Union => KindNode::Union {
             number: 0,
             nullable: false,
@@ -80,7 +84,7 @@ fn drafts(
         let version = version_at(alloc, here, member.attributes)?;
         let draft = DraftField {
             name: Text::from_str(alloc, member.name.text.as_str())?,
-            kind: Kind::new(room(&kind.base, sort)),
+            kind: Kind::new(room(&kind.base, sort, kind.nullable)),
             min_version: u32::try_from(version).unwrap_or(0),
             default: None,
         };
@@ -104,9 +108,13 @@ fn push_field(
     if let Some(kind) = member.kind {
         push_type(alloc, text, here, kind)?;
     }
-    let Place { offset, bit } = *place;
+    let Place { offset, bit, flag } = *place;
     let version = field.min_version;
-    text.push_str(format!(in alloc; " {offset} {bit} {version}\n")?.as_str())
+    text.push_str(format!(in alloc; " {offset} {bit} {version}")?.as_str())?;
+    if let Some(Flag { offset, bit }) = flag {
+        text.push_str(format!(in alloc; " flag {offset} {bit}")?.as_str())?;
+    }
+    text.push_str("\n")
 }
 
 /// Adds the lines of versions.

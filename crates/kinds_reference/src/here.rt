@@ -30,6 +30,15 @@ pub enum Sort {
     Nothing,
 }
 
+/// Whether a type is a bool, an integer or an enum.
+pub fn is_plain(sort: Sort) -> bool {
+    match sort {
+        Sort::Basic(basic) => !matches!(basic, Basic::Text | Basic::Float | Basic::Double),
+        Sort::Enum(_) => true,
+        _ => false,
+    }
+}
+
 /// What a name means as a type.
 fn sort_of_name(alloc: Global, here: Here<'_>, name: &Name) -> Result<Sort, AllocError> {
     if let Some(basic) = basic_of(name) {

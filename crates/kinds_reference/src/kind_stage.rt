@@ -1,8 +1,8 @@
 //! Why a file is refused for its kinds, ordinals and versions.
 
-use crate::here::{Here, Sort, sort_of, version_at};
+use crate::here::{Here, Sort, is_plain, sort_of, version_at};
 use crate::orders::{gap, has_double, is_among_first, ordinals_of, place_before};
-use crate::parts::{Part, parts_of};
+use crate::parts::{Part, Stand, parts_of};
 use mj_base::Text;
 use mojom_ast::{BaseNode, Identifier, TypeNode};
 use mojom_files::{Basic, DefinitionView, ItemView, definitions};
@@ -27,15 +27,6 @@ fn is_float(sort: Sort) -> bool {
     matches!(sort, Sort::Basic(Basic::Float | Basic::Double))
 }
 
-/// Whether a kind is a bool, an integer or an enum.
-fn is_plain(sort: Sort) -> bool {
-    match sort {
-        Sort::Basic(basic) => !matches!(basic, Basic::Text | Basic::Float | Basic::Double),
-        Sort::Enum(_) => true,
-        _ => false,
-    }
-}
-
 /// Whether a kind is a string, an array, a map, a struct, a union, a handle or an endpoint.
 fn can_be_null(sort: Sort) -> bool {
     !is_plain(sort) && !is_float(sort)
@@ -54,13 +45,13 @@ fn add_part(
     if is_float(sort) {
         add_at(alloc, reasons, Word::FloatField, name)?;
     }
-    if part.is_key && !is_key_kind {
+    if part.stand == Stand::Key && !is_key_kind {
         add_at(alloc, reasons, Word::BadMapKey, name)?;
     }
-    if part.is_key && part.node.nullable {
+    if part.stand == Stand::Key && part.node.nullable {
         add_at(alloc, reasons, Word::NullableKey, name)?;
     }
-    if part.node.nullable && is_plain(sort) {
+    if part.stand == Stand::Other && part.node.nullable && is_plain(sort) {
         add_at(alloc, reasons, Word::BadNullable, name)?;
     }
     match &part.node.base {
@@ -79,8 +70,9 @@ fn add_type(
     here: Here<'_>,
     name: &Identifier,
     kind: &TypeNode,
+    stand: Stand,
 ) -> Result<(), AllocError> {
-    for part in &parts_of(alloc, kind)? {
+    for part in &parts_of(alloc, kind, stand)? {
         add_part(alloc, reasons, here, name, part)?;
     }
     Ok(())
@@ -230,9 +222,13 @@ fn add_list(
     if list.members.len() > MOST_MEMBERS {
         add_at(alloc, reasons, Word::TooManyFields, list.head)?;
     }
+    let stand = match list.sort {
+        ListSort::Fields | ListSort::Parameters => Stand::Field,
+        _ => Stand::Other,
+    };
     for member in &list.members {
         if let Some(kind) = member.kind {
-            add_type(alloc, reasons, here, member.name, kind)?;
+            add_type(alloc, reasons, here, member.name, kind, stand)?;
         }
     }
     match list.sort {
@@ -249,7 +245,8 @@ fn add_definition(
     definition: &DefinitionView<'_>,
 ) -> Result<(), AllocError> {
     if let ItemView::Const(item) = definition.item() {
-        add_type(alloc, reasons, outside, &item.name, item.kind.node())?;
+        let kind = item.kind.node();
+        add_type(alloc, reasons, outside, &item.name, kind, Stand::Other)?;
     }
     let full = Some(Text::from_str(alloc, definition.full())?);
     let inside = Here {

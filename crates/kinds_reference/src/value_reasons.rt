@@ -1,6 +1,6 @@
 //! What is refused of values and numbers.
 
-use crate::here::{Here, Sort, found_at, is_enumerator_of, sort_of};
+use crate::here::{Here, Sort, found_at, is_enumerator_of, is_plain, sort_of};
 use mojom_ast::{Attribute, Const, Identifier, TypeNode, Value};
 use mojom_files::Basic;
 use names_reference::{Found, Reason, Word, add_reason};
@@ -123,7 +123,11 @@ pub fn add_default(
     kind: &TypeNode,
     written: &Value,
 ) -> Result<(), AllocError> {
-    match sort_of(alloc, here, &kind.base)? {
+    let sort = sort_of(alloc, here, &kind.base)?;
+    if kind.nullable && is_plain(sort) {
+        return add_wrong(alloc, reasons, name);
+    }
+    match sort {
         Sort::Basic(Basic::Float | Basic::Double) => add_wrong(alloc, reasons, name),
         Sort::Basic(kind) => add_value(alloc, reasons, here, kind, name, written),
         Sort::Enum(number) if is_enumerator_of(alloc, here, number, written)? => Ok(()),

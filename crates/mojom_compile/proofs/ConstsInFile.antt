@@ -1,6 +1,6 @@
 -- What is refused of the values and the numbers of a file stands in it.
 use Rattle.std.proofs.Common.{ℕ, ◌+◌, List, [], ◌∷◌, refl, length}
-use Rattle.std.specs.Prelude.{ℤ, pos, not, Option, Some, None, slice_get}
+use Rattle.std.specs.Prelude.{ℤ, pos, not, ◌&&◌, Option, Some, None, slice_get}
 use Rattle.std.specs.Option.{option_map_or}
 use Rattle.mojom_ast.specs.TypeTrees.{BaseTree, Named, ArrayOf, MapOf, HandleOf, PendingOf}
 use Rattle.mojom_ast.specs.declared.names.Identifier.{Identifier}
@@ -33,7 +33,7 @@ use Rattle.const_meanings.specs.Known.{Known, TextValue, BoolValue, NumberValue,
 use Rattle.const_eval.specs.Consts.{value_at, is_circular, value_in}
 use Rattle.const_eval.specs.Kinds.{basic_of_base, unsigned_bits, range_of, is_within, wrong_literal, out_of_range, refused_outside, refused_uint32, refused_number, refused_value}
 use Rattle.const_eval.specs.Ordinals.{NumberedAs, numbered_by}
-use Rattle.const_eval.specs.Refused.{Site, Member, of_known, place_of_value, refused_length, refused_lengths, ordinal_or, place_of_ordinal, refused_ordinals, struct_members, union_members, interface_members, parameter_members, refused_version_value, refused_version, refused_versions, refused_circle, refused_const_as, refused_const_value, refused_const, refused_enumerator_value, refused_enumerator, refused_enumerators, meant_by_base, meant_by_value, is_enumerator_of, refused_enum_default, refused_default_of, refused_default_as, refused_default, refused_field, refused_struct_member, refused_union_field, refused_parameter, refused_parameters, refused_method, refused_interface_member, refused_struct, refused_union, refused_interface, refused_item, refused_definition}
+use Rattle.const_eval.specs.Refused.{Site, Member, of_known, place_of_value, refused_length, refused_lengths, place_of_ordinal, refused_ordinals, struct_members, union_members, interface_members, parameter_members, refused_version_value, refused_version, refused_versions, refused_circle, refused_const_as, refused_const, refused_enumerator_value, refused_enumerator, refused_enumerators, meant_by_base, meant_by_value, is_enumerator_of, refused_enum_default, refused_default_as, refused_default_by, is_string, refused_default_of, refused_default, refused_field, refused_struct_member, refused_union_field, refused_parameter, refused_parameters, refused_method, refused_interface_member, refused_struct, refused_union, refused_interface, refused_item, refused_definition}
 use Rattle.const_eval.specs.Evaluated.{refused_things, refused_in}
 use Rattle.mojom_compile.proofs.InFile.{AllIn, nothing, single, both, tested, chosen, said_of_each, said_of_numbered, said_or}
 
@@ -193,11 +193,16 @@ module _ (site : Site) where
       tested (not (is_enumerator_of site.consts.files (meant_by_base site inside f.kind.base) (meant_by_value site inside value)))
       (wrong_literal site.file f.name) refl
 
+  of_default_by : (inside : Option (List ℕ)) (f : Field) (value : Value) (kind : Option Basic)
+      → AllIn site.file (refused_default_by site inside f value kind)
+  of_default_by inside f value None = of_enum_default inside f value
+  of_default_by inside f value (Some kind) =
+      of_default_as site.file f.name (place_of_value value) kind (value_in site.consts site.names site.file inside value)
+
   of_default_of : (inside : Option (List ℕ)) (f : Field) (value : Value) (kind : Option Basic)
       → AllIn site.file (refused_default_of site inside f value kind)
-  of_default_of inside f value None = of_enum_default inside f value
-  of_default_of inside f value (Some kind) =
-      of_default_as site.file f.name (place_of_value value) kind (value_in site.consts site.names site.file inside value)
+  of_default_of inside f value kind =
+      chosen (f.kind.nullable && not (is_string kind)) (single (wrong_literal site.file f.name) refl) (of_default_by inside f value kind)
 
   of_default : (inside : Option (List ℕ)) (f : Field) (value : Option Value) → AllIn site.file (refused_default site inside f value)
   of_default inside f None = nothing

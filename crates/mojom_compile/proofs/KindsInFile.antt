@@ -1,6 +1,6 @@
 -- What is refused of the kinds, the ordinals and the versions of a file stands in it.
 use Rattle.std.proofs.Common.{ℕ, List, [], ◌∷◌, refl, length, map}
-use Rattle.std.specs.Prelude.{Bool, not, ◌&&◌, nat_lt, drop, filter, Option, Some, None}
+use Rattle.std.specs.Prelude.{Bool, true, false, not, ◌&&◌, nat_lt, drop, filter, Option, Some, None}
 use Rattle.std.specs.List.{flat_map}
 use Rattle.mj_base.specs.declared.limits.TheConstants.{MAX_ENUMERATORS}
 use Rattle.mojom_ast.specs.TypeTrees.{BaseTree, Named, ArrayOf, MapOf, HandleOf, PendingOf, TypeTree}
@@ -30,22 +30,22 @@ use Rattle.kind_scope.specs.Attributes.{is_default}
 use Rattle.mojom_compile.proofs.InFile.{AllIn, nothing, single, both, tested, chosen, said_of_each, one_of_each}
 
 module _ (scope : Scope) where
-  of_base : (member : Identifier) (kind : BaseTree) (nullable : Bool) → AllIn scope.file (refused_in_base scope member kind nullable)
-  of_base member (Named name) nullable =
+  of_base : (member : Identifier) (field : Bool) (kind : BaseTree) (nullable : Bool) → AllIn scope.file (refused_in_base scope member field kind nullable)
+  of_base member field (Named name) nullable =
       both (tested (is_float (meant_in scope name.parts)) (refused scope member (FloatField member.text)) refl)
-      (tested (nullable && is_number scope (meant_in scope name.parts)) (refused scope member (BadNullable member.text)) refl)
-  of_base member (ArrayOf element inner count) nullable =
-      both (tested (is_zero count) (refused scope member (ZeroLengthArray member.text)) refl) (of_base member element inner)
-  of_base member (MapOf key of_key value of_value) nullable =
+      (tested (not field && (nullable && is_number scope (meant_in scope name.parts))) (refused scope member (BadNullable member.text)) refl)
+  of_base member field (ArrayOf element inner count) nullable =
+      both (tested (is_zero count) (refused scope member (ZeroLengthArray member.text)) refl) (of_base member false element inner)
+  of_base member field (MapOf key of_key value of_value) nullable =
       both (tested (not (is_key scope key)) (refused scope member (BadMapKey member.text)) refl)
       (both (tested of_key (refused scope member (NullableKey member.text)) refl)
-      (both (of_base member key of_key) (of_base member value of_value)))
-  of_base member (HandleOf sort) nullable = nothing
-  of_base member (PendingOf sort interface) nullable = nothing
+      (both (of_base member true key of_key) (of_base member false value of_value)))
+  of_base member field (HandleOf sort) nullable = nothing
+  of_base member field (PendingOf sort interface) nullable = nothing
 
-  of_option : (name : Identifier) (kind : Option TypeTree) → AllIn scope.file (refused_in_option scope name kind)
-  of_option name None = nothing
-  of_option name (Some kind) = of_base name kind.base kind.nullable
+  of_option : (name : Identifier) (field : Bool) (kind : Option TypeTree) → AllIn scope.file (refused_in_option scope name field kind)
+  of_option name field None = nothing
+  of_option name field (Some kind) = of_base name field kind.base kind.nullable
 
   of_gap : (owner : Identifier) (gap : Option ℕ) → AllIn scope.file (refused_gap scope owner gap)
   of_gap owner None = nothing
@@ -80,7 +80,8 @@ module _ (scope : Scope) where
   of_list : (owner : Identifier) (sort : ListSort) (members : List Member) → AllIn scope.file (refused_list scope owner sort members)
   of_list owner sort members =
       both (of_count owner (limit_of sort) (length members))
-      (both (said_of_each (refused_in_member scope) members (λ m. of_option m.name m.kind)) (of_numbers owner sort (numbered members)))
+      (both (said_of_each (refused_in_member scope (is_struct sort)) members (λ m. of_option m.name (is_struct sort) m.kind))
+      (of_numbers owner sort (numbered members)))
 
   of_response : (owner : Identifier) (response : Option (List Parameter)) → AllIn scope.file (refused_response scope owner response)
   of_response owner None = nothing
@@ -104,7 +105,7 @@ of_item scope full (items.Enum e) = of_enum scope e
 of_item scope full (items.Interface i) =
     both (of_list (inside scope full) i.name Methods (flat_map method_of i.members))
     (said_of_each (refused_in_interface (inside scope full)) i.members (λ m. of_method (inside scope full) m.item))
-of_item scope full (items.Const c) = of_base scope c.name c.kind.base c.kind.nullable
+of_item scope full (items.Const c) = of_base scope c.name false c.kind.base c.kind.nullable
 
 -- all refusals of the file of this number
 pub kinds_in : (names : List FileNames) (consts : Consts) (number : ℕ) (file : NamedFile) → AllIn number (refusals_in names consts number file)

@@ -20,11 +20,13 @@ pub whole_passed : (files : List NamedFile) (order : List ℕ) (names : Names) (
 whole_passed files order names consts is =
     let draft = draft_of names.files consts files order in
     let there = passed_rows files order names consts is (have_rows files order names consts is) in
+    let kinds = allowed files order names consts is in
     whole draft (have_members files order names consts is)
     (record {
       within = kinds_there (draft_counts draft) draft there;
       methods = there.methods;
       order = there.order;
-      allowed = allowed files order names consts is;
+      allowed = kinds.allowed;
+      flags = kinds.flags;
       names = distinct_names files order names consts is;
     })

@@ -50,20 +50,20 @@ use Rattle.schema_laws.proofs.Told.{IsConstAt, place, IsTold, name_means}
 use Rattle.schema_laws.proofs.Totals.{HasRow, HaveRows}
 use Rattle.schema_laws.proofs.AllSound.{const_quiet, const_uses, const_from, known_of, same_value}
 
-abbrev is_float_value : Known → Bool
+abbrev pub is_float_value : Known → Bool
 is_float_value FloatValue = true
 is_float_value _ = false
 
 -- the kind of a constant
 
 -- a basic kind, not float, whose values this is one of
-record IsBasic (basic : Option Basic) (known : Known) : Type 0 where
-  kind : Basic
-  is : basic ≡ Some kind
-  plain : is_float_basic kind ≡ false
-  value : is_float_value known ≡ false
+pub record IsBasic (basic : Option Basic) (known : Known) : Type 0 where
+  pub kind : Basic
+  pub is : basic ≡ Some kind
+  pub plain : is_float_basic kind ≡ false
+  pub value : is_float_value known ≡ false
 
-no_float_value : (file : ℕ) (name : Identifier) (at : ℕ) (kind : Basic) (known : Known) → refused_value file name at kind known ≡ []
+pub no_float_value : (file : ℕ) (name : Identifier) (at : ℕ) (kind : Basic) (known : Known) → refused_value file name at kind known ≡ []
     → is_float_value known ≡ false
 no_float_value file name at kind (TextValue bytes) e = refl
 no_float_value file name at kind (BoolValue value) e = refl
@@ -114,7 +114,7 @@ basic_meant scope parts basic e =
     (option_map meant.Target (look_up scope.names scope.file scope.enclosing (dotted parts)))) e
 
 -- no constant of which nothing is refused is of float or double
-no_float : (scope : Scope) (member : Identifier) (base : BaseTree) (nullable : Bool) → refused_in_base scope member base nullable ≡ []
+no_float : (scope : Scope) (member : Identifier) (base : BaseTree) (nullable : Bool) → refused_in_base scope member false base nullable ≡ []
     → (basic : Basic) → basic_of_base base ≡ Some basic → is_float_basic basic ≡ false
 no_float scope member (Named name) nullable e basic is =
     let none = none_where (is_float (meant_in scope name.parts)) (refused scope member (FloatField member.text)) (both_empty _ _ e).0 in
@@ -155,7 +155,7 @@ plain_origin basics.Uint64 o e = refl
 plain_origin basics.Text o e = refl
 
 -- what isn't float is a literal in a row
-literal_is : (known : Known) → is_float_value known ≡ false → Has (literal_of known)
+pub literal_is : (known : Known) → is_float_value known ≡ false → Has (literal_of known)
 literal_is (TextValue bytes) e = record { one = literals.Text bytes; is = refl }
 literal_is (BoolValue value) e = record { one = literals.Bool value; is = refl }
 literal_is (NumberValue number) e = record { one = literals.Whole number; is = refl }
@@ -212,14 +212,14 @@ module _ (files : List NamedFile) (order : List ℕ) (consts : Consts) (are : Ar
       }
 
   -- the kind of a constant is basic, and its value is one of that kind
-  const_basic : (file : ℕ) (tree : NamedFile) (is : slice_get files file ≡ Some tree) (n : ℕ) (c : IsConstAt (definitions_of tree.tree) n) (known : Known)
+  pub const_basic : (file : ℕ) (tree : NamedFile) (is : slice_get files file ≡ Some tree) (n : ℕ) (c : IsConstAt (definitions_of tree.tree) n) (known : Known)
       → value_at consts ((place files order file tree is).begin + n) ≡ Some known → IsBasic (basic_of_base c.constant.kind.base) known
   const_basic file tree is n c known e =
       let d = c.definition in
       let scope = around (names_of files order).files consts file d.enclosing in
       let thing : ℕ = (place files order file tree is).begin + n in
       let site : Site = record { consts = consts; names = (names_of files order).files; file = file } in
-      let kinds : refused_in_type scope c.constant.name c.constant.kind ≡ [] =
+      let kinds : refused_in_type scope c.constant.name false c.constant.kind ≡ [] =
       subst (λ (i : DefinitionItem). refused_item scope d.full i ≡ []) c.is
       (are_quiet.kinds file tree is d (among_at (definitions_of tree.tree) n d c.there)) in
       let one = both_empty (refused_circle site thing c.constant.name) _ (const_quiet files order consts are are_quiet file tree is n c) in

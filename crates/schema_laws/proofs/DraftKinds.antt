@@ -1,6 +1,6 @@
 -- The kinds of tables where nothing is refused are allowed.
-use Rattle.std.proofs.Common.{◌≡◌, ℕ, List, [], refl, subst}
-use Rattle.std.specs.Prelude.{true, map, length, codes, Option, Some, None, option_and_then}
+use Rattle.std.proofs.Common.{◌≡◌, ℕ, List, [], refl, ap, subst}
+use Rattle.std.specs.Prelude.{Bool, true, false, not, map, length, codes, Option, Some, None, option_and_then}
 use Rattle.std.specs.List.{AllByRecursion, flat_map, list_all}
 use Rattle.std.specs.Option.{option_map, option_to_list}
 use Rattle.mojom_ast.specs.TypeTrees.{TypeTree}
@@ -21,7 +21,8 @@ use Rattle.module_resolver.specs.declared.file_names.FileNames.{FileNames}
 use Rattle.module_resolver.specs.declared.file_names.Names.{Names}
 use Rattle.const_eval.specs.declared.consts.Consts.{Consts}
 use Rattle.mj_schema.specs.KindTrees.{KindTree}
-use Rattle.mj_schema.specs.WellFormed.{is_allowed}
+use Rattle.mj_schema.specs.Parts.{has_flag}
+use Rattle.mj_schema.specs.WellFormed.{is_allowed, other_kinds}
 use Rattle.mj_schema.specs.declared.rows.DraftField.{DraftField}
 use Rattle.mj_schema.specs.declared.rows.DraftStruct.{DraftStruct}
 use Rattle.mj_schema.specs.declared.rows.UnionFieldRow.{UnionFieldRow}
@@ -36,7 +37,7 @@ use Rattle.kind_refusals.specs.declared.list_sort.ListSort.TheVariants.{Fields, 
 use Rattle.kind_scope.specs.Scopes.{Scope, inside, around}
 use Rattle.kind_scope.specs.Members.{Member, Numbered, field_of, union_field_of, parameter_of, numbered, along_ordinals}
 use Rattle.kind_refusals.specs.TypeRefusals.{refused_in_option, refused_in_member, refused_in_type}
-use Rattle.kind_refusals.specs.KindRefusals.{limit_of, refused_count, refused_numbers, refused_list, refused_parameters, refused_response, refused_in_item}
+use Rattle.kind_refusals.specs.KindRefusals.{limit_of, is_struct, refused_count, refused_numbers, refused_list, refused_parameters, refused_response, refused_in_item}
 use Rattle.kind_refusals.specs.KindRefusals.{refused_in_interface, refused_item, refused_definition, kinds_refusal}
 use Rattle.draft_rows.specs.RowCounts.{method_among, methods_in, rows_of, no_rows}
 use Rattle.draft_rows.specs.Kinds.{kind_of}
@@ -49,6 +50,7 @@ use Rattle.schema_laws.proofs.Quiet.{both_empty, quiet}
 use Rattle.schema_laws.proofs.Lift.{lift}
 use Rattle.schema_laws.proofs.Tables.{draft_kinds}
 use Rattle.schema_laws.proofs.Each.{all_empty, all_map, all_flat, all_so, all_found, all_along, all_numbered, all_tested}
+use Rattle.schema_laws.proofs.Flagless.{no_flag}
 use Rattle.schema_laws.proofs.Allowed.{allowed_base}
 
 abbrev pub IsFieldAllowed : DraftField → Type 0
@@ -57,16 +59,20 @@ IsFieldAllowed field = is_allowed field.kind ≡ true
 abbrev pub IsStructAllowed : DraftStruct → Type 0
 IsStructAllowed row = AllByRecursion IsFieldAllowed row.fields
 
+-- a kind that is allowed and has no flag
+abbrev pub IsFlagless : KindTree → Type 0
+IsFlagless kind = (is_allowed kind ≡ true) × (not (has_flag kind) ≡ true)
+
 abbrev pub IsUnionFieldAllowed : UnionFieldRow → Type 0
-IsUnionFieldAllowed field = is_allowed field.kind ≡ true
+IsUnionFieldAllowed field = IsFlagless field.kind
 
 abbrev pub IsUnionAllowed : UnionRow → Type 0
 IsUnionAllowed row = AllByRecursion IsUnionFieldAllowed row.fields
 
 abbrev pub IsConstAllowed : ConstRow → Type 0
-IsConstAllowed row = is_allowed row.kind ≡ true
+IsConstAllowed row = IsFlagless row.kind
 
--- the kinds of all fields, and of all constants, are allowed
+-- the kinds of all fields, and of all constants, are allowed, and only fields of structs have flags
 pub record AreAllowed (draft : Draft) : Type 0 where
   pub structs : AllByRecursion IsStructAllowed draft.structs
   pub unions : AllByRecursion IsUnionAllowed draft.unions
@@ -82,54 +88,70 @@ join_allowed one two a b = record {
   consts = each_append IsConstAllowed one.consts two.consts a.consts b.consts;
 }
 
--- nothing is refused in the type of a member
-abbrev pub IsQuiet : Scope → Member → Type 0
-IsQuiet scope member = refused_in_member scope member ≡ []
+-- nothing is refused in the type of a member: of a struct or a list of parameters, or of a union
+abbrev pub IsQuiet : Scope → (field : Bool) → Member → Type 0
+IsQuiet scope field member = refused_in_member scope field member ≡ []
 
 module _ (rows : List FileRows) (scope : Scope) where
-  kind_allowed : (name : Identifier) (kind : Option TypeTree) (k : KindTree) → refused_in_option scope name kind ≡ [] → kind_in rows scope kind ≡ Some k
-      → is_allowed k ≡ true
+  kind_allowed : (name : Identifier) (kind : Option TypeTree) (k : KindTree) → refused_in_option scope name true kind ≡ []
+      → kind_in rows scope kind ≡ Some k → is_allowed k ≡ true
   kind_allowed name None k e is = absurd cc
-  kind_allowed name (Some type) k e is = allowed_base rows scope name type.base type.nullable e k is
+  kind_allowed name (Some type) k e is = allowed_base rows scope name true type.base type.nullable e k is
+
+  -- a type that isn't that of a field of a struct or of a parameter
+  type_flagless : (name : Identifier) (type : TypeTree) (k : KindTree) → refused_in_type scope name false type ≡ []
+      → kind_of rows scope type ≡ Some k → IsFlagless k
+  type_flagless name type k e is =
+      let none = no_flag rows scope name type.base type.nullable e k is in
+      (allowed_base rows scope name false type.base type.nullable e k is, ap not none)
+
+  kind_flagless : (name : Identifier) (kind : Option TypeTree) (k : KindTree) → refused_in_option scope name false kind ≡ []
+      → kind_in rows scope kind ≡ Some k → IsFlagless k
+  kind_flagless name None k e is = absurd cc
+  kind_flagless name (Some type) k e is = type_flagless name type k e is
 
   field_is : (member : Member) (found : Option KindTree) (field : DraftField) → option_map (field_with scope member) found ≡ Some field
       → ((k : KindTree) → found ≡ Some k → is_allowed k ≡ true) → IsFieldAllowed field
   field_is member None field e is = absurd cc
   field_is member (Some k) field e is = let same : field_with scope member k ≡ field = cc in subst IsFieldAllowed same (is k refl)
 
-  field_allowed : (one : Numbered) (field : DraftField) → IsQuiet scope one.member → field_row rows scope one ≡ Some field → IsFieldAllowed field
+  field_allowed : (one : Numbered) (field : DraftField) → IsQuiet scope true one.member → field_row rows scope one ≡ Some field
+      → IsFieldAllowed field
   field_allowed one field e is =
       field_is one.member (kind_in rows scope one.member.kind) field is (λ k found. kind_allowed one.member.name one.member.kind k e found)
 
-  struct_allowed : (full : List ℕ) (members : List Member) → AllByRecursion (IsQuiet scope) members → IsStructAllowed (struct_row rows scope full members)
+  struct_allowed : (full : List ℕ) (members : List Member) → AllByRecursion (IsQuiet scope true) members
+      → IsStructAllowed (struct_row rows scope full members)
   struct_allowed full members all =
-      let each = all_numbered (IsQuiet scope) 0 members all in
-      let sorted = all_along (λ (one : Numbered). IsQuiet scope one.member) (λ (one : Numbered). one.ordinal) (numbered members) each in
-      all_found (λ (one : Numbered). IsQuiet scope one.member) IsFieldAllowed (field_row rows scope) field_allowed (along_ordinals (numbered members)) sorted
+      let each = all_numbered (IsQuiet scope true) 0 members all in
+      let sorted = all_along (λ (one : Numbered). IsQuiet scope true one.member) (λ (one : Numbered). one.ordinal) (numbered members) each in
+      all_found (λ (one : Numbered). IsQuiet scope true one.member) IsFieldAllowed (field_row rows scope) field_allowed
+      (along_ordinals (numbered members)) sorted
 
   union_field_is : (one : Numbered) (found : Option KindTree) (field : UnionFieldRow) → option_map (union_field_with one) found ≡ Some field
-      → ((k : KindTree) → found ≡ Some k → is_allowed k ≡ true) → IsUnionFieldAllowed field
+      → ((k : KindTree) → found ≡ Some k → IsFlagless k) → IsUnionFieldAllowed field
   union_field_is one None field e is = absurd cc
   union_field_is one (Some k) field e is = let same : union_field_with one k ≡ field = cc in subst IsUnionFieldAllowed same (is k refl)
 
-  union_field_allowed : (one : Numbered) (field : UnionFieldRow) → IsQuiet scope one.member → union_field_row rows scope one ≡ Some field
+  union_field_allowed : (one : Numbered) (field : UnionFieldRow) → IsQuiet scope false one.member → union_field_row rows scope one ≡ Some field
       → IsUnionFieldAllowed field
   union_field_allowed one field e is =
-      union_field_is one (kind_in rows scope one.member.kind) field is (λ k found. kind_allowed one.member.name one.member.kind k e found)
+      union_field_is one (kind_in rows scope one.member.kind) field is (λ k found. kind_flagless one.member.name one.member.kind k e found)
 
-  union_allowed : (full : List ℕ) (attributes : List Attribute) (members : List Member) → AllByRecursion (IsQuiet scope) members
+  union_allowed : (full : List ℕ) (attributes : List Attribute) (members : List Member) → AllByRecursion (IsQuiet scope false) members
       → IsUnionAllowed (union_row rows scope full attributes members)
   union_allowed full attributes members all =
-      let each = all_numbered (IsQuiet scope) 0 members all in
-      all_found (λ (one : Numbered). IsQuiet scope one.member) IsUnionFieldAllowed (union_field_row rows scope) union_field_allowed (numbered members) each
+      let each = all_numbered (IsQuiet scope false) 0 members all in
+      all_found (λ (one : Numbered). IsQuiet scope false one.member) IsUnionFieldAllowed (union_field_row rows scope) union_field_allowed
+      (numbered members) each
 
   -- nothing is refused in the types of a list of which nothing is refused
   pub list_quiet : (owner : Identifier) (sort : ListSort) (members : List Member) → refused_list scope owner sort members ≡ []
-      → AllByRecursion (IsQuiet scope) members
+      → AllByRecursion (IsQuiet scope (is_struct sort)) members
   list_quiet owner sort members e =
       let one = both_empty (refused_count scope owner (limit_of sort) (length members)) _ e in
-      let two = both_empty (flat_map (refused_in_member scope) members) (refused_numbers scope owner sort (numbered members)) one.1 in
-      all_empty (refused_in_member scope) members two.0
+      let two = both_empty (flat_map (refused_in_member scope (is_struct sort)) members) (refused_numbers scope owner sort (numbered members)) one.1 in
+      all_empty (refused_in_member scope (is_struct sort)) members two.0
 
   -- methods
 
@@ -167,16 +189,16 @@ module _ (rows : List FileRows) (scope : Scope) where
 
   -- constants
 
-  const_is : (full : List ℕ) (found : Option KindTree) (value : Option Literal) → ((k : KindTree) → found ≡ Some k → is_allowed k ≡ true)
+  const_is : (full : List ℕ) (found : Option KindTree) (value : Option Literal) → ((k : KindTree) → found ≡ Some k → IsFlagless k)
       → AllByRecursion IsConstAllowed (option_to_list (option_and_then (λ (k : KindTree). option_map (const_with full k) value) found))
   const_is full None value is = tt
   const_is full (Some k) None is = tt
   const_is full (Some k) (Some literal) is = (is k refl, tt)
 
-  const_allowed : (full : List ℕ) (c : Const) → refused_in_type scope c.name c.kind ≡ []
+  const_allowed : (full : List ℕ) (c : Const) → refused_in_type scope c.name false c.kind ≡ []
       → AllByRecursion IsConstAllowed (option_to_list (const_row rows scope full c))
   const_allowed full c e =
-      const_is full (kind_of rows scope c.kind) (literal_in scope c.value) (λ k is. allowed_base rows scope c.name c.kind.base c.kind.nullable e k is)
+      const_is full (kind_of rows scope c.kind) (literal_in scope c.value) (λ k is. type_flagless c.name c.kind k e is)
 
 item_allowed : (rows : List FileRows) (scope : Scope) (counts : Counts) (full : List ℕ) (attributes : List Attribute) (item : DefinitionItem)
     → refused_item scope full item ≡ [] → AreAllowed (draft_of_item rows scope counts full attributes item)
@@ -199,18 +221,40 @@ pub definition_allowed : (rows : List FileRows) (names : List FileNames) (consts
 definition_allowed rows names consts number counts d e =
     item_allowed rows (around names consts number d.enclosing) counts d.full d.attributes d.item e
 
--- each of the kinds of such tables is allowed
-pub kinds_allowed : (draft : Draft) → AreAllowed draft → list_all is_allowed (draft_kinds draft) ≡ true
+-- what holds of the kind of each field holds of all the kinds of structs
+struct_kinds : (Good : KindTree → Type 0) (structs : List DraftStruct)
+    → AllByRecursion (λ (row : DraftStruct). AllByRecursion (λ (field : DraftField). Good field.kind) row.fields) structs
+    → AllByRecursion Good (flat_map (λ (row : DraftStruct). map (λ (field : DraftField). field.kind) row.fields) structs)
+struct_kinds Good structs all =
+    all_flat Good (λ (row : DraftStruct). map (λ (field : DraftField). field.kind) row.fields) structs
+    (all_so (λ (row : DraftStruct). AllByRecursion (λ (field : DraftField). Good field.kind) row.fields)
+    (λ (row : DraftStruct). AllByRecursion Good (map (λ (field : DraftField). field.kind) row.fields))
+    (λ row each. all_map Good (λ (field : DraftField). field.kind) row.fields each) structs all)
+
+-- the same of the kinds of unions and constants
+kinds_of_others : (draft : Draft) → AreAllowed draft → AllByRecursion IsFlagless (other_kinds draft.unions draft.consts)
+kinds_of_others draft are =
+    let unions = all_flat IsFlagless (λ (row : UnionRow). map (λ (field : UnionFieldRow). field.kind) row.fields) draft.unions
+    (all_so IsUnionAllowed (λ (row : UnionRow). AllByRecursion IsFlagless (map (λ (field : UnionFieldRow). field.kind) row.fields))
+    (λ row all. all_map IsFlagless (λ (field : UnionFieldRow). field.kind) row.fields all) draft.unions are.unions) in
+    each_append IsFlagless _ _ unions (all_map IsFlagless (λ (row : ConstRow). row.kind) draft.consts are.consts)
+
+-- the kinds of tables are allowed, and those of unions and constants have no flag
+pub record AreKinds (draft : Draft) : Type 0 where
+  pub allowed : list_all is_allowed (draft_kinds draft) ≡ true
+  pub flags : list_all (λ (kind : KindTree). not (has_flag kind)) (other_kinds draft.unions draft.consts) ≡ true
+
+pub kinds_allowed : (draft : Draft) → AreAllowed draft → AreKinds draft
 kinds_allowed draft are =
     let Good : KindTree → Type 0 = λ k. is_allowed k ≡ true in
-    let structs = all_flat Good (λ (row : DraftStruct). map (λ (field : DraftField). field.kind) row.fields) draft.structs
-    (all_so IsStructAllowed (λ (row : DraftStruct). AllByRecursion Good (map (λ (field : DraftField). field.kind) row.fields))
-    (λ row all. all_map Good (λ (field : DraftField). field.kind) row.fields all) draft.structs are.structs) in
-    let unions = all_flat Good (λ (row : UnionRow). map (λ (field : UnionFieldRow). field.kind) row.fields) draft.unions
-    (all_so IsUnionAllowed (λ (row : UnionRow). AllByRecursion Good (map (λ (field : UnionFieldRow). field.kind) row.fields))
-    (λ row all. all_map Good (λ (field : UnionFieldRow). field.kind) row.fields all) draft.unions are.unions) in
-    let consts = all_map Good (λ (row : ConstRow). row.kind) draft.consts are.consts in
-    all_tested is_allowed (draft_kinds draft) (each_append Good _ _ structs (each_append Good _ _ unions consts))
+    let structs = struct_kinds Good draft.structs are.structs in
+    let others = kinds_of_others draft are in
+    let kinds = other_kinds draft.unions draft.consts in
+    record {
+      allowed = all_tested is_allowed (draft_kinds draft) (each_append Good _ kinds structs (all_so IsFlagless Good (λ k is. is.0) kinds others));
+      flags = all_tested (λ (kind : KindTree). not (has_flag kind)) kinds
+          (all_so IsFlagless (λ (kind : KindTree). not (has_flag kind) ≡ true) (λ k is. is.1) kinds others);
+    }
 
 -- the tables of files of which nothing is refused
 pub files_allowed : (names : List FileNames) (consts : Consts) (files : List NamedFile) (order : List ℕ) → kinds_refusal names consts files order ≡ None
@@ -221,8 +265,8 @@ files_allowed names consts files order none =
     definition_allowed (rows_of files order) names consts number counts d (quiet names consts files order number d none among of))
     no_rows
 
--- each kind of the tables of files of which no stage refuses anything is allowed
+-- the kinds of the tables of files of which no stage refuses anything are allowed, and only fields of structs have flags
 pub allowed : (files : List NamedFile) (order : List ℕ) (names : Names) (consts : Consts) → IsPassed files order names consts
-    → list_all is_allowed (draft_kinds (draft_of names.files consts files order)) ≡ true
+    → AreKinds (draft_of names.files consts files order)
 allowed files order names consts passed =
     kinds_allowed (draft_of names.files consts files order) (files_allowed names.files consts files order passed.kinds)

@@ -37,7 +37,7 @@ number_is file name at (NumberValue number) e = refl
 number_is file name at FloatValue e = absurd cc
 
 -- the value of an enumerator of which nothing is refused is a number
-enumerator_number : (site : Site) (inside : Option (List ℕ)) (thing : ℕ) (e : Enumerator) (k : Known) → refused_enumerator site inside thing e ≡ []
+pub enumerator_number : (site : Site) (inside : Option (List ℕ)) (thing : ℕ) (e : Enumerator) (k : Known) → refused_enumerator site inside thing e ≡ []
     → value_at site.consts thing ≡ Some k → is_number k ≡ true
 enumerator_number site inside thing e k none is =
     let one = both_empty (refused_circle site thing e.name) _ none in

@@ -78,15 +78,15 @@ basic_is (part ∷ []) = refl
 basic_is (part ∷ other ∷ parts) = refl
 
 pub basic_has : (nullable : Bool) (basic : Basic) → is_float (Some (meant.Basic basic)) ≡ false → Has (basic_kind nullable basic)
-basic_has nullable basics.Bool e = record { one = BoolKind; is = refl }
-basic_has nullable basics.Int8 e = record { one = IntKind Bits8 true; is = refl }
-basic_has nullable basics.Int16 e = record { one = IntKind Bits16 true; is = refl }
-basic_has nullable basics.Int32 e = record { one = IntKind Bits32 true; is = refl }
-basic_has nullable basics.Int64 e = record { one = IntKind Bits64 true; is = refl }
-basic_has nullable basics.Uint8 e = record { one = IntKind Bits8 false; is = refl }
-basic_has nullable basics.Uint16 e = record { one = IntKind Bits16 false; is = refl }
-basic_has nullable basics.Uint32 e = record { one = IntKind Bits32 false; is = refl }
-basic_has nullable basics.Uint64 e = record { one = IntKind Bits64 false; is = refl }
+basic_has nullable basics.Bool e = record { one = BoolKind nullable; is = refl }
+basic_has nullable basics.Int8 e = record { one = IntKind Bits8 true nullable; is = refl }
+basic_has nullable basics.Int16 e = record { one = IntKind Bits16 true nullable; is = refl }
+basic_has nullable basics.Int32 e = record { one = IntKind Bits32 true nullable; is = refl }
+basic_has nullable basics.Int64 e = record { one = IntKind Bits64 true nullable; is = refl }
+basic_has nullable basics.Uint8 e = record { one = IntKind Bits8 false nullable; is = refl }
+basic_has nullable basics.Uint16 e = record { one = IntKind Bits16 false nullable; is = refl }
+basic_has nullable basics.Uint32 e = record { one = IntKind Bits32 false nullable; is = refl }
+basic_has nullable basics.Uint64 e = record { one = IntKind Bits64 false nullable; is = refl }
 basic_has nullable basics.Text e = record { one = TextKind nullable; is = refl }
 basic_has nullable basics.Float e = absurd cc
 basic_has nullable basics.Double e = absurd cc
@@ -94,7 +94,7 @@ basic_has nullable basics.Double e = absurd cc
 row_has : (nullable : Bool) (sort : DefinitionSort) (counts : Counts) → fits_sort wants.Kind sort ≡ true → Has (row_kind nullable sort counts)
 row_has nullable sorts.Struct counts e = record { one = StructKind counts.structs nullable; is = refl }
 row_has nullable sorts.Union counts e = record { one = UnionKind counts.unions nullable; is = refl }
-row_has nullable sorts.Enum counts e = record { one = EnumKind counts.enums; is = refl }
+row_has nullable sorts.Enum counts e = record { one = EnumKind counts.enums nullable; is = refl }
 row_has nullable sorts.Interface counts e = absurd cc
 row_has nullable sorts.Const counts e = absurd cc
 
@@ -169,31 +169,33 @@ module _ (rows : List FileRows) (scope : Scope)
       use_alone scope.names scope.file (record { enclosing = scope.enclosing; parts = name; wanted = wants.Kind }) e
 
   -- a type has a kind
-  pub has_kind : (member : Identifier) (base : BaseTree) (nullable : Bool) → refused_uses scope.names scope.file (uses_in_type scope.enclosing base) ≡ []
-      → refused_in_base scope member base nullable ≡ [] → Has (kind_of_base rows scope base nullable)
-  has_kind member (Named name) nullable names e =
-      let parts = both_empty _ (where_true (nullable && is_number scope (meant_in scope name.parts)) _) e in
+  pub has_kind : (member : Identifier) (field : Bool) (base : BaseTree) (nullable : Bool)
+      → refused_uses scope.names scope.file (uses_in_type scope.enclosing base) ≡ [] → refused_in_base scope member field base nullable ≡ []
+      → Has (kind_of_base rows scope base nullable)
+  has_kind member field (Named name) nullable names e =
+      let parts = both_empty _ (where_true (not field && (nullable && is_number scope (meant_in scope name.parts))) _) e in
       let plain = none_where (is_float (meant_in scope name.parts)) (refused scope member (FloatField member.text)) parts.0 in
       meant_has nullable (basic_of_parts name.parts) (look_up scope.names scope.file scope.enclosing (dotted name.parts)) plain
       (λ none. named_fits name.parts (is_basic name.parts) refl names (basic_is name.parts ∙ none))
-  has_kind member (ArrayOf of inner count) nullable names e =
-      let parts = both_empty (where_true (is_zero count) (refused scope member (ZeroLengthArray member.text))) (refused_in_base scope member of inner) e in
-      let rest = has_kind member of inner names parts.1 in
+  has_kind member field (ArrayOf of inner count) nullable names e =
+      let parts = both_empty (where_true (is_zero count) (refused scope member (ZeroLengthArray member.text)))
+      (refused_in_base scope member false of inner) e in
+      let rest = has_kind member false of inner names parts.1 in
       record { one = ArrayKind rest.one (count_of count) nullable; is = ap (option_map (λ (k : KindTree). ArrayKind k (count_of count) nullable)) rest.is }
-  has_kind member (MapOf key of_key value of_value) nullable names e =
+  has_kind member field (MapOf key of_key value of_value) nullable names e =
       let uses = uses_apart scope.names scope.file (uses_in_type scope.enclosing key) (uses_in_type scope.enclosing value) names in
       let one = both_empty _ _ e in
       let two = both_empty _ _ one.1 in
-      let three = both_empty (refused_in_base scope member key of_key) (refused_in_base scope member value of_value) two.1 in
-      let k = has_kind member key of_key uses.0 three.0 in
-      let v = has_kind member value of_value uses.1 three.1 in
+      let three = both_empty (refused_in_base scope member true key of_key) (refused_in_base scope member false value of_value) two.1 in
+      let k = has_kind member true key of_key uses.0 three.0 in
+      let v = has_kind member false value of_value uses.1 three.1 in
       record {
         one = MapKind k.one v.one nullable;
         is = and_then_has (λ (k : KindTree). with_value nullable k (kind_of_base rows scope value of_value)) (kind_of_base rows scope key of_key) k.one
             (MapKind k.one v.one nullable) k.is (ap (with_value nullable k.one) v.is);
       }
-  has_kind member (HandleOf sort) nullable names e = record { one = HandleKind (handle_sort sort) nullable; is = refl }
-  has_kind member (PendingOf sort interface) nullable names e =
+  has_kind member field (HandleOf sort) nullable names e = record { one = HandleKind (handle_sort sort) nullable; is = refl }
+  has_kind member field (PendingOf sort interface) nullable names e =
       let fit = use_alone scope.names scope.file (record { enclosing = scope.enclosing; parts = interface.parts; wanted = wants.Interface }) names in
       let number = target_end fit.target fit.fits in
       record {

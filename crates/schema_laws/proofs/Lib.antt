@@ -12,6 +12,7 @@ pub mod Below
 pub mod KindsWithin
 pub mod RowsWithin
 pub mod Each
+pub mod Flagless
 pub mod Allowed
 pub mod DraftKinds
 pub mod QuietFiles

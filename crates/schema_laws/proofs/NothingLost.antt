@@ -1,6 +1,6 @@
 -- Of files of which nothing is refused no field, no field of a union and no parameter is lost: each has a kind.
 use Rattle.std.proofs.Common.{◌≡◌, ℕ, List, [], ◌∷◌, ◌++◌}
-use Rattle.std.specs.Prelude.{map, Option, Some, None}
+use Rattle.std.specs.Prelude.{true, false, map, Option, Some, None}
 use Rattle.std.specs.List.{AllByRecursion, flat_map}
 use Rattle.mojom_ast.specs.declared.definitions.DefinitionItem.{DefinitionItem}
 use Rattle.mojom_ast.specs.declared.definitions.DefinitionItem.TheVariants as items
@@ -81,43 +81,44 @@ module _ (rows : List FileRows) (scope : Scope)
     (there : (file number : ℕ) (sort : DefinitionSort) → sort_of scope.names (targets.Definition file number) ≡ Some sort
     → (counts : Counts) × (rows_before rows file number ≡ Some counts)) where
   field_kept : (attributes : List Attribute) (item : StructItem) → refused_uses scope.names scope.file (uses_in_field scope.enclosing attributes item) ≡ []
-      → AllByRecursion (IsQuiet scope) (field_in attributes item) → AllByRecursion (IsKept rows scope) (field_in attributes item)
+      → AllByRecursion (IsQuiet scope true) (field_in attributes item) → AllByRecursion (IsKept rows scope) (field_in attributes item)
   field_kept attributes (struct_items.Field f) e quiet =
       let one = uses_apart scope.names scope.file (uses_in_attributes scope.enclosing attributes) _ e in
       let two = uses_apart scope.names scope.file (uses_in_type scope.enclosing f.kind.base) (uses_in_option scope.enclosing f.default) one.1 in
-      (has_kind rows scope there f.name f.kind.base f.kind.nullable two.0 quiet.0, tt)
+      (has_kind rows scope there f.name true f.kind.base f.kind.nullable two.0 quiet.0, tt)
   field_kept attributes (struct_items.Const c) e quiet = tt
   field_kept attributes (struct_items.Enum c) e quiet = tt
 
   fields_kept : (members : List StructMember) → refused_uses scope.names scope.file (flat_map (uses_in_struct scope.enclosing) members) ≡ []
-      → AllByRecursion (IsQuiet scope) (flat_map field_of members) → AllByRecursion (IsKept rows scope) (flat_map field_of members)
+      → AllByRecursion (IsQuiet scope true) (flat_map field_of members) → AllByRecursion (IsKept rows scope) (flat_map field_of members)
   fields_kept members e quiet =
-      so_flat (λ (m : StructMember). refused_uses scope.names scope.file (uses_in_struct scope.enclosing m) ≡ []) (IsQuiet scope) (IsKept rows scope) field_of
-      (λ m none all. field_kept m.attributes m.item none all) members (uses_each scope.names scope.file (uses_in_struct scope.enclosing) members e) quiet
+      so_flat (λ (m : StructMember). refused_uses scope.names scope.file (uses_in_struct scope.enclosing m) ≡ []) (IsQuiet scope true) (IsKept rows scope)
+      field_of (λ m none all. field_kept m.attributes m.item none all) members
+      (uses_each scope.names scope.file (uses_in_struct scope.enclosing) members e) quiet
 
-  union_field_kept : (f : UnionField) → refused_uses scope.names scope.file (uses_in_union scope.enclosing f) ≡ [] → IsQuiet scope (union_field_of f)
+  union_field_kept : (f : UnionField) → refused_uses scope.names scope.file (uses_in_union scope.enclosing f) ≡ [] → IsQuiet scope false (union_field_of f)
       → IsKept rows scope (union_field_of f)
   union_field_kept f e quiet =
       let parts = uses_apart scope.names scope.file (uses_in_attributes scope.enclosing f.attributes) (uses_in_type scope.enclosing f.kind.base) e in
-      has_kind rows scope there f.name f.kind.base f.kind.nullable parts.1 quiet
+      has_kind rows scope there f.name false f.kind.base f.kind.nullable parts.1 quiet
 
   union_fields_kept : (fields : List UnionField) → refused_uses scope.names scope.file (flat_map (uses_in_union scope.enclosing) fields) ≡ []
-      → AllByRecursion (IsQuiet scope) (map union_field_of fields) → AllByRecursion (IsKept rows scope) (map union_field_of fields)
+      → AllByRecursion (IsQuiet scope false) (map union_field_of fields) → AllByRecursion (IsKept rows scope) (map union_field_of fields)
   union_fields_kept fields e quiet =
-      so_map (λ (f : UnionField). refused_uses scope.names scope.file (uses_in_union scope.enclosing f) ≡ []) (IsQuiet scope) (IsKept rows scope)
+      so_map (λ (f : UnionField). refused_uses scope.names scope.file (uses_in_union scope.enclosing f) ≡ []) (IsQuiet scope false) (IsKept rows scope)
       union_field_of union_field_kept fields (uses_each scope.names scope.file (uses_in_union scope.enclosing) fields e) quiet
 
-  parameter_kept : (p : Parameter) → refused_uses scope.names scope.file (uses_in_parameter scope.enclosing p) ≡ [] → IsQuiet scope (parameter_of p)
+  parameter_kept : (p : Parameter) → refused_uses scope.names scope.file (uses_in_parameter scope.enclosing p) ≡ [] → IsQuiet scope true (parameter_of p)
       → IsKept rows scope (parameter_of p)
   parameter_kept p e quiet =
       let parts = uses_apart scope.names scope.file (uses_in_attributes scope.enclosing p.attributes) (uses_in_type scope.enclosing p.kind.base) e in
-      has_kind rows scope there p.name p.kind.base p.kind.nullable parts.1 quiet
+      has_kind rows scope there p.name true p.kind.base p.kind.nullable parts.1 quiet
 
   parameters_kept : (owner : Identifier) (parameters : List Parameter)
       → refused_uses scope.names scope.file (flat_map (uses_in_parameter scope.enclosing) parameters) ≡ []
       → refused_parameters scope owner parameters ≡ [] → AllByRecursion (IsKept rows scope) (map parameter_of parameters)
   parameters_kept owner parameters e none =
-      so_map (λ (p : Parameter). refused_uses scope.names scope.file (uses_in_parameter scope.enclosing p) ≡ []) (IsQuiet scope) (IsKept rows scope)
+      so_map (λ (p : Parameter). refused_uses scope.names scope.file (uses_in_parameter scope.enclosing p) ≡ []) (IsQuiet scope true) (IsKept rows scope)
       parameter_of parameter_kept parameters (uses_each scope.names scope.file (uses_in_parameter scope.enclosing) parameters e)
       (list_quiet rows scope owner Parameters (map parameter_of parameters) none)
 

@@ -121,7 +121,7 @@ chosen false xs ys is e = absurd cc
 -- what is refused of a list, in parts: how many members there are, their types, their ordinals, and what is refused of structs alone
 record IsQuiet (scope : Scope) (owner : Identifier) (sort : ListSort) (members : List Member) : Type 0 where
   few : refused_count scope owner (limit_of sort) (length members) ≡ []
-  types : flat_map (refused_in_member scope) members ≡ []
+  types : flat_map (refused_in_member scope (is_struct sort)) members ≡ []
   doubles : refused_doubles scope (numbered members) ≡ []
   order : (if is_struct sort then refused_struct scope owner (numbered members) else []) ≡ []
 
@@ -129,7 +129,7 @@ quiet_list : (scope : Scope) (owner : Identifier) (sort : ListSort) (members : L
     → IsQuiet scope owner sort members
 quiet_list scope owner sort members e =
     let ones = numbered members in
-    let types = flat_map (refused_in_member scope) members in
+    let types = flat_map (refused_in_member scope (is_struct sort)) members in
     let numbers = refused_numbers scope owner sort ones in
     let counted = both_empty (refused_count scope owner (limit_of sort) (length members)) (types ++ numbers) e in
     let listed = both_empty types numbers counted.1 in

@@ -1,6 +1,6 @@
 -- With any layout of the structs the kinds, the full names and the numbers of rows are those of the tables.
 use Rattle.std.proofs.Common.{◌≡◌, ◌+◌, ℕ, List, [], ◌∷◌, ◌++◌, map, length, refl, sym, ◌∙◌, ap}
-use Rattle.std.specs.Prelude.{true, ◌==◌, if◌then◌else◌}
+use Rattle.std.specs.Prelude.{true, not, ◌==◌, if◌then◌else◌}
 use Rattle.std.specs.List.{list_all, list_any, flat_map}
 use Rattle.std.specs.Cmp.Derive.{both_true}
 use Rattle.std.proofs.lemmas.List.{length-map}
@@ -14,9 +14,10 @@ use Rattle.mj_schema.specs.declared.rows.EnumRow.{EnumRow}
 use Rattle.mj_schema.specs.declared.rows.FieldRow.{FieldRow}
 use Rattle.mj_schema.specs.declared.rows.InterfaceRow.{InterfaceRow}
 use Rattle.mj_schema.specs.declared.rows.StructRow.{StructRow}
-use Rattle.mj_schema.specs.declared.rows.UnionFieldRow.{UnionFieldRow}
 use Rattle.mj_schema.specs.declared.rows.UnionRow.{UnionRow}
-use Rattle.mj_schema.specs.WellFormed.{RowCounts, are_within, has_structs, is_row, is_allowed, structs_of_methods, named_structs, all_kinds, all_names, counts_of, is_well_formed}
+use Rattle.mj_schema.specs.Parts.{has_flag}
+use Rattle.mj_schema.specs.WellFormed.{RowCounts, are_within, has_structs, is_row, is_allowed, structs_of_methods, named_structs, other_kinds, all_kinds}
+use Rattle.mj_schema.specs.WellFormed.{all_names, counts_of, is_well_formed}
 use Rattle.draft_rows.specs.declared.draft.Draft.{Draft}
 use Rattle.schema_laws.specs.Whole.{IsWhole}
 use Rattle.schema_laws.proofs.Tables.{draft_kinds, named_drafts, draft_names, draft_counts}
@@ -40,10 +41,7 @@ struct_kinds (row ∷ rows) =
 pub same_kinds : (structs : List StructRow) (draft : Draft) → map draft_of structs ≡ draft.structs
     → all_kinds structs draft.unions draft.consts ≡ draft_kinds draft
 same_kinds structs draft e =
-    ap (λ (kinds : List KindTree).
-    kinds
-    ++ (flat_map (λ (row : UnionRow). map (λ (f : UnionFieldRow). f.kind) row.fields) draft.unions
-    ++ map (λ (row : ConstRow). row.kind) draft.consts)) (struct_kinds structs ∙ ap kinds_of_drafts e)
+    ap (λ (kinds : List KindTree). kinds ++ other_kinds draft.unions draft.consts) (struct_kinds structs ∙ ap kinds_of_drafts e)
 
 -- full names
 
@@ -81,6 +79,7 @@ pub record AreSound (draft : Draft) : Type 0 where
   pub methods : list_all (λ (row : InterfaceRow). list_all (has_structs (length draft.structs)) row.methods) draft.interfaces ≡ true
   pub order : list_all (is_row (draft_counts draft)) draft.order ≡ true
   pub allowed : list_all is_allowed (draft_kinds draft) ≡ true
+  pub flags : list_all (λ (kind : KindTree). not (has_flag kind)) (other_kinds draft.unions draft.consts) ≡ true
   pub names : are_distinct (draft_names draft) ≡ true
 
 pub well_formed : (draft : Draft) → HaveMembers draft → AreSound draft → (structs : List StructRow) → map draft_of structs ≡ draft.structs
@@ -94,7 +93,7 @@ well_formed draft have sound structs e =
     let methods =
     ap (λ (n : ℕ). list_all (λ (row : InterfaceRow). list_all (has_structs n) row.methods) draft.interfaces) (same_length structs draft e) ∙ sound.methods in
     let order = ap (λ (c : RowCounts). list_all (is_row c) draft.order) counts ∙ sound.order in
-    let allowed = ap (list_all is_allowed) kinds ∙ sound.allowed in
+    let allowed = both_true (ap (list_all is_allowed) kinds ∙ sound.allowed) sound.flags in
     let names = ap are_distinct (same_names structs draft e) ∙ sound.names in
     both_true within
     (both_true methods

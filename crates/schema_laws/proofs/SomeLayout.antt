@@ -1,6 +1,6 @@
 -- Of each struct that can be laid out there is a layout.
-use Rattle.std.proofs.Common.{◌≡◌, ℕ, ◌+◌, ◌*◌, ◌/◌, ◌%◌, ◌<◌, ◌≤◌, List, [], ◌∷◌, map, refl, sym, ◌∙◌, subst, arith}
-use Rattle.std.specs.Prelude.{Bool, true, false, ◌==◌, ◌&&◌, ◌||◌, nat_le}
+use Rattle.std.proofs.Common.{◌≡◌, ℕ, ◌+◌, ◌*◌, ◌/◌, ◌%◌, ◌<◌, ◌≤◌, List, [], ◌∷◌, ◌++◌, map, refl, sym, ◌∙◌, subst, arith}
+use Rattle.std.specs.Prelude.{Bool, true, false, ◌==◌, ◌&&◌, ◌||◌, nat_le, Option, Some, None}
 use Rattle.std.proofs.Math.Nat.{mul-mod_left, le-mul_of_pos_right}
 use Rattle.std.proofs.lemmas.Bool.{and_from, and_parts, eq-eqb, eqb-true, le-leb}
 use Rattle.std.proofs.lemmas.List.{length-map}
@@ -9,11 +9,14 @@ use Rattle.mj_schema.specs.declared.kind.Width.{Width}
 use Rattle.mj_schema.specs.declared.kind.Width.TheVariants.{Bits8, Bits16, Bits32, Bits64}
 use Rattle.mj_schema.specs.declared.rows.DraftField.{DraftField}
 use Rattle.mj_schema.specs.declared.rows.DraftStruct.{DraftStruct}
+use Rattle.mj_schema.specs.declared.rows.Flag.{Flag}
 use Rattle.mj_schema.specs.declared.rows.Place.{Place}
 use Rattle.mj_schema.specs.declared.rows.StructRow.{StructRow}
 use Rattle.mj_schema.specs.KindTrees.{KindTree}
 use Rattle.mj_schema.specs.KindTrees as kinds
-use Rattle.mj_schema.specs.Layout.{Slot, is_apart, is_free, address_of, slot_at, IsLeastPlace, ArePacked, IsLaidOut, field_rows, draft_of}
+use Rattle.mj_schema.specs.Layout.{Slot, is_apart, is_free, slot_at, IsLeastPlace, flag_slots, IsFlagPlaced, IsPlaced, part_slots, ArePacked, IsLaidOut}
+use Rattle.mj_schema.specs.Layout.{field_rows, draft_of}
+use Rattle.mj_schema.specs.Parts.{has_flag, FLAG_KIND, bit_address}
 use Rattle.mj_schema.specs.Sizes.{bits_of, alignment_of}
 use Rattle.mj_schema.specs.Versions.{version_rows}
 use Rattle.version_tables.proofs.LaidOut.{packed_length, laid_out}
@@ -28,9 +31,9 @@ some_bits Bits32 = omega arith
 some_bits Bits64 = omega arith
 
 some_alignment : (kind : KindTree) → 0 < alignment_of kind
-some_alignment kinds.BoolKind = omega arith
-some_alignment (kinds.IntKind width signed) = some_bits width
-some_alignment (kinds.EnumKind number) = omega arith
+some_alignment (kinds.BoolKind nullable) = omega arith
+some_alignment (kinds.IntKind width signed nullable) = some_bits width
+some_alignment (kinds.EnumKind number nullable) = omega arith
 some_alignment (kinds.TextKind nullable) = omega arith
 some_alignment (kinds.HandleKind sort nullable) = omega arith
 some_alignment (kinds.ArrayKind of count nullable) = omega arith
@@ -70,20 +73,17 @@ fits_past taken kind =
     and_from _ _ (eq-eqb (past taken * alignment_of kind % alignment_of kind) 0 (mul-mod_left (past taken) (alignment_of kind)))
     (free_past taken (slot_at kind (past taken * alignment_of kind)) (le-mul_of_pos_right (past taken) (some_alignment kind)))
 
--- the place of an address
-abbrev place_at : ℕ → Place
-place_at address = record { offset = address / 8; bit = address % 8 }
-
-address_is : (address : ℕ) → address_of (place_at address) ≡ address
+-- a byte and a bit of it are the address that they are taken from
+address_is : (address : ℕ) → bit_address (address / 8) (address % 8) ≡ address
 address_is address = let split = div-add-mod' address 8 in omega (arith, split)
 
 -- at a least address there is a least place
-least_at : (taken : List Slot) (kind : KindTree) (address : ℕ) → IsLeast (fits taken kind) address → IsLeastPlace taken kind (place_at address)
+least_at : (taken : List Slot) (kind : KindTree) (address : ℕ) → IsLeast (fits taken kind) address → IsLeastPlace taken kind (address / 8) (address % 8)
 least_at taken kind address is =
-    let same : address ≡ address_of (place_at address) = sym (address_is address) in
+    let same : address ≡ bit_address (address / 8) (address % 8) = sym (address_is address) in
     let parts = and_parts (address % alignment_of kind == 0) (is_free taken (slot_at kind address)) is.passes in
     record {
-      bit = mod_below address 8 (omega arith);
+      bit_of_byte = mod_below address 8 (omega arith);
       aligned = subst (λ (a : ℕ). a % alignment_of kind ≡ 0) same (eqb-true (address % alignment_of kind) 0 parts.0);
       free = subst (λ (a : ℕ). is_free taken (slot_at kind a) ≡ true) same parts.1;
       least = λ other aligned free.
@@ -91,18 +91,35 @@ least_at taken kind address is =
           (is.least other (and_from _ _ (eq-eqb (other % alignment_of kind) 0 aligned) free));
     }
 
--- a kind has a least place
-some_place : (taken : List Slot) (kind : KindTree) → (place : Place) × IsLeastPlace taken kind place
-some_place taken kind =
+-- a least place of a part
+record HasPart (taken : List Slot) (kind : KindTree) : Type 0 where
+  offset : ℕ
+  bit : ℕ
+  is : IsLeastPlace taken kind offset bit
+
+some_part : (taken : List Slot) (kind : KindTree) → HasPart taken kind
+some_part taken kind =
     let found = some_least (fits taken kind) (past taken * alignment_of kind) (fits_past taken kind) in
-    (place_at found.0, least_at taken kind found.0 found.1)
+    record { offset = found.0 / 8; bit = found.0 % 8; is = least_at taken kind found.0 found.1 }
+
+-- a flag has a least place, where one is asked for
+some_flag : (taken : List Slot) (asked : Bool) → (flag : Option Flag) × IsFlagPlaced taken asked flag
+some_flag taken false = (None, tt)
+some_flag taken true = let part = some_part taken FLAG_KIND in (Some (record { offset = part.offset; bit = part.bit }), part.is)
+
+-- a field has a place: that of its flag, and behind it that of its value
+some_place : (taken : List Slot) (kind : KindTree) → (place : Place) × IsPlaced taken kind place
+some_place taken kind =
+    let flag = some_flag taken (has_flag kind) in
+    let value = some_part (flag_slots flag.0 ++ taken) kind in
+    (record { offset = value.offset; bit = value.bit; flag = flag.0 }, record { flag = flag.1; value = value.is })
 
 -- fields have least places, one behind the other
 pub some_places : (taken : List Slot) (kinds : List KindTree) → (places : List Place) × ArePacked taken kinds places
 some_places taken [] = ([], tt)
 some_places taken (kind ∷ kinds) =
     let place = some_place taken kind in
-    let others = some_places (slot_at kind (address_of place.0) ∷ taken) kinds in
+    let others = some_places (part_slots kind place.0 ++ taken) kinds in
     (place.0 ∷ others.0, (place.1, others.1))
 
 -- a struct that can be laid out has a layout

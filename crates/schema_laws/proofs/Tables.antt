@@ -8,17 +8,15 @@ use Rattle.mj_schema.specs.declared.rows.DraftField.{DraftField}
 use Rattle.mj_schema.specs.declared.rows.DraftStruct.{DraftStruct}
 use Rattle.mj_schema.specs.declared.rows.EnumRow.{EnumRow}
 use Rattle.mj_schema.specs.declared.rows.InterfaceRow.{InterfaceRow}
-use Rattle.mj_schema.specs.declared.rows.UnionFieldRow.{UnionFieldRow}
 use Rattle.mj_schema.specs.declared.rows.UnionRow.{UnionRow}
-use Rattle.mj_schema.specs.WellFormed.{RowCounts, structs_of_methods}
+use Rattle.mj_schema.specs.WellFormed.{RowCounts, other_kinds, structs_of_methods}
 use Rattle.draft_rows.specs.declared.draft.Draft.{Draft}
 
 -- the kinds of all fields and constants
 abbrev pub draft_kinds : Draft → List KindTree
 draft_kinds draft =
     flat_map (λ (row : DraftStruct). map (λ (field : DraftField). field.kind) row.fields) draft.structs
-    ++ (flat_map (λ (row : UnionRow). map (λ (field : UnionFieldRow). field.kind) row.fields) draft.unions
-    ++ map (λ (row : ConstRow). row.kind) draft.consts)
+    ++ other_kinds draft.unions draft.consts
 
 -- the full names of structs, the first of which has this number, but for those of methods
 abbrev pub named_drafts : List ℕ → ℕ → List DraftStruct → List (List ℕ)

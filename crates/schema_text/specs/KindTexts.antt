@@ -63,9 +63,9 @@ end_text schema _ = []
 
 -- bool, int8, a.E, string, handle, array<T>, array<T, 4>, map<K, V>, a.S or pending_remote<a.I>, and ? where it may be null
 abbrev pub kind_text : Schema → KindTree → List ℕ
-kind_text schema kinds.BoolKind = codes "bool"
-kind_text schema (kinds.IntKind width signed) = integer_text width signed
-kind_text schema (kinds.EnumKind number) = enum_name schema number
+kind_text schema (kinds.BoolKind nullable) = codes "bool" ++ nullable_text nullable
+kind_text schema (kinds.IntKind width signed nullable) = integer_text width signed ++ nullable_text nullable
+kind_text schema (kinds.EnumKind number nullable) = enum_name schema number ++ nullable_text nullable
 kind_text schema (kinds.TextKind nullable) = codes "string" ++ nullable_text nullable
 kind_text schema (kinds.HandleKind sort nullable) = handle_text sort ++ nullable_text nullable
 kind_text schema (kinds.ArrayKind of count nullable) =

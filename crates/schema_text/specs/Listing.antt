@@ -1,6 +1,6 @@
 -- The text of a schema: its definitions in order, each by its line and below it a line for each of its parts, two blanks further
 -- in. A line is words with one blank between them. Definitions go by their full names, their parts by their own.
-use Rattle.std.specs.Prelude.{ℕ, Bool, true, false, List, [], ◌∷◌, ◌++◌, codes, decimal, slice_get}
+use Rattle.std.specs.Prelude.{ℕ, Bool, true, false, List, [], ◌∷◌, ◌++◌, codes, decimal, slice_get, Option, Some, None}
 use Rattle.std.specs.Fmt.{signed_decimal}
 use Rattle.std.specs.List.{flat_map, join_by}
 use Rattle.std.specs.Option.{option_map_or}
@@ -9,6 +9,7 @@ use Rattle.mj_schema.specs.declared.rows.ConstRow.{ConstRow}
 use Rattle.mj_schema.specs.declared.rows.DefinitionRow.{DefinitionRow}
 use Rattle.mj_schema.specs.declared.rows.EnumRow.{EnumRow}
 use Rattle.mj_schema.specs.declared.rows.FieldRow.{FieldRow}
+use Rattle.mj_schema.specs.declared.rows.Flag.{Flag}
 use Rattle.mj_schema.specs.declared.rows.InterfaceRow.{InterfaceRow}
 use Rattle.mj_schema.specs.declared.rows.Literal.{Literal}
 use Rattle.mj_schema.specs.declared.rows.Literal.TheVariants as literals
@@ -75,10 +76,15 @@ method_line method = line (codes "  method" ∷ decimal method.ordinal ∷ metho
 unfoldable pub interface_text : InterfaceRow → List ℕ
 interface_text row = line (codes "interface" ∷ row.name ∷ []) ++ flat_map method_line row.methods
 
--- a field of a struct by its ordinal, with its byte, its bit and its version:   field 1 b int8 4 0 1
+-- where the flag of a field is, its byte and its bit, where it has one: flag 0 3
+abbrev pub flag_words : Option Flag → List (List ℕ)
+flag_words None = []
+flag_words (Some flag) = codes "flag" ∷ decimal flag.offset ∷ decimal flag.bit ∷ []
+
+-- a field of a struct by its ordinal, with its byte, its bit and its version, and its flag:   field 1 b int8? 4 0 1 flag 0 3
 unfoldable pub field_line : Schema → FieldRow → List ℕ
 field_line schema field =
-    line (field_text schema field.ordinal field.name field.kind ∷ decimal field.offset ∷ decimal field.bit ∷ decimal field.min_version ∷ [])
+    line (field_text schema field.ordinal field.name field.kind ∷ decimal field.offset ∷ decimal field.bit ∷ decimal field.min_version ∷ flag_words field.flag)
 
 -- a version of a struct, with how many fields and bytes it has:   version 1 2 16
 unfoldable pub version_line : VersionRow → List ℕ

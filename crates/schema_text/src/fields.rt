@@ -1,12 +1,12 @@
 //! Fields of structs and of unions.
 
-ghost use Rattle.std.specs.Prelude.{◌≡◌, ◌++◌, OnOk};
+ghost use Rattle.std.specs.Prelude.{◌≡◌, ◌++◌, Some, codes, OnOk};
 ghost use Rattle.std.specs.List.{flat_map};
-ghost use Rattle.schema_text.specs.Listing.{field_text, field_line, union_field_line};
+ghost use Rattle.schema_text.specs.Listing.{line, flag_words, field_text, field_line, union_field_line};
 
 use crate::kinds::push_kind_word;
 use crate::words::{push_number_word, push_word};
-use mj_schema::{FieldRow, Kind, Schema, UnionFieldRow};
+use mj_schema::{FieldRow, Flag, Kind, Schema, UnionFieldRow};
 use mojom_print::push_text;
 use std::alloc::AllocError;
 
@@ -36,6 +36,19 @@ fn push_field(out: &mut Vec<u8>, schema: &Schema, field: &FieldRow) -> Result<()
     push_number_word(out, field.offset)?;
     push_number_word(out, field.bit)?;
     push_number_word(out, field.min_version)?;
+    match field.flag {
+        Some(flag) => push_flag(out, flag),
+        None => push_text(out, "\n"),
+    }
+}
+
+/// Writes where a field has its flag, and the end of the line.
+fn push_flag(out: &mut Vec<u8>, flag: Flag) -> Result<(), AllocError>
+    ensures { OnOk result (out.new.items ≡ out.old.items ++ (codes " " ++ line (flag_words (Some flag)))) }
+{
+    push_word(out, "flag")?;
+    push_number_word(out, flag.offset)?;
+    push_number_word(out, flag.bit)?;
     push_text(out, "\n")
 }
 

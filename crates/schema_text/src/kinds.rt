@@ -23,9 +23,18 @@ fn push_node(out: &mut Vec<u8>, schema: &Schema, node: &KindNode) -> Result<(), 
     ensures { OnOk result (out.new.items ≡ out.old.items ++ kind_text schema.now (kind_view node.now)) }
 {
     match node {
-        KindNode::Bool => push_text(out, "bool"),
-        KindNode::Int { width, signed } => push_integer(out, *width, *signed),
-        KindNode::Enum { number } => push_text(out, enum_name(schema, *number)),
+        KindNode::Bool { nullable } => push_nullable(out, "bool", *nullable),
+        KindNode::Int {
+            width,
+            signed,
+            nullable,
+        } => {
+            push_integer(out, *width, *signed)?;
+            push_mark(out, *nullable)
+        }
+        KindNode::Enum { number, nullable } => {
+            push_nullable(out, enum_name(schema, *number), *nullable)
+        }
         KindNode::Text { nullable } => push_nullable(out, "string", *nullable),
         KindNode::Handle { sort, nullable } => push_nullable(out, handle_text(*sort), *nullable),
         KindNode::Array {
@@ -101,6 +110,13 @@ fn push_nullable(out: &mut Vec<u8>, text: &str, nullable: bool) -> Result<(), Al
     ensures { OnOk result (out.new.items ≡ out.old.items ++ (text.now ++ nullable_text nullable)) }
 {
     push_text(out, text)?;
+    push_mark(out, nullable)
+}
+
+/// Writes `?` where something may be null.
+fn push_mark(out: &mut Vec<u8>, nullable: bool) -> Result<(), AllocError>
+    ensures { OnOk result (out.new.items ≡ out.old.items ++ nullable_text nullable) }
+{
     if nullable {
         push_text(out, "?")?;
     }

@@ -39,8 +39,9 @@ texts_of names consts p = const_texts names consts p.file p.definition p.definit
 module _ (rows : List FileRows) (names : List FileNames) (consts : Consts) where
   item_consts : (file : ℕ) (counts : Counts) (d : Defined) (item : DefinitionItem)
       → ((c : Const) → item ≡ items.Const c
-      → ArePaired IsConst (const_texts names consts file d (items.Const c)) (option_to_list (const_row rows (around names consts file d.enclosing) d.full c)))
-      → ArePaired IsConst (const_texts names consts file d item)
+      → ArePaired (IsConst rows) (const_texts names consts file d (items.Const c))
+      (option_to_list (const_row rows (around names consts file d.enclosing) d.full c)))
+      → ArePaired (IsConst rows) (const_texts names consts file d item)
       (draft_of_item rows (around names consts file d.enclosing) counts d.full d.attributes item).consts
   item_consts file counts d (items.Const item) has = has item refl
   item_consts file counts d (items.Struct item) has = tt
@@ -52,35 +53,37 @@ module _ (rows : List FileRows) (names : List FileNames) (consts : Consts) where
   abbrev pub KeepsConst : ℕ → Defined → Type 0
   KeepsConst file d =
       (c : Const) → d.item ≡ items.Const c
-      → ArePaired IsConst (const_texts names consts file d (items.Const c)) (option_to_list (const_row rows (around names consts file d.enclosing) d.full c))
+      → ArePaired (IsConst rows) (const_texts names consts file d (items.Const c))
+      (option_to_list (const_row rows (around names consts file d.enclosing) d.full c))
 
   all_consts : (file : ℕ) (counts : Counts) (ds : List Defined) → ((d : Defined) → IsAmong ds d → KeepsConst file d)
-      → ArePaired IsConst (flat_map (texts_of names consts) (at_file file ds)) (draft_of_all rows (around names consts file None) counts ds).consts
+      → ArePaired (IsConst rows) (flat_map (texts_of names consts) (at_file file ds)) (draft_of_all rows (around names consts file None) counts ds).consts
   all_consts file counts [] has = tt
   all_consts file counts (d ∷ ds) has =
-      paired_append IsConst (texts_of names consts (record { file = file; definition = d })) (flat_map (texts_of names consts) (at_file file ds))
+      paired_append (IsConst rows) (texts_of names consts (record { file = file; definition = d })) (flat_map (texts_of names consts) (at_file file ds))
       (draft_of_definition rows (around names consts file None) counts d).consts
       (draft_of_all rows (around names consts file None) (after counts d.item) ds).consts
       (item_consts file counts d d.item (has d (inl refl))) (all_consts file (after counts d.item) ds (λ other among. has other (inr among)))
 
   files_consts : (files : List NamedFile) (counts : Counts) (numbers : List ℕ)
       → ((file : ℕ) (d : Defined) → IsAmong (definitions_at files file) d → KeepsConst file d)
-      → AreConstants names consts (all_placed files numbers) (draft_from rows names consts files counts numbers)
+      → AreConstants rows names consts (all_placed files numbers) (draft_from rows names consts files counts numbers)
   files_consts files counts [] each = tt
   files_consts files counts (file ∷ numbers) each =
       let ds = definitions_at files file in
       let one = subst
-      (λ (ps : List Placed). ArePaired IsConst (flat_map (texts_of names consts) ps) (draft_of_all rows (around names consts file None) counts ds).consts)
+      (λ (ps : List Placed).
+      ArePaired (IsConst rows) (flat_map (texts_of names consts) ps) (draft_of_all rows (around names consts file None) counts ds).consts)
       (placed_same files file) (all_consts file counts ds (each file)) in
       let rest = files_consts files (after_all counts ds) numbers each in
-      subst (λ (ts : List ConstText). ArePaired IsConst ts (draft_from rows names consts files counts (file ∷ numbers)).consts)
+      subst (λ (ts : List ConstText). ArePaired (IsConst rows) ts (draft_from rows names consts files counts (file ∷ numbers)).consts)
       (sym (flat_map-append (texts_of names consts) (placed_in files file) (all_placed files numbers)))
-      (paired_append IsConst (flat_map (texts_of names consts) (placed_in files file)) (flat_map (texts_of names consts) (all_placed files numbers))
+      (paired_append (IsConst rows) (flat_map (texts_of names consts) (placed_in files file)) (flat_map (texts_of names consts) (all_placed files numbers))
       (draft_of_all rows (around names consts file None) counts ds).consts
       (draft_from rows names consts files (after_all counts ds) numbers).consts one rest)
 
 consts_here : (files : List NamedFile) (order : List ℕ) (consts : Consts) → IsPassed files order (names_of files order) consts
-    → AreConstants (names_of files order).files consts (all_placed files order) (draft_of (names_of files order).files consts files order)
+    → AreConstants (rows_of files order) (names_of files order).files consts (all_placed files order) (draft_of (names_of files order).files consts files order)
 consts_here files order consts passed =
     files_consts (rows_of files order) (names_of files order).files consts files no_rows order
     (λ file d among c is.
@@ -92,14 +95,15 @@ consts_here files order consts passed =
     (λ row e. const_kept files order consts passed.evaluated.are (all_quiet files order consts passed) (rows_of files order) file there.0 there.1 at.place one
     d.full row e))
   where
-    kept : {text : ConstText} (o : Option ConstRow) (row : ConstRow) → o ≡ Some row → ((r : ConstRow) → o ≡ Some r → IsConst text r)
-        → ArePaired IsConst (text ∷ []) (option_to_list o)
+    kept : {text : ConstText} (o : Option ConstRow) (row : ConstRow) → o ≡ Some row → ((r : ConstRow) → o ≡ Some r → IsConst (rows_of files order) text r)
+        → ArePaired (IsConst (rows_of files order)) (text ∷ []) (option_to_list o)
     kept None row e each = absurd (none-some row e)
     kept (Some found) row e each = (each found refl, tt)
 
 -- the constants of files that pass are as they are written, and fit their kinds
 pub literals_fit : (files : List NamedFile) (order : List ℕ) (names : Names) (consts : Consts) → IsPassed files order names consts
-    → AreConstants names.files consts (all_placed files order) (draft_of names.files consts files order)
+    → AreConstants (rows_of files order) names.files consts (all_placed files order) (draft_of names.files consts files order)
 literals_fit files order names consts passed =
-    subst (λ (all : Names). AreConstants all.files consts (all_placed files order) (draft_of all.files consts files order)) (sym passed.named.are)
+    subst (λ (all : Names). AreConstants (rows_of files order) all.files consts (all_placed files order) (draft_of all.files consts files order))
+    (sym passed.named.are)
     (consts_here files order consts (subst (λ (all : Names). IsPassed files order all consts) passed.named.are passed))

@@ -1,10 +1,9 @@
 -- The rows of constants of which nothing is refused are as they are written, and their values fit their kinds.
-use Rattle.std.proofs.Common.{◌≡◌, ◌+◌, ℕ, List, [], refl, sym, ◌∙◌, ap, subst}
+use Rattle.std.proofs.Common.{◌≡◌, ◌+◌, ℕ, List, [], refl, ◌∙◌, ap, subst}
 use Rattle.std.specs.Prelude.{Bool, Option, Some, None, option_and_then, slice_get}
 use Rattle.std.specs.Option.{option_map}
 use Rattle.std.proofs.lemmas.Option.{none-some, same_Some}
 use Rattle.mojom_ast.specs.declared.names.Identifier.{Identifier}
-use Rattle.mojom_ast.specs.declared.definitions.DefinitionItem.{DefinitionItem}
 use Rattle.mojom_files.specs.declared.named_file.NamedFile.{NamedFile}
 use Rattle.mojom_files.specs.declared.basic.Basic.{Basic}
 use Rattle.mojom_files.specs.declared.basic.Basic.TheVariants as basics
@@ -17,18 +16,15 @@ use Rattle.const_eval.specs.Kinds.{basic_of_base, refused_value}
 use Rattle.const_eval.specs.Origins.{origin_of_value, origin_of_const}
 use Rattle.const_eval.specs.Things.{things_of_files}
 use Rattle.const_eval.specs.Consts.{AreConsts, value_in}
-use Rattle.const_eval.specs.Refused.{Site, place_of_value, of_known, refused_circle, refused_const_as, refused_const_value, refused_lengths}
+use Rattle.const_eval.specs.Refused.{Site, place_of_value, refused_circle, refused_const_as, refused_const_value, refused_lengths}
 use Rattle.mj_schema.specs.KindTrees.{KindTree}
 use Rattle.mj_schema.specs.declared.rows.ConstRow.{ConstRow}
 use Rattle.mj_schema.specs.declared.rows.Literal.{Literal}
 use Rattle.draft_rows.specs.declared.counts.FileRows.{FileRows}
 use Rattle.kind_scope.specs.Scopes.{Scope}
 use Rattle.kind_scope.specs.Scopes.{around}
-use Rattle.kind_refusals.specs.KindRefusals.{refused_item}
 use Rattle.draft_rows.specs.Kinds.{basic_kind, kind_of}
 use Rattle.draft_rows.specs.Rows.{literal_in, const_with, const_row}
-use Rattle.kind_refusals.specs.TypeRefusals.{refused_in_type}
-use Rattle.schema_laws.proofs.Among.{among_at}
 use Rattle.schema_laws.proofs.Quiet.{both_empty}
 use Rattle.schema_laws.proofs.QuietFiles.{AreQuiet}
 use Rattle.schema_laws.proofs.Told.{IsConstAt, place}
@@ -130,25 +126,22 @@ module _ (files : List NamedFile) (order : List ℕ) (consts : Consts) (are : Ar
           (plain_value file c.constant.name (place_of_value c.constant.value) c.constant.kind.nullable b k (known_of l) kind quiet)
 
   made : (full : List ℕ) (k : KindTree) (l : Literal) → kind_of rows scope c.constant.kind ≡ Some k → literal_in scope c.constant.value ≡ Some l
-      → IsConst (text full) (const_with full k l)
+      → IsConst rows (text full) (const_with full k l)
   made full k l found literal =
       let value = literal_known (value_in consts (names_of files order).files file c.definition.enclosing c.constant.value) l literal in
-      let kinds : refused_in_type scope c.constant.name c.constant.kind ≡ [] =
-      subst (λ (i : DefinitionItem). refused_item scope c.definition.full i ≡ []) c.is
-      (are_quiet.kinds file tree is c.definition (among_at (definitions_of tree.tree) n c.definition c.there)) in
       record {
         name = refl;
-        kind = as_written rows scope file c.constant.name c.constant.kind.base c.constant.kind.nullable k found kinds lengths_kept;
+        kind = as_written rows scope file c.constant.kind.base c.constant.kind.nullable k found lengths_kept;
         value = is_value (text full).site c.constant.value (known_of l) value;
         fits = fits_kind k l found value;
       }
 
   -- the row of a constant, where it has one
-  pub const_kept : (full : List ℕ) (row : ConstRow) → const_row rows scope full c.constant ≡ Some row → IsConst (text full) row
+  pub const_kept : (full : List ℕ) (row : ConstRow) → const_row rows scope full c.constant ≡ Some row → IsConst rows (text full) row
   const_kept full row e = go (kind_of rows scope c.constant.kind) refl (literal_in scope c.constant.value) refl e
     where
       go : (o : Option KindTree) → kind_of rows scope c.constant.kind ≡ o → (p : Option Literal) → literal_in scope c.constant.value ≡ p
-          → option_and_then (λ (k : KindTree). option_map (const_with full k) p) o ≡ Some row → IsConst (text full) row
+          → option_and_then (λ (k : KindTree). option_map (const_with full k) p) o ≡ Some row → IsConst rows (text full) row
       go None found p literal e = absurd (none-some row e)
       go (Some k) found None literal e = absurd (none-some row e)
-      go (Some k) found (Some l) literal e = subst (IsConst (text full)) (same_Some (const_with full k l) row e) (made full k l found literal)
+      go (Some k) found (Some l) literal e = subst (IsConst rows (text full)) (same_Some (const_with full k l) row e) (made full k l found literal)

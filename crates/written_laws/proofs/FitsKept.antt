@@ -1,17 +1,21 @@
 -- Literals of which nothing is refused fit their kinds.
 use Rattle.std.proofs.Common.{◌≡◌, ℕ, List, [], refl, sym, ◌∙◌, ap, subst}
-use Rattle.std.specs.Prelude.{Bool, true, false, not, Option, Some, None, option_and_then}
+use Rattle.std.specs.Prelude.{ℤ, Bool, true, false, not, Option, Some, None, option_and_then}
 use Rattle.std.specs.Option.{option_map, option_or}
 use Rattle.std.proofs.lemmas.Option.{none-some, same_Some}
 use Rattle.mojom_ast.specs.TypeTrees.{BaseTree, Named, ArrayOf, MapOf, HandleOf, PendingOf}
 use Rattle.mojom_ast.specs.declared.names.Identifier.{Identifier}
 use Rattle.mojom_files.specs.declared.basic.Basic.{Basic}
 use Rattle.mojom_files.specs.declared.basic.Basic.TheVariants as basics
+use Rattle.mojom_files.specs.declared.refusal.Refusal.{Refusal}
+use Rattle.mojom_files.specs.Refusals.{where_true}
 use Rattle.mojom_files.specs.Names.{dotted}
 use Rattle.module_resolver.specs.LookUp.{look_up, sort_of}
 use Rattle.const_meanings.specs.Known.{Known, TextValue, BoolValue, NumberValue, FloatValue}
 use Rattle.const_eval.specs.Kinds.{basic_of_base, refused_value, basic_of_parts}
 use Rattle.mj_schema.specs.KindTrees.{KindTree, BoolKind, IntKind, TextKind, EnumKind, HandleKind, ArrayKind, MapKind, StructKind, UnionKind}
+use Rattle.mj_schema.specs.Sizes.{bits_of}
+use Rattle.mj_schema.specs.declared.kind.Width.{Width}
 use Rattle.mj_schema.specs.declared.kind.Width.TheVariants.{Bits8, Bits16, Bits32, Bits64}
 use Rattle.mj_schema.specs.declared.rows.Literal.{Literal}
 use Rattle.mj_schema.specs.declared.rows.Literal.TheVariants as literals
@@ -32,7 +36,7 @@ use Rattle.written_laws.specs.Fits.{in_bits, Fits, is_basic}
 
 -- the values of basic kinds
 
-true_of : (b : Bool) → not b ≡ false → b ≡ true
+pub true_of : (b : Bool) → not b ≡ false → b ≡ true
 true_of true e = refl
 true_of false e = absurd cc
 
@@ -40,10 +44,18 @@ true_of false e = absurd cc
 fits_found : (kind k : KindTree) (l : Literal) → ◌≡◌ {A = Option KindTree} (Some kind) (Some k) → Fits kind l → Fits k l
 fits_found kind k l e is = subst (λ (t : KindTree). Fits t l) (same_Some kind k e) is
 
+-- a number fits a width where it isn't refused for it
+fits_whole : (width : Width) (sign nullable : Bool) (k : KindTree) (number : ℤ)
+    → ◌≡◌ {A = Option KindTree} (Some (IntKind width sign nullable)) (Some k) → (refusal : Refusal)
+    → where_true (not (in_bits sign (bits_of width) number)) refusal ≡ [] → Fits k (literals.Whole number)
+fits_whole width sign nullable k number e refusal quiet =
+    fits_found (IntKind width sign nullable) k (literals.Whole number) e
+    (true_of (in_bits sign (bits_of width) number) (none_where (not (in_bits sign (bits_of width) number)) refusal quiet))
+
 -- a literal of which nothing is refused fits
 pub fits_basic : (file : ℕ) (name : Identifier) (at : ℕ) (nullable : Bool) (b : Basic) (k : KindTree) (l : Literal) → basic_kind nullable b ≡ Some k
     → refused_value file name at b (known_of l) ≡ [] → Fits k l
-fits_basic file name at nullable basics.Bool k (literals.Bool value) e quiet = fits_found BoolKind k (literals.Bool value) e tt
+fits_basic file name at nullable basics.Bool k (literals.Bool value) e quiet = fits_found (BoolKind nullable) k (literals.Bool value) e tt
 fits_basic file name at nullable basics.Bool k (literals.Whole number) e quiet = absurd cc
 fits_basic file name at nullable basics.Bool k (literals.Text bytes) e quiet = absurd cc
 fits_basic file name at nullable basics.Text k (literals.Text bytes) e quiet = fits_found (TextKind nullable) k (literals.Text bytes) e tt
@@ -51,36 +63,28 @@ fits_basic file name at nullable basics.Text k (literals.Bool value) e quiet = a
 fits_basic file name at nullable basics.Text k (literals.Whole number) e quiet = absurd cc
 fits_basic file name at nullable basics.Float k l e quiet = absurd (none-some k e)
 fits_basic file name at nullable basics.Double k l e quiet = absurd (none-some k e)
-fits_basic file name at nullable basics.Int8 k (literals.Whole number) e quiet =
-    fits_found (IntKind Bits8 true) k (literals.Whole number) e (true_of (in_bits true 8 number) (none_where (not (in_bits true 8 number)) _ quiet))
+fits_basic file name at nullable basics.Int8 k (literals.Whole number) e quiet = fits_whole Bits8 true nullable k number e _ quiet
 fits_basic file name at nullable basics.Int8 k (literals.Bool value) e quiet = absurd cc
 fits_basic file name at nullable basics.Int8 k (literals.Text bytes) e quiet = absurd cc
-fits_basic file name at nullable basics.Int16 k (literals.Whole number) e quiet =
-    fits_found (IntKind Bits16 true) k (literals.Whole number) e (true_of (in_bits true 16 number) (none_where (not (in_bits true 16 number)) _ quiet))
+fits_basic file name at nullable basics.Int16 k (literals.Whole number) e quiet = fits_whole Bits16 true nullable k number e _ quiet
 fits_basic file name at nullable basics.Int16 k (literals.Bool value) e quiet = absurd cc
 fits_basic file name at nullable basics.Int16 k (literals.Text bytes) e quiet = absurd cc
-fits_basic file name at nullable basics.Int32 k (literals.Whole number) e quiet =
-    fits_found (IntKind Bits32 true) k (literals.Whole number) e (true_of (in_bits true 32 number) (none_where (not (in_bits true 32 number)) _ quiet))
+fits_basic file name at nullable basics.Int32 k (literals.Whole number) e quiet = fits_whole Bits32 true nullable k number e _ quiet
 fits_basic file name at nullable basics.Int32 k (literals.Bool value) e quiet = absurd cc
 fits_basic file name at nullable basics.Int32 k (literals.Text bytes) e quiet = absurd cc
-fits_basic file name at nullable basics.Int64 k (literals.Whole number) e quiet =
-    fits_found (IntKind Bits64 true) k (literals.Whole number) e (true_of (in_bits true 64 number) (none_where (not (in_bits true 64 number)) _ quiet))
+fits_basic file name at nullable basics.Int64 k (literals.Whole number) e quiet = fits_whole Bits64 true nullable k number e _ quiet
 fits_basic file name at nullable basics.Int64 k (literals.Bool value) e quiet = absurd cc
 fits_basic file name at nullable basics.Int64 k (literals.Text bytes) e quiet = absurd cc
-fits_basic file name at nullable basics.Uint8 k (literals.Whole number) e quiet =
-    fits_found (IntKind Bits8 false) k (literals.Whole number) e (true_of (in_bits false 8 number) (none_where (not (in_bits false 8 number)) _ quiet))
+fits_basic file name at nullable basics.Uint8 k (literals.Whole number) e quiet = fits_whole Bits8 false nullable k number e _ quiet
 fits_basic file name at nullable basics.Uint8 k (literals.Bool value) e quiet = absurd cc
 fits_basic file name at nullable basics.Uint8 k (literals.Text bytes) e quiet = absurd cc
-fits_basic file name at nullable basics.Uint16 k (literals.Whole number) e quiet =
-    fits_found (IntKind Bits16 false) k (literals.Whole number) e (true_of (in_bits false 16 number) (none_where (not (in_bits false 16 number)) _ quiet))
+fits_basic file name at nullable basics.Uint16 k (literals.Whole number) e quiet = fits_whole Bits16 false nullable k number e _ quiet
 fits_basic file name at nullable basics.Uint16 k (literals.Bool value) e quiet = absurd cc
 fits_basic file name at nullable basics.Uint16 k (literals.Text bytes) e quiet = absurd cc
-fits_basic file name at nullable basics.Uint32 k (literals.Whole number) e quiet =
-    fits_found (IntKind Bits32 false) k (literals.Whole number) e (true_of (in_bits false 32 number) (none_where (not (in_bits false 32 number)) _ quiet))
+fits_basic file name at nullable basics.Uint32 k (literals.Whole number) e quiet = fits_whole Bits32 false nullable k number e _ quiet
 fits_basic file name at nullable basics.Uint32 k (literals.Bool value) e quiet = absurd cc
 fits_basic file name at nullable basics.Uint32 k (literals.Text bytes) e quiet = absurd cc
-fits_basic file name at nullable basics.Uint64 k (literals.Whole number) e quiet =
-    fits_found (IntKind Bits64 false) k (literals.Whole number) e (true_of (in_bits false 64 number) (none_where (not (in_bits false 64 number)) _ quiet))
+fits_basic file name at nullable basics.Uint64 k (literals.Whole number) e quiet = fits_whole Bits64 false nullable k number e _ quiet
 fits_basic file name at nullable basics.Uint64 k (literals.Bool value) e quiet = absurd cc
 fits_basic file name at nullable basics.Uint64 k (literals.Text bytes) e quiet = absurd cc
 
@@ -104,7 +108,7 @@ row_basic : (nullable : Bool) (sort : DefinitionSort) (counts : Option Counts) (
 row_basic nullable sort None k e = absurd (none-some k e)
 row_basic nullable sorts.Struct (Some counts) k e = subst (λ (t : KindTree). is_basic t ≡ false) (same_Some (StructKind counts.structs nullable) k e) refl
 row_basic nullable sorts.Union (Some counts) k e = subst (λ (t : KindTree). is_basic t ≡ false) (same_Some (UnionKind counts.unions nullable) k e) refl
-row_basic nullable sorts.Enum (Some counts) k e = subst (λ (t : KindTree). is_basic t ≡ false) (same_Some (EnumKind counts.enums) k e) refl
+row_basic nullable sorts.Enum (Some counts) k e = subst (λ (t : KindTree). is_basic t ≡ false) (same_Some (EnumKind counts.enums nullable) k e) refl
 row_basic nullable sorts.Interface (Some counts) k e = absurd (none-some k e)
 row_basic nullable sorts.Const (Some counts) k e = absurd (none-some k e)
 

@@ -1,8 +1,8 @@
 -- The rows of a definition of which nothing is refused are as it is written.
-use Rattle.std.proofs.Common.{◌≡◌, ◌+◌, ℕ, List, [], ◌∷◌, ◌++◌, map, refl, sym, subst}
-use Rattle.std.specs.Prelude.{codes, Option, Some, None}
+use Rattle.std.proofs.Common.{◌≡◌, ◌+◌, ℕ, List, [], ◌∷◌, ◌++◌, map, refl, sym, ◌∙◌, ap, subst}
+use Rattle.std.specs.Prelude.{Bool, codes, Option, Some, None, is_some}
 use Rattle.std.specs.List.{AllByRecursion, flat_map}
-use Rattle.std.specs.Option.{option_to_list}
+use Rattle.std.specs.Option.{option_map, option_to_list}
 use Rattle.mojom_ast.specs.declared.names.Identifier.{Identifier}
 use Rattle.mojom_ast.specs.declared.attributes.Attribute.{Attribute}
 use Rattle.mojom_ast.specs.declared.definitions.DefinitionItem.{DefinitionItem}
@@ -19,10 +19,11 @@ use Rattle.module_resolver.specs.NameRefusals.{refused_uses}
 use Rattle.module_resolver.specs.Uses.{response_of, uses_in_attributes, uses_in_struct, uses_in_union, uses_in_parameter, uses_in_method, uses_in_interface, uses_in_item}
 use Rattle.const_eval.specs.declared.consts.Consts.{Consts}
 use Rattle.const_eval.specs.Refused.{refused_ordinals, refused_struct_member, refused_union_field, refused_parameter, refused_parameters, refused_interface_member, refused_method, refused_versions, refused_item, struct_members, union_members, interface_members, parameter_members, Member as Ordinal}
+use Rattle.mj_schema.specs.declared.rows.MethodRow.{MethodRow}
 use Rattle.draft_rows.specs.declared.counts.Counts.{Counts}
 use Rattle.draft_rows.specs.declared.counts.FileRows.{FileRows}
 use Rattle.draft_rows.specs.declared.draft.Draft.{Draft}
-use Rattle.kind_refusals.specs.declared.list_sort.ListSort.TheVariants.{Fields, UnionFields, Methods, Parameters}
+use Rattle.kind_refusals.specs.declared.list_sort.ListSort.TheVariants.{Fields, Methods, Parameters}
 use Rattle.kind_scope.specs.Scopes.{Scope}
 use Rattle.kind_scope.specs.Members.{field_of, union_field_of, method_in, method_of, parameter_of, held, ordinal_at, numbered_from}
 use Rattle.kind_scope.specs.Scopes.{around}
@@ -35,10 +36,10 @@ use Rattle.schema_laws.proofs.Each.{all_empty}
 use Rattle.schema_laws.proofs.Kinded.{uses_apart}
 use Rattle.schema_laws.proofs.NothingLost.{IsKept, typed_in_item, typed_members, all_before}
 use Rattle.written_laws.specs.Entries.{Entry, Counted, counted, parameters_of, methods_of}
-use Rattle.written_laws.specs.Rows.{ArePaired, StructText, struct_text, IsStruct, IsUnion, IsMethod, IsInterface, site_in, response_texts, method_texts, struct_texts, union_texts, interface_texts}
+use Rattle.written_laws.specs.Rows.{ArePaired, StructText, struct_text, IsStruct, IsUnion, IsMethod, reply_of, IsInterface, site_in, response_texts, method_texts, struct_texts, union_texts, interface_texts}
 use Rattle.written_laws.proofs.Counts.{ordinal_part, counted_of, fields_same, union_fields_same, parameters_same, methods_same, field_ordinals, union_ordinals, parameter_ordinals, method_ordinals, counted_same}
-use Rattle.written_laws.proofs.ListsQuiet.{quiet_types}
-use Rattle.written_laws.proofs.Fields.{site_of, AllKnown}
+use Rattle.written_laws.proofs.Fields.{AllKnown}
+use Rattle.written_laws.proofs.NamedKindsKept.{site_of}
 use Rattle.written_laws.proofs.Structs.{struct_kept, union_kept}
 use Rattle.written_laws.proofs.Members.{site, each_use, fields_quiet, union_fields_quiet, parameters_quiet}
 
@@ -67,8 +68,33 @@ methods_paired : (ms : List InterfaceMember) (next first : ℕ)
 methods_paired [] next first = tt
 methods_paired (m ∷ ms) next first = method_paired m.attributes m.item ms (methods_paired ms) next first
 
+-- and which of them have responses
+
+is_some_map : {A B : Type 0} (f : A → B) (o : Option A) → is_some (option_map f o) ≡ is_some o
+is_some_map f None = refl
+is_some_map f (Some a) = refl
+
+abbrev replies : List MethodRow → List Bool
+replies rows = map (λ (method : MethodRow). is_some method.response) rows
+
+reply_same : (item : InterfaceItem) (ms : List InterfaceMember)
+    → ((next first : ℕ) → replies (method_rows next first (methods_in ms)) ≡ flat_map (λ (m : InterfaceMember). reply_of m.item) ms) → (next first : ℕ)
+    → replies (method_rows next first (method_among item ++ methods_in ms)) ≡ reply_of item ++ flat_map (λ (m : InterfaceMember). reply_of m.item) ms
+reply_same (interface_items.Method m) ms rest next first =
+    ap (λ (b : Bool). b ∷ replies (method_rows (held (ordinal_at next m.ordinal + 1)) (first + structs_of m) (methods_in ms)))
+    (is_some_map (λ (parameters : List Parameter). first + 1) m.response)
+    ∙ ap (λ (bs : List Bool). is_some m.response ∷ bs) (rest (held (ordinal_at next m.ordinal + 1)) (first + structs_of m))
+reply_same (interface_items.Const c) ms rest next first = rest next first
+reply_same (interface_items.Enum e) ms rest next first = rest next first
+
+replies_same : (ms : List InterfaceMember) (next first : ℕ)
+    → replies (method_rows next first (methods_in ms)) ≡ flat_map (λ (m : InterfaceMember). reply_of m.item) ms
+replies_same [] next first = refl
+replies_same (m ∷ ms) next first = reply_same m.item ms (replies_same ms) next first
+
 interface_kept : (file : ℕ) (full : List ℕ) (first : ℕ) (members : List InterfaceMember) → refused_ordinals file 0 (interface_members members) ≡ []
-    → IsInterface (record { full = full; entries = methods_of members }) (interface_row full first (methods_in members))
+    → IsInterface (record { full = full; entries = methods_of members; replies = flat_map (λ (m : InterfaceMember). reply_of m.item) members })
+    (interface_row full first (methods_in members))
 interface_kept file full first members e =
     let ordinals : refused_ordinals file 0 (map ordinal_part (flat_map method_of members)) ≡ [] =
     subst (λ (os : List Ordinal). refused_ordinals file 0 os ≡ []) (method_ordinals members) e in
@@ -77,6 +103,7 @@ interface_kept file full first members e =
     record {
       name = refl;
       methods = subst (λ (es : List Entry). ArePaired IsMethod (counted es) (method_rows 0 first (methods_in members))) (sym (methods_same members)) all;
+      replies = replies_same members 0 first;
     }
 
 module _ (rows : List FileRows) (scope : Scope) (known : AllKnown scope) where
@@ -86,19 +113,20 @@ module _ (rows : List FileRows) (scope : Scope) (known : AllKnown scope) where
   parameters_kept : (full : List ℕ) (owner : Identifier) (ps : List Parameter) → refused_kinds_of_parameters scope owner ps ≡ []
       → refused_parameters (site scope) scope.enclosing ps ≡ []
       → refused_uses scope.names scope.file (flat_map (uses_in_parameter scope.enclosing) ps) ≡ [] → AllByRecursion (IsKept rows scope) (map parameter_of ps)
-      → IsStruct (struct_text (site_of scope) full (parameters_of ps)) (parameters_row rows scope full ps)
+      → IsStruct rows (struct_text (site_of scope) full (parameters_of ps)) (parameters_row rows scope full ps)
   parameters_kept full owner ps kinds values uses kept =
       let v = both_empty (flat_map (refused_parameter (site scope) scope.enclosing) ps) (refused_ordinals scope.file 0 (parameter_members ps)) values in
       let quiet = parameters_quiet scope ps (all_empty (refused_parameter (site scope) scope.enclosing) ps v.0)
-      (each_use scope.names scope.file (uses_in_parameter scope.enclosing) ps uses) (quiet_types scope owner Parameters (map parameter_of ps) kinds) in
-      subst (λ (es : List Entry). IsStruct (struct_text (site_of scope) full es) (parameters_row rows scope full ps)) (sym (parameters_same ps))
+      (each_use scope.names scope.file (uses_in_parameter scope.enclosing) ps uses) in
+      subst (λ (es : List Entry). IsStruct rows (struct_text (site_of scope) full es) (parameters_row rows scope full ps)) (sym (parameters_same ps))
       (struct_kept rows scope known full owner Parameters (map parameter_of ps) refl kinds (subst none_refused (parameter_ordinals ps) v.1) kept quiet)
 
   response_kept : (full : List ℕ) (owner : Identifier) (response : Option (List Parameter)) → refused_response scope owner response ≡ []
       → refused_parameters (site scope) scope.enclosing (response_of response) ≡ []
       → refused_uses scope.names scope.file (flat_map (uses_in_parameter scope.enclosing) (response_of response)) ≡ []
       → AllByRecursion (IsKept rows scope) (map parameter_of (response_of response))
-      → ArePaired IsStruct (response_texts (site_of scope) full response) (option_to_list (response_row rows scope (within full (codes "response")) response))
+      → ArePaired (IsStruct rows) (response_texts (site_of scope) full response)
+      (option_to_list (response_row rows scope (within full (codes "response")) response))
   response_kept full owner None kinds values uses kept = tt
   response_kept full owner (Some ps) kinds values uses kept =
       (parameters_kept (within full (codes "response")) owner ps kinds values uses kept, tt)
@@ -106,8 +134,8 @@ module _ (rows : List FileRows) (scope : Scope) (known : AllKnown scope) where
   method_kept : (full : List ℕ) (attributes : List Attribute) (item : InterfaceItem) (ms : List Method) (texts : List StructText)
       → refused_in_item scope item ≡ [] → refused_method (site scope) scope.enclosing attributes item ≡ []
       → refused_uses scope.names scope.file (uses_in_method scope.enclosing attributes item) ≡ [] → AllByRecursion (IsKept rows scope) (typed_in_item item)
-      → ArePaired IsStruct texts (structs_of_methods rows scope full ms)
-      → ArePaired IsStruct (method_texts (site_of scope) full item ++ texts) (structs_of_methods rows scope full (method_among item ++ ms))
+      → ArePaired (IsStruct rows) texts (structs_of_methods rows scope full ms)
+      → ArePaired (IsStruct rows) (method_texts (site_of scope) full item ++ texts) (structs_of_methods rows scope full (method_among item ++ ms))
   method_kept full attributes (interface_items.Method m) ms texts kinds values uses kept rest =
       let name = within full m.name.text in
       let k = both_empty (refused_kinds_of_parameters scope m.name m.request) (refused_response scope m.name m.response) kinds in
@@ -120,7 +148,7 @@ module _ (rows : List FileRows) (scope : Scope) (known : AllKnown scope) where
       let two = all_before (IsKept rows scope) (map parameter_of m.request) (map parameter_of (response_of m.response)) kept in
       let request = parameters_kept (within name (codes "request")) m.name m.request k.0 v.0 u.0 two.0 in
       let response = response_kept name m.name m.response k.1 v.1 u.1 two.1 in
-      paired_append IsStruct (method_texts (site_of scope) full (interface_items.Method m)) texts (method_structs rows scope name m)
+      paired_append (IsStruct rows) (method_texts (site_of scope) full (interface_items.Method m)) texts (method_structs rows scope name m)
       (structs_of_methods rows scope full ms) (request, response) rest
   method_kept full attributes (interface_items.Const c) ms texts kinds values uses kept rest = rest
   method_kept full attributes (interface_items.Enum e) ms texts kinds values uses kept rest = rest
@@ -129,7 +157,7 @@ module _ (rows : List FileRows) (scope : Scope) (known : AllKnown scope) where
       → AllByRecursion (λ (m : InterfaceMember). refused_interface_member (site scope) scope.enclosing m ≡ []) members
       → AllByRecursion (λ (m : InterfaceMember). refused_uses scope.names scope.file (uses_in_interface scope.enclosing m) ≡ []) members
       → AllByRecursion (IsKept rows scope) (flat_map (λ (m : InterfaceMember). typed_in_item m.item) members)
-      → ArePaired IsStruct (flat_map (λ (m : InterfaceMember). method_texts (site_of scope) full m.item) members)
+      → ArePaired (IsStruct rows) (flat_map (λ (m : InterfaceMember). method_texts (site_of scope) full m.item) members)
       (structs_of_methods rows scope full (methods_in members))
   methods_kept full [] kinds values uses kept = tt
   methods_kept full (m ∷ ms) kinds values uses kept =
@@ -140,9 +168,10 @@ module _ (rows : List FileRows) (scope : Scope) (known : AllKnown scope) where
 -- definitions
 
 -- the tables of a definition are as it is written
-pub record HasItem (names : List FileNames) (consts : Consts) (file : ℕ) (full : List ℕ) (item : DefinitionItem) (draft : Draft) : Type 0 where
-  pub structs : ArePaired IsStruct (struct_texts (site_in names consts file full) full item) draft.structs
-  pub unions : ArePaired IsUnion (union_texts full item) draft.unions
+pub record HasItem (rows : List FileRows) (names : List FileNames) (consts : Consts) (file : ℕ) (full : List ℕ) (attributes : List Attribute)
+    (item : DefinitionItem) (draft : Draft) : Type 0 where
+  pub structs : ArePaired (IsStruct rows) (struct_texts (site_in names consts file full) full item) draft.structs
+  pub unions : ArePaired (IsUnion rows) (union_texts (site_in names consts file full) full attributes item) draft.unions
   pub interfaces : ArePaired IsInterface (interface_texts full item) draft.interfaces
 
 module _ (rows : List FileRows) (names : List FileNames) (consts : Consts) (file : ℕ)
@@ -151,19 +180,19 @@ module _ (rows : List FileRows) (names : List FileNames) (consts : Consts) (file
       → refused_item (record { consts = consts; names = names; file = file }) thing (Some d.full) item ≡ []
       → refused_kinds (around names consts file d.enclosing) d.full item ≡ [] → refused_uses names file (uses_in_item d item) ≡ []
       → AllByRecursion (IsKept rows (around names consts file (Some d.full))) (typed_members item)
-      → HasItem names consts file d.full item (draft_of_item rows (around names consts file d.enclosing) counts d.full d.attributes item)
+      → HasItem rows names consts file d.full d.attributes item (draft_of_item rows (around names consts file d.enclosing) counts d.full d.attributes item)
   item_kept thing d counts (items.Struct item) values kinds uses kept =
       let scope = around names consts file (Some d.full) in
       let ms = flat_map field_of item.members in
       let v = both_empty (flat_map (refused_struct_member (site scope) (Some d.full)) item.members)
       (refused_ordinals file 0 (struct_members item.members)) values in
       let quiet = fields_quiet scope item.members (all_empty (refused_struct_member (site scope) (Some d.full)) item.members v.0)
-      (each_use names file (uses_in_struct (Some d.full)) item.members uses) (quiet_types scope item.name Fields ms kinds) in
+      (each_use names file (uses_in_struct (Some d.full)) item.members uses) in
       let ordinals = subst (λ (os : List Ordinal). refused_ordinals file 0 os ≡ []) (field_ordinals item.members) v.1 in
       let row = struct_kept rows scope (known d.full) d.full item.name Fields ms refl kinds ordinals kept quiet in
       record {
         structs = (
-          subst (λ (es : List Entry). IsStruct (struct_text (site_of scope) d.full es) (struct_row rows scope d.full ms))
+          subst (λ (es : List Entry). IsStruct rows (struct_text (site_of scope) d.full es) (struct_row rows scope d.full ms))
               (sym (fields_same item.members)) row,
           tt,
         );
@@ -176,13 +205,14 @@ module _ (rows : List FileRows) (names : List FileNames) (consts : Consts) (file
       let v = both_empty (flat_map (refused_union_field (site scope) (Some d.full)) item.fields)
       (refused_ordinals file 0 (union_members item.fields)) values in
       let quiet = union_fields_quiet scope item.fields (all_empty (refused_union_field (site scope) (Some d.full)) item.fields v.0)
-      (each_use names file (uses_in_union (Some d.full)) item.fields uses) (quiet_types scope item.name UnionFields ms kinds) in
+      (each_use names file (uses_in_union (Some d.full)) item.fields uses) in
       let ordinals = subst (λ (os : List Ordinal). refused_ordinals file 0 os ≡ []) (union_ordinals item.fields) v.1 in
       let row = union_kept rows scope d.full d.attributes ms ordinals kept quiet in
       record {
         structs = tt;
         unions = (
-          subst (λ (es : List Entry). IsUnion (record { full = d.full; entries = es }) (union_row rows scope d.full d.attributes ms))
+          subst (λ (es : List Entry). IsUnion rows (record { site = site_of scope; full = d.full; attributes = d.attributes; entries = es })
+              (union_row rows scope d.full d.attributes ms))
               (sym (union_fields_same item.fields)) row,
           tt,
         );

@@ -7,8 +7,11 @@ pub mod Ordinals
 pub mod Names
 pub mod Lists
 pub mod Listed
-pub mod KindsKept
 pub mod FitsKept
+pub mod NamedKindsKept
+pub mod KindsKept
+pub mod EnumDefaults
+pub mod Reals
 pub mod Values
 pub mod Fields
 pub mod Structs
@@ -21,3 +24,5 @@ pub mod EnumTables
 pub mod ValueThere
 pub mod Constants
 pub mod ConstTables
+pub mod MethodNumbers
+pub mod OwnRows

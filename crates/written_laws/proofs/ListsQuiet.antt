@@ -1,7 +1,7 @@
 -- What nothing refused of a list says, part by part.
 use Rattle.std.proofs.Common.{◌≡◌, ◌≤◌, ℕ, List, [], ◌++◌, length, refl, ap}
 use Rattle.std.specs.Prelude.{Bool, true, false, nat_lt, if◌then◌else◌, Option, Some, None}
-use Rattle.std.specs.List.{AllByRecursion, flat_map}
+use Rattle.std.specs.List.{flat_map}
 use Rattle.std.proofs.lemmas.Bool.{ltb-false}
 use Rattle.mojom_ast.specs.declared.names.Identifier.{Identifier}
 use Rattle.mojom_files.specs.declared.refusal.Refusal.{Refusal}
@@ -13,7 +13,6 @@ use Rattle.kind_scope.specs.Members.{along_ordinals}
 use Rattle.kind_refusals.specs.OrdinalRefusals.{lacking, doubled, refused_double, refused_doubles, refused_gap, refused_falls, refused_late, refused_order}
 use Rattle.kind_refusals.specs.KindRefusals.{limit_of, is_struct, is_empty, refused_count, refused_struct, refused_numbers, refused_list}
 use Rattle.schema_laws.proofs.Quiet.{both_empty, map_empty, none_where}
-use Rattle.schema_laws.proofs.Each.{all_empty}
 
 chosen : (b : Bool) (xs ys : List Refusal) → b ≡ true → (if b then xs else ys) ≡ [] → xs ≡ []
 chosen true xs ys is e = e
@@ -28,7 +27,7 @@ pub quiet_list : (scope : Scope) (owner : Identifier) (sort : ListSort) (members
     → IsQuietList sort members
 quiet_list scope owner sort members e =
     let ones = numbered members in
-    let types = flat_map (refused_in_member scope) members in
+    let types = flat_map (refused_in_member scope (is_struct sort)) members in
     let numbers = refused_numbers scope owner sort ones in
     let counted = both_empty (refused_count scope owner (limit_of sort) (length members)) (types ++ numbers) e in
     let listed = both_empty types numbers counted.1 in
@@ -37,15 +36,6 @@ quiet_list scope owner sort members e =
       few = ltb-false (limit_of sort) (length members) (none_where (nat_lt (limit_of sort) (length members)) _ counted.0);
       distinct = map_empty (refused_double scope) (doubled [] ones) ordinals.0;
     }
-
--- nothing is refused of the types of its members
-pub quiet_types : (scope : Scope) (owner : Identifier) (sort : ListSort) (members : List Member) → refused_list scope owner sort members ≡ []
-    → AllByRecursion (λ (m : Member). refused_in_member scope m ≡ []) members
-quiet_types scope owner sort members e =
-    let types = flat_map (refused_in_member scope) members in
-    let numbers = refused_numbers scope owner sort (numbered members) in
-    let counted = both_empty (refused_count scope owner (limit_of sort) (length members)) (types ++ numbers) e in
-    all_empty (refused_in_member scope) members (both_empty types numbers counted.1).0
 
 none_lacking : (scope : Scope) (owner : Identifier) (o : Option ℕ) → refused_gap scope owner o ≡ [] → o ≡ None
 none_lacking scope owner None e = refl
@@ -62,7 +52,7 @@ pub quiet_struct : (scope : Scope) (owner : Identifier) (sort : ListSort) (membe
 quiet_struct scope owner sort members is e =
     let ones = numbered members in
     let numbers = refused_numbers scope owner sort ones in
-    let types = flat_map (refused_in_member scope) members in
+    let types = flat_map (refused_in_member scope (is_struct sort)) members in
     let counted = both_empty (refused_count scope owner (limit_of sort) (length members)) (types ++ numbers) e in
     let listed = both_empty types numbers counted.1 in
     let tail = both_empty (refused_doubles scope ones) (if is_struct sort then refused_struct scope owner ones else []) listed.1 in

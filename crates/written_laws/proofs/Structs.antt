@@ -26,7 +26,8 @@ use Rattle.written_laws.proofs.Apart.{distinct}
 use Rattle.written_laws.proofs.Along.{along_long, each_stands}
 use Rattle.written_laws.proofs.Counts.{entry_of, ordinal_part, counted_of, counted_same, as_many}
 use Rattle.written_laws.proofs.ListsQuiet.{quiet_list, quiet_struct}
-use Rattle.written_laws.proofs.Fields.{IsQuietMember, site_of, AllKnown, kind_kept, field_kept}
+use Rattle.written_laws.proofs.Fields.{IsQuietMember, AllKnown, kind_kept, field_kept}
+use Rattle.written_laws.proofs.NamedKindsKept.{site_of}
 
 -- what is found of each, where something is of all
 
@@ -69,7 +70,7 @@ module _ (rows : List FileRows) (scope : Scope) where
 
   pub struct_kept : AllKnown scope → (full : List ℕ) (owner : Identifier) (sort : ListSort) (ms : List Member) → is_struct sort ≡ true
       → refused_list scope owner sort ms ≡ [] → refused_ordinals scope.file 0 (map ordinal_part ms) ≡ [] → AllByRecursion (IsKept rows scope) ms
-      → AllByRecursion (IsQuietMember scope) ms → IsStruct (struct_text (site_of scope) full (map entry_of ms)) (struct_row rows scope full ms)
+      → AllByRecursion (IsQuietMember scope) ms → IsStruct rows (struct_text (site_of scope) full (map entry_of ms)) (struct_row rows scope full ms)
   struct_kept known full owner sort ms is kinds values kept quiet =
       let ones = numbered ms in
       let differ = distinct ones (quiet_list scope owner sort ms kinds).distinct in
@@ -80,7 +81,7 @@ module _ (rows : List FileRows) (scope : Scope) where
       let sorted = all_along (λ (one : Numbered). IsKept rows scope one.member) (λ (one : Numbered). one.ordinal) ones keeps in
       let found = rows_found (along_ordinals ones) sorted in
       let row = struct_row rows scope full ms in
-      let each = each_where (λ (one : Numbered). HasField (site_of scope) row (counted_of one)) ones
+      let each = each_where (λ (one : Numbered). HasField rows (site_of scope) row (counted_of one)) ones
       (λ one among.
       let at = (each_stands ones differ parts.whole one among).at in
       let k = each_at (λ (o : Numbered). IsKept rows scope o.member) ones one keeps among in
@@ -96,30 +97,33 @@ module _ (rows : List FileRows) (scope : Scope) where
       record {
         name = refl;
         count = one ∙ (two ∙ as_many ms);
-        fields = subst (AllByRecursion (HasField (site_of scope) row)) (counted_same scope.file ms values)
-            (all_map (HasField (site_of scope) row) counted_of ones each);
+        fields = subst (AllByRecursion (HasField rows (site_of scope) row)) (counted_same scope.file ms values)
+            (all_map (HasField rows (site_of scope) row) counted_of ones each);
       }
 
   -- unions
 
   union_fields_kept : (ones : List Numbered) → AllByRecursion (λ (one : Numbered). IsKept rows scope one.member) ones
       → AllByRecursion (λ (one : Numbered). IsQuietMember scope one.member) ones
-      → ArePaired IsUnionField (map counted_of ones) (found_of (union_field_row rows scope) ones)
+      → ArePaired (IsUnionField rows (site_of scope)) (map counted_of ones) (found_of (union_field_row rows scope) ones)
   union_fields_kept [] kept quiet = tt
   union_fields_kept (one ∷ others) kept quiet = go (kind_in rows scope one.member.kind) refl kept.0.one kept.0.is (union_fields_kept others kept.1 quiet.1)
     where
       go : (o : Option KindTree) → kind_in rows scope one.member.kind ≡ o → (k : KindTree) → o ≡ Some k
-          → ArePaired IsUnionField (map counted_of others) (found_of (union_field_row rows scope) others)
-          → ArePaired IsUnionField (counted_of one ∷ map counted_of others)
+          → ArePaired (IsUnionField rows (site_of scope)) (map counted_of others) (found_of (union_field_row rows scope) others)
+          → ArePaired (IsUnionField rows (site_of scope)) (counted_of one ∷ map counted_of others)
           (option_to_list (option_map (union_field_with one) o) ++ found_of (union_field_row rows scope) others)
       go None is k e rest = absurd (none-some k e)
       go (Some found) is k e rest = (record { name = refl; tag = refl; kind = kind_kept rows scope one.member found is quiet.0 }, rest)
 
   pub union_kept : (full : List ℕ) (attributes : List Attribute) (ms : List Member) → refused_ordinals scope.file 0 (map ordinal_part ms) ≡ []
       → AllByRecursion (IsKept rows scope) ms → AllByRecursion (IsQuietMember scope) ms
-      → IsUnion (record { full = full; entries = map entry_of ms }) (union_row rows scope full attributes ms)
+      → IsUnion rows (record { site = site_of scope; full = full; attributes = attributes; entries = map entry_of ms })
+      (union_row rows scope full attributes ms)
   union_kept full attributes ms values kept quiet = record {
     name = refl;
-    fields = subst (λ (cs : List Counted). ArePaired IsUnionField cs (found_of (union_field_row rows scope) (numbered ms))) (counted_same scope.file ms values)
+    extensible = refl;
+    fields = subst (λ (cs : List Counted). ArePaired (IsUnionField rows (site_of scope)) cs (found_of (union_field_row rows scope) (numbered ms)))
+        (counted_same scope.file ms values)
         (union_fields_kept (numbered ms) (all_numbered (IsKept rows scope) 0 ms kept) (all_numbered (IsQuietMember scope) 0 ms quiet));
   }

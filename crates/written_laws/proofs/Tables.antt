@@ -35,30 +35,31 @@ use Rattle.written_laws.proofs.Items.{paired_append, HasItem, item_kept}
 
 -- joined tables
 
-none_written : (names : List FileNames) (consts : Consts) → AreAsWritten names consts [] empty
-none_written names consts = record { structs = tt; unions = tt; interfaces = tt }
+none_written : (rows : List FileRows) (names : List FileNames) (consts : Consts) → AreAsWritten rows names consts [] empty
+none_written rows names consts = record { structs = tt; unions = tt; interfaces = tt }
 
-with_item : (names : List FileNames) (consts : Consts) (file : ℕ) (d : Defined) (ones : List Placed) (one two : Draft)
-    → HasItem names consts file d.full d.item one → AreAsWritten names consts ones two
-    → AreAsWritten names consts (record { file = file; definition = d } ∷ ones) (join one two)
-with_item names consts file d ones one two a b = record {
-  structs = paired_append IsStruct (struct_texts (site_in names consts file d.full) d.full d.item) _ one.structs two.structs a.structs b.structs;
-  unions = paired_append IsUnion (union_texts d.full d.item) _ one.unions two.unions a.unions b.unions;
+with_item : (rows : List FileRows) (names : List FileNames) (consts : Consts) (file : ℕ) (d : Defined) (ones : List Placed) (one two : Draft)
+    → HasItem rows names consts file d.full d.attributes d.item one → AreAsWritten rows names consts ones two
+    → AreAsWritten rows names consts (record { file = file; definition = d } ∷ ones) (join one two)
+with_item rows names consts file d ones one two a b = record {
+  structs = paired_append (IsStruct rows) (struct_texts (site_in names consts file d.full) d.full d.item) _ one.structs two.structs a.structs b.structs;
+  unions = paired_append (IsUnion rows) (union_texts (site_in names consts file d.full) d.full d.attributes d.item) _ one.unions two.unions a.unions b.unions;
   interfaces = paired_append IsInterface (interface_texts d.full d.item) _ one.interfaces two.interfaces a.interfaces b.interfaces;
 }
 
-joined_written : (names : List FileNames) (consts : Consts) (ps qs : List Placed) (one two : Draft) → AreAsWritten names consts ps one
-    → AreAsWritten names consts qs two → AreAsWritten names consts (ps ++ qs) (join one two)
-joined_written names consts ps qs one two a b =
+joined_written : (rows : List FileRows) (names : List FileNames) (consts : Consts) (ps qs : List Placed) (one two : Draft)
+    → AreAsWritten rows names consts ps one → AreAsWritten rows names consts qs two → AreAsWritten rows names consts (ps ++ qs) (join one two)
+joined_written rows names consts ps qs one two a b =
     let structs = flat_map-append
     (λ (p : Placed). struct_texts (site_in names consts p.file p.definition.full) p.definition.full p.definition.item) ps qs in
-    let unions = flat_map-append (λ (p : Placed). union_texts p.definition.full p.definition.item) ps qs in
+    let unions = flat_map-append
+    (λ (p : Placed). union_texts (site_in names consts p.file p.definition.full) p.definition.full p.definition.attributes p.definition.item) ps qs in
     let interfaces = flat_map-append (λ (p : Placed). interface_texts p.definition.full p.definition.item) ps qs in
     record {
-      structs = subst (λ ts. ArePaired IsStruct ts (one.structs ++ two.structs)) (sym structs)
-          (paired_append IsStruct _ _ one.structs two.structs a.structs b.structs);
-      unions = subst (λ ts. ArePaired IsUnion ts (one.unions ++ two.unions)) (sym unions)
-          (paired_append IsUnion _ _ one.unions two.unions a.unions b.unions);
+      structs = subst (λ ts. ArePaired (IsStruct rows) ts (one.structs ++ two.structs)) (sym structs)
+          (paired_append (IsStruct rows) _ _ one.structs two.structs a.structs b.structs);
+      unions = subst (λ ts. ArePaired (IsUnion rows) ts (one.unions ++ two.unions)) (sym unions)
+          (paired_append (IsUnion rows) _ _ one.unions two.unions a.unions b.unions);
       interfaces = subst (λ ts. ArePaired IsInterface ts (one.interfaces ++ two.interfaces)) (sym interfaces)
           (paired_append IsInterface _ _ one.interfaces two.interfaces a.interfaces b.interfaces);
     }
@@ -69,11 +70,11 @@ at_file file ds = map (λ (d : Defined). record { file = file; definition = d })
 
 all_written : (rows : List FileRows) (names : List FileNames) (consts : Consts) (file : ℕ) (ds : List Defined)
     → ((counts : Counts) (d : Defined) → IsAmong ds d
-    → HasItem names consts file d.full d.item (draft_of_definition rows (around names consts file None) counts d))
-    → (counts : Counts) → AreAsWritten names consts (at_file file ds) (draft_of_all rows (around names consts file None) counts ds)
-all_written rows names consts file [] each counts = none_written names consts
+    → HasItem rows names consts file d.full d.attributes d.item (draft_of_definition rows (around names consts file None) counts d))
+    → (counts : Counts) → AreAsWritten rows names consts (at_file file ds) (draft_of_all rows (around names consts file None) counts ds)
+all_written rows names consts file [] each counts = none_written rows names consts
 all_written rows names consts file (d ∷ ds) each counts =
-    with_item names consts file d (at_file file ds) (draft_of_definition rows (around names consts file None) counts d)
+    with_item rows names consts file d (at_file file ds) (draft_of_definition rows (around names consts file None) counts d)
     (draft_of_all rows (around names consts file None) (after counts d.item) ds) (each counts d (inl refl))
     (all_written rows names consts file ds (λ c other among. each c other (inr among)) (after counts d.item))
 
@@ -88,14 +89,14 @@ placed_same files file = go (slice_get files file)
 
 files_written : (rows : List FileRows) (names : List FileNames) (consts : Consts) (files : List NamedFile) (order : List ℕ)
     → ((file : ℕ) (counts : Counts) (d : Defined) → IsAmong (definitions_at files file) d
-    → HasItem names consts file d.full d.item (draft_of_definition rows (around names consts file None) counts d))
-    → (counts : Counts) → AreAsWritten names consts (all_placed files order) (draft_from rows names consts files counts order)
-files_written rows names consts files [] each counts = none_written names consts
+    → HasItem rows names consts file d.full d.attributes d.item (draft_of_definition rows (around names consts file None) counts d))
+    → (counts : Counts) → AreAsWritten rows names consts (all_placed files order) (draft_from rows names consts files counts order)
+files_written rows names consts files [] each counts = none_written rows names consts
 files_written rows names consts files (file ∷ order) each counts =
     let here = definitions_at files file in
-    let one = subst (λ (ps : List Placed). AreAsWritten names consts ps (draft_of_all rows (around names consts file None) counts here))
+    let one = subst (λ (ps : List Placed). AreAsWritten rows names consts ps (draft_of_all rows (around names consts file None) counts here))
     (placed_same files file) (all_written rows names consts file here (λ c d among. each file c d among) counts) in
-    joined_written names consts (placed_in files file) (all_placed files order) (draft_of_all rows (around names consts file None) counts here)
+    joined_written rows names consts (placed_in files file) (all_placed files order) (draft_of_all rows (around names consts file None) counts here)
     (draft_from rows names consts files (after_all counts here) order) one
     (files_written rows names consts files order each (after_all counts here))
 
@@ -108,7 +109,7 @@ rows_there files order consts passed file place sort e =
     has_row files order file place sort passed.ordered.is (defined_as files order file place sort e)
 
 written_here : (files : List NamedFile) (order : List ℕ) (consts : Consts) → IsPassed files order (names_of files order) consts
-    → AreAsWritten (names_of files order).files consts (all_placed files order) (draft_of (names_of files order).files consts files order)
+    → AreAsWritten (rows_of files order) (names_of files order).files consts (all_placed files order) (draft_of (names_of files order).files consts files order)
 written_here files order consts passed =
     let names = (names_of files order).files in
     let quiet = all_quiet files order consts passed in
@@ -126,7 +127,8 @@ written_here files order consts passed =
 
 -- the tables of files that pass are as they are written
 pub numbers_are_as_written : (files : List NamedFile) (order : List ℕ) (names : Names) (consts : Consts) → IsPassed files order names consts
-    → AreAsWritten names.files consts (all_placed files order) (draft_of names.files consts files order)
+    → AreAsWritten (rows_of files order) names.files consts (all_placed files order) (draft_of names.files consts files order)
 numbers_are_as_written files order names consts passed =
-    subst (λ (all : Names). AreAsWritten all.files consts (all_placed files order) (draft_of all.files consts files order)) (sym passed.named.are)
+    subst (λ (all : Names). AreAsWritten (rows_of files order) all.files consts (all_placed files order) (draft_of all.files consts files order))
+    (sym passed.named.are)
     (written_here files order consts (subst (λ (all : Names). IsPassed files order all consts) passed.named.are passed))

@@ -34,7 +34,9 @@ use Rattle.schema_laws.proofs.Kinded.{uses_apart}
 use Rattle.schema_laws.proofs.Told.{name_means}
 use Rattle.schema_laws.proofs.AllSound.{known_of as thing_known}
 use Rattle.written_laws.specs.Values.{Site, known_of, MeansValue, number_of, IsValue, version_in, IsVersion}
+use Rattle.schema_laws.proofs.ConstsHaveRows.{is_float_value}
 use Rattle.written_laws.proofs.Counts.{small_number}
+use Rattle.written_laws.proofs.Reals.{thing_real}
 
 -- what a value is
 
@@ -68,26 +70,31 @@ pub literal_known : (o : Option Known) (l : Literal) → option_and_then literal
 literal_known None l e = absurd (none-some l e)
 literal_known (Some known) l e = ap (λ (k : Known). let o : Option Known = Some k in o) (known_is known l e)
 
--- each value that uses no name that is refused is known
+-- each value that uses no name that is refused is known, and isn't a float
 pub record IsKnown (site : Site) (value : Value) : Type 0 where
   pub known : Known
   pub is : value_in site.consts site.names site.file site.enclosing value ≡ Some known
+  pub real : is_float_value known ≡ false
 
 pub value_known : (files : List NamedFile) (order : List ℕ) (consts : Consts) (are : AreConsts files (names_of files order).files consts)
     → AreQuiet files (names_of files order).files consts → (file : ℕ) (enclosing : Option (List ℕ)) (value : Value)
     → refused_uses (names_of files order).files file (uses_in_value enclosing value) ≡ []
     → IsKnown (record { names = (names_of files order).files; consts = consts; file = file; enclosing = enclosing }) value
-value_known files order consts are quiet file enclosing (values.String written) e = record { known = TextValue written.bytes; is = refl }
-value_known files order consts are quiet file enclosing (values.Bool value span) e = record { known = BoolValue value; is = refl }
+value_known files order consts are quiet file enclosing (values.String written) e = record { known = TextValue written.bytes; is = refl; real = refl }
+value_known files order consts are quiet file enclosing (values.Bool value span) e = record { known = BoolValue value; is = refl; real = refl }
 value_known files order consts are quiet file enclosing (values.Number negative magnitude span) e =
-    record { known = NumberValue (signed negative magnitude); is = refl }
+    record { known = NumberValue (signed negative magnitude); is = refl; real = refl }
 value_known files order consts are quiet file enclosing (values.Name name) e =
     let m = name_means files order file enclosing name e in
     let k = thing_known files order consts are quiet m.has.thing m.has.told in
     let there : value_of_target consts m.target ≡ Some k.known =
     ap (λ (ts : List FileThings). option_and_then (value_at consts) (thing_of ts m.target)) are.files_are
     ∙ (ap (option_and_then (value_at consts)) m.has.is ∙ k.is) in
-    record { known = k.known; is = ap (option_and_then (value_of_target consts)) m.found ∙ there }
+    record {
+      known = k.known;
+      is = ap (option_and_then (value_of_target consts)) m.found ∙ there;
+      real = thing_real files order consts are quiet m.has.thing m.has.told k.known k.is;
+    }
 
 -- a value of uint32
 

@@ -1,6 +1,7 @@
 -- What is written in the lists of definitions: the fields of a struct or a union, the methods of an interface, and parameters.
-use Rattle.std.specs.Prelude.{ℕ, ◌+◌, ◌≡◌, List, [], ◌∷◌, map, slice_get, Option, Some, None}
-use Rattle.std.specs.List.{flat_map, AllByRecursion}
+use Rattle.std.specs.Prelude.{ℕ, ◌+◌, ◌≡◌, Bool, List, [], ◌∷◌, map, slice_get, Option, Some, None}
+use Rattle.std.specs.List.{flat_map, list_any, AllByRecursion}
+use Rattle.std.specs.Str.{bytes_eq}
 use Rattle.mojom_ast.specs.TypeTrees.{TypeTree}
 use Rattle.mojom_ast.specs.declared.names.Number.{Number}
 use Rattle.mojom_ast.specs.declared.names.Value.{Value}
@@ -104,6 +105,10 @@ counted_from next (e ∷ es) =
 -- those of a list with their ordinals; the first has 0 if none is written
 abbrev pub counted : List Entry → List Counted
 counted entries = counted_from 0 entries
+
+-- an attribute of this name stands there, whatever its value
+abbrev pub has_mark : List ℕ → List Attribute → Bool
+has_mark name attributes = list_any (λ (a : Attribute). bytes_eq a.name.text name) attributes
 
 -- none of these stands at two places
 abbrev pub AreApart : {A : Type 0} → List A → Type 0

@@ -1,6 +1,5 @@
 -- Which literals fit which kinds.
 use Rattle.std.specs.Prelude.{ℕ, ◌-◌, ◌^◌, ◌≡◌, ◌&&◌, ℤ, pos, neg_ℤ, int_le, Bool, true, false, Option, Some, None}
-use Rattle.mojom_ast.specs.declared.names.Value.{Value}
 use Rattle.mj_schema.specs.KindTrees.{KindTree}
 use Rattle.mj_schema.specs.KindTrees as kinds
 use Rattle.mj_schema.specs.Sizes.{bits_of}
@@ -14,20 +13,19 @@ in_bits false bits number = int_le (pos 0) number && int_le number (pos (2 ^ bit
 
 -- a literal of a basic kind: a bool, a number of so many bits, or a text
 abbrev pub Fits : KindTree → Literal → Type 0
-Fits kinds.BoolKind (literals.Bool value) = Unit {0}
-Fits (kinds.IntKind width signed) (literals.Whole number) = in_bits signed (bits_of width) number ≡ true
+Fits (kinds.BoolKind nullable) (literals.Bool value) = Unit {0}
+Fits (kinds.IntKind width signed nullable) (literals.Whole number) = in_bits signed (bits_of width) number ≡ true
 Fits (kinds.TextKind nullable) (literals.Text bytes) = Unit {0}
 Fits _ _ = ⊥
 
 -- a bool, an integer or a text
 abbrev pub is_basic : KindTree → Bool
-is_basic kinds.BoolKind = true
-is_basic (kinds.IntKind width signed) = true
+is_basic (kinds.BoolKind nullable) = true
+is_basic (kinds.IntKind width signed nullable) = true
 is_basic (kinds.TextKind nullable) = true
 is_basic _ = false
 
--- where a default is written, the row has one, and it fits its kind
-abbrev pub KeepsDefault : KindTree → Option Value → Option Literal → Type 0
-KeepsDefault kind None row = Unit {0}
-KeepsDefault kind (Some value) None = ⊥
-KeepsDefault kind (Some value) (Some literal) = Fits kind literal
+-- a default, where there is one, fits its kind
+abbrev pub FitsDefault : KindTree → Option Literal → Type 0
+FitsDefault kind None = Unit {0}
+FitsDefault kind (Some literal) = Fits kind literal

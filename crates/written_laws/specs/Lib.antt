@@ -3,8 +3,12 @@ pub mod Ordinals
 pub mod Lists
 pub mod Listed
 pub mod Values
+pub mod NamedKinds
 pub mod Kinds
 pub mod Fits
+pub mod Defaults
 pub mod Rows
+pub mod Methods
+pub mod RowNames
 pub mod Enums
 pub mod Literals

@@ -1,7 +1,8 @@
 -- That the rows of tables are as they are written.
-use Rattle.std.specs.Prelude.{ℕ, ◌≡◌, ◌<◌, ◌⊎◌, true, codes, List, [], ◌∷◌, map, length, slice_get, Option, Some, None}
+use Rattle.std.specs.Prelude.{ℕ, ◌≡◌, ◌<◌, ◌⊎◌, Bool, true, codes, List, [], ◌∷◌, map, length, slice_get, Option, Some, None, is_some}
 use Rattle.std.specs.List.{flat_map, AllByRecursion}
 use Rattle.std.specs.Option.{option_map_or}
+use Rattle.mojom_ast.specs.declared.attributes.Attribute.{Attribute}
 use Rattle.mojom_ast.specs.declared.definitions.DefinitionItem.{DefinitionItem}
 use Rattle.mojom_ast.specs.declared.definitions.DefinitionItem.TheVariants as items
 use Rattle.mojom_ast.specs.declared.definitions.InterfaceMember.{InterfaceMember}
@@ -19,11 +20,13 @@ use Rattle.mj_schema.specs.declared.rows.UnionFieldRow.{UnionFieldRow}
 use Rattle.mj_schema.specs.declared.rows.UnionRow.{UnionRow}
 use Rattle.mj_schema.specs.declared.rows.MethodRow.{MethodRow}
 use Rattle.mj_schema.specs.declared.rows.InterfaceRow.{InterfaceRow}
+use Rattle.draft_rows.specs.declared.counts.FileRows.{FileRows}
 use Rattle.draft_rows.specs.declared.draft.Draft.{Draft}
-use Rattle.written_laws.specs.Entries.{Entry, Counted, counted, fields_of, union_fields_of, parameters_of, methods_of}
+use Rattle.written_laws.specs.Entries.{Entry, Counted, counted, has_mark, fields_of, union_fields_of, parameters_of, methods_of}
 use Rattle.written_laws.specs.Values.{Site, version_in, IsVersion, IsDefault}
 use Rattle.written_laws.specs.Kinds.{may_be_null, is_plain, IsKind}
-use Rattle.written_laws.specs.Fits.{is_basic, KeepsDefault}
+use Rattle.written_laws.specs.Fits.{is_basic, FitsDefault}
+use Rattle.written_laws.specs.Defaults.{is_enum, HasEnumerator}
 
 -- as many of one as of the other, and each as its own
 abbrev pub ArePaired : {A B : Type 0} → (A → B → Type 0) → List A → List B → Type 0
@@ -34,20 +37,22 @@ ArePaired Fits _ _ = ⊥
 -- structs
 
 -- a field of a struct or a parameter: its name, its kind, its default, and since which version it is there; of a later version it is
--- plain or may be null
-pub record IsField (site : Site) (entry : Entry) (field : DraftField) : Type 0 where
+-- plain or may be null, and a bool, an integer or an enum that may be null has no default
+pub record IsField (rows : List FileRows) (site : Site) (entry : Entry) (field : DraftField) : Type 0 where
   pub name : field.name ≡ entry.name
-  pub kind : IsKind entry.kind field.kind
+  pub kind : IsKind rows site entry.kind field.kind
   pub version : IsVersion site (version_in entry.attributes) field.min_version
   pub later : 0 < field.min_version → (is_plain field.kind ≡ true) ⊎ (may_be_null field.kind ≡ true)
   pub default : IsDefault site entry.default field.default
-  pub kept : is_basic field.kind ≡ true → KeepsDefault field.kind entry.default field.default
+  pub fits : is_basic field.kind ≡ true → FitsDefault field.kind field.default
+  pub enumerator : is_enum field.kind ≡ true → HasEnumerator site entry.kind entry.default
+  pub without : is_plain field.kind ≡ true → may_be_null field.kind ≡ true → entry.default ≡ None
 
 -- the field stands in the row at its ordinal
-pub record HasField (site : Site) (row : DraftStruct) (one : Counted) : Type 0 where
+pub record HasField (rows : List FileRows) (site : Site) (row : DraftStruct) (one : Counted) : Type 0 where
   pub field : DraftField
   pub there : slice_get row.fields one.ordinal ≡ Some field
-  pub is : IsField site one.entry field
+  pub is : IsField rows site one.entry field
 
 -- what a struct is written as: where, its full name, and its fields or parameters
 pub record StructText : Type 0 where
@@ -56,27 +61,31 @@ pub record StructText : Type 0 where
   pub entries : List Entry
 
 -- the row of a struct has as many fields as are written, each at its ordinal
-pub record IsStruct (text : StructText) (row : DraftStruct) : Type 0 where
+pub record IsStruct (rows : List FileRows) (text : StructText) (row : DraftStruct) : Type 0 where
   pub name : row.name ≡ text.full
   pub count : length row.fields ≡ length text.entries
-  pub fields : AllByRecursion (HasField text.site row) (counted text.entries)
+  pub fields : AllByRecursion (HasField rows text.site row) (counted text.entries)
 
 -- unions
 
 -- a field of a union: its name, its tag, which is its ordinal, and its kind
-pub record IsUnionField (one : Counted) (field : UnionFieldRow) : Type 0 where
+pub record IsUnionField (rows : List FileRows) (site : Site) (one : Counted) (field : UnionFieldRow) : Type 0 where
   pub name : field.name ≡ one.entry.name
   pub tag : field.tag ≡ one.ordinal
-  pub kind : IsKind one.entry.kind field.kind
+  pub kind : IsKind rows site one.entry.kind field.kind
 
--- what a union or an interface is written as: its full name, and its fields or methods
-pub record ChoiceText : Type 0 where
+-- what a union is written as: where, its full name, the attributes before it, and its fields
+pub record UnionText : Type 0 where
+  pub site : Site
   pub full : List ℕ
+  pub attributes : List Attribute
   pub entries : List Entry
 
-pub record IsUnion (text : ChoiceText) (row : UnionRow) : Type 0 where
+-- the row of a union has its fields, and is extensible where `[Extensible]` stands
+pub record IsUnion (rows : List FileRows) (text : UnionText) (row : UnionRow) : Type 0 where
   pub name : row.name ≡ text.full
-  pub fields : ArePaired IsUnionField (counted text.entries) row.fields
+  pub extensible : row.extensible ≡ has_mark (codes "Extensible") text.attributes
+  pub fields : ArePaired (IsUnionField rows text.site) (counted text.entries) row.fields
 
 -- interfaces
 
@@ -85,9 +94,22 @@ pub record IsMethod (one : Counted) (method : MethodRow) : Type 0 where
   pub name : method.name ≡ one.entry.name
   pub ordinal : method.ordinal ≡ one.ordinal
 
-pub record IsInterface (text : ChoiceText) (row : InterfaceRow) : Type 0 where
+-- whether a method has a response
+abbrev pub reply_of : InterfaceItem → List Bool
+reply_of (interface_items.Method m) = is_some m.response ∷ []
+reply_of (interface_items.Const c) = []
+reply_of (interface_items.Enum e) = []
+
+-- what an interface is written as: its full name, its methods, and which of them have responses
+pub record InterfaceText : Type 0 where
+  pub full : List ℕ
+  pub entries : List Entry
+  pub replies : List Bool
+
+pub record IsInterface (text : InterfaceText) (row : InterfaceRow) : Type 0 where
   pub name : row.name ≡ text.full
   pub methods : ArePaired IsMethod (counted text.entries) row.methods
+  pub replies : map (λ (method : MethodRow). is_some method.response) row.methods ≡ text.replies
 
 -- files
 
@@ -133,24 +155,29 @@ struct_texts site full (items.Union item) = []
 struct_texts site full (items.Enum item) = []
 struct_texts site full (items.Const item) = []
 
-abbrev pub union_texts : List ℕ → DefinitionItem → List ChoiceText
-union_texts full (items.Union item) = record { full = full; entries = union_fields_of item.fields } ∷ []
-union_texts full (items.Struct item) = []
-union_texts full (items.Interface item) = []
-union_texts full (items.Enum item) = []
-union_texts full (items.Const item) = []
+abbrev pub union_texts : Site → List ℕ → List Attribute → DefinitionItem → List UnionText
+union_texts site full attributes (items.Union item) = record { site = site; full = full; attributes = attributes; entries = union_fields_of item.fields } ∷ []
+union_texts site full attributes (items.Struct item) = []
+union_texts site full attributes (items.Interface item) = []
+union_texts site full attributes (items.Enum item) = []
+union_texts site full attributes (items.Const item) = []
 
-abbrev pub interface_texts : List ℕ → DefinitionItem → List ChoiceText
-interface_texts full (items.Interface item) = record { full = full; entries = methods_of item.members } ∷ []
+abbrev pub interface_texts : List ℕ → DefinitionItem → List InterfaceText
+interface_texts full (items.Interface item) =
+    record { full = full; entries = methods_of item.members; replies = flat_map (λ (m : InterfaceMember). reply_of m.item) item.members } ∷ []
 interface_texts full (items.Struct item) = []
 interface_texts full (items.Union item) = []
 interface_texts full (items.Enum item) = []
 interface_texts full (items.Const item) = []
 
--- the tables of definitions have their structs, unions and interfaces as they are written, and no others
-pub record AreAsWritten (names : List FileNames) (consts : Consts) (ones : List Placed) (draft : Draft) : Type 0 where
+-- the tables of definitions have their structs, unions and interfaces as they are written, where so many rows stand before definitions,
+-- and no others
+pub record AreAsWritten (rows : List FileRows) (names : List FileNames) (consts : Consts) (ones : List Placed) (draft : Draft) : Type 0 where
   pub structs :
-      ArePaired IsStruct (flat_map (λ (p : Placed). struct_texts (site_in names consts p.file p.definition.full) p.definition.full p.definition.item) ones)
-      draft.structs
-  pub unions : ArePaired IsUnion (flat_map (λ (p : Placed). union_texts p.definition.full p.definition.item) ones) draft.unions
+      ArePaired (IsStruct rows)
+      (flat_map (λ (p : Placed). struct_texts (site_in names consts p.file p.definition.full) p.definition.full p.definition.item) ones) draft.structs
+  pub unions :
+      ArePaired (IsUnion rows)
+      (flat_map (λ (p : Placed).
+      union_texts (site_in names consts p.file p.definition.full) p.definition.full p.definition.attributes p.definition.item) ones) draft.unions
   pub interfaces : ArePaired IsInterface (flat_map (λ (p : Placed). interface_texts p.definition.full p.definition.item) ones) draft.interfaces

@@ -58,8 +58,8 @@ IsVersion site None version = version ≡ 0
 IsVersion site (Some None) version = ⊥
 IsVersion site (Some (Some value)) version = IsValue site value (NumberValue (pos version))
 
--- a row has a default only where one is written, and then the very value that is written or meant
+-- a row has a default exactly where one is written, and then the very value that is written or meant
 abbrev pub IsDefault : Site → Option Value → Option Literal → Type 0
 IsDefault site None row = row ≡ None
-IsDefault site (Some value) None = Unit {0}
+IsDefault site (Some value) None = ⊥
 IsDefault site (Some value) (Some literal) = IsValue site value (known_of literal)

@@ -14,5 +14,6 @@ held sum total e small =
 
 pub returns : goal.returns
 returns c =
-    let none = ap (λ ms. c.loop-member.sum + structs_of_all (methods_in ms)) (drop_all c.loop-member.member-index c.args.members.now c.loop-member-test.false) in
+    let all = drop_all c.loop-member.member-index c.args.members.now c.loop-member-test.false in
+    let none = ap (λ ms. c.loop-member.sum + structs_of_all (methods_in ms)) all in
     held c.loop-member.sum _ (omega (arith, none, c.loop-member.invariant.rest)) c.loop-member.invariant.small
