@@ -8,6 +8,7 @@ use Rattle.message_pipe.specs.declared.message.Message.{Message}
 use Rattle.handle_table.specs.declared.thing.Thing.{Thing}
 use Rattle.mj_schema.specs.declared.schema.Schema.{Schema}
 use Rattle.wire_model.specs.Bytes.{number32}
+use Rattle.wire_model.specs.Expected.{message_value}
 use Rattle.wire_model.specs.Indexes.{handles_of}
 use Rattle.wire_model.specs.Message.{ids_read, payload_start}
 use Rattle.wire_model.specs.Tight.{value_of}
@@ -79,10 +80,10 @@ content_stands wire past y id e m c there stands =
     ap (λ (o : Option Endpoint). content_at wire o m) there
     ∙ rw (stands, content_at) refl
 
--- its parameters, by where they start
-pub read_value : (schema : Schema) (read bytes : List ℕ) (start number : ℕ) → start ≡ payload_start read → read ≡ bytes
-    → value_of schema read start number ≡ value_of schema bytes (payload_start bytes) number
-read_value schema read bytes start number e f = rw (e, f) refl
+-- its parameters, by what was read
+pub read_value : (schema : Schema) (read bytes : List ℕ) (number : ℕ) → read ≡ bytes
+    → (message_value schema read number).value ≡ value_of schema bytes (payload_start bytes) number
+read_value schema read bytes number f = rw f refl
 
 -- its method, by what was read of it
 pub target_is : (expected : Expected) (method : ℕ) (read bytes : List ℕ) → method ≡ number32 read 12 → read ≡ bytes

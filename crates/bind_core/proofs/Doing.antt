@@ -56,7 +56,8 @@ module _ (old new : State) (seq : SeqId) (able : HasRoom old seq) (schema : sche
       → Done old new seq (commands.Close (close.Handle x)) (replies.Closed told)
   handle_done x mid at e same events p c =
       let o : has (out (past_of old)) x ≡ true = sym (able.holds.agrees.outs x) ∙ at in
-      close_done (close.Handle x) (record { none = refl; handed = λ wire. refl; after = λ rs. refl; gives = refl; hands = refl; halves = λ wire past. refl }) events
+      close_done (close.Handle x)
+      (record { none = refl; handed = λ wire. refl; after = λ rs. refl; gives = refl; hands = refl; halves = λ wire past. refl }) events
       (handle_told (wire_in old) old.seqs (past_of old) able.holds.legal seq able.within old.pipes old.endpoints able.holds.agrees x goes e o)
       (subst (λ (tables : Routers). Agrees (wire_in old) (event_with (close.Handle x) goes ∷ past_of old) new.pipes tables) (sym same)
       (handle_closed (wire_in old) old.seqs (past_of old) able.holds.legal seq able.within old.pipes old.endpoints able.holds.agrees x goes e o
@@ -70,7 +71,8 @@ module _ (old new : State) (seq : SeqId) (able : HasRoom old seq) (schema : sche
       → Closes goes old.pipes new.pipes
       → Done old new seq (commands.Close (close.Endpoint y 0)) (replies.Closed told)
   end_done y h e g events c =
-      close_done (close.Endpoint y 0) (record { none = refl; handed = λ wire. refl; after = λ rs. refl; gives = refl; hands = refl; halves = λ wire past. refl }) events
+      close_done (close.Endpoint y 0)
+      (record { none = refl; handed = λ wire. refl; after = λ rs. refl; gives = refl; hands = refl; halves = λ wire past. refl }) events
       (end_told (wire_in old) old.seqs (past_of old) able.holds.legal seq able.within old.pipes old.endpoints able.holds.agrees y goes e h)
       (end_closed (wire_in old) old.seqs (past_of old) able.holds.legal seq able.within old.pipes old.endpoints able.holds.agrees y goes e h
       new.pipes new.endpoints g c)

@@ -138,6 +138,7 @@ pub(crate) fn writes_of(
     let head = Head {
         interface_id: id,
         request_id,
+        moment: None,
         ids: ids.as_slice(),
     };
     let bytes = Items::from_vec(seal(alloc, prepared, &head)?);

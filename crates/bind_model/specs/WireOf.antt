@@ -56,6 +56,7 @@ sealed schema target parameters head = message
       flags = flags_for (method_of schema target) target;
       nonce = 0;
       request = head.request;
+      moment = None;
       ids = head.ids;
     })
     (payload_for schema target parameters)

@@ -1,7 +1,9 @@
 //! The limits of the machine.
 
-/// The most bytes that may be written raw as one message.
-pub const MAX_RAW_BYTES: u64 = 16_777_216;
+use mj_base::limits::MAX_PAYLOAD_BYTES;
+
+/// The most bytes that may be written raw as one message: as many as a payload may have.
+pub const MAX_RAW_BYTES: u64 = MAX_PAYLOAD_BYTES;
 
 /// The most handles that may be written raw with one message.
 pub const MAX_RAW_HANDLES: usize = 64;

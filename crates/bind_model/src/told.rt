@@ -56,7 +56,7 @@ pub enum Why {
     WrongPipe(u32),
     /// A handle is of the end that the message would go to.
     SelfSend,
-    /// More than 16,777,216 bytes.
+    /// More than 67,108,864 bytes.
     TooLong,
     /// More than 64 handles.
     TooManyHandles,

@@ -15,7 +15,7 @@ use Rattle.wire_model.specs.Cells.{zeros}
 use Rattle.wire_model.specs.Expected.{flags_of, method_marks, method_named, message_marks}
 use Rattle.wire_model.specs.HeaderMarks.{HEADER_BYTES_2, header_marks}
 use Rattle.wire_model.specs.Marks.{Mark, Test}
-use Rattle.wire_model.specs.Message.{Head, back_of, basic, front_of, id_bytes, ids_from, ids_read, is_plain, message, plain_front, written_request}
+use Rattle.wire_model.specs.Message.{Head, back_of, basic, front, id_bytes, ids_from, ids_read, is_plain, message, plain_front, written_request}
 use Rattle.wire_model.specs.Stands.{IsFine}
 use Rattle.wire_model.specs.Tight.{MAX_PAYLOAD_BYTES}
 use Rattle.wire_model.specs.Trees.{Tree}
@@ -113,25 +113,27 @@ bytes_of schema target parameters head ids = message
       flags = flags_for (method_of schema target) target;
       nonce = 0;
       request = head.request;
+      moment = None;
       ids = ids;
     })
     (payload_for schema target parameters)
 
+-- the head of a message without ids and without a moment
+abbrev plain_head : ℕ → ℕ → ℕ → ℕ → ℕ → Head
+plain_head interface name flags nonce request =
+    record { interface = interface; name = name; flags = flags; nonce = nonce; request = request; moment = None; ids = [] }
+
 flags_zero : (interface name flags nonce request : ℕ) (payload : List ℕ) → flags ≡ 0
-    → number32 (message (record { interface = interface; name = name; flags = flags; nonce = nonce; request = request; ids = [] }) payload) 16 ≡ 0
+    → number32 (message (plain_head interface name flags nonce request) payload) 16 ≡ 0
 unfolding number32 bytes32 bytes64
 flags_zero interface name flags nonce request payload e =
-    subst
-    (λ (f : ℕ). number32 (message (record { interface = interface; name = name; flags = f; nonce = nonce; request = request; ids = [] }) payload) 16 ≡ 0)
-    (sym e) refl
+    subst (λ (f : ℕ). number32 (message (plain_head interface name f nonce request) payload) 16 ≡ 0) (sym e) refl
 
 flags_two : (interface name flags nonce request : ℕ) (payload : List ℕ) → flags ≡ 2
-    → number32 (message (record { interface = interface; name = name; flags = flags; nonce = nonce; request = request; ids = [] }) payload) 16 ≡ 2
+    → number32 (message (plain_head interface name flags nonce request) payload) 16 ≡ 2
 unfolding number32 bytes32 bytes64
 flags_two interface name flags nonce request payload e =
-    subst
-    (λ (f : ℕ). number32 (message (record { interface = interface; name = name; flags = f; nonce = nonce; request = request; ids = [] }) payload) 16 ≡ 2)
-    (sym e) refl
+    subst (λ (f : ℕ). number32 (message (plain_head interface name f nonce request) payload) 16 ≡ 2) (sym e) refl
 
 sealed_light : (schema : Schema) (target : Target) (parameters : Tree) (head : machine.Head) → head.ids ≡ [] → target.side ≡ Response
     → is_asking (sealed schema target parameters head) ≡ false
@@ -233,9 +235,9 @@ from_length : (bytes : List ℕ) (p n : ℕ) → length (ids_from bytes p n) ≡
 from_length bytes p zero = refl
 from_length bytes p (suc n) = ap suc (from_length bytes (p + 4) n)
 
--- a message has no more ids than were written
+-- a message without a moment has no more ids than were written
 some_read : (i : ℕ) (is : List ℕ) (h : Head) (payload : List ℕ) → length payload ≤ MAX_PAYLOAD_BYTES
-    → length (ids_read (front_of (i ∷ is) h (length payload) ++ (payload ++ back_of (i ∷ is)))) ≤ length (i ∷ is)
+    → length (ids_read (front None (i ∷ is) h (length payload) ++ (payload ++ back_of (i ∷ is)))) ≤ length (i ∷ is)
 unfolding bytes16 bytes32 bytes64
 some_read i is h payload small =
     let n = length payload in
@@ -272,7 +274,7 @@ none_read true h payload = omega arith
 none_read false h payload = omega arith
 
 by_ids : (is : List ℕ) (h : Head) (payload : List ℕ) → length payload ≤ MAX_PAYLOAD_BYTES
-    → length (ids_read (front_of is h (length payload) ++ (payload ++ back_of is))) ≤ length is
+    → length (ids_read (front None is h (length payload) ++ (payload ++ back_of is))) ≤ length is
 by_ids [] h payload small = none_read (is_plain h.flags) h payload
 by_ids (i ∷ is) h payload small = some_read i is h payload small
 
@@ -291,6 +293,7 @@ sealed_carries schema target parameters head small =
             flags = flags_for (method_of schema target) target;
             nonce = 0;
             request = head.request;
+            moment = None;
             ids = head.ids;
           })
           (payload_for schema target parameters) small,

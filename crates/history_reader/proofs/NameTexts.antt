@@ -10,7 +10,7 @@ use Rattle.std.proofs.lemmas.Bool.{false≢true}
 use Rattle.std.proofs.lemmas.Bool.Decides.{nat_tests}
 use Rattle.std.proofs.lemmas.Slice.Eq.{bytes_eq-Decides}
 use Rattle.mj_schema.specs.Lookups.{method_in}
-use Rattle.mj_schema.specs.WellFormed.{are_different, has_distinct_ordinals, counts_of, all_kinds, are_within, has_structs, is_row, is_allowed}
+use Rattle.mj_schema.specs.WellFormed.{are_different, has_distinct_ordinals, counts_of, all_kinds, are_within, has_structs, is_row, are_allowed}
 use Rattle.mj_schema.specs.WellFormed.{has_distinct_tags}
 use Rattle.mj_schema.specs.declared.rows.InterfaceRow.{InterfaceRow}
 use Rattle.mj_schema.specs.declared.rows.MethodRow.{MethodRow}
@@ -111,7 +111,7 @@ distinct schema =
     let a = list_all (are_within counts) kinds in
     let b = list_all (λ (row : InterfaceRow). list_all (has_structs (length schema.structs)) row.methods) schema.interfaces in
     let c = list_all (is_row counts) schema.order in
-    let d = list_all is_allowed kinds in
+    let d = are_allowed schema.structs schema.unions schema.consts in
     let e = list_all has_distinct_tags schema.unions in
     let f = list_all has_distinct_ordinals schema.interfaces in
     both_left f _ (both_right e _ (both_right d _ (both_right c _ (both_right b _ (both_right a _ schema.well_formed)))))

@@ -1,10 +1,9 @@
 -- What is asked for of several files, found out a file at a time.
-use Rattle.std.proofs.Common.{◌≡◌, ◌≤◌, ◌<◌, ◌+◌, ℕ, zero, suc, List, [], ◌∷◌, ◌++◌, length, map, get_or, take, drop, slice_get, Bor, refl}
+use Rattle.std.proofs.Common.{◌≡◌, ◌≤◌, ◌<◌, ◌+◌, ℕ, zero, suc, List, [], ◌∷◌, ◌++◌, length, map, get_or, take, drop, slice_get, refl}
 use Rattle.std.proofs.Common.{sym, subst, ap, ◌∙◌, append_assoc, append-nil, add-one, arith, inl, inr, Some, None}
-use Rattle.std.specs.Prelude.{Option, MatchOption}
-use Rattle.std.specs.Option.{option_map, option_copied}
-use Rattle.std.specs.List.{HoldsAt}
-use Rattle.std.proofs.lemmas.List.{map-append}
+use Rattle.std.specs.Prelude.{Option}
+use Rattle.std.specs.Option.{option_map}
+use Rattle.std.proofs.lemmas.List.{length-map, map-append}
 use Rattle.std.proofs.lemmas.Option.{slice_get-map, slice_get-get_or}
 use Rattle.mj_base.specs.declared.limits.TheConstants.{MAX_FILE_BYTES}
 use Rattle.mj_io.specs.Outside.{Named, find_file, Fetch, FilesState, FilesGoOn}
@@ -15,13 +14,13 @@ use Rattle.mojom_compile.specs.declared.error.FileRefusal.{FileRefusal}
 use Rattle.mojom_compile.specs.declared.source.Source.{Source}
 use Rattle.mojom_files.specs.Causes.{Cause}
 use Rattle.mojom_files.specs.declared.refusal.Refusal.{Refusal}
-use Rattle.mojom_compile.specs.Schemas.{IsSchemaOfFiles, IsRefusalOf, IsWhy}
+use Rattle.mojom_compile.specs.Schemas.{IsSchemaOfFiles, IsRefusalOf, IsOfGiven, IsWhy}
 use Rattle.schema_text.specs.Listing.{listing}
 use Rattle.mojo_tool.specs.Work.{Work, Missing, TooLong, Refuses, Rejects, Checks, FetchingAll, Leads, Tabling, Gathering, Listing, Checking, AskedFor}
 use Rattle.mojo_tool.specs.Work.{AreFetched, IsAmong, name_at, unchecked}
 use Rattle.mojo_tool.specs.Answers.{ReadFailed, refused_work, refused_name, IsCheckText, IsSchemaRead, read_as}
 use Rattle.mojo_tool.specs.steps.Stops.{Stops, IsOf, HasBytes, IsLonger, IsLost, NotFetched}
-use Rattle.mojo_tool.specs.steps.Fetches.{AreBytes, HaveSchemaOver, IsFirstUnfetched, NotAllFetched, NotTabled, IsRefusedSet, NoSchema}
+use Rattle.mojo_tool.specs.steps.Fetches.{AreBytes, HaveSchemaOver, IsFirstUnfetched, IsNumbered, NotAllFetched, NotTabled, IsRefusedSet, NoSchema}
 use Rattle.mojo_tool.specs.steps.Messages.{Passes}
 use Rattle.mojo_tool.specs.Fetched.{FetchedAll, FetchedFront}
 use Rattle.mojo_tool.specs.steps.Made.{IsFetchedOnto, Unfetched, StoppedSo, StoppedEarly}
@@ -421,12 +420,26 @@ tables_text held before now names schema text have from e = record {
 
 -- why the file of this number has no schema
 
--- what was copied of a list stands there
-pub copied_at : {A B : Type 0} (f : A → B) (r : Option (Bor A)) (xs : List A) (i : ℕ) (x : A)
-    → MatchOption r (length xs ≤ i) (λ y. (i < length xs) × HoldsAt (λ z. y.now ≡ z) xs i) → option_copied r ≡ Some x → slice_get (map f xs) i ≡ Some (f x)
-copied_at f None xs i x found is = absurd cc
-copied_at f (Some y) xs i x found is =
-    shown_at f xs i y.now found.0 ∙ ap (λ z. Some (f z)) (sym (found.1 y.now)) ∙ ap (option_map f) is
+-- that number is below theirs
+pub unread_within : (count : ℕ) (error : SchemaError) (file : ℕ) (why : FileRefusal) → error ≡ errors.Unread file why → IsNumbered count error → file < count
+unread_within count error file why is numbered = subst (IsNumbered count) is numbered
+
+pub refused_within : (count : ℕ) (error : SchemaError) (why : Refusal) → error ≡ errors.Refused why → IsNumbered count error → why.file < count
+refused_within count error why is numbered = subst (IsNumbered count) is numbered
+
+-- a file that is one of those given has a number below that of their names
+pub numbered : {A : Type 0} (f : A → List ℕ) (given sources : List Source) (names : List A) (error : SchemaError) → given ≡ sources
+    → map (λ (source : Source). source.name) sources ≡ map f names → IsOfGiven given error → IsNumbered (length names) error
+numbered f given sources names error same named is = go error is
+  where
+    many : length given ≡ length names
+    many =
+        ap length same ∙ sym (length-map sources (λ (source : Source). source.name)) ∙ ap length named ∙ length-map names f
+
+    go : (e : SchemaError) → IsOfGiven given e → IsNumbered (length names) e
+    go (errors.Unread file why) within = subst (λ (n : ℕ). file < n) many within
+    go (errors.Refused why) within = subst (λ (n : ℕ). why.file < n) many within
+    go errors.Memory within = tt
 
 pub unread_at : (names : List (List ℕ)) (error : SchemaError) (file : ℕ) (why : FileRefusal) (name : List ℕ) (refusal : ToolRefusal)
     → error ≡ errors.Unread file why → slice_get names file ≡ Some name → refused_work refusal ≡ Refuses name why → NotTabled names error (Refused refusal)

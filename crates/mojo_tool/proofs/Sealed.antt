@@ -1,6 +1,6 @@
 -- The message of a value that was prepared, and why a value isn't written.
-use Rattle.std.proofs.Common.{◌≡◌, ◌≤◌, ◌<◌, ◌+◌, ℕ, zero, suc, List, [], ◌∷◌, ◌++◌, length, Ok, Err, refl, sym, subst, ap, ◌∙◌, add-one, arith, inl, inr}
-use Rattle.std.specs.Prelude.{Result, IsTrue, is_ok}
+use Rattle.std.proofs.Common.{◌≡◌, ◌≤◌, ◌<◌, ◌+◌, ℕ, zero, suc, List, [], ◌∷◌, ◌++◌, length, Option, None, Ok, Err, refl, sym, subst, ap, ◌∙◌, add-one, arith, inl, inr}
+use Rattle.std.specs.Prelude.{ℤ, Result, IsTrue, is_ok}
 use Rattle.mj_base.specs.Bytes.{rounded8}
 use Rattle.mj_schema.specs.declared.schema.Schema.{Schema}
 use Rattle.wire_model.specs.HeaderMarks.{CONTROL_ID}
@@ -53,25 +53,27 @@ pub ids_are : (ids : List ℕ) (n : ℕ) → n ≤ 64 → ids ≡ up_from 1 n �
 ids_are ids n few e = subst AreIds (sym e) (up_ids 1 n (omega arith) (omega (arith, few)))
 
 -- a message by what its head tells
-abbrev made : (name : ℕ) (interface flags request : ℕ) (ids payload : List ℕ) → List ℕ
-made name interface flags request ids payload =
-    message (record { interface = interface; name = name; flags = flags; nonce = 0; request = request; ids = ids }) payload
+abbrev made : (name : ℕ) (interface flags request : ℕ) (moment : Option ℤ) (ids payload : List ℕ) → List ℕ
+made name interface flags request moment ids payload =
+    message (record { interface = interface; name = name; flags = flags; nonce = 0; request = request; moment = moment; ids = ids }) payload
 
 -- the message that was sealed is the one that the value asks for
 pub sealed_work : (schema : Schema) (p : Prepared) (head : code.Head) (bytes : List ℕ) → IsPrepared schema p → head.interface_id ≡ 0
-    → head.request_id ≡ 1 → head.ids.now ≡ up_from 1 (length p.endpoints.items)
+    → head.request_id ≡ 1 → head.moment ≡ None → head.ids.now ≡ up_from 1 (length p.endpoints.items)
     → bytes ≡ message (sealed_head p head) p.payload.items → Preparing schema p.target (view p.value) (Encodes bytes)
-sealed_work schema p head bytes is interface request ids e =
+sealed_work schema p head bytes is interface request moment ids e =
     let name : ℕ = p.target.method in
-    let i : bytes ≡ made name 0 p.flags head.request_id head.ids.now p.payload.items =
-    e ∙ ap (λ (n : ℕ). made name n p.flags head.request_id head.ids.now p.payload.items) interface in
-    let r : bytes ≡ made name 0 p.flags 1 head.ids.now p.payload.items =
-    i ∙ ap (λ (n : ℕ). made name 0 p.flags n head.ids.now p.payload.items) request in
-    let l : bytes ≡ made name 0 p.flags 1 (up_from 1 (length p.endpoints.items)) p.payload.items =
-    r ∙ ap (λ (is : List ℕ). made name 0 p.flags 1 is p.payload.items) ids in
-    let f = l ∙ ap (λ (n : ℕ). made name 0 n 1 (up_from 1 (length p.endpoints.items)) p.payload.items) is.flags in
+    let i : bytes ≡ made name 0 p.flags head.request_id head.moment head.ids.now p.payload.items =
+    e ∙ ap (λ (n : ℕ). made name n p.flags head.request_id head.moment head.ids.now p.payload.items) interface in
+    let r : bytes ≡ made name 0 p.flags 1 head.moment head.ids.now p.payload.items =
+    i ∙ ap (λ (n : ℕ). made name 0 p.flags n head.moment head.ids.now p.payload.items) request in
+    let m : bytes ≡ made name 0 p.flags 1 None head.ids.now p.payload.items =
+    r ∙ ap (λ (o : Option ℤ). made name 0 p.flags 1 o head.ids.now p.payload.items) moment in
+    let l : bytes ≡ made name 0 p.flags 1 None (up_from 1 (length p.endpoints.items)) p.payload.items =
+    m ∙ ap (λ (is : List ℕ). made name 0 p.flags 1 None is p.payload.items) ids in
+    let f = l ∙ ap (λ (n : ℕ). made name 0 n 1 None (up_from 1 (length p.endpoints.items)) p.payload.items) is.flags in
     let whole =
-    f ∙ ap (λ (bs : List ℕ). made name 0 (flags_for (method_of schema p.target) p.target) 1 (up_from 1 (length p.endpoints.items)) bs) is.payload in
+    f ∙ ap (λ (bs : List ℕ). made name 0 (flags_for (method_of schema p.target) p.target) 1 None (up_from 1 (length p.endpoints.items)) bs) is.payload in
     let short : length (payload_for schema p.target (view p.value)) ≤ MAX_PAYLOAD_BYTES =
     subst (λ (bs : List ℕ). length bs ≤ MAX_PAYLOAD_BYTES) is.payload p.short in
     subst (λ (r : Result Met Refusal). Sealing schema p.target (view p.value) r (Encodes bytes)) (sym is.passes) (inr (short, ap Encodes whole))

@@ -62,15 +62,13 @@ struct_is (Some found) take method number named all = let e : found ≡ method =
 -- the text of a message that was checked
 pub shown_value : (v : Checked) (name : List ℕ) (method : MethodRow) (kind : KindTree) (tree : Tree) (text line : List ℕ)
     → Some method ≡ method_in v.schema.now.interfaces v.expected.interface v.method
-    → tree ≡ value_of v.schema.now v.bytes.now v.start v.number → kind ≡ parameters_kind v.number → text ≡ spell v.schema.now kind tree
+    → tree ≡ value_of v.schema.now v.bytes.now (payload_start v.bytes.now) v.number → kind ≡ parameters_kind v.number → text ≡ spell v.schema.now kind tree
     → line ≡ shown_line name method.name v.request text → IsTextOfWork (IsShown v.schema.now v.expected name v.bytes.now) line
 shown_value v name method kind tree text line found decoded kinded spelled whole =
     let named : method_named v.schema.now v.expected v.bytes.now ≡ Some method =
     ap (λ (ordinal : ℕ). method_in v.schema.now.interfaces v.expected.interface ordinal) (sym v.named) ∙ sym found in
-    let value : tree ≡ value_of v.schema.now v.bytes.now (payload_start v.bytes.now) v.number =
-    decoded ∙ ap (λ (at : ℕ). value_of v.schema.now v.bytes.now at v.number) v.starts in
     let said : text ≡ spell v.schema.now (parameters_kind v.number) (value_of v.schema.now v.bytes.now (payload_start v.bytes.now) v.number) =
-    spelled ∙ ap (λ (k : KindTree). spell v.schema.now k tree) kinded ∙ ap (spell v.schema.now (parameters_kind v.number)) value in
+    spelled ∙ ap (λ (k : KindTree). spell v.schema.now k tree) kinded ∙ ap (spell v.schema.now (parameters_kind v.number)) decoded in
     record {
       work = Decodes name method.name v.request text;
       asked = record {

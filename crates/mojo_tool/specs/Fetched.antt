@@ -1,4 +1,4 @@
--- Which files a call fetches: those that the words name, in the order of the words, each once, and none behind one that it can't go on with.
+-- Which files a call fetches: those that the words name, in the order of the words, once for each word, and none behind one that it can't go on with.
 use Rattle.std.specs.Prelude.{ℕ, ◌≡◌, ◌⊎◌, List, [], ◌∷◌, ◌++◌, map, Option, Some, None, Result, Ok, Err}
 use Rattle.mj_io.specs.Outside.{Fetch, fetch_of}
 use Rattle.mj_io.specs.declared.Fetched.{Fetched}

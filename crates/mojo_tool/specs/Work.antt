@@ -225,7 +225,7 @@ flaw_at flaws.Misfit path = unfit.Misfit path
 flaw_at flaws.TooDeep path = unfit.TooDeep path
 flaw_at flaws.TooManyHandles path = unfit.TooManyHandles path
 
--- the head of a message that is printed: the interface id 0, the request id 1, and the ids 1, 2, 3 and so on
+-- the head of a message that is printed: the interface id 0, the request id 1, no moment, and the ids 1, 2, 3 and so on
 abbrev pub head_of : Schema → Target → Met → Head
 head_of schema target met = record {
   interface = 0;
@@ -233,6 +233,7 @@ head_of schema target met = record {
   flags = flags_for (method_of schema target) target;
   nonce = 0;
   request = 1;
+  moment = None;
   ids = up_from 1 (length met.endpoints);
 }
 

@@ -1,6 +1,6 @@
 //! From the names and the files to their schema and the text of its tables, or to why there is none.
 
-ghost use Rattle.std.specs.Prelude.{◌≡◌, ◌∷◌, [], ◌++◌, List, Some, map, IfOk, IfErr, OnOk};
+ghost use Rattle.std.specs.Prelude.{◌≡◌, ◌∷◌, [], ◌++◌, List, Some, length, map, IfOk, IfErr, OnOk};
 ghost use Rattle.mj_io.specs.Outside.{FilesGoOn};
 ghost use Rattle.mojom_compile.specs.Schemas.{IsSchemaOfFiles};
 ghost use Rattle.mojom_compile.specs.declared.source.Source.{Source as compiled_source};
@@ -11,7 +11,7 @@ ghost use Rattle.mojo_tool.specs.Answers.{AreRefused, IsCheckText, IsSchemaRead,
 ghost use Rattle.mojo_tool.specs.Fetched.{FetchedAll, FetchedFront};
 ghost use Rattle.mojo_tool.specs.steps.Made.{IsFetchedOnto, StoppedFrom, StoppedSo, StoppedEarly, StoppedAfter, Unfetched};
 ghost use Rattle.mojo_tool.specs.steps.Stops.{Stops, IsOf, NotFetched};
-ghost use Rattle.mojo_tool.specs.steps.Fetches.{AreBytes, HaveSchemaOver, NotAllFetched, NotTabled, NoSchema};
+ghost use Rattle.mojo_tool.specs.steps.Fetches.{AreBytes, HaveSchemaOver, IsNumbered, NotAllFetched, NotTabled, NoSchema};
 
 use crate::decide::{Stop, fetch};
 use crate::refusal::ToolRefusal;
@@ -88,22 +88,18 @@ fn fetch_all<'a, F: Files>(
 
 /// The refusal of the file that is refused, by its name.
 fn refused<'a>(names: &[&'a str], error: SchemaError) -> Stop<'a>
+    requires { IsNumbered (length names.now) error }
     ensures { NotTabled (map (λ name. name.now) names.now) error result }
 {
     match error {
-        SchemaError::Unread { file, refusal } => match names.get(file as usize).copied() {
-            Some(name) => Stop::Refused(ToolRefusal::Refused(name, refusal)),
-            // Not reached: a file that is refused is one of those that were given.
-            None => Stop::NoMemory,
-        },
-        SchemaError::Refused(refusal) => match names.get(refusal.file as usize).copied() {
-            Some(name) => Stop::Refused(ToolRefusal::Rejected {
-                name,
-                at: refusal.at,
-                cause: refusal.cause,
-            }),
-            None => Stop::NoMemory,
-        },
+        SchemaError::Unread { file, refusal } => {
+            Stop::Refused(ToolRefusal::Refused(names[file as usize], refusal))
+        }
+        SchemaError::Refused(refusal) => Stop::Refused(ToolRefusal::Rejected {
+            name: names[refusal.file as usize],
+            at: refusal.at,
+            cause: refusal.cause,
+        }),
         SchemaError::Memory => Stop::NoMemory,
     }
 }

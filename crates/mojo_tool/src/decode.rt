@@ -58,10 +58,8 @@ fn show<'a>(alloc: Global, name: &str, checked: &Checked<'_>) -> Result<Items<u8
     let found = checked
         .schema
         .method(checked.expected.interface, checked.method);
-    let Some(method) = found else {
-        // Not reached: a message that was checked names a method.
-        return Err(Stop::NoMemory);
-    };
+    // A message that was checked names a method.
+    let Some(method) = found else { unreachable!() };
     let Ok(value) = decode(alloc, checked) else {
         return Err(Stop::NoMemory);
     };

@@ -50,6 +50,7 @@ fn sealed(alloc: Global, schema: &Schema, prepared: &Prepared) -> Result<Vec<u8>
     let head = Head {
         interface_id: 0,
         request_id: 1,
+        moment: None,
         ids: ids.as_slice(),
     };
     let message = seal(alloc, prepared, &head)?;

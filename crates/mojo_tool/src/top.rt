@@ -124,8 +124,9 @@ fn alone<F: Files, O: Sink, E: Sink>(
 /// first refusal that the files give, with its line on `err`; 2 the words are no command, or ask for
 /// help, and `err` has what is wrong or the help, a text that only tests look at; 3 a file could not
 /// be read, with its line on `err`; 4 `out` failed, and has a front of the text; 5 want of memory. At
-/// 0, 4 and 5 nothing is written to `err`, and at 2 no file is fetched; else each file that the words
-/// name is fetched once, in their order, up to the first with which the call can't go on, and no other.
+/// 0, 4 and 5 nothing is written to `err`, and at 2 no file is fetched; else the files that the
+/// words name are fetched in their order, once for each word, up to the first with which the call
+/// can't go on, and no other.
 pub fn mojo_alone<F: Files, O: Sink, E: Sink>(
     alloc: Global,
     words: &[String],

@@ -1,34 +1,37 @@
 -- What was prepared becomes bytes: a value that passes its checks has texts in UTF-8.
-use Rattle.std.proofs.Common.{◌≡◌, ◌<◌, ℕ, zero, suc, ◌+◌, ◌-◌, Bool, true, false, List, [], ◌∷◌, ◌++◌, length, map, replicate, refl, sym, ap, subst, ◌≤◌, ◌^◌, arith}
-use Rattle.std.specs.Prelude.{Option, Some, None, Result, Ok, Err, ◌==◌, nat_lt, if◌then◌else◌}
+use Rattle.std.proofs.Common.{◌≡◌, ◌∙◌, ◌<◌, ℕ, zero, suc, ◌+◌, ◌-◌, Bool, true, false, List, [], ◌∷◌, ◌++◌, length, map, replicate, refl, sym, ap, subst, ◌≤◌, ◌^◌, arith}
+use Rattle.std.specs.Prelude.{Option, Some, None, is_some, Result, Ok, Err, ◌==◌, nat_lt, if◌then◌else◌}
 use Rattle.std.proofs.lemmas.Bool.{eqb-true, ltb-true}
 use Rattle.std.proofs.lemmas.List.{length-append}
 use Rattle.mj_base.specs.Bytes.{rounded8}
 use Rattle.mj_schema.specs.KindTrees as kinds
 use Rattle.mj_schema.specs.KindTrees.{KindTree}
-use Rattle.mj_schema.specs.Layout.{kind_of}
+use Rattle.mj_schema.specs.Parts.{flag_place}
 use Rattle.mj_schema.specs.Sizes.{size_of}
 use Rattle.mj_schema.specs.declared.rows.FieldRow.{FieldRow}
+use Rattle.mj_schema.specs.declared.rows.Flag.{Flag}
 use Rattle.mj_schema.specs.declared.rows.StructRow.{StructRow}
 use Rattle.mj_schema.specs.declared.schema.Schema.{Schema}
 use Rattle.wire_encoder.specs.Alone.{takes_text}
-use Rattle.wire_encoder.specs.Checks.{Check, Test, HandleAt, EndpointAt, all_under, checks, list_checks, struct_checks, member_checks}
+use Rattle.wire_encoder.specs.Checks.{Check, Test, HandleAt, EndpointAt, Held, element_held, field_held, all_under, slot_checks}
+use Rattle.wire_encoder.specs.Checks.{checks, list_checks, struct_checks, member_checks}
 use Rattle.wire_encoder.specs.FirstFailed.{MAX_HANDLES, Met, Refusal, counted, first_failed, next, nothing, refusal, step}
 use Rattle.wire_encoder.specs.Prepared.{IsPrepared, kind_for, parameters_of}
 use Rattle.wire_encoder.specs.declared.prepared.Prepared.{Prepared}
 use Rattle.wire_encoder.specs.declared.refusal.Flaw.TheVariants.{Misfit, TooManyHandles}
 use Rattle.bind_model.specs.WireOf.{endpoints_met}
 use Rattle.wire_model.specs.Bytes.{bytes32}
-use Rattle.wire_model.specs.Cells.{UNION_BYTES, put, put_cell, zeros}
+use Rattle.wire_model.specs.Cells.{UNION_BYTES, put_cell, put_slot, zeros}
 use Rattle.wire_model.specs.Depth.{deeper}
 use Rattle.wire_model.specs.Emit.{object, text_object, struct_object, member_object, emit, body_of, behind}
 use Rattle.wire_model.specs.Rows.{member_kind, row_of}
 use Rattle.wire_model.specs.Slots.{Slot, element_slots, map_slots, element_bytes, field_slot, found_fields, found_size, found_version}
 use Rattle.wire_model.specs.Texts.{valid_len}
+use Rattle.wire_model.specs.Tight.{MAX_PAYLOAD_BYTES}
 use Rattle.wire_model.specs.Trees as values
 use Rattle.wire_model.specs.Trees.{Tree, Trees, none, more, count, view}
 use Rattle.history_reader.specs.Printable.{AreAll, AreBytes}
-use Rattle.printed_laws.proofs.SmallCells.{put_cell_fine, put_fine}
+use Rattle.printed_laws.proofs.SmallCells.{put_cell_fine, put_slot_fine}
 use Rattle.printed_laws.proofs.SmallLists.{all_both}
 use Rattle.printed_laws.proofs.SmallTexts.{text_bytes}
 use Rattle.printed_laws.proofs.SmallWire.{BecomeBytes, IsByte, before, zeros_fine}
@@ -97,36 +100,42 @@ unfolding body_of
 body_fine schema none ss body at a = a
 body_fine schema (more t ts) [] body at a = a
 body_fine schema (more t ts) (s ∷ ss) body at a =
-    body_fine schema ts ss (put schema s.place s.kind t body at) (at + length (emit schema true s.kind t)) (put_fine schema s.place s.kind t body at a)
+    body_fine schema ts ss (put_slot schema s t body at) (at + length (emit schema true s.kind t)) (put_slot_fine schema s t body at a)
 
--- ## Kinds of slots
+-- ## What stands in slots
 
-abbrev slot_kind : Slot → KindTree
-slot_kind s = s.kind
+abbrev slot_held : Slot → Held
+slot_held s = record { kind = s.kind; flagged = is_some s.flag }
 
-element_kinds : (k : KindTree) (place n : ℕ) → map slot_kind (element_slots k place n) ≡ replicate n k
-element_kinds k place zero = refl
-element_kinds k place (suc n) = ap (λ ks. k ∷ ks) (element_kinds k (place + size_of k) n)
+elements_held : (k : KindTree) (place n : ℕ) → map slot_held (element_slots k place n) ≡ replicate n (element_held k)
+elements_held k place zero = refl
+elements_held k place (suc n) = ap (λ (hs : List Held). element_held k ∷ hs) (elements_held k (place + size_of k) n)
 
-field_kinds : (fs : List FieldRow) → map slot_kind (map field_slot fs) ≡ map kind_of fs
-field_kinds [] = refl
-field_kinds (f ∷ fs) = ap (λ ks. f.kind ∷ ks) (field_kinds fs)
+same_flag : (flag : Option Flag) → is_some (flag_place flag) ≡ is_some flag
+same_flag None = refl
+same_flag (Some flag) = refl
+
+fields_held : (fs : List FieldRow) → map slot_held (map field_slot fs) ≡ map field_held fs
+fields_held [] = refl
+fields_held (f ∷ fs) =
+    ap (λ (b : Bool). record { kind = f.kind; flagged = b } ∷ map slot_held (map field_slot fs)) (same_flag f.flag)
+    ∙ ap (λ (hs : List Held). field_held f ∷ hs) (fields_held fs)
 
 -- a value that passes becomes bytes, and so do values
 abbrev ValueFine : Tree → Type 0
 ValueFine t = (schema : Schema) (above : ℕ) (inline : Bool) (k : KindTree) → AllHold (checks schema above inline k t) → AreBytes (emit schema inline k t)
 
 abbrev AllFine : Trees → Type 0
-AllFine ts = (schema : Schema) (above number : ℕ) (ss : List Slot) → AllHold (list_checks schema above number (map slot_kind ss) ts)
+AllFine ts = (schema : Schema) (above number : ℕ) (ss : List Slot) → AllHold (list_checks schema above number (map slot_held ss) ts)
     → AreBytes (behind schema ss ts)
 
 -- ## Values
 
 -- so many elements of one kind
-elements_fine : (ts : Trees) → AllFine ts → (schema : Schema) (above : ℕ) (e : KindTree) → AllHold (list_checks schema above 0 (replicate (count ts) e) ts)
-    → AreBytes (behind schema (element_slots e 0 (count ts)) ts)
+elements_fine : (ts : Trees) → AllFine ts → (schema : Schema) (above : ℕ) (e : KindTree)
+    → AllHold (list_checks schema above 0 (replicate (count ts) (element_held e)) ts) → AreBytes (behind schema (element_slots e 0 (count ts)) ts)
 elements_fine ts f schema above e a = f schema above 0 (element_slots e 0 (count ts))
-    (subst (λ (ks : List KindTree). AllHold (list_checks schema above 0 ks ts)) (sym (element_kinds e 0 (count ts))) a)
+    (subst (λ (hs : List Held). AllHold (list_checks schema above 0 hs ts)) (sym (elements_held e 0 (count ts))) a)
 
 array_fine : (ts : Trees) (schema : Schema) (inline : Bool) (e : KindTree) (c : Option ℕ) (nullable : Bool)
     → AreBytes (behind schema (element_slots e 0 (count ts)) ts) → AreBytes (emit schema inline (kinds.ArrayKind e c nullable) (values.Items ts))
@@ -150,8 +159,8 @@ map_of ks vs = more (values.Items ks) (more (values.Items vs) none)
 pairs_fine : (ks vs : Trees) → AllFine ks → AllFine vs → ValueFine (values.Pairs (map_of ks vs))
 unfolding checks emit behind
 pairs_fine ks vs f g schema above inline (kinds.MapKind key value nullable) a =
-    let first = list_checks schema (above + 2) 0 (replicate (count ks) key) ks in
-    let second = list_checks schema (above + 2) 0 (replicate (count vs) value) vs in
+    let first = list_checks schema (above + 2) 0 (replicate (count ks) (element_held key)) ks in
+    let second = list_checks schema (above + 2) 0 (replicate (count vs) (element_held value)) vs in
     let keys = array_fine ks schema true key None false (elements_fine ks f schema (above + 2) key
     (inside 0 first (fronts (all_under 0 first) (all_under 1 second) a.1.1))) in
     let items = array_fine vs schema true value None false (elements_fine vs g schema (above + 2) value
@@ -164,7 +173,7 @@ pairs_fine ks vs f g schema above inline (kinds.MapKind key value nullable) a =
 pairs_fine ks vs f g schema above inline k a = tt
 
 struct_fine : (ts : Trees) → AllFine ts → (schema : Schema) (above : ℕ) (o : Option StructRow)
-    → AllHold (struct_checks o (count ts) above (λ ks. list_checks schema (above + 1) 0 ks ts))
+    → AllHold (struct_checks o (count ts) above (λ hs. list_checks schema (above + 1) 0 hs ts))
     → AreBytes (struct_object o (λ ss size. body_of schema ss ts (zeros size) size) (λ ss. behind schema ss ts))
 struct_fine ts f schema above None a = tt
 struct_fine ts f schema above (Some row) a = object_fine (found_size (Some row)) (found_version (Some row))
@@ -172,7 +181,7 @@ struct_fine ts f schema above (Some row) a = object_fine (found_size (Some row))
     (behind schema (found_fields (Some row)) ts)
     (body_fine schema ts (found_fields (Some row)) (zeros (found_size (Some row) - 8)) (found_size (Some row) - 8) (zeros_fine (found_size (Some row) - 8)))
     (f schema (above + 1) 0 (map field_slot row.fields)
-    (subst (λ (ks : List KindTree). AllHold (list_checks schema (above + 1) 0 ks ts)) (sym (field_kinds row.fields)) a.1.1))
+    (subst (λ (hs : List Held). AllHold (list_checks schema (above + 1) 0 hs ts)) (sym (fields_held row.fields)) a.1.1))
 
 member_fine : (t : Tree) → ValueFine t → (schema : Schema) (above : ℕ) (inline : Bool) (tag : ℕ) (o : Option KindTree)
     → AllHold (member_checks o inline tag above (λ m. checks schema (deeper inline above) false m t))
@@ -186,6 +195,14 @@ member_fine t f schema above false tag (Some m) a = object_fine UNION_BYTES tag 
 -- a value of which no test holds is none
 no_value : {A : Type 0} → ◌≡◌ {A = Bool} false true → A
 no_value e = absurd cc
+
+-- a value in a slot that may have a flag: null points to nothing
+left_fine : (flagged : Bool) (t : Tree) → ValueFine t → (schema : Schema) (above : ℕ) (k : KindTree)
+    → AllHold (slot_checks flagged t (checks schema above true k t)) → AreBytes (emit schema true k t)
+unfolding emit
+left_fine false t f schema above k a = f schema above true k a
+left_fine true values.Null f schema above k a = tt
+left_fine true t f schema above k a = f schema above true k a
 
 mutual
   unfolding checks list_checks emit behind
@@ -204,10 +221,10 @@ mutual
   all_fine none schema above number ss a = tt
   all_fine (more t ts) schema above number [] a = tt
   all_fine (more t ts) schema above number (s ∷ ss) a =
-      let first = checks schema above true s.kind t in
-      let rest = list_checks schema above (number + 1) (map slot_kind ss) ts in
+      let first = slot_checks (is_some s.flag) t (checks schema above true s.kind t) in
+      let rest = list_checks schema above (number + 1) (map slot_held ss) ts in
       all_both IsByte (emit schema true s.kind t) (behind schema ss ts)
-      (value_fine t schema above true s.kind (inside number first (fronts (all_under number first) rest a)))
+      (left_fine (is_some s.flag) t (value_fine t) schema above s.kind (inside number first (fronts (all_under number first) rest a)))
       (all_fine ts schema above (number + 1) ss (rests (all_under number first) rest a))
 
 -- ## How many endpoints are met
@@ -252,7 +269,7 @@ few_met (EndpointAt index wanted path ∷ cs) m after few ok =
 pub prepared_bytes : (schema : Schema) (prepared : Prepared) → IsPrepared schema prepared → BecomeBytes schema prepared.target (view prepared.value)
 prepared_bytes schema prepared is =
     let k = kind_for (parameters_of schema prepared.target) in
-    let few : length prepared.payload.items ≤ 16777216 = prepared.short in (
+    let few : length prepared.payload.items ≤ MAX_PAYLOAD_BYTES = prepared.short in (
       value_fine (view prepared.value) schema 0 false k (passed (checks schema 0 false k (view prepared.value)) nothing
           (record { handles = prepared.handles; endpoints = prepared.endpoints.items }) is.passes),
       subst (λ (bytes : List ℕ). length bytes < 2 ^ 61) is.payload (omega (arith, few)),

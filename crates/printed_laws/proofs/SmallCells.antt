@@ -3,14 +3,17 @@ use Rattle.std.proofs.Common.{◌≡◌, ◌<◌, ℕ, zero, suc, ◌+◌, ◌-�
 use Rattle.std.specs.Prelude.{ℤ, ◌==◌, Option, Some, None, slice_index, if◌then◌else◌}
 use Rattle.std.specs.Int.{cast_unsigned, w128}
 use Rattle.std.proofs.lemmas.Bool.{eqb-true}
+use Rattle.mj_schema.specs.Parts.{FLAG_KIND}
 use Rattle.mj_schema.specs.KindTrees as kinds
 use Rattle.mj_schema.specs.KindTrees.{KindTree}
 use Rattle.mj_schema.specs.declared.kind.Width.{Width}
 use Rattle.mj_schema.specs.declared.kind.Width.TheVariants.{Bits8, Bits16, Bits32, Bits64}
 use Rattle.mj_schema.specs.declared.schema.Schema.{Schema}
 use Rattle.wire_model.specs.Bytes.{bytes16, bytes32, over, write, with_bit}
+use Rattle.wire_model.specs.Cells.{is_value, put_present, put_slot}
 use Rattle.wire_model.specs.Cells.{NO_INDEX, UNION_BYTES, int_bytes, whole_bytes, index_bytes, pointer_bytes, remote_bytes, cell_bytes, put_flag, put_cell, put_member, put}
 use Rattle.wire_model.specs.Rows.{member_kind}
+use Rattle.wire_model.specs.Slots.{Slot}
 use Rattle.wire_model.specs.Trees as values
 use Rattle.wire_model.specs.Trees.{Tree}
 use Rattle.history_reader.specs.Printable.{AreBytes}
@@ -53,8 +56,8 @@ int_fine Bits32 n = bytes32_fine n
 int_fine Bits64 n = bytes64_fine n
 
 whole_fine : (k : KindTree) (n : ℤ) → AreBytes (whole_bytes k n)
-whole_fine (kinds.IntKind width signed) n = int_fine width (cast_unsigned w128 n)
-whole_fine (kinds.EnumKind number) n = bytes32_fine (cast_unsigned w128 n)
+whole_fine (kinds.IntKind width signed nullable) n = int_fine width (cast_unsigned w128 n)
+whole_fine (kinds.EnumKind number nullable) n = bytes32_fine (cast_unsigned w128 n)
 whole_fine k n = tt
 
 index_fine : (k : KindTree) (index : ℕ) → AreBytes (index_bytes k index)
@@ -94,7 +97,7 @@ cell_fine k (values.EndpointRemote i version) d = remote_fine k i version
 cell_fine k values.Null d = index_fine k NO_INDEX
 
 flag_fine : (place : ℕ) (k : KindTree) (b : Bool) (body : List ℕ) → AreBytes body → AreBytes (put_flag place k b body)
-flag_fine place kinds.BoolKind true body a =
+flag_fine place (kinds.BoolKind nullable) true body a =
     write_fine body (place / 8) (with_bit (slice_index body (place / 8)) (place % 8) ∷ []) a
     (bit_fine (slice_index body (place / 8)) (place % 8) (byte_at body a (place / 8)) (omega arith), tt)
 flag_fine place k b body a = a
@@ -109,6 +112,13 @@ member_fine place (Some k) tag t body at a =
     put_cell_fine (place + 64) k t (write body (place / 8) (bytes32 UNION_BYTES ++ bytes32 tag)) at
     (write_fine body (place / 8) (bytes32 UNION_BYTES ++ bytes32 tag) a (before UNION_BYTES (bytes32 tag) (bytes32_fine tag)))
 
-pub put_fine : (schema : Schema) (place : ℕ) (k : KindTree) (t : Tree) (body : List ℕ) (at : ℕ) → AreBytes body → AreBytes (put schema place k t body at)
+put_fine : (schema : Schema) (place : ℕ) (k : KindTree) (t : Tree) (body : List ℕ) (at : ℕ) → AreBytes body → AreBytes (put schema place k t body at)
 put_fine schema place k (values.Member tag t) body at a = member_fine place (member_kind schema k tag) tag t body at a
 put_fine schema place k t body at a = put_cell_fine place k t body at a
+
+present_fine : (flag : Option ℕ) (t : Tree) (body : List ℕ) → AreBytes body → AreBytes (put_present flag t body)
+present_fine None t body a = a
+present_fine (Some flag) t body a = flag_fine flag FLAG_KIND (is_value t) body a
+
+pub put_slot_fine : (schema : Schema) (s : Slot) (t : Tree) (body : List ℕ) (at : ℕ) → AreBytes body → AreBytes (put_slot schema s t body at)
+put_slot_fine schema s t body at a = put_fine schema s.place s.kind t (put_present s.flag t body) at (present_fine s.flag t body a)

@@ -15,7 +15,7 @@ use Rattle.mj_schema.specs.declared.rows.UnionRow.{UnionRow}
 use Rattle.mj_schema.specs.declared.schema.Schema.{Schema}
 use Rattle.wire_model.specs.Bytes.{number32, number64}
 use Rattle.wire_model.specs.Cells.{NO_INDEX, UNION_BYTES}
-use Rattle.wire_model.specs.Marks.{Mark, Test, Handle, Id, Next, pointer_marks, index_marks, is_known, cell_marks, member_marks, found_union_marks, union_marks, slot_marks, slots_marks, elements_marks, count_is, content_marks, array_marks, text_marks, count_at, map_marks, row_fits, slots_up_to, struct_marks, found_struct_marks, object_marks, visit}
+use Rattle.wire_model.specs.Marks.{Mark, Test, Handle, Id, Next, pointer_marks, index_marks, is_known, cell_marks, member_marks, found_union_marks, union_marks, slot_marks, has_value, marks_if, slots_marks, elements_marks, count_is, content_marks, array_marks, text_marks, count_at, map_marks, row_fits, slots_up_to, struct_marks, found_struct_marks, object_marks, visit}
 use Rattle.wire_model.specs.Rows.{kind_of_tag}
 use Rattle.wire_model.specs.Slots.{Slot, element_bytes}
 use Rattle.wire_model.specs.Texts.{valid_len}
@@ -42,12 +42,12 @@ unfolding valid_len
 valid_few bs = utf8_valid_len_le bs
 
 element_small : (k : KindTree) → size_of k / 8 ≤ 16
-element_small kinds.BoolKind = omega arith
-element_small (kinds.IntKind Bits8 signed) = omega arith
-element_small (kinds.IntKind Bits16 signed) = omega arith
-element_small (kinds.IntKind Bits32 signed) = omega arith
-element_small (kinds.IntKind Bits64 signed) = omega arith
-element_small (kinds.EnumKind number) = omega arith
+element_small (kinds.BoolKind nullable) = omega arith
+element_small (kinds.IntKind Bits8 signed nullable) = omega arith
+element_small (kinds.IntKind Bits16 signed nullable) = omega arith
+element_small (kinds.IntKind Bits32 signed nullable) = omega arith
+element_small (kinds.IntKind Bits64 signed nullable) = omega arith
+element_small (kinds.EnumKind number nullable) = omega arith
 element_small (kinds.TextKind nullable) = omega arith
 element_small (kinds.HandleKind sort nullable) = omega arith
 element_small (kinds.ArrayKind of count nullable) = omega arith
@@ -86,9 +86,9 @@ module _ (schema : Schema) (low : HasLowSlots schema) (bytes : List ℕ) (are : 
 
     cell_near : (p : ℕ) (k : KindTree) → p < 2 ^ 62 + 2 ^ 40 → IsNear end (cell_marks next schema bytes p k)
     unfolding cell_marks
-    cell_near p kinds.BoolKind few = near_none end
-    cell_near p (kinds.IntKind width signed) few = near_none end
-    cell_near p (kinds.EnumKind number) few =
+    cell_near p (kinds.BoolKind nullable) few = near_none end
+    cell_near p (kinds.IntKind width signed nullable) few = near_none end
+    cell_near p (kinds.EnumKind number nullable) few =
         near_test end (is_known (slice_get schema.enums number) (cast_signed w32 (number32 bytes p))) UnknownEnumValue p [] (omega (arith, few))
         (λ h. near_none end)
     cell_near p (kinds.HandleKind sort nullable) few =
@@ -134,13 +134,18 @@ module _ (schema : Schema) (low : HasLowSlots schema) (bytes : List ℕ) (are : 
     slot_near p (kinds.UnionKind number nullable) few = union_near p number nullable few
     slot_near p k few = cell_near p k (omega (arith, few))
 
+    near_if : (b : Bool) (ms : List Mark) → IsNear end ms → IsNear end (marks_if b ms)
+    near_if true ms n = n
+    near_if false ms n = near_none end
+
     slots_near : (base : ℕ) (ss : List Slot) → base < 2 ^ 62 + 2 ^ 38 → AreAll IsLow ss → IsNear end (slots_marks next schema bytes base ss)
     unfolding slots_marks
     slots_near base [] few a = near_none end
     slots_near base (s ∷ ss) few a =
         let below = a.0 in
-        near_both end (slot_marks next schema bytes (base + s.place / 8) s.kind) (slots_marks next schema bytes base ss)
-        (slot_near (base + s.place / 8) s.kind (omega (arith, few, below))) (slots_near base ss few a.1)
+        let one = slot_marks next schema bytes (base + s.place / 8) s.kind in
+        near_both end (marks_if (has_value bytes base s.flag) one) (slots_marks next schema bytes base ss)
+        (near_if (has_value bytes base s.flag) one (slot_near (base + s.place / 8) s.kind (omega (arith, few, below)))) (slots_near base ss few a.1)
 
     elements_near : (p : ℕ) (k : KindTree) (n : ℕ) → p + 16 * n < 2 ^ 62 + 2 ^ 38 → IsNear end (elements_marks next schema bytes p k n)
     unfolding elements_marks
@@ -151,8 +156,8 @@ module _ (schema : Schema) (low : HasLowSlots schema) (bytes : List ℕ) (are : 
 
     content_near : (p : ℕ) (k : KindTree) (n : ℕ) → p + 16 * n < 2 ^ 62 + 2 ^ 38 → IsNear end (content_marks next schema bytes p k n)
     unfolding content_marks
-    content_near p kinds.BoolKind n few = near_none end
-    content_near p (kinds.IntKind width signed) n few = near_none end
+    content_near p (kinds.BoolKind nullable) n few = near_none end
+    content_near p (kinds.IntKind width signed nullable) n few = near_none end
     content_near p k n few = elements_near p k n few
 
     -- ## Objects

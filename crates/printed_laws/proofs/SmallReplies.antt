@@ -333,7 +333,7 @@ module _ (F : Target → Tree → Type 0) (wire : Wire) (w : IsSmallWire F wire)
       ∷ unless (nat_le (length handles) MAX_RAW_HANDLES) TooManyHandles
       ∷ cannot_write wire past x false handles)
       (Wrote x)
-      (λ p. let few : length bytes ≤ 16777216 = leb-true (length bytes) MAX_RAW_BYTES (held (nat_le (length bytes) MAX_RAW_BYTES) TooLong p.0) in
+      (λ p. let few : length bytes ≤ MAX_RAW_BYTES = leb-true (length bytes) MAX_RAW_BYTES (held (nat_le (length bytes) MAX_RAW_BYTES) TooLong p.0) in
       omega (arith, few))
 
   pub short_answer : (seqs : ℕ) (asked : Asked) → IsShort asked (answer wire seqs past seq asked)

@@ -1,7 +1,8 @@
 -- Messages that are written are bytes, and what is read off bytes has its width.
 use Rattle.std.proofs.lemmas.List.{length-append}
 use Rattle.std.proofs.Common.{◌≡◌, ◌<◌, ◌≤◌, ℕ, zero, suc, ◌+◌, ◌-◌, ◌*◌, ◌/◌, ◌^◌, Bool, true, false, List, [], ◌∷◌, ◌++◌, length, refl, ap, subst, arith}
-use Rattle.std.specs.Prelude.{◌==◌, nat_lt, Option, Some, None, Ok, slice_index, if◌then◌else◌}
+use Rattle.std.specs.Int.{cast_unsigned, w64}
+use Rattle.std.specs.Prelude.{ℤ, ◌==◌, nat_lt, Option, Some, None, Ok, slice_index, if◌then◌else◌}
 use Rattle.mj_base.specs.Bytes.{rounded8}
 use Rattle.mj_base.specs.declared.fault.Fault.{Fault}
 use Rattle.mj_schema.specs.declared.schema.Schema.{Schema}
@@ -13,7 +14,8 @@ use Rattle.wire_encoder.specs.Prepared.{payload_for, verdict}
 use Rattle.wire_model.specs.Bytes.{bytes32, bytes64, number32, number64}
 use Rattle.wire_model.specs.Cells.{zeros}
 use Rattle.wire_model.specs.Expected.{message_marks}
-use Rattle.wire_model.specs.HeaderMarks.{header_marks, HEADER_BYTES, HEADER_BYTES_1, HEADER_BYTES_2}
+use Rattle.wire_model.specs.HeaderMarks.{header_marks, HEADER_BYTES, HEADER_BYTES_1, HEADER_BYTES_2, HEADER_BYTES_3}
+use Rattle.wire_model.specs.Message.{front, ids_distance, moment_bytes}
 use Rattle.wire_model.specs.Message.{Head, basic, front_of, back_of, id_bytes, ids_from, ids_read, is_plain, message, payload_start, plain_front, request_read, written_request}
 use Rattle.wire_model.specs.Trees.{Tree}
 use Rattle.wire_model.specs.declared.target.Expected.{Expected}
@@ -60,9 +62,16 @@ ids_fine : (ids : List ℕ) → AreBytes (id_bytes ids)
 ids_fine [] = tt
 ids_fine (i ∷ ids) = before i (id_bytes ids) (ids_fine ids)
 
-front_fine : (ids : List ℕ) (h : Head) (n : ℕ) → AreBytes (front_of ids h n)
-front_fine [] h n = plain_fine (is_plain h.flags) h
-front_fine (i ∷ ids) h n =
+front_fine : (moment : Option ℤ) (ids : List ℕ) (h : Head) (n : ℕ) → AreBytes (front moment ids h n)
+front_fine None [] h n = plain_fine (is_plain h.flags) h
+front_fine (Some moment) ids h n =
+    let request = written_request (is_plain h.flags) h.request in
+    let behind = bytes64 (ids_distance ids n) ++ moment_bytes moment in
+    all_both IsByte (basic HEADER_BYTES_3 3 h) (bytes64 request ++ (bytes64 24 ++ behind)) (basic_fine HEADER_BYTES_3 3 h)
+    (all_both IsByte (bytes64 request) (bytes64 24 ++ behind) (bytes64_fine request)
+    (all_both IsByte (bytes64 24) behind (bytes64_fine 24)
+    (all_both IsByte (bytes64 (ids_distance ids n)) (moment_bytes moment) (bytes64_fine (ids_distance ids n)) (bytes64_fine (cast_unsigned w64 moment)))))
+front_fine None (i ∷ ids) h n =
     let request = written_request (is_plain h.flags) h.request in
     all_both IsByte (basic HEADER_BYTES_2 2 h) (bytes64 request ++ (bytes64 16 ++ bytes64 (8 + n))) (basic_fine HEADER_BYTES_2 2 h)
     (all_both IsByte (bytes64 request) (bytes64 16 ++ bytes64 (8 + n)) (bytes64_fine request)
@@ -98,9 +107,24 @@ plain_length true h = omega (arith, basic_length HEADER_BYTES 0 h)
 plain_length false h =
     omega (arith, basic_length HEADER_BYTES_1 1 h, length64 h.request, length-append (basic HEADER_BYTES_1 1 h) (bytes64 h.request))
 
-front_length : (ids : List ℕ) (h : Head) (n : ℕ) → length (front_of ids h n) ≤ 48
-front_length [] h n = let few = plain_length (is_plain h.flags) h in omega (arith, few)
-front_length (i ∷ ids) h n =
+front_length : (moment : Option ℤ) (ids : List ℕ) (h : Head) (n : ℕ) → length (front moment ids h n) ≤ 56
+front_length (Some moment) ids h n =
+    let request = written_request (is_plain h.flags) h.request in
+    let behind = bytes64 (ids_distance ids n) ++ moment_bytes moment in
+    omega (
+      arith,
+      basic_length HEADER_BYTES_3 3 h,
+      length64 request,
+      length64 24,
+      length64 (ids_distance ids n),
+      length64 (cast_unsigned w64 moment),
+      length-append (basic HEADER_BYTES_3 3 h) (bytes64 request ++ (bytes64 24 ++ behind)),
+      length-append (bytes64 request) (bytes64 24 ++ behind),
+      length-append (bytes64 24) behind,
+      length-append (bytes64 (ids_distance ids n)) (moment_bytes moment),
+    )
+front_length None [] h n = let few = plain_length (is_plain h.flags) h in omega (arith, few)
+front_length None (i ∷ ids) h n =
     let request = written_request (is_plain h.flags) h.request in
     omega (
       arith,
@@ -137,14 +161,14 @@ back_length (i ∷ ids) few =
     )
 
 message_bytes : (h : Head) (payload : List ℕ) → AreBytes payload → AreBytes (message h payload)
-message_bytes h payload a = all_both IsByte (front_of h.ids h (length payload)) (payload ++ back_of h.ids) (front_fine h.ids h (length payload))
+message_bytes h payload a = all_both IsByte (front_of h.ids h (length payload)) (payload ++ back_of h.ids) (front_fine h.moment h.ids h (length payload))
     (all_both IsByte payload (back_of h.ids) a (back_fine h.ids))
 
 message_short : (h : Head) (payload : List ℕ) → length h.ids ≤ 64 → length payload < 2 ^ 61 → length (message h payload) < 2 ^ 62
 message_short h payload ids few = omega (
   arith,
   few,
-  front_length h.ids h (length payload),
+  front_length h.moment h.ids h (length payload),
   back_length h.ids ids,
   length-append (front_of h.ids h (length payload)) (payload ++ back_of h.ids),
   length-append payload (back_of h.ids),

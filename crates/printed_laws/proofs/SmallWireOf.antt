@@ -1,5 +1,6 @@
 -- The wire of a schema writes bytes, and reads numbers of their widths.
 use Rattle.std.proofs.Common.{◌<◌, ℕ, ◌^◌, [], ◌++◌, length, arith}
+use Rattle.std.specs.Prelude.{None}
 use Rattle.mj_schema.specs.declared.schema.Schema.{Schema}
 use Rattle.wire_encoder.specs.Prepared.{flags_for, method_of, payload_for}
 use Rattle.wire_model.specs.Bytes.{bytes32}
@@ -26,10 +27,11 @@ small_wire schema low = record {
         flags = flags_for (method_of schema target) target;
         nonce = 0;
         request = head.request;
+        moment = None;
         ids = head.ids;
       })
       (payload_for schema target parameters) few a.0 a.1;
-  control = λ id. message_fine (record { interface = CONTROL_ID; name = 0; flags = 0; nonce = 0; request = 0; ids = [] })
+  control = λ id. message_fine (record { interface = CONTROL_ID; name = 0; flags = 0; nonce = 0; request = 0; moment = None; ids = [] })
       (bytes32 16 ++ (bytes32 0 ++ (bytes32 1 ++ bytes32 id))) (omega arith)
       (before 16 (bytes32 0 ++ (bytes32 1 ++ bytes32 id)) (before 0 (bytes32 1 ++ bytes32 id) (before 1 (bytes32 id) (bytes32_fine id)))) (control_length id);
   header = header_small;

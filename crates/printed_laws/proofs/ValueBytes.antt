@@ -2,11 +2,12 @@
 use Rattle.std.proofs.Common.{◌≡◌, ℕ, ℤ, zero, suc, ◌+◌, ◌-◌, ◌*◌, ◌/◌, ◌%◌, ◌^◌, ◌<◌, Bool, true, false, cond, List, [], ◌∷◌, ◌++◌, length}
 use Rattle.std.proofs.Common.{Option, Some, None, refl, sym, subst, arith}
 use Rattle.std.specs.Prelude.{◌==◌, ◌&&◌, nat_lt, slice_index}
-use Rattle.std.specs.Int.{cast_unsigned, w128}
+use Rattle.std.specs.Int.{cast_unsigned, w64, w128}
 use Rattle.std.proofs.lemmas.Bool.Decides.{nat_tests}
 use Rattle.std.proofs.lemmas.List.Elements.{All-nil, All-cons, All-head, All-tail, All-append, All-replicate}
 use lib.Utf8.{scalar, scalars, encode, encodes}
 use Rattle.mj_base.specs.Bytes.{rounded8}
+use Rattle.mj_schema.specs.Parts.{FLAG_KIND}
 use Rattle.mj_schema.specs.KindTrees as kinds
 use Rattle.mj_schema.specs.KindTrees.{KindTree}
 use Rattle.mj_schema.specs.declared.kind.Width.{Width}
@@ -15,11 +16,13 @@ use Rattle.mj_schema.specs.declared.rows.StructRow.{StructRow}
 use Rattle.mj_schema.specs.declared.schema.Schema.{Schema}
 use Rattle.wire_model.specs.Bytes.{bytes16, bytes32, bytes64, over, write, with_bit}
 use Rattle.wire_model.specs.Cells.{UNION_BYTES, int_bytes, whole_bytes, index_bytes, pointer_bytes, remote_bytes, cell_bytes, put_flag, put_cell, put_member}
-use Rattle.wire_model.specs.Cells.{put, zeros}
+use Rattle.wire_model.specs.Cells.{is_value, put, put_present, put_slot, zeros}
 use Rattle.wire_model.specs.Depth.{IsOfKind, AreOfKinds}
 use Rattle.wire_model.specs.Emit.{object, text_object, struct_object, member_object, emit, body_of, behind}
-use Rattle.wire_model.specs.HeaderMarks.{HEADER_BYTES, HEADER_BYTES_1, HEADER_BYTES_2}
-use Rattle.wire_model.specs.Message.{Head, is_plain, basic, plain_front, written_request, front_of, id_bytes, back_of, message}
+use Rattle.wire_model.specs.HeaderMarks.{HEADER_BYTES, HEADER_BYTES_1, HEADER_BYTES_2, HEADER_BYTES_3}
+use Rattle.wire_model.specs.Kinded.{OrNull}
+use Rattle.wire_model.specs.Message.{Head, is_plain, basic, plain_front, written_request, ids_distance, moment_bytes, front, front_of}
+use Rattle.wire_model.specs.Message.{id_bytes, back_of, message}
 use Rattle.wire_model.specs.Rows.{member_kind}
 use Rattle.wire_model.specs.Slots.{Slot, element_slots, map_slots, element_bytes, found_fields, found_size, found_version}
 use Rattle.wire_model.specs.Texts.{valid_len}
@@ -109,9 +112,9 @@ of_int Bits32 n = of32 n
 of_int Bits64 n = of64 n
 
 of_whole : (k : KindTree) (n : ℤ) → AreBytes (whole_bytes k n)
-of_whole kinds.BoolKind n = nil
-of_whole (kinds.IntKind w signed) n = of_int w (cast_unsigned w128 n)
-of_whole (kinds.EnumKind number) n = of32 (cast_unsigned w128 n)
+of_whole (kinds.BoolKind nullable) n = nil
+of_whole (kinds.IntKind w signed nullable) n = of_int w (cast_unsigned w128 n)
+of_whole (kinds.EnumKind number nullable) n = of32 (cast_unsigned w128 n)
 of_whole (kinds.TextKind nullable) n = nil
 of_whole (kinds.HandleKind sort nullable) n = nil
 of_whole (kinds.ArrayKind of c nullable) n = nil
@@ -124,9 +127,9 @@ of_whole (kinds.AssociatedRemoteKind interface nullable) n = nil
 of_whole (kinds.AssociatedReceiverKind interface nullable) n = nil
 
 of_index : (k : KindTree) (i : ℕ) → AreBytes (index_bytes k i)
-of_index kinds.BoolKind i = nil
-of_index (kinds.IntKind w signed) i = nil
-of_index (kinds.EnumKind number) i = nil
+of_index (kinds.BoolKind nullable) i = nil
+of_index (kinds.IntKind w signed nullable) i = nil
+of_index (kinds.EnumKind number nullable) i = nil
 of_index (kinds.TextKind nullable) i = nil
 of_index (kinds.HandleKind sort nullable) i = of32 i
 of_index (kinds.ArrayKind of c nullable) i = nil
@@ -139,9 +142,9 @@ of_index (kinds.AssociatedRemoteKind interface nullable) i = of32 i
 of_index (kinds.AssociatedReceiverKind interface nullable) i = of32 i
 
 of_pointer : (k : KindTree) (d : ℕ) → AreBytes (pointer_bytes k d)
-of_pointer kinds.BoolKind d = nil
-of_pointer (kinds.IntKind w signed) d = nil
-of_pointer (kinds.EnumKind number) d = nil
+of_pointer (kinds.BoolKind nullable) d = nil
+of_pointer (kinds.IntKind w signed nullable) d = nil
+of_pointer (kinds.EnumKind number nullable) d = nil
 of_pointer (kinds.TextKind nullable) d = of64 d
 of_pointer (kinds.HandleKind sort nullable) d = nil
 of_pointer (kinds.ArrayKind of c nullable) d = of64 d
@@ -154,9 +157,9 @@ of_pointer (kinds.AssociatedRemoteKind interface nullable) d = nil
 of_pointer (kinds.AssociatedReceiverKind interface nullable) d = nil
 
 of_remote : (k : KindTree) (i v : ℕ) → AreBytes (remote_bytes k i v)
-of_remote kinds.BoolKind i v = nil
-of_remote (kinds.IntKind w signed) i v = nil
-of_remote (kinds.EnumKind number) i v = nil
+of_remote (kinds.BoolKind nullable) i v = nil
+of_remote (kinds.IntKind w signed nullable) i v = nil
+of_remote (kinds.EnumKind number nullable) i v = nil
 of_remote (kinds.TextKind nullable) i v = nil
 of_remote (kinds.HandleKind sort nullable) i v = nil
 of_remote (kinds.ArrayKind of c nullable) i v = nil
@@ -184,13 +187,13 @@ of_cell k (values.EndpointRemote i v) d = of_remote k i v
 of_cell k values.Null d = of_index k 0xffffffff
 
 of_flag : (place : ℕ) (k : KindTree) (b : Bool) (body : List ℕ) → AreBytes body → AreBytes (put_flag place k b body)
-of_flag place kinds.BoolKind true body h =
+of_flag place (kinds.BoolKind nullable) true body h =
     write_bytes body (place / 8) (with_bit (slice_index body (place / 8)) (place % 8) ∷ []) h
     (cons (with_bit (slice_index body (place / 8)) (place % 8)) []
     (bit_byte (slice_index body (place / 8)) (place % 8) (byte_at body (place / 8) h) (omega arith)) nil)
-of_flag place kinds.BoolKind false body h = h
-of_flag place (kinds.IntKind w signed) b body h = h
-of_flag place (kinds.EnumKind number) b body h = h
+of_flag place (kinds.BoolKind nullable) false body h = h
+of_flag place (kinds.IntKind w signed nullable) b body h = h
+of_flag place (kinds.EnumKind number nullable) b body h = h
 of_flag place (kinds.TextKind nullable) b body h = h
 of_flag place (kinds.HandleKind sort nullable) b body h = h
 of_flag place (kinds.ArrayKind of c nullable) b body h = h
@@ -201,6 +204,11 @@ of_flag place (kinds.RemoteKind interface nullable) b body h = h
 of_flag place (kinds.ReceiverKind interface nullable) b body h = h
 of_flag place (kinds.AssociatedRemoteKind interface nullable) b body h = h
 of_flag place (kinds.AssociatedReceiverKind interface nullable) b body h = h
+
+-- the flag of a slot
+of_present : (flag : Option ℕ) (t : Tree) (body : List ℕ) → AreBytes body → AreBytes (put_present flag t body)
+of_present None t body h = h
+of_present (Some flag) t body h = of_flag flag FLAG_KIND (is_value t) body h
 
 -- a value in its slot
 of_put_cell : (place : ℕ) (k : KindTree) (t : Tree) (body : List ℕ) (at : ℕ) → AreBytes body → AreBytes (put_cell place k t body at)
@@ -296,7 +304,16 @@ unfolding body_of
 of_body schema ss none body at h = h
 of_body schema [] (more t ts) body at h = h
 of_body schema (s ∷ ss) (more t ts) body at h =
-    of_body schema ss ts (put schema s.place s.kind t body at) (at + length (emit schema true s.kind t)) (of_put schema s.place s.kind t body at h)
+    of_body schema ss ts (put_slot schema s t body at) (at + length (emit schema true s.kind t))
+    (of_put schema s.place s.kind t (put_present s.flag t body) at (of_present s.flag t body h))
+
+-- what a slot that may have a flag points to: null points to nothing
+of_pointed : (schema : Schema) (flag : Option ℕ) (k : KindTree) (t : Tree) → OrNull flag t (IsOfKind schema k t)
+    → (IsOfKind schema k t → AreBytes (emit schema true k t)) → AreBytes (emit schema true k t)
+unfolding emit
+of_pointed schema None k t h f = f h
+of_pointed schema (Some flag) k values.Null h f = nil
+of_pointed schema (Some flag) k t h f = f h
 
 mutual
   unfolding emit behind IsOfKind AreOfKinds
@@ -344,7 +361,8 @@ mutual
   of_behind schema [] (more t ts) h = nil
   of_behind schema (s ∷ ss) none h = nil
   of_behind schema (s ∷ ss) (more t ts) h =
-      joined (emit schema true s.kind t) (behind schema ss ts) (of_value schema true s.kind t h.0) (of_behind schema ss ts h.1)
+      joined (emit schema true s.kind t) (behind schema ss ts) (of_pointed schema s.flag s.kind t h.0 (λ o. of_value schema true s.kind t o))
+      (of_behind schema ss ts h.1)
 
 -- ## Messages
 
@@ -361,9 +379,14 @@ of_plain : (plain : Bool) (h : Head) → AreBytes (plain_front plain h)
 of_plain true h = of_basic HEADER_BYTES 0 h
 of_plain false h = joined (basic HEADER_BYTES_1 1 h) (bytes64 h.request) (of_basic HEADER_BYTES_1 1 h) (of64 h.request)
 
-of_front : (ids : List ℕ) (h : Head) (n : ℕ) → AreBytes (front_of ids h n)
-of_front [] h n = of_plain (is_plain h.flags) h
-of_front (i ∷ is) h n =
+of_front : (moment : Option ℤ) (ids : List ℕ) (h : Head) (n : ℕ) → AreBytes (front moment ids h n)
+of_front None [] h n = of_plain (is_plain h.flags) h
+of_front (Some moment) ids h n =
+    joined (basic HEADER_BYTES_3 3 h) _ (of_basic HEADER_BYTES_3 3 h)
+    (joined (bytes64 (written_request (is_plain h.flags) h.request)) _ (of64 (written_request (is_plain h.flags) h.request))
+    (joined (bytes64 24) _ (of64 24)
+    (joined (bytes64 (ids_distance ids n)) (moment_bytes moment) (of64 (ids_distance ids n)) (of64 (cast_unsigned w64 moment)))))
+of_front None (i ∷ is) h n =
     joined (basic HEADER_BYTES_2 2 h) _ (of_basic HEADER_BYTES_2 2 h)
     (joined (bytes64 (written_request (is_plain h.flags) h.request)) _ (of64 (written_request (is_plain h.flags) h.request))
     (joined (bytes64 16) (bytes64 (8 + n)) (of64 16) (of64 (8 + n))))
@@ -378,5 +401,5 @@ of_back (i ∷ is) =
 -- a message that carries bytes is bytes
 pub of_message : (h : Head) (payload : List ℕ) → AreBytes payload → AreBytes (message h payload)
 of_message h payload bytes =
-    joined (front_of h.ids h (length payload)) (payload ++ back_of h.ids) (of_front h.ids h (length payload))
+    joined (front_of h.ids h (length payload)) (payload ++ back_of h.ids) (of_front h.moment h.ids h (length payload))
     (joined payload (back_of h.ids) bytes (of_back h.ids))

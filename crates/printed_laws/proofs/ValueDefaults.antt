@@ -1,6 +1,6 @@
 -- Fields of which nothing is refused: a late one that has no default may be null or is a number, and a default is of its field's kind.
 use Rattle.std.proofs.Common.{◌≡◌, ◌<◌, ℕ, suc, ℤ, pos, negsuc, Bool, true, false, List, [], ◌∷◌, refl, sym, ap, subst, ◌∙◌, arith}
-use Rattle.std.specs.Prelude.{◌&&◌, ◌+ℤ◌, int_le, not, cond, nat_le, nat_lt, Option, Some, None, option_and_then, FitsSigned}
+use Rattle.std.specs.Prelude.{◌&&◌, ◌+ℤ◌, int_le, not, cond, if◌then◌else◌, nat_le, nat_lt, Option, Some, None, option_and_then, FitsSigned}
 use Rattle.std.specs.Int.{int_max, w32}
 use Rattle.std.specs.List.{AllByRecursion}
 use Rattle.std.specs.Option.{option_map, option_map_or, option_or}
@@ -26,7 +26,7 @@ use Rattle.const_eval.specs.Kinds.{basic_of_base, basic_of_parts, is_within, sig
 use Rattle.const_meanings.specs.Known.{Known, TextValue, BoolValue, NumberValue, FloatValue}
 use Rattle.const_eval.specs.declared.kinds.Range.{Range}
 use Rattle.const_eval.specs.Refused.{Site, is_enumerator_of, meant_by_base, meant_by_value, place_of_value, refused_default}
-use Rattle.const_eval.specs.Refused.{refused_default_as, refused_default_of, refused_enum_default}
+use Rattle.const_eval.specs.Refused.{is_string, refused_default_as, refused_default_by, refused_enum_default}
 use Rattle.const_eval.specs.declared.file_things.FileThings.{FileThings}
 use Rattle.mj_schema.specs.KindTrees as kinds
 use Rattle.mj_schema.specs.KindTrees.{KindTree}
@@ -52,15 +52,15 @@ use Rattle.schema_laws.proofs.Quiet.{none_where}
 
 -- a kind that reads as a number where it is absent, or that may be null
 abbrev pub absentable : KindTree → Bool
-absentable kinds.BoolKind = true
-absentable (kinds.IntKind width signed) = true
-absentable (kinds.EnumKind number) = true
+absentable (kinds.BoolKind nullable) = true
+absentable (kinds.IntKind width signed nullable) = true
+absentable (kinds.EnumKind number nullable) = true
 absentable k = is_nullable k
 
 -- a literal of a bool, an integer in its range, or a text, where the kind is one of these, and else what is said of other kinds
 abbrev pub Holds : (KindTree → Literal → Type 0) → KindTree → Literal → Type 0
-Holds Other kinds.BoolKind literal = (b : Bool) × (literal ≡ literals.Bool b)
-Holds Other (kinds.IntKind width signed) literal = (n : ℤ) × (literal ≡ literals.Whole n) × IsInRange width signed n
+Holds Other (kinds.BoolKind nullable) literal = (b : Bool) × (literal ≡ literals.Bool b)
+Holds Other (kinds.IntKind width signed nullable) literal = (n : ℤ) × (literal ≡ literals.Whole n) × IsInRange width signed n
 Holds Other (kinds.TextKind nullable) literal = (bytes : List ℕ) × (literal ≡ literals.Text bytes)
 Holds Other k literal = Other k literal
 
@@ -79,15 +79,15 @@ nulls false e = absurd cc
 module _ (rows : List FileRows) (scope : Scope) where
   basic_absent : (nullable : Bool) (basic : Basic) (k : KindTree) → basic_kind nullable basic ≡ Some k
       → (not nullable && is_object scope (Some (meant.Basic basic))) ≡ false → absentable k ≡ true
-  basic_absent nullable basics.Bool k is e = let same : kinds.BoolKind ≡ k = cc in subst (λ k. absentable k ≡ true) same refl
-  basic_absent nullable basics.Int8 k is e = let same : kinds.IntKind Bits8 true ≡ k = cc in subst (λ k. absentable k ≡ true) same refl
-  basic_absent nullable basics.Int16 k is e = let same : kinds.IntKind Bits16 true ≡ k = cc in subst (λ k. absentable k ≡ true) same refl
-  basic_absent nullable basics.Int32 k is e = let same : kinds.IntKind Bits32 true ≡ k = cc in subst (λ k. absentable k ≡ true) same refl
-  basic_absent nullable basics.Int64 k is e = let same : kinds.IntKind Bits64 true ≡ k = cc in subst (λ k. absentable k ≡ true) same refl
-  basic_absent nullable basics.Uint8 k is e = let same : kinds.IntKind Bits8 false ≡ k = cc in subst (λ k. absentable k ≡ true) same refl
-  basic_absent nullable basics.Uint16 k is e = let same : kinds.IntKind Bits16 false ≡ k = cc in subst (λ k. absentable k ≡ true) same refl
-  basic_absent nullable basics.Uint32 k is e = let same : kinds.IntKind Bits32 false ≡ k = cc in subst (λ k. absentable k ≡ true) same refl
-  basic_absent nullable basics.Uint64 k is e = let same : kinds.IntKind Bits64 false ≡ k = cc in subst (λ k. absentable k ≡ true) same refl
+  basic_absent nullable basics.Bool k is e = let same : kinds.BoolKind nullable ≡ k = cc in subst (λ k. absentable k ≡ true) same refl
+  basic_absent nullable basics.Int8 k is e = let same : kinds.IntKind Bits8 true nullable ≡ k = cc in subst (λ k. absentable k ≡ true) same refl
+  basic_absent nullable basics.Int16 k is e = let same : kinds.IntKind Bits16 true nullable ≡ k = cc in subst (λ k. absentable k ≡ true) same refl
+  basic_absent nullable basics.Int32 k is e = let same : kinds.IntKind Bits32 true nullable ≡ k = cc in subst (λ k. absentable k ≡ true) same refl
+  basic_absent nullable basics.Int64 k is e = let same : kinds.IntKind Bits64 true nullable ≡ k = cc in subst (λ k. absentable k ≡ true) same refl
+  basic_absent nullable basics.Uint8 k is e = let same : kinds.IntKind Bits8 false nullable ≡ k = cc in subst (λ k. absentable k ≡ true) same refl
+  basic_absent nullable basics.Uint16 k is e = let same : kinds.IntKind Bits16 false nullable ≡ k = cc in subst (λ k. absentable k ≡ true) same refl
+  basic_absent nullable basics.Uint32 k is e = let same : kinds.IntKind Bits32 false nullable ≡ k = cc in subst (λ k. absentable k ≡ true) same refl
+  basic_absent nullable basics.Uint64 k is e = let same : kinds.IntKind Bits64 false nullable ≡ k = cc in subst (λ k. absentable k ≡ true) same refl
   basic_absent nullable basics.Text k is e =
       let same : kinds.TextKind nullable ≡ k = cc in subst (λ k. absentable k ≡ true) same (nulls nullable e)
   basic_absent nullable basics.Float k is e = absurd cc
@@ -100,7 +100,7 @@ module _ (rows : List FileRows) (scope : Scope) where
       let same : kinds.StructKind c.structs nullable ≡ k = cc in subst (λ k. absentable k ≡ true) same (nulls nullable e)
   row_absent nullable sorts.Union (Some c) k is e =
       let same : kinds.UnionKind c.unions nullable ≡ k = cc in subst (λ k. absentable k ≡ true) same (nulls nullable e)
-  row_absent nullable sorts.Enum (Some c) k is e = let same : kinds.EnumKind c.enums ≡ k = cc in subst (λ k. absentable k ≡ true) same refl
+  row_absent nullable sorts.Enum (Some c) k is e = let same : kinds.EnumKind c.enums nullable ≡ k = cc in subst (λ k. absentable k ≡ true) same refl
   row_absent nullable sorts.Interface (Some c) k is e = absurd cc
   row_absent nullable sorts.Const (Some c) k is e = absurd cc
 
@@ -213,13 +213,14 @@ true_of false e = absurd cc
 -- ## Defaults
 
 -- an integer of which nothing is refused
-whole_holds : (Other : KindTree → Literal → Type 0) (w : Width) (signed : Bool) (test : Bool) (number : ℤ) (k : KindTree) (literal : Literal)
+whole_holds : (Other : KindTree → Literal → Type 0) (w : Width) (signed nullable test : Bool) (number : ℤ) (k : KindTree) (literal : Literal)
     (refusal : Refusal)
     → test ≡ is_within (range w signed) number → where_true (not test) refusal ≡ []
-    → ◌≡◌ {A = Option KindTree} (Some (kinds.IntKind w signed)) (Some k) → ◌≡◌ {A = Option Literal} (Some (literals.Whole number)) (Some literal)
+    → ◌≡◌ {A = Option KindTree} (Some (kinds.IntKind w signed nullable)) (Some k)
+    → ◌≡◌ {A = Option Literal} (Some (literals.Whole number)) (Some literal)
     → Holds Other k literal
-whole_holds Other w signed test number k literal refusal tested e is l =
-    let same : kinds.IntKind w signed ≡ k = cc in
+whole_holds Other w signed nullable test number k literal refusal tested e is l =
+    let same : kinds.IntKind w signed nullable ≡ k = cc in
     let whole : literals.Whole number ≡ literal = cc in
     let within : is_within (range w signed) number ≡ true = sym tested ∙ true_of test (none_where (not test) refusal e) in
     subst (λ k. Holds Other k literal) same (number, sym whole, in_range w signed number within)
@@ -234,7 +235,7 @@ module _ (Other : KindTree → Literal → Type 0) (file : ℕ) (name : Identifi
   basic_holds basics.Float known k literal e is l = absurd cc
   basic_holds basics.Double known k literal e is l = absurd cc
   basic_holds basics.Bool (BoolValue b) k literal e is l =
-      let same : kinds.BoolKind ≡ k = cc in let flag : literals.Bool b ≡ literal = cc in subst (λ k. Holds Other k literal) same (b, sym flag)
+      let same : kinds.BoolKind nullable ≡ k = cc in let flag : literals.Bool b ≡ literal = cc in subst (λ k. Holds Other k literal) same (b, sym flag)
   basic_holds basics.Bool (TextValue bytes) k literal e is l = absurd cc
   basic_holds basics.Bool (NumberValue n) k literal e is l = absurd cc
   basic_holds basics.Bool FloatValue k literal e is l = absurd cc
@@ -244,14 +245,17 @@ module _ (Other : KindTree → Literal → Type 0) (file : ℕ) (name : Identifi
   basic_holds basics.Text (BoolValue b) k literal e is l = absurd cc
   basic_holds basics.Text (NumberValue n) k literal e is l = absurd cc
   basic_holds basics.Text FloatValue k literal e is l = absurd cc
-  basic_holds basics.Int8 (NumberValue n) k literal e is l = whole_holds Other Bits8 true (is_within (signed_bits 8) n) n k literal _ refl e is l
-  basic_holds basics.Int16 (NumberValue n) k literal e is l = whole_holds Other Bits16 true (is_within (signed_bits 16) n) n k literal _ refl e is l
-  basic_holds basics.Int32 (NumberValue n) k literal e is l = whole_holds Other Bits32 true (is_within (signed_bits 32) n) n k literal _ refl e is l
-  basic_holds basics.Int64 (NumberValue n) k literal e is l = whole_holds Other Bits64 true (is_within (signed_bits 64) n) n k literal _ refl e is l
-  basic_holds basics.Uint8 (NumberValue n) k literal e is l = whole_holds Other Bits8 false (is_within (unsigned_bits 8) n) n k literal _ refl e is l
-  basic_holds basics.Uint16 (NumberValue n) k literal e is l = whole_holds Other Bits16 false (is_within (unsigned_bits 16) n) n k literal _ refl e is l
-  basic_holds basics.Uint32 (NumberValue n) k literal e is l = whole_holds Other Bits32 false (is_within (unsigned_bits 32) n) n k literal _ refl e is l
-  basic_holds basics.Uint64 (NumberValue n) k literal e is l = whole_holds Other Bits64 false (is_within (unsigned_bits 64) n) n k literal _ refl e is l
+  basic_holds basics.Int8 (NumberValue n) k literal e is l = whole_holds Other Bits8 true nullable (is_within (signed_bits 8) n) n k literal _ refl e is l
+  basic_holds basics.Int16 (NumberValue n) k literal e is l = whole_holds Other Bits16 true nullable (is_within (signed_bits 16) n) n k literal _ refl e is l
+  basic_holds basics.Int32 (NumberValue n) k literal e is l = whole_holds Other Bits32 true nullable (is_within (signed_bits 32) n) n k literal _ refl e is l
+  basic_holds basics.Int64 (NumberValue n) k literal e is l = whole_holds Other Bits64 true nullable (is_within (signed_bits 64) n) n k literal _ refl e is l
+  basic_holds basics.Uint8 (NumberValue n) k literal e is l = whole_holds Other Bits8 false nullable (is_within (unsigned_bits 8) n) n k literal _ refl e is l
+  basic_holds basics.Uint16 (NumberValue n) k literal e is l =
+      whole_holds Other Bits16 false nullable (is_within (unsigned_bits 16) n) n k literal _ refl e is l
+  basic_holds basics.Uint32 (NumberValue n) k literal e is l =
+      whole_holds Other Bits32 false nullable (is_within (unsigned_bits 32) n) n k literal _ refl e is l
+  basic_holds basics.Uint64 (NumberValue n) k literal e is l =
+      whole_holds Other Bits64 false nullable (is_within (unsigned_bits 64) n) n k literal _ refl e is l
   basic_holds basics.Int8 (TextValue b) k literal e is l = absurd cc
   basic_holds basics.Int16 (TextValue b) k literal e is l = absurd cc
   basic_holds basics.Int32 (TextValue b) k literal e is l = absurd cc
@@ -308,6 +312,11 @@ module _ (Other : KindTree → Literal → Type 0) (rows : List FileRows) (scope
           subst (IsFine Other) same
           (record { absent = λ after. late rows scope one k quiet.0 found after; given = λ literal e. quiet.1 k literal found e })
 
+-- a default that is let through passes the test of its kind
+let_through : (b : Bool) (refusal : Refusal) (rest : List Refusal) → (if b then refusal ∷ [] else rest) ≡ [] → rest ≡ []
+let_through true refusal rest e = absurd cc
+let_through false refusal rest e = e
+
 -- what is no name means no enum
 no_enum : (things : List FileThings) (v : Option Target) (refusal : Refusal) → where_true (not (is_enumerator_of things None v)) refusal ≡ [] → ⊥
 no_enum things v refusal e = absurd cc
@@ -324,7 +333,7 @@ module _ (Other : KindTree → Literal → Type 0) (rows : List FileRows) (scope
   base_holds : (f : Field) (value : Value) (known : Known) (literal : Literal) → known_in scope value ≡ Some known → literal_of known ≡ Some literal
       → (base : BaseTree) → (meant_by_base (site_of scope) scope.enclosing f.kind.base ≡ meant_by_base (site_of scope) scope.enclosing base)
       → (nullable : Bool) (k : KindTree) → kind_of_base rows scope base nullable ≡ Some k
-      → refused_default_of (site_of scope) scope.enclosing f value (basic_of_base base) ≡ [] → Holds Other k literal
+      → refused_default_by (site_of scope) scope.enclosing f value (basic_of_base base) ≡ [] → Holds Other k literal
   base_holds f value known literal knows l (Named name) means nullable k is e = go (basic_of_parts name.parts) e is
     where
       t : Option Target
@@ -339,7 +348,7 @@ module _ (Other : KindTree → Literal → Type 0) (rows : List FileRows) (scope
           let at = ap (λ (o : Option Target). where_true (not (is_enumerator_of scope.consts.files o v)) (wrong_literal scope.file f.name)) means in
           true_of (is_enumerator_of scope.consts.files t v) (none_where (not (is_enumerator_of scope.consts.files t v)) _ (sym at ∙ e))
 
-      go : (b : Option Basic) → refused_default_of (site_of scope) scope.enclosing f value b ≡ []
+      go : (b : Option Basic) → refused_default_by (site_of scope) scope.enclosing f value b ≡ []
           → option_and_then (meant_kind rows scope nullable) (option_or (option_map meant.Basic b) (option_map meant.Target t)) ≡ Some k
           → Holds Other k literal
       go None e is = names_hold t nullable k value known literal is (enumerated e) knows l
@@ -361,7 +370,11 @@ module _ (Other : KindTree → Literal → Type 0) (rows : List FileRows) (scope
       known_of : (value : Value) (o : Option Known) → known_in scope value ≡ o → refused_default (site_of scope) scope.enclosing f (Some value) ≡ []
           → option_and_then literal_of o ≡ Some literal → Holds Other k literal
       known_of value None knows e given = absurd cc
-      known_of value (Some known) knows e given = base_holds f value known literal knows given f.kind.base refl f.kind.nullable k is e
+      known_of value (Some known) knows e given =
+          let basic = basic_of_base f.kind.base in
+          let tested = let_through (f.kind.nullable && not (is_string basic)) (wrong_literal scope.file f.name)
+          (refused_default_by (site_of scope) scope.enclosing f value basic) e in
+          base_holds f value known literal knows given f.kind.base refl f.kind.nullable k is tested
 
       of : (o : Option Value) → refused_default (site_of scope) scope.enclosing f o ≡ [] → option_and_then (literal_in scope) o ≡ Some literal
           → Holds Other k literal

@@ -28,9 +28,9 @@ literal_kinded : (schema : Schema) (enums : List EnumRow) → schema.enums ≡ e
     → IsOfKind schema k (literal_value literal)
 unfolding IsOfKind
 literal_kinded schema enums same k literal h =
-    subst (λ (k : KindTree). IsOfKind schema k (literal_value literal)) (sym h.2)
-    (subst (λ (l : Literal). IsOfKind schema (EnumKind h.0) (literal_value l)) (sym h.3)
-    (h.4, subst (λ (rows : List EnumRow). IsTrue (is_known (slice_get rows h.0) h.1)) (sym same) h.5))
+    subst (λ (k : KindTree). IsOfKind schema k (literal_value literal)) (sym h.3)
+    (subst (λ (l : Literal). IsOfKind schema (EnumKind h.0 h.1) (literal_value l)) (sym h.4)
+    (h.5, subst (λ (rows : List EnumRow). IsTrue (is_known (slice_get rows h.0) h.2)) (sym same) h.6))
 
 -- the schema of files is filled
 pub filled_of_files : (sources : List Source) (schema : Schema) → IsSchemaOfFiles sources schema → IsFilledSchema schema

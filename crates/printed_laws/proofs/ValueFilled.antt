@@ -1,7 +1,7 @@
 -- Schemas of fine tables are filled: what a version lacks reads as a value of its kind, where defaults that are texts are UTF-8.
 use Rattle.std.proofs.Common.{◌≡◌, ◌+◌, ℕ, zero, suc, ℤ, pos, Bool, true, false, List, [], ◌∷◌, length, map, refl, sym, ap, subst, ◌∙◌, arith, inl}
 use Rattle.std.proofs.Common.{inr}
-use Rattle.std.specs.Prelude.{◌||◌, IsTrue, nat_lt, codes, if◌then◌else◌, Option, Some, None, slice_get, FitsSigned, All}
+use Rattle.std.specs.Prelude.{◌||◌, IsTrue, nat_lt, codes, if◌then◌else◌, Option, Some, None, is_some, slice_get, FitsSigned, All}
 use Rattle.std.specs.Int.{w32}
 use Rattle.std.specs.List.{AllByRecursion, flat_map, list_all, list_any}
 use Rattle.std.specs.Option.{option_map_or, option_to_list}
@@ -9,7 +9,7 @@ use Rattle.std.specs.Ordering.{int_eq}
 use Rattle.std.proofs.lemmas.Bool.{and_parts}
 use Rattle.std.proofs.lemmas.Bool.Decides.{Decides-int_eq}
 use Rattle.std.proofs.lemmas.Cmp.{int_eq_equiv}
-use Rattle.std.proofs.lemmas.List.Elements.{All-from_recursion}
+use Rattle.std.proofs.lemmas.List.Elements.{All-from_recursion, All-head, All-tail}
 use Rattle.mojom_ast.specs.declared.attributes.Attribute.{Attribute}
 use Rattle.mojom_ast.specs.declared.definitions.DefinitionItem.{DefinitionItem}
 use Rattle.mojom_ast.specs.declared.definitions.DefinitionItem.TheVariants as items
@@ -35,6 +35,7 @@ use Rattle.const_eval.specs.declared.consts.Consts.{Consts}
 use Rattle.const_eval.specs.declared.file_things.FileThings.{FileThings}
 use Rattle.mj_schema.specs.KindTrees as kinds
 use Rattle.mj_schema.specs.KindTrees.{KindTree}
+use Rattle.mj_schema.specs.Parts.{has_flag, flag_place}
 use Rattle.mj_schema.specs.Layout.{draft_field, draft_of as row_draft}
 use Rattle.mj_schema.specs.WellFormed.{has_members}
 use Rattle.mj_schema.specs.declared.kind.Width.{Width}
@@ -42,6 +43,7 @@ use Rattle.mj_schema.specs.declared.kind.Width.TheVariants.{Bits8, Bits16, Bits3
 use Rattle.mj_schema.specs.declared.rows.DraftStruct.{DraftStruct}
 use Rattle.mj_schema.specs.declared.rows.EnumRow.{EnumRow}
 use Rattle.mj_schema.specs.declared.rows.FieldRow.{FieldRow}
+use Rattle.mj_schema.specs.declared.rows.Flag.{Flag}
 use Rattle.mj_schema.specs.declared.rows.Literal.{Literal}
 use Rattle.mj_schema.specs.declared.rows.Literal.TheVariants as literals
 use Rattle.mj_schema.specs.declared.rows.MemberRow.{MemberRow}
@@ -49,9 +51,13 @@ use Rattle.mj_schema.specs.declared.rows.StructRow.{StructRow}
 use Rattle.mj_schema.specs.declared.schema.Schema.{Schema}
 use Rattle.wire_model.specs.Absent.{absent_field, absent_kind, enum_number, first_number, has_zero, literal_value}
 use Rattle.wire_model.specs.Depth.{IsOfKind}
-use Rattle.wire_model.specs.Kinded.{IsInRange}
+use Rattle.wire_model.specs.Fits.{IsFlagged, IsGoodRow}
+use Rattle.wire_model.specs.Kinded.{IsInRange, OrNull}
 use Rattle.wire_model.specs.Marks.{is_known}
+use Rattle.wire_model.specs.Slots.{field_slot}
 use Rattle.wire_model.specs.Texts.{valid_len}
+use Rattle.wire_model.specs.Trees.{Tree, Null}
+use Rattle.wire_laws.proofs.GoodRows.{good_schema}
 use Rattle.draft_rows.specs.Drafts.{empty, join, draft_of_item, draft_of}
 use Rattle.kind_scope.specs.Scopes.{around, inside, Scope}
 use Rattle.kind_refusals.specs.KindRefusals.{is_struct, limit_of, refused_count, refused_in_interface, refused_in_item, refused_item, refused_list}
@@ -121,7 +127,7 @@ module _ (Other : KindTree → Literal → Type 0) (rows : List FileRows) (scope
           × ((if is_struct sort then refused_struct scope owner (numbered members) else []) ≡ [])
       numbers =
           both_empty (refused_doubles scope (numbered members)) (if is_struct sort then refused_struct scope owner (numbered members) else [])
-          (both_empty (flat_map (refused_in_member scope) members) (refused_numbers scope owner sort (numbered members))
+          (both_empty (flat_map (refused_in_member scope (is_struct sort)) members) (refused_numbers scope owner sort (numbered members))
           (both_empty (refused_count scope owner (limit_of sort) (length members)) _ e).1).1
 
       of : (b : Bool) → b ≡ true → (if b then refused_struct scope owner (numbered members) else []) ≡ []
@@ -351,36 +357,60 @@ enum_absent (Some row) is = of row.default refl
         sym (ap (λ (d : Option ℤ). option_map_or (λ default. list_any (λ (m : MemberRow). int_eq m.number default) row.members) d true) e) ∙ parts.1 in
         (fits_of row.members n fine.1 among, or_right row.extensible _ among)
 
+same_flag : (flag : Option Flag) → is_some (flag_place flag) ≡ is_some flag
+same_flag None = refl
+same_flag (Some flag) = refl
+
 module _ (schema : Schema) (Other : KindTree → Literal → Type 0)
     (others : (k : KindTree) (literal : Literal) → Other k literal → IsOfKind schema k (literal_value literal))
     (enums : (n : ℕ) (row : EnumRow) → slice_get schema.enums n ≡ Some row → (has_members row ≡ true) × EnumFits row) where
-  absent_kinded : (kind : KindTree) → absentable kind ≡ true → IsOfKind schema kind (absent_kind schema kind)
+  -- a kind without a flag reads as a value of itself, and a kind with one as null
+  absent_kinded : (kind : KindTree) → absentable kind ≡ true → has_flag kind ≡ false → IsOfKind schema kind (absent_kind schema kind)
   unfolding IsOfKind
-  absent_kinded kinds.BoolKind e = refl
-  absent_kinded (kinds.IntKind w signed) e = zero_in w signed
-  absent_kinded (kinds.EnumKind n) e = enum_absent (slice_get schema.enums n) (λ row is. enums n row is)
-  absent_kinded (kinds.TextKind nullable) e = e
-  absent_kinded (kinds.HandleKind sort nullable) e = e
-  absent_kinded (kinds.ArrayKind of count nullable) e = e
-  absent_kinded (kinds.MapKind key one nullable) e = e
-  absent_kinded (kinds.StructKind n nullable) e = e
-  absent_kinded (kinds.UnionKind n nullable) e = e
-  absent_kinded (kinds.RemoteKind n nullable) e = e
-  absent_kinded (kinds.ReceiverKind n nullable) e = e
-  absent_kinded (kinds.AssociatedRemoteKind n nullable) e = e
-  absent_kinded (kinds.AssociatedReceiverKind n nullable) e = e
+  absent_kinded (kinds.BoolKind false) e f = (false, refl)
+  absent_kinded (kinds.BoolKind true) e f = absurd cc
+  absent_kinded (kinds.IntKind w signed false) e f = zero_in w signed
+  absent_kinded (kinds.IntKind w signed true) e f = absurd cc
+  absent_kinded (kinds.EnumKind n false) e f = enum_absent (slice_get schema.enums n) (λ row is. enums n row is)
+  absent_kinded (kinds.EnumKind n true) e f = absurd cc
+  absent_kinded (kinds.TextKind nullable) e f = e
+  absent_kinded (kinds.HandleKind sort nullable) e f = e
+  absent_kinded (kinds.ArrayKind of count nullable) e f = e
+  absent_kinded (kinds.MapKind key one nullable) e f = e
+  absent_kinded (kinds.StructKind n nullable) e f = e
+  absent_kinded (kinds.UnionKind n nullable) e f = e
+  absent_kinded (kinds.RemoteKind n nullable) e f = e
+  absent_kinded (kinds.ReceiverKind n nullable) e f = e
+  absent_kinded (kinds.AssociatedRemoteKind n nullable) e f = e
+  absent_kinded (kinds.AssociatedReceiverKind n nullable) e f = e
+
+  absent_null : (kind : KindTree) → has_flag kind ≡ true → absent_kind schema kind ≡ Null
+  absent_null (kinds.BoolKind true) f = refl
+  absent_null (kinds.BoolKind false) f = absurd cc
+  absent_null (kinds.IntKind w signed true) f = refl
+  absent_null (kinds.IntKind w signed false) f = absurd cc
+  absent_null (kinds.EnumKind n true) f = refl
+  absent_null (kinds.EnumKind n false) f = absurd cc
+  absent_null kind f = refl
+
+  absent_there : (flag : Option Flag) (kind : KindTree) → is_some flag ≡ has_flag kind → absentable kind ≡ true
+      → OrNull (flag_place flag) (absent_kind schema kind) (IsOfKind schema kind (absent_kind schema kind))
+  absent_there None kind same e = absent_kinded kind e (sym same)
+  absent_there (Some flag) kind same e =
+      subst (λ (t : Tree). OrNull (flag_place (Some flag)) t (IsOfKind schema kind t)) (sym (absent_null kind (sym same))) tt
 
   -- a default of its kind
   given_kinded : (kind : KindTree) (literal : Literal) → Holds Other kind literal
       → ((bytes : List ℕ) → literal ≡ literals.Text bytes → valid_len bytes ≡ length bytes)
       → IsOfKind schema kind (literal_value literal)
   unfolding IsOfKind
-  given_kinded kinds.BoolKind literal h text = subst (λ (l : Literal). IsOfKind schema kinds.BoolKind (literal_value l)) (sym h.1) refl
-  given_kinded (kinds.IntKind w signed) literal h text =
-      subst (λ (l : Literal). IsOfKind schema (kinds.IntKind w signed) (literal_value l)) (sym h.1) h.2
+  given_kinded (kinds.BoolKind nullable) literal h text =
+      subst (λ (l : Literal). IsOfKind schema (kinds.BoolKind nullable) (literal_value l)) (sym h.1) (nullable, refl)
+  given_kinded (kinds.IntKind w signed nullable) literal h text =
+      subst (λ (l : Literal). IsOfKind schema (kinds.IntKind w signed nullable) (literal_value l)) (sym h.1) h.2
   given_kinded (kinds.TextKind nullable) literal h text =
       subst (λ (l : Literal). IsOfKind schema (kinds.TextKind nullable) (literal_value l)) (sym h.1) (nullable, refl, text h.0 h.1)
-  given_kinded (kinds.EnumKind n) literal h text = others (kinds.EnumKind n) literal h
+  given_kinded (kinds.EnumKind n nullable) literal h text = others (kinds.EnumKind n nullable) literal h
   given_kinded (kinds.HandleKind sort nullable) literal h text = others (kinds.HandleKind sort nullable) literal h
   given_kinded (kinds.ArrayKind of count nullable) literal h text = others (kinds.ArrayKind of count nullable) literal h
   given_kinded (kinds.MapKind key one nullable) literal h text = others (kinds.MapKind key one nullable) literal h
@@ -391,26 +421,40 @@ module _ (schema : Schema) (Other : KindTree → Literal → Type 0)
   given_kinded (kinds.AssociatedRemoteKind n nullable) literal h text = others (kinds.AssociatedRemoteKind n nullable) literal h
   given_kinded (kinds.AssociatedReceiverKind n nullable) literal h text = others (kinds.AssociatedReceiverKind n nullable) literal h
 
-  field_filled : (field : FieldRow) → IsFine Other (draft_field field) → IsTextDefault field → IsFilled schema field
-  field_filled field fine text late = of field.default refl
+  given_there : (flag : Option Flag) (kind : KindTree) (literal : Literal) → IsOfKind schema kind (literal_value literal)
+      → OrNull (flag_place flag) (literal_value literal) (IsOfKind schema kind (literal_value literal))
+  given_there None kind literal is = is
+  given_there (Some flag) kind (literals.Bool b) is = is
+  given_there (Some flag) kind (literals.Whole n) is = is
+  given_there (Some flag) kind (literals.Text bytes) is = is
+
+  field_filled : (field : FieldRow) → is_some field.flag ≡ has_flag field.kind → IsFine Other (draft_field field) → IsTextDefault field
+      → IsFilled schema field
+  field_filled field same fine text late = of field.default refl
     where
-      of : (o : Option Literal) → field.default ≡ o → IsOfKind schema field.kind (absent_field schema o field.kind)
-      of None e = absent_kinded field.kind (fine.absent late)
+      of : (o : Option Literal) → field.default ≡ o
+          → OrNull (flag_place field.flag) (absent_field schema o field.kind) (IsOfKind schema field.kind (absent_field schema o field.kind))
+      of None e = absent_there field.flag field.kind same (fine.absent late)
       of (Some literal) e =
-          given_kinded field.kind literal (fine.given literal e) (λ bytes is. text bytes (e ∙ ap (λ (l : Literal). let o : Option Literal = Some l in o) is))
+          given_there field.flag field.kind literal
+          (given_kinded field.kind literal (fine.given literal e)
+          (λ bytes is. text bytes (e ∙ ap (λ (l : Literal). let o : Option Literal = Some l in o) is)))
 
-  fields_filled : (fields : List FieldRow) → AllByRecursion (IsFine Other) (map draft_field fields) → AllByRecursion IsTextDefault fields
-      → AllByRecursion (IsFilled schema) fields
-  fields_filled [] fine text = tt
-  fields_filled (f ∷ fs) fine text = (field_filled f fine.0 text.0, fields_filled fs fine.1 text.1)
+  fields_filled : (fields : List FieldRow) → All IsFlagged (map field_slot fields) → AllByRecursion (IsFine Other) (map draft_field fields)
+      → AllByRecursion IsTextDefault fields → AllByRecursion (IsFilled schema) fields
+  fields_filled [] flagged fine text = tt
+  fields_filled (f ∷ fs) flagged fine text = (
+    field_filled f (sym (same_flag f.flag) ∙ All-head IsFlagged (field_slot f) (map field_slot fs) flagged) fine.0 text.0,
+    fields_filled fs (All-tail IsFlagged (field_slot f) (map field_slot fs) flagged) fine.1 text.1,
+  )
 
-  structs_filled : (rows : List StructRow) → AllByRecursion (StructFine Other) (map row_draft rows)
+  structs_filled : (rows : List StructRow) → All IsGoodRow rows → AllByRecursion (StructFine Other) (map row_draft rows)
       → AllByRecursion (λ (row : StructRow). AllByRecursion IsTextDefault row.fields) rows
       → AllByRecursion (λ (row : StructRow). All (IsFilled schema) row.fields) rows
-  structs_filled [] fine text = tt
-  structs_filled (row ∷ rows) fine text = (
-    All-from_recursion (IsFilled schema) row.fields (fields_filled row.fields fine.0 text.0),
-    structs_filled rows fine.1 text.1,
+  structs_filled [] good fine text = tt
+  structs_filled (row ∷ rows) good fine text = (
+    All-from_recursion (IsFilled schema) row.fields (fields_filled row.fields (All-head IsGoodRow row rows good).flagged fine.0 text.0),
+    structs_filled rows (All-tail IsGoodRow row rows good) fine.1 text.1,
   )
 
 -- a schema with fine tables is filled, where its defaults that are texts are UTF-8
@@ -427,5 +471,5 @@ filled_by schema draft Other others fine members structs_are enums_are have =
     λ n row at. (all_at has_members schema.enums row some (among_at schema.enums n row at), at_each EnumFits schema.enums n row numbers at) in
     record {
       structs = All-from_recursion (λ (row : StructRow). All (IsFilled schema) row.fields) schema.structs
-          (structs_filled schema Other others enums schema.structs structs have.texts);
+          (structs_filled schema Other others enums schema.structs (good_schema schema).rows structs have.texts);
     }

@@ -20,7 +20,7 @@ use Rattle.handle_table.specs.Things.{same_end}
 use Rattle.message_header.specs.Controls.{CLOSED, CONTROL_BYTES, CONTROL_HEAD, control_bytes}
 use Rattle.message_validator.proofs.WholeMessage.{message_run, stand}
 use Rattle.message_pipe.specs.declared.message.Message.{Message}
-use Rattle.message_laws.proofs.Fine.{fine_right}
+use Rattle.same_messages.proofs.Fine.{fine_right}
 use Rattle.message_laws.proofs.OfItsKind.{of_its_kind}
 use Rattle.message_laws.specs.Filled.{AreBytes, IsFilledSchema}
 use Rattle.bind_model.specs.Machine.{Endpoints, peer, is_gone, is_local, is_peer_closed, consumed, enters, closed_ids, emits, lands, puts, written}

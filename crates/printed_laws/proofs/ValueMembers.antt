@@ -61,10 +61,11 @@ use Rattle.printed_laws.proofs.ValueDefaults.{Holds, NamesHold, in_range, site_o
 use Rattle.printed_laws.proofs.ValueNumbers.{in_quiet, numbers_are, origins_with, zero_implied}
 use Rattle.printed_laws.proofs.ValueRows.{enum_of, enum_there}
 
--- the number of a member of an enum
+-- the number of a member of an enum, whether or not it may be null
 abbrev pub IsEnumLiteral : List EnumRow → KindTree → Literal → Type 0
 IsEnumLiteral enums k literal =
-    (c : ℕ) × (n : ℤ) × (k ≡ kinds.EnumKind c) × (literal ≡ literals.Whole n) × FitsSigned w32 n × IsTrue (is_known (slice_get enums c) n)
+    (c : ℕ) × (nullable : Bool) × (n : ℤ) × (k ≡ kinds.EnumKind c nullable) × (literal ≡ literals.Whole n) × FitsSigned w32 n
+    × IsTrue (is_known (slice_get enums c) n)
 
 -- ## The enum of an enumerator
 
@@ -273,9 +274,9 @@ module _ (files : List NamedFile) (order : List ℕ) (consts : Consts) (are : Ar
             ap (λ (ts : List FileThings).
             slice_get (origins_in_order (origin_of_value ts (names_of files order).files file (Some d.full)) (e ∷ es)) i) are.files_are
 
-    member : (literal : Literal) → literal_of known ≡ Some literal → IsEnumLiteral (draft_of (names_of files order).files consts files order).enums
-        (kinds.EnumKind c.enums) literal
-    member literal l =
+    member : (nullable : Bool) (literal : Literal) → literal_of known ≡ Some literal
+        → IsEnumLiteral (draft_of (names_of files order).files consts files order).enums (kinds.EnumKind c.enums nullable) literal
+    member nullable literal l =
         let n = number_is.0 in
         let enum = enum_is d.item o.own o.below in
         let item = enum.0 in
@@ -298,6 +299,7 @@ module _ (files : List NamedFile) (order : List ℕ) (consts : Consts) (are : Ar
         let known_one : is_known (Some (enum_of (scope_in file None) d item)) n ≡ true =
         known_member (enum_of (scope_in file None) d item).extensible _ any in (
           c.enums,
+          nullable,
           n,
           refl,
           sym whole,
@@ -335,12 +337,13 @@ module _ (files : List NamedFile) (order : List ℕ) (consts : Consts) (are : Ar
         let below : o.own < length (enumerators_of d.definition.item) =
         subst (λ (x : Defined). o.own < length (enumerators_of x.item)) (sym same) o.below in
         let enum : sorts.Enum ≡ sort = same_sort sort d.definition.item o.own below d.sort_is in
-        let is_enum : ◌≡◌ {A = Option KindTree} (Some (kinds.EnumKind c.enums)) (Some k) = ap (λ (s : DefinitionSort). row_kind nullable s c) enum ∙ kind in
-        let kind_is : kinds.EnumKind c.enums ≡ k = cc in
+        let is_enum : ◌≡◌ {A = Option KindTree} (Some (kinds.EnumKind c.enums nullable)) (Some k) =
+        ap (λ (s : DefinitionSort). row_kind nullable s c) enum ∙ kind in
+        let kind_is : kinds.EnumKind c.enums nullable ≡ k = cc in
         let thing = sym (ap (λ (o : Option FileThings). option_and_then (value_at consts)
         (option_and_then (λ (f : FileThings). thing_within f.enumerators f.end e) o)) there) ∙ value in
         let knows = within (start + length ds) (start + length ds + length (owners ds)) thing in
-        subst (λ (k : KindTree). Holds Other k literal) kind_is (member file number e d.tree d.tree_is c counted known knows o literal l)
+        subst (λ (k : KindTree). Holds Other k literal) kind_is (member file number e d.tree d.tree_is c counted known knows o nullable literal l)
       where
         within : (first end : ℕ) → option_and_then (value_at consts) (thing_within first end e) ≡ Some known → value_at consts (first + e) ≡ Some known
         within first end is = go (nat_lt (first + e) end) is

@@ -357,6 +357,7 @@ module _ (schema : Schema) where
         flags = flags_for (method_of schema target) target;
         nonce = 0;
         request = head.request;
+        moment = None;
         ids = head.ids;
       }) (payload_for schema target t)
       (subst (λ (o : Option ℕ). AreBytes (emit schema false (kind_for o) t)) (sym is.parameters)

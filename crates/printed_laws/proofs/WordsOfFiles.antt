@@ -4,7 +4,7 @@ use Rattle.std.specs.List.{list_all, list_any, AllByRecursion}
 use Rattle.std.specs.Str.{bytes_eq}
 use Rattle.std.proofs.lemmas.Bool.{and_from}
 use Rattle.mj_base.specs.Texts.{are_distinct}
-use Rattle.mj_schema.specs.WellFormed.{are_within, has_structs, is_row, is_allowed, has_distinct_tags, has_distinct_ordinals, has_members, structs_of_methods, named_structs, all_kinds, counts_of}
+use Rattle.mj_schema.specs.WellFormed.{are_within, has_structs, is_row, are_allowed, has_distinct_tags, has_distinct_ordinals, has_members, structs_of_methods, named_structs, all_kinds, counts_of}
 use Rattle.mj_schema.specs.declared.rows.ConstRow.{ConstRow}
 use Rattle.mj_schema.specs.declared.rows.EnumRow.{EnumRow}
 use Rattle.mj_schema.specs.declared.rows.InterfaceRow.{InterfaceRow}
@@ -66,7 +66,7 @@ told schema =
     let a = list_all (are_within counts) kinds in
     let b = list_all (λ (row : InterfaceRow). list_all (has_structs (length schema.structs)) row.methods) schema.interfaces in
     let c = list_all (is_row counts) schema.order in
-    let d = list_all is_allowed kinds in
+    let d = are_allowed schema.structs schema.unions schema.consts in
     let e = list_all has_distinct_tags schema.unions in
     let f = list_all has_distinct_ordinals schema.interfaces in
     let g = list_all has_members schema.enums in

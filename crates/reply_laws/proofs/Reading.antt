@@ -133,6 +133,7 @@ head_for schema target head = record {
   flags = flags_for (method_of schema target) target;
   nonce = 0;
   request = head.request;
+  moment = None;
   ids = head.ids;
 }
 

@@ -153,6 +153,7 @@ module _ (passed : Passed) (schema : Schema) (past : List Event) (s : Outgoing) 
         flags = f.small;
         nonce = omega arith;
         request = low;
+        moment = tt;
         one_way = f.one_way;
         ids = named;
         few = omega (arith, most);

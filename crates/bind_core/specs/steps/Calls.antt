@@ -1,5 +1,5 @@
 -- What a call or an answer writes.
-use Rattle.std.specs.Prelude.{ℕ, ◌≡◌, ◌+◌, ◌==◌, ◌&&◌, not, List, false, length, if◌then◌else◌}
+use Rattle.std.specs.Prelude.{ℕ, ◌≡◌, ◌+◌, ◌==◌, ◌&&◌, not, None, List, false, length, if◌then◌else◌}
 use Rattle.mj_base.specs.declared.ids.EndId.{EndId}
 use Rattle.handle_table.specs.Things.{same_end}
 use Rattle.wire_encoder.specs.declared.prepared.Prepared.{Prepared}
@@ -40,8 +40,9 @@ SendsAt x id request method old new = (y : EndId) → TurnsIf (with_request meth
 
 -- the bytes of a prepared message for the endpoint of an id
 abbrev pub sealed_bytes : ℕ → ℕ → List ℕ → Prepared → List ℕ
-sealed_bytes id request ids prepared =
-    message (record { interface = id; name = prepared.target.method; flags = prepared.flags; nonce = 0; request = request; ids = ids }) prepared.payload.items
+sealed_bytes id request ids prepared = message
+    (record { interface = id; name = prepared.target.method; flags = prepared.flags; nonce = 0; request = request; moment = None; ids = ids })
+    prepared.payload.items
 
 -- what goes out with these names
 abbrev pub outgoing_named : Prepared → CarriedNames → Outgoing

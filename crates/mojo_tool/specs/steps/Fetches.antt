@@ -1,5 +1,5 @@
 -- What is fetched of several names, and why it isn't.
-use Rattle.std.specs.Prelude.{ℕ, ◌≡◌, ◌⊎◌, List, ◌∷◌, ◌++◌, slice_get, Option, Some, None}
+use Rattle.std.specs.Prelude.{ℕ, ◌≡◌, ◌<◌, ◌⊎◌, List, ◌∷◌, ◌++◌, slice_get, Option, Some, None}
 use Rattle.mj_io.specs.Outside.{Named, FilesState}
 use Rattle.mj_schema.specs.declared.schema.Schema.{Schema}
 use Rattle.mojom_compile.specs.Schemas.{IsWhy}
@@ -38,7 +38,13 @@ NotAllFetched before now names (Refused refusal) = IsFirstUnfetched before now n
 NotAllFetched before now names (ReadFault name) = IsFirstUnfetched before now names (ReadFault name)
 NotAllFetched before now names NoMemory = Unit {0}
 
--- files have no schema: the refusal names the one that is refused, which is one of these
+-- the file that is refused has a number below this one
+abbrev pub IsNumbered : ℕ → SchemaError → Type 0
+IsNumbered count (schema.Unread file why) = file < count
+IsNumbered count (schema.Refused why) = why.file < count
+IsNumbered count schema.Memory = Unit {0}
+
+-- files have no schema: the refusal names the one that is refused, which is one of these, unless memory ran out
 abbrev pub NotTabled : List (List ℕ) → SchemaError → Stop → Type 0
 NotTabled names (schema.Unread file why) (Refused refusal) =
     (name : List ℕ) × (slice_get names file ≡ Some name) × (refused_work refusal ≡ Refuses name why)
@@ -46,7 +52,7 @@ NotTabled names (schema.Refused why) (Refused refusal) =
     (name : List ℕ) × (slice_get names why.file ≡ Some name) × (refused_work refusal ≡ Rejects name why.at why.cause)
 NotTabled names schema.Memory (Refused refusal) = ⊥
 NotTabled names error (ReadFault name) = ⊥
-NotTabled names error NoMemory = Unit {0}
+NotTabled names error NoMemory = error ≡ schema.Memory
 
 -- all were fetched, and have no schema
 pub record IsRefusedSet (held : Option (List Named)) (names : List (List ℕ)) (stop : Stop) : Type 0 where

@@ -28,15 +28,14 @@ returns-in-Some c = λ read stands.
 pub arrive_known-requires-clause-value : goal.arrive_known-requires-clause-value
 arrive_known-requires-clause-value c =
     let checked = c.args.checked.now in
-    c.in_ok-value.ensures
-    ∙ read_value checked.schema.now checked.bytes.now c.args.message.now.bytes checked.start checked.number checked.starts c.requires.bytes
+    c.in_ok-value.ensures.value ∙ read_value checked.schema.now checked.bytes.now c.args.message.now.bytes checked.number c.requires.bytes
 
 pub returns : goal.returns
 returns c =
     let s = c.args.state.now in
     let m = c.args.message.now in
     let checked = c.args.checked.now in
-    let value = c.in_ok-value.ensures ∙ read_value checked.schema.now checked.bytes.now m.bytes checked.start checked.number checked.starts c.requires.bytes in
+    let value = c.in_ok-value.ensures.value ∙ read_value checked.schema.now checked.bytes.now m.bytes checked.number c.requires.bytes in
     IfOk-weaker c.arrive_known.result _ _
     (λ found told read stands. told (wire_in s) (past_of s) c.args.end (record {
       read = read;

@@ -1,5 +1,5 @@
-use Rattle.std.proofs.Common.{inl, inr}
-use Rattle.mojo_tool.proofs.Fetching.{no_schema_reached, have_schema, refused_set}
+use Rattle.std.proofs.Common.{List, ℕ, Bor, inl, inr}
+use Rattle.mojo_tool.proofs.Fetching.{no_schema_reached, have_schema, refused_set, numbered}
 use Rattle.mojo_tool.proofs.Made.{tabled_early}
 use Rattle.mojo_tool.proofs.Fetching.{schema_read}
 use Rattle.mojo_tool.proofs.From.{early_from, tabled_from}
@@ -14,6 +14,11 @@ returns-in-Err-clause-among g c = no_schema_reached _ _ _ c.in-Err.stop (inl c.i
 pub returns-in-Ok-compile-clause-schema : goal.returns-in-Ok-compile-clause-schema
 returns-in-Ok-compile-clause-schema g c =
     have_schema _ _ c.in-Ok.fetched.items c.in-Ok-compile.schema c.in-Ok.ensures.sources (rw c.as_slice.ensures.value at c.in-Ok-compile.ensures.schema)
+
+pub refused-requires : goal.refused-requires
+refused-requires g c =
+    numbered (λ (name : Bor (List ℕ)). name.now) _ c.in-Ok.fetched.items c.args.names.now c.in-Err-compile.error c.as_slice.ensures.value
+    c.in-Ok.ensures.named c.in-Err-compile.ensures.given
 
 pub returns-clause-stop : goal.returns-clause-stop
 returns-clause-stop g c =

@@ -8,5 +8,5 @@ pub returns-in-Ok-shown_line-clause-text : goal.returns-in-Ok-shown_line-clause-
 returns-in-Ok-shown_line-clause-text c =
     shown_value c.args.checked.now c.args.name.now c.in-Some.method.now c.parameters_kind-kind.result (view c.in-Ok.value)
     c.in-Ok-write_value.text.items c.in-Ok-shown_line.line
-    (ap option_copied (sym c.in-Some.is) ∙ c.method-found.ensures) c.in-Ok.ensures c.parameters_kind-kind.ensures c.in-Ok-write_value.ensures.text
+    (ap option_copied (sym c.in-Some.is) ∙ c.method-found.ensures) c.in-Ok.ensures.value c.parameters_kind-kind.ensures c.in-Ok-write_value.ensures.text
     (rw (c.as_str.ensures, c.as_slice.ensures.value) at c.in-Ok-shown_line.ensures)

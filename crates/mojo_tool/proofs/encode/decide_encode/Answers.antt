@@ -82,11 +82,13 @@ pub returns-in-None-clause-refused : goal.returns-in-None-clause-refused
 returns-in-None-clause-refused g c =
     let now : Bor (List ℕ) → List ℕ = λ name. name.now in
     let words = encode_words c.args.method.now c.args.side c.args.value.now (map now c.args.names.now) in
-    encode_lacks words _ _ c.in-Ok.schema (refusals.UnknownName c.args.method) c.in-Ok.ensures.from (sym (rw c.side_of.ensures at c.message_named.ensures) ∙ c.in-None.is) refl
+    encode_lacks words _ _ c.in-Ok.schema (refusals.UnknownName c.args.method) c.in-Ok.ensures.from
+    (sym (rw c.side_of.ensures at c.message_named.ensures) ∙ c.in-None.is) refl
 
 pub returns-clause-refused : goal.returns-clause-refused
 returns-clause-refused g c =
     let now : Bor (List ℕ) → List ℕ = λ name. name.now in
     let words = encode_words c.args.method.now c.args.side c.args.value.now (map now c.args.names.now) in
     encode_from c.encode_file.result words _ _ _ c.in-Ok.schema
-    (c.in-Some.target, c.in-Some.number) c.in-Ok.ensures.from (sym (rw c.side_of.ensures at c.message_named.ensures) ∙ c.in-Some.is) c.encode_file.ensures.refused
+    (c.in-Some.target, c.in-Some.number) c.in-Ok.ensures.from (sym (rw c.side_of.ensures at c.message_named.ensures) ∙ c.in-Some.is)
+    c.encode_file.ensures.refused
