@@ -1,0 +1,86 @@
+//! The runtime as a library, as a caller uses it: a Mojom text is compiled, a value becomes a message and is
+//! read again, and calls with jobs go over a pipe.
+#![tactic(auto)]
+
+mod calls;
+mod held;
+mod messages;
+
+use crate::calls::buy;
+use crate::messages::{order, read, sealed};
+use anyhow::{Result, bail};
+use mj_base::{Items, Text};
+use mj_schema::Schema;
+use mojom_compile::{Source, compile};
+use std::alloc::Global;
+use std::io::Print;
+use std::sync::Arc;
+
+/// What the calls are of.
+const MARKET: &str = "module market;
+interface Stall {
+  Buy(string item, int32? count) => (int64 cents);
+};
+";
+
+/// The tables of the text.
+fn compiled(alloc: Global) -> Result<Schema> {
+    let source = Source {
+        name: Text::from_str(alloc, "market.mojom")?,
+        bytes: Items::from_vec(Vec::from_slice(alloc, MARKET.as_bytes())?),
+    };
+    match compile(alloc, &[source]) {
+        Ok(schema) => Ok(schema),
+        Err(_) => bail!("market.mojom is refused"),
+    }
+}
+
+/// Makes the message of an order and reads it again, whole and without its last eight bytes.
+fn show_message<R: Print + AllocGlobal>(
+    rt: &R,
+    schema: &Schema,
+    interface: u32,
+    count: Option<i32>,
+) -> Result<()> {
+    let alloc = rt.alloc();
+    let prepared = order(alloc, schema, interface, "tea", count)?;
+    let bytes = sealed(alloc, &prepared)?;
+    let cut = bytes.len().saturating_sub(8);
+    for len in [bytes.len(), cut] {
+        let front = bytes.get(..len).unwrap_or(&bytes);
+        match read(alloc, schema, interface, front)? {
+            Ok(text) => println!(rt; "{len} bytes say {text}")?,
+            Err(fault) => println!(rt;
+                "{len} bytes are refused: {:?} at {}",
+                fault.kind, fault.at
+            )?,
+        }
+    }
+    Ok(())
+}
+
+/// Calls, and says what became of each job.
+fn show_calls<R: Print + AllocGlobal>(rt: &R, schema: &Arc<Schema>, interface: u32) -> Result<()> {
+    let (notes, left) = buy(rt.alloc(), schema, interface)?;
+    for note in &notes {
+        let request = note.key.request;
+        if note.ran {
+            println!(rt; "request {request}: its job got {} cents", note.note)?;
+        } else {
+            println!(rt; "request {request}: its job was dropped")?;
+        }
+    }
+    println!(rt; "left open: {left}")?;
+    Ok(())
+}
+
+fn main(rt: HostRuntime) -> Result<()> {
+    let schema = Arc::new(rt.alloc(), compiled(rt.alloc())?)?;
+    let Some(interface) = schema.find_interface("market.Stall") else {
+        bail!("there is no market.Stall")
+    };
+    println!(rt; "market.Stall is interface {interface}")?;
+    show_message(&rt, &schema, interface, Some(3))?;
+    show_message(&rt, &schema, interface, None)?;
+    show_calls(&rt, &schema, interface)
+}
