@@ -36,6 +36,7 @@ class Field:
     offset: int = 0
     bit: int = 0
     version: int = 0
+    flag: tuple = None
 
 
 @dataclass
@@ -100,7 +101,9 @@ class Tables:
         sort, name = last
         if word == 'field' and sort == 'struct':
             # a kind may have blanks, so what is behind it is counted from the end
-            one = Field(int(rest[0]), rest[1], parse_kind(' '.join(rest[2:-3])), *map(int, rest[-3:]))
+            flag = tuple(map(int, rest[-2:])) if rest[-3] == 'flag' else None
+            rest = rest[:-3] if flag else rest
+            one = Field(int(rest[0]), rest[1], parse_kind(' '.join(rest[2:-3])), *map(int, rest[-3:]), flag)
             self.structs[name][one.ordinal] = one
         elif word == 'field':
             self.unions[name][int(rest[0])] = Field(int(rest[0]), rest[1], parse_kind(' '.join(rest[2:])))
@@ -157,6 +160,8 @@ class Reader:
             self.ids = [self.number(ids + 8 + 4 * n, 4) for n in range(count)]
             listed.spans += [Span(ids + 8 + 4 * n, 4, f'[{n}]', 'id of an endpoint', str(self.ids[n])) for n in range(count)]
             self.items.append(listed)
+        if version >= 3:
+            item.spans.append(Span(48, 8, 'moment', 'int64', str(self.number(48, 8, True))))
         return payload
 
     def heads(self, item, at, second):
@@ -190,8 +195,17 @@ class Reader:
                 item.absent.append(one)
                 texts.append(ANY)
             else:
-                texts.append(self.held(item, at + 8 + one.offset, one.kind, one.name, one.bit, one.version))
+                texts.append(self.flagged(item, at + 8, one) or self.held(item, at + 8 + one.offset, one.kind, one.name, one.bit, one.version))
         return f'({",".join(texts)})'
+
+    def flagged(self, item, at, one):
+        """The flag of a field that has one; 'null' where it is 0."""
+        if one.flag is None:
+            return None
+        offset, bit = one.flag
+        is_there = self.number(at + offset, 1) >> bit & 1
+        item.spans.append(Span(at + offset, 1, f'{one.name}, flag', 'bool', 'value' if is_there else 'null', one.version, bit))
+        return None if is_there else 'null'
 
     def held(self, item, at, kind, name, bit=0, since=0):
         """A field or an element at its place, and the text of its value."""

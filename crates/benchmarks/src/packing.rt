@@ -17,6 +17,7 @@ fn integer(width: Width) -> KindNode {
     KindNode::Int {
         width,
         signed: true,
+        nullable: false,
     }
 }
 
@@ -24,7 +25,7 @@ fn integer(width: Width) -> KindNode {
 fn kind(place: usize) -> KindNode {
     let nullable = false;
     match place % 12 {
-        0 | 3 | 7 => KindNode::Bool,
+        0 | 3 | 7 => KindNode::Bool { nullable },
         1 | 10 => integer(Width::Bits8),
         2 => KindNode::Remote {
             interface: 0,

@@ -2,13 +2,14 @@
 
 mod batch;
 mod encoding;
+mod form;
 mod hostile;
 
 use std::io;
 use std::io::Print;
 use std::time::CpuClock;
 
-/// Times batches, and then messages of 16 MiB that are refused.
+/// Times batches, and then long messages that are refused.
 pub fn time_all<R: Print + AllocGlobal + CpuClock>(rt: &R) -> io::Result<()> {
     batch::time_all(rt)?;
     hostile::time_all(rt)

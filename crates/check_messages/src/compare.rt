@@ -38,6 +38,7 @@ fn compare_value(
     let value = decode(alloc, checked)?;
     let is_same = checked.method == message.method
         && checked.request == message.request
+        && checked.moment == message.moment
         && are_same(alloc, &value, &message.value)?;
     if is_same {
         Ok(Verdict::Stands)

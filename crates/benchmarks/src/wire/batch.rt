@@ -3,6 +3,7 @@
 use crate::schemas::schema_of;
 use crate::timing::{ROUNDS, least, mebibytes_a_second, now, picoseconds_each};
 use crate::wire::encoding::{target_of, time_encode};
+use crate::wire::form::Form;
 use message_validator::{Checked, check};
 use mj_base::push_le32;
 use mj_schema::Schema;
@@ -13,12 +14,6 @@ use std::time::{CpuClock, Duration};
 use wire_decoder::decode;
 use wire_model::{Expected, MessageSide};
 
-/// The definitions of a batch.
-const FILE: &str =
-    "struct Item { uint64 id; uint32 kind; bool flag; string name; array<uint32> tags; };
-interface Sink { Push(array<Item> items); };
-";
-
 /// What a batch is.
 pub const EXPECTED: Expected = Expected {
     interface: 0,
@@ -27,14 +22,6 @@ pub const EXPECTED: Expected = Expected {
 
 /// How many items are checked in a round, at least.
 const ITEMS_A_ROUND: u32 = 200_000;
-
-/// Adds the numbers of an item.
-fn push_numbers(bytes: &mut Vec<u8>, item: u32) -> Result<(), AllocError> {
-    for number in [40, 0, item, 0, item % 7, item % 2, 16, 0, 40, 0] {
-        push_le32(bytes, number)?;
-    }
-    Ok(())
-}
 
 /// Adds the name and the tags of an item.
 fn push_lists(alloc: Global, bytes: &mut Vec<u8>, item: u32) -> Result<(), AllocError> {
@@ -78,11 +65,11 @@ fn push_front(bytes: &mut Vec<u8>, count: u32) -> Result<(), AllocError> {
 }
 
 /// The message of a batch of so many items, as its rules have it.
-pub fn batch_bytes(alloc: Global, count: u32) -> Result<Vec<u8>, AllocError> {
+pub fn batch_bytes(alloc: Global, form: Form, count: u32) -> Result<Vec<u8>, AllocError> {
     let mut bytes = Vec::new(alloc);
     push_front(&mut bytes, count)?;
     for item in 0..count {
-        push_numbers(&mut bytes, item)?;
+        form.push_item(&mut bytes, item)?;
         push_lists(alloc, &mut bytes, item)?;
     }
     Ok(bytes)
@@ -142,6 +129,7 @@ fn time_decode<R: AllocGlobal + CpuClock>(
 /// Prints what one item takes, and how many bytes a second that makes.
 fn show<R: Print>(
     rt: &R,
+    form: Form,
     what: &str,
     best: Option<Duration>,
     times: u32,
@@ -152,7 +140,8 @@ fn show<R: Print>(
     let all = u64::from(times).saturating_mul(bytes);
     let each = picoseconds_each(best, items);
     println!(rt;
-        "{count} items, {bytes} bytes: {what} in {}.{} ns an item, {} MiB/s",
+        "{count} {}, {bytes} bytes: {what} in {}.{} ns an item, {} MiB/s",
+        form.name(),
         each / 1000,
         each % 1000 / 100,
         mebibytes_a_second(best, all)
@@ -163,6 +152,7 @@ fn show<R: Print>(
 fn time_encoding<R: Print + AllocGlobal + CpuClock>(
     rt: &R,
     schema: &Schema,
+    form: Form,
     wanted: &[u8],
     count: u32,
     times: u32,
@@ -170,18 +160,23 @@ fn time_encoding<R: Print + AllocGlobal + CpuClock>(
     let Some(target) = target_of(schema) else {
         return println!(rt; "no method of the batch");
     };
-    let Some((bytes, best)) = time_encode(rt, schema, target, count, times)? else {
+    let Some((bytes, best)) = time_encode(rt, schema, target, form, count, times)? else {
         return println!(rt; "the value of a batch is refused");
     };
     if bytes.as_slice() != wanted {
         println!(rt; "the bytes of a batch are not those that are wanted")?;
     }
-    show(rt, "encoded", best, times, count, bytes.len() as u64)
+    show(rt, form, "encoded", best, times, count, bytes.len() as u64)
 }
 
 /// Times a batch of so many items.
-fn time<R: Print + AllocGlobal + CpuClock>(rt: &R, schema: &Schema, count: u32) -> io::Result<()> {
-    let bytes = batch_bytes(rt.alloc(), count)?;
+fn time<R: Print + AllocGlobal + CpuClock>(
+    rt: &R,
+    schema: &Schema,
+    form: Form,
+    count: u32,
+) -> io::Result<()> {
+    let bytes = batch_bytes(rt.alloc(), form, count)?;
     let size = bytes.len() as u64;
     let times = ITEMS_A_ROUND
         .checked_div(count)
@@ -190,20 +185,26 @@ fn time<R: Print + AllocGlobal + CpuClock>(rt: &R, schema: &Schema, count: u32) 
     let Ok(checked) = check(schema, EXPECTED, &bytes, 0) else {
         return println!(rt; "a batch is refused");
     };
-    time_encoding(rt, schema, &bytes, count, times)?;
+    time_encoding(rt, schema, form, &bytes, count, times)?;
     let best = time_check(rt, schema, &bytes, times)?;
-    show(rt, "checked", best, times, count, size)?;
+    show(rt, form, "checked", best, times, count, size)?;
     let best = time_decode(rt, &checked, times)?;
-    show(rt, "decoded", best, times, count, size)
+    show(rt, form, "decoded", best, times, count, size)
 }
 
-/// Times batches of 10, 1,000 and 100,000 items.
-pub fn time_all<R: Print + AllocGlobal + CpuClock>(rt: &R) -> io::Result<()> {
-    let Some(schema) = schema_of(rt.alloc(), FILE)? else {
+/// Times batches of a form, of 10, 1,000 and 100,000 items.
+fn time_form<R: Print + AllocGlobal + CpuClock>(rt: &R, form: Form) -> io::Result<()> {
+    let Some(schema) = schema_of(rt.alloc(), form.file())? else {
         return println!(rt; "no schema of the batch");
     };
     for count in [10, 1000, 100_000] {
-        time(rt, &schema, count)?;
+        time(rt, &schema, form, count)?;
     }
     Ok(())
+}
+
+/// Times batches of both forms.
+pub fn time_all<R: Print + AllocGlobal + CpuClock>(rt: &R) -> io::Result<()> {
+    time_form(rt, Form::Plain)?;
+    time_form(rt, Form::Nullable)
 }

@@ -4,6 +4,7 @@ ghost use Rattle.std.specs.Prelude.{IfSome};
 ghost use Rattle.wire_encoder.specs.Prepared.{HasTarget};
 
 use crate::timing::{ROUNDS, least, now};
+use crate::wire::form::Form;
 use mj_schema::Schema;
 use std::alloc::{AllocError, Global};
 use std::io;
@@ -24,7 +25,7 @@ pub fn target_of(schema: &Schema) -> Option<Target>
 }
 
 /// The value of an item: a number, a kind, a flag, a name and four tags.
-fn item_value(alloc: Global, item: u32) -> Result<Value, AllocError> {
+fn item_value(alloc: Global, form: Form, item: u32) -> Result<Value, AllocError> {
     let number = item.saturating_add(1_000_000);
     let name = format!(in alloc; "item number {number}")?;
     let mut text = Vec::new(alloc);
@@ -34,7 +35,7 @@ fn item_value(alloc: Global, item: u32) -> Result<Value, AllocError> {
         tags.push(Value::Whole(i128::from(item)))?;
     }
     let mut fields = Vec::new(alloc);
-    fields.push(Value::Whole(i128::from(item)))?;
+    fields.push(form.id(item))?;
     fields.push(Value::Whole(i128::from(item % 7)))?;
     fields.push(Value::Bool(item % 2 == 1))?;
     fields.push(Value::Text(text))?;
@@ -43,10 +44,10 @@ fn item_value(alloc: Global, item: u32) -> Result<Value, AllocError> {
 }
 
 /// The parameters of a batch of so many items.
-pub fn batch_value(alloc: Global, count: u32) -> Result<Value, AllocError> {
+pub fn batch_value(alloc: Global, form: Form, count: u32) -> Result<Value, AllocError> {
     let mut items = Vec::new(alloc);
     for item in 0..count {
-        items.push(item_value(alloc, item)?)?;
+        items.push(item_value(alloc, form, item)?)?;
     }
     let mut parameters = Vec::new(alloc);
     parameters.push(Value::List(items))?;
@@ -71,6 +72,7 @@ fn encode(
     let head = Head {
         interface_id: 0,
         request_id: 0,
+        moment: None,
         ids: &[],
     };
     let bytes = seal(alloc, &prepared, &head)?;
@@ -107,6 +109,7 @@ pub fn time_encode<R: AllocGlobal + CpuClock>(
     rt: &R,
     schema: &Schema,
     target: Target,
+    form: Form,
     count: u32,
     times: u32,
 ) -> io::Result<Option<(Vec<u8>, Option<Duration>)>>
@@ -114,7 +117,7 @@ pub fn time_encode<R: AllocGlobal + CpuClock>(
 {
     let mut best = None;
     let mut last = Vec::new(rt.alloc());
-    let mut value = batch_value(rt.alloc(), count)?;
+    let mut value = batch_value(rt.alloc(), form, count)?;
     for _ in 0..ROUNDS {
         let start = now(rt)?;
         let Some((bytes, again)) = encode_times(rt.alloc(), schema, target, value, times)? else {

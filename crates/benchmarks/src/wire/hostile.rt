@@ -1,9 +1,10 @@
-//! Messages of 16 MiB that are made to be dear, each refused by its last object or at once.
+//! Messages of 64 MiB that are made to be dear, each refused by its last object or at once.
 
 use crate::schemas::schema_of;
 use crate::timing::{ROUNDS, least, mebibytes_a_second, now};
 use crate::wire::batch::EXPECTED;
 use message_validator::check;
+use mj_base::limits::MAX_PAYLOAD_BYTES;
 use mj_base::{Fault, push_le32};
 use mj_schema::Schema;
 use std::alloc::{AllocError, Global};
@@ -11,8 +12,11 @@ use std::io;
 use std::io::Print;
 use std::time::{CpuClock, Duration};
 
-/// The bytes of each message, about.
-const MESSAGE_BYTES: u32 = 16_777_216;
+/// The bytes of each message, about: as many as a payload has at most.
+const MESSAGE_BYTES: u32 = MAX_PAYLOAD_BYTES as u32;
+
+/// The bytes of one in which each value is sought among all members.
+const SEARCHED_BYTES: u32 = MESSAGE_BYTES / 4;
 
 /// What a message is made of.
 #[derive(Clone, Copy)]
@@ -88,8 +92,8 @@ impl Shape {
             Shape::Overlapping => push_overlapping(bytes, MESSAGE_BYTES / 8),
             Shape::SelfPointing => push_self_pointing(bytes, MESSAGE_BYTES / 16),
             Shape::OldVersions => push_old(bytes, MESSAGE_BYTES / 24),
-            Shape::Tags => push_tags(bytes, MESSAGE_BYTES / 16),
-            Shape::Members => push_members(bytes, MESSAGE_BYTES / 4),
+            Shape::Tags => push_tags(bytes, SEARCHED_BYTES / 16),
+            Shape::Members => push_members(bytes, SEARCHED_BYTES / 4),
         }
     }
 }
