@@ -1,8 +1,9 @@
 //! The stages on names and constants, one behind the other.
 
 use const_eval::{ConstError, Consts, evaluate};
-use module_resolver::{Names, ResolveError, order, resolve};
+use module_resolver::{Names, ResolveError, order};
 use mojom_files::NamedFile;
+use name_refusals::resolve;
 use std::alloc::{AllocError, Global};
 
 /// What the stages make of files, each where those before it refuse nothing.

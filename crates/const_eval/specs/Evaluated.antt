@@ -6,7 +6,7 @@ use Rattle.mojom_files.specs.declared.refusal.Refusal.{Refusal}
 use Rattle.mojom_files.specs.Definitions.{definitions_of}
 use Rattle.mojom_files.specs.Refusals.{first_refusal}
 use Rattle.module_resolver.specs.declared.file_names.FileNames.{FileNames}
-use Rattle.module_resolver.specs.NameRefusals.{of_file}
+use Rattle.name_refusals.specs.NameRefusals.{of_file}
 use Rattle.const_eval.specs.declared.consts.Consts.{Consts}
 use Rattle.const_eval.specs.declared.file_things.FileThings.{FileThings}
 use Rattle.const_eval.specs.Things.{numbered}

@@ -36,8 +36,8 @@ use Rattle.module_resolver.specs.declared.target.Target.{Target}
 use Rattle.module_resolver.specs.declared.target.Target.TheVariants as targets
 use Rattle.module_resolver.specs.declared.file_names.FileNames.{FileNames}
 use Rattle.module_resolver.specs.LookUp.{look_up}
-use Rattle.module_resolver.specs.NameRefusals.{place_of}
-use Rattle.module_resolver.specs.Uses.{is_min_version, response_of}
+use Rattle.name_refusals.specs.NameRefusals.{place_of}
+use Rattle.name_refusals.specs.Uses.{is_min_version, response_of}
 use Rattle.const_eval.specs.declared.file_things.FileThings.{FileThings}
 use Rattle.const_eval.specs.declared.consts.Consts.{Consts}
 use Rattle.const_meanings.specs.Known.{Known}

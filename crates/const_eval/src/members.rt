@@ -3,7 +3,7 @@
 ghost use Rattle.std.specs.Prelude.{◌≡◌, ◌++◌, OnOk};
 ghost use Rattle.std.specs.List.{flat_map};
 ghost use Rattle.mojom_files.specs.Refusals.{best_of};
-ghost use Rattle.module_resolver.specs.Uses.{response_of};
+ghost use Rattle.name_refusals.specs.Uses.{response_of};
 ghost use Rattle.const_eval.specs.Things.{numbered};
 ghost use Rattle.const_eval.specs.Refused.{refused_struct_member, refused_union_field, refused_parameter};
 ghost use Rattle.const_eval.specs.steps.Views.{site_of};

@@ -1,7 +1,7 @@
 //! Where things stand in a file, in bytes from 0.
 
 ghost use Rattle.std.specs.Prelude.{◌≡◌};
-ghost use Rattle.module_resolver.specs.NameRefusals.{place_of};
+ghost use Rattle.name_refusals.specs.NameRefusals.{place_of};
 ghost use Rattle.const_eval.specs.Refused.{place_of_value};
 
 use mojom_ast::{Identifier, Value};

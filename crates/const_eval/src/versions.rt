@@ -2,8 +2,8 @@
 
 ghost use Rattle.std.specs.Prelude.{◌≡◌, OnOk};
 ghost use Rattle.mojom_files.specs.Refusals.{best_of};
-ghost use Rattle.module_resolver.specs.NameRefusals.{place_of};
-ghost use Rattle.module_resolver.specs.Uses.{is_min_version};
+ghost use Rattle.name_refusals.specs.NameRefusals.{place_of};
+ghost use Rattle.name_refusals.specs.Uses.{is_min_version};
 ghost use Rattle.const_eval.specs.Refused.{place_of_value, refused_version_value, refused_version, refused_versions};
 ghost use Rattle.const_eval.specs.steps.Views.{site_of};
 

@@ -3,7 +3,7 @@ use Rattle.std.specs.Prelude.{ℕ, ℤ, pos, negsuc, List, find, Option, option_
 use Rattle.std.specs.Option.{option_map_or}
 use Rattle.mojom_ast.specs.declared.names.Value.{Value}
 use Rattle.mojom_ast.specs.declared.attributes.Attribute.{Attribute}
-use Rattle.module_resolver.specs.Uses.{is_min_version}
+use Rattle.name_refusals.specs.Uses.{is_min_version}
 use Rattle.const_meanings.specs.Known.{Known, NumberValue}
 use Rattle.kind_scope.specs.Scopes.{Scope, known_in}
 use Rattle.kind_scope.specs.Members.{Member, held}

@@ -1,6 +1,4 @@
-pub mod Known
 pub mod OneMore
-pub mod Places
 pub mod Owned
 pub mod Cuts
 pub mod MarkedLengths

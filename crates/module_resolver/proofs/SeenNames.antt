@@ -8,8 +8,12 @@ use Rattle.std.proofs.lemmas.Slice.Eq.{bytes_eq-Decides}
 use Rattle.indexmap.specs.IndexSet.{insert_key}
 use Rattle.module_resolver.specs.steps.Seen.{is_kept}
 use Rattle.module_resolver.proofs.OneMore.{take_item}
-use Rattle.module_resolver.proofs.Known.{or_false}
 use denote.Bor.{Bor}
+
+-- a disjunction with false is its other side
+or_false : (a : Bool) → a ≡ (a || false)
+or_false true = refl
+or_false false = refl
 
 regroup : (a b c : Bool) → ((a || b) || c) ≡ (a || (b || c))
 regroup true b c = refl

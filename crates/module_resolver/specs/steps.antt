@@ -1,5 +1,4 @@
 -- Definitions that serve proofs alone: no public clause cites them.
-pub mod Sets
 pub mod Cuts
 pub mod Owners
 pub mod Seen

@@ -26,7 +26,7 @@ use Rattle.mojom_files.specs.declared.basic.Basic.{Basic}
 use Rattle.mojom_files.specs.declared.basic.Basic.TheVariants as basics
 use Rattle.mojom_files.specs.Causes.{CircularConst}
 use Rattle.mojom_files.specs.Definitions.{Defined, definitions_of, enumerators_of}
-use Rattle.module_resolver.specs.Uses.{is_min_version, response_of}
+use Rattle.name_refusals.specs.Uses.{is_min_version, response_of}
 use Rattle.const_eval.specs.declared.kinds.Range.{Range}
 use Rattle.const_eval.specs.declared.file_things.FileThings.{FileThings}
 use Rattle.const_meanings.specs.Known.{Known, TextValue, BoolValue, NumberValue, FloatValue}

@@ -11,8 +11,8 @@ use Rattle.mojom_files.specs.Refusals.{IsAmong, IsAnswered, best_of, first_refus
 use Rattle.mojom_files.proofs.Best.{best_is_first}
 use Rattle.import_order.specs.Order.{file_names, import_place, given_refusals, given_refusals_at, IsCircular, IsDisordered}
 use Rattle.module_resolver.specs.NamesOf.{names_of}
-use Rattle.module_resolver.specs.NameRefusals.{is_among, names_before}
-use Rattle.module_resolver.specs.NameRefusals as resolver
+use Rattle.name_refusals.specs.NameRefusals.{is_among, names_before}
+use Rattle.name_refusals.specs.NameRefusals as resolver
 use Rattle.const_eval.specs.Evaluated.{refused_in, const_refusals}
 use Rattle.kind_refusals.specs.KindRefusals as kinds
 use Rattle.schema_laws.specs.Refused.{IsNamesRefusal, IsConstsRefusal, IsKindsRefusal, IsStageRefusal}

@@ -10,8 +10,8 @@ use Rattle.module_resolver.specs.declared.target.Target.{Target}
 use Rattle.module_resolver.specs.declared.file_names.FileNames.{FileNames}
 use Rattle.module_resolver.specs.LookUp.{look_up}
 use Rattle.import_order.specs.Order.{imported, missing_import, missing, is_given_before, given_refusals}
-use Rattle.module_resolver.specs.NameRefusals.{duplicate, repeated_in, place_of, fits, refused_meaning, refused_use, refusals_in}
-use Rattle.module_resolver.specs.Uses.{Use, uses_of}
+use Rattle.name_refusals.specs.NameRefusals.{duplicate, repeated_in, place_of, fits, refused_meaning, refused_use, refusals_in}
+use Rattle.name_refusals.specs.Uses.{Use, uses_of}
 use Rattle.mojom_compile.proofs.InFile.{AllIn, single, both, tested, said_of_each, one_of_each}
 
 -- what is refused before any order

@@ -2,7 +2,7 @@
 
 ghost use Rattle.std.specs.Prelude.{◌≡◌, ◌<◌, ◌^◌, List, length, IfOk, IfErr};
 ghost use Rattle.import_order.specs.Order.{IsOrdered};
-ghost use Rattle.module_resolver.specs.Resolved.{AreNames};
+ghost use Rattle.name_refusals.specs.Resolved.{AreNames};
 ghost use Rattle.mojom_compile.specs.declared.source.Source.{Source};
 ghost use Rattle.mojom_compile.specs.Schemas.{IsTreeOf, AreTreesOf, AreTablesOf, IsSchemaOfFiles, IsOfGiven, IsWhy, OneSchemaOfFiles};
 ghost use Rattle.mojom_compile.specs.steps.Stages.{IsOfStages, IsUnreadFile};
@@ -16,8 +16,9 @@ use const_eval::evaluate;
 use kind_check::{Draft, check_kinds};
 use mj_base::Text;
 use mj_schema::Schema;
-use module_resolver::{Names, order, resolve};
+use module_resolver::{Names, order};
 use mojom_files::NamedFile;
+use name_refusals::resolve;
 use std::alloc::Global;
 
 /// The tree of a file, which has this number.

@@ -25,7 +25,7 @@ use Rattle.mojom_ast.specs.declared.names.Identifier.{Identifier}
 use Rattle.mojom_files.specs.Definitions.{Defined, definitions_of}
 use Rattle.mojom_files.specs.Names.{within}
 use Rattle.mojom_files.specs.declared.named_file.NamedFile.{NamedFile}
-use Rattle.module_resolver.specs.NameRefusals.{of_file}
+use Rattle.name_refusals.specs.NameRefusals.{of_file}
 use Rattle.module_resolver.specs.declared.file_names.Names.{Names}
 use Rattle.const_eval.specs.Evaluated.{refused_in as refused_values, refused_things}
 use Rattle.const_eval.specs.Refused.{Site}

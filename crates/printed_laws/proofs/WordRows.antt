@@ -20,10 +20,10 @@ use Rattle.mojom_ast.specs.declared.names.Identifier.{Identifier}
 use Rattle.mojom_files.specs.declared.named_file.NamedFile.{NamedFile}
 use Rattle.mojom_files.specs.Definitions.{Defined, definitions_of}
 use Rattle.module_resolver.specs.declared.file_names.Names.{Names}
-use Rattle.module_resolver.specs.Known.{with_name}
+use Rattle.name_refusals.specs.Known.{with_name}
 use Rattle.module_resolver.specs.NamesOf.{names_of}
-use Rattle.module_resolver.specs.NameRefusals.{duplicate, method_name, member_lists, repeated, repeated_members, repeated_definitions, named_as_basic, repeated_in, of_file, is_among, names_before, refused_uses, refusals_in, names_refusal}
-use Rattle.module_resolver.specs.Uses.{uses_of}
+use Rattle.name_refusals.specs.NameRefusals.{duplicate, method_name, member_lists, repeated, repeated_members, repeated_definitions, named_as_basic, repeated_in, of_file, is_among, names_before, refused_uses, refusals_in, names_refusal}
+use Rattle.name_refusals.specs.Uses.{uses_of}
 use Rattle.const_eval.specs.declared.consts.Consts.{Consts}
 use Rattle.draft_rows.specs.declared.counts.Counts.{Counts}
 use Rattle.draft_rows.specs.declared.counts.FileRows.{FileRows}

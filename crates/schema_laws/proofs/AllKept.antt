@@ -21,7 +21,7 @@ use Rattle.mojom_files.specs.declared.named_file.NamedFile.{NamedFile}
 use Rattle.mojom_files.specs.Names.{within}
 use Rattle.mojom_files.specs.Definitions.{Defined}
 use Rattle.module_resolver.specs.declared.file_names.FileNames.{FileNames}
-use Rattle.module_resolver.specs.Uses.{response_of}
+use Rattle.name_refusals.specs.Uses.{response_of}
 use Rattle.const_eval.specs.declared.consts.Consts.{Consts}
 use Rattle.mj_schema.specs.KindTrees.{KindTree}
 use Rattle.mj_schema.specs.declared.rows.DraftField.{DraftField}

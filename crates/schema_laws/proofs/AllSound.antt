@@ -11,8 +11,8 @@ use Rattle.mojom_ast.specs.declared.definitions.DefinitionItem.TheVariants as it
 use Rattle.mojom_files.specs.declared.named_file.NamedFile.{NamedFile}
 use Rattle.mojom_files.specs.Definitions.{Defined, definitions_of}
 use Rattle.module_resolver.specs.NamesOf.{names_of}
-use Rattle.module_resolver.specs.NameRefusals.{refused_uses}
-use Rattle.module_resolver.specs.Uses.{uses_in_type, uses_in_value, uses_in_attributes, uses_in_item}
+use Rattle.name_refusals.specs.NameRefusals.{refused_uses}
+use Rattle.name_refusals.specs.Uses.{uses_in_type, uses_in_value, uses_in_attributes, uses_in_item}
 use Rattle.const_eval.specs.declared.consts.Consts.{Consts}
 use Rattle.const_eval.specs.declared.file_things.FileThings.{FileThings}
 use Rattle.const_meanings.specs.declared.origin.Origin.{Origin}

@@ -18,8 +18,8 @@ use Rattle.mojom_files.specs.Definitions.{Defined, definitions_of}
 use Rattle.module_resolver.specs.declared.file_names.Names.{Names}
 use Rattle.module_resolver.specs.LookUp.{look_up}
 use Rattle.module_resolver.specs.NamesOf.{names_of}
-use Rattle.module_resolver.specs.NameRefusals.{refused_uses}
-use Rattle.module_resolver.specs.Uses.{uses_in_value}
+use Rattle.name_refusals.specs.NameRefusals.{refused_uses}
+use Rattle.name_refusals.specs.Uses.{uses_in_value}
 use Rattle.const_eval.specs.declared.consts.Consts.{Consts}
 use Rattle.const_eval.specs.declared.file_things.FileThings.{FileThings}
 use Rattle.const_meanings.specs.declared.origin.Origin.{Origin}

@@ -12,8 +12,8 @@ use Rattle.mojom_files.specs.declared.named_file.NamedFile.{NamedFile}
 use Rattle.mojom_files.specs.declared.basic.Basic.TheVariants as basics
 use Rattle.mojom_files.specs.Definitions.{Defined, enumerators_of}
 use Rattle.module_resolver.specs.NamesOf.{names_of}
-use Rattle.module_resolver.specs.NameRefusals.{refused_uses}
-use Rattle.module_resolver.specs.Uses.{Use, uses_in_option, uses_in_attributes, uses_in_enum, uses_in_item, uses_of}
+use Rattle.name_refusals.specs.NameRefusals.{refused_uses}
+use Rattle.name_refusals.specs.Uses.{Use, uses_in_option, uses_in_attributes, uses_in_enum, uses_in_item, uses_of}
 use Rattle.const_meanings.specs.declared.literal.Literal.TheVariants as literals
 use Rattle.const_meanings.specs.declared.origin.Origin.{Origin}
 use Rattle.const_meanings.specs.declared.origin.Origin.TheVariants.{Written, Next}

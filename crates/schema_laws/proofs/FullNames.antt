@@ -13,7 +13,7 @@ use Rattle.mojom_files.specs.declared.named_file.NamedFile.{NamedFile}
 use Rattle.mojom_files.specs.Definitions.{Defined, definitions_of}
 use Rattle.module_resolver.specs.declared.file_names.FileNames.{FileNames}
 use Rattle.module_resolver.specs.declared.file_names.Names.{Names}
-use Rattle.module_resolver.specs.NameRefusals.{of_file, full_names, names_before, names_refusal}
+use Rattle.name_refusals.specs.NameRefusals.{of_file, full_names, names_before, names_refusal}
 use Rattle.const_eval.specs.declared.consts.Consts.{Consts}
 use Rattle.mj_schema.specs.KindTrees.{KindTree}
 use Rattle.mj_schema.specs.declared.rows.ConstRow.{ConstRow}

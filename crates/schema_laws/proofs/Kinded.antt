@@ -15,11 +15,11 @@ use Rattle.module_resolver.specs.declared.target.Target.TheVariants as targets
 use Rattle.module_resolver.specs.declared.target.DefinitionSort.{DefinitionSort}
 use Rattle.module_resolver.specs.declared.target.DefinitionSort.TheVariants as sorts
 use Rattle.module_resolver.specs.declared.file_names.FileNames.{FileNames}
-use Rattle.module_resolver.specs.declared.uses.Wanted.{Wanted}
-use Rattle.module_resolver.specs.declared.uses.Wanted.TheVariants as wants
+use Rattle.name_refusals.specs.declared.uses.Wanted.{Wanted}
+use Rattle.name_refusals.specs.declared.uses.Wanted.TheVariants as wants
 use Rattle.module_resolver.specs.LookUp.{look_up, sort_of}
-use Rattle.module_resolver.specs.NameRefusals.{fits_sort, fits, refused_meaning, refused_use, refused_uses}
-use Rattle.module_resolver.specs.Uses.{Use, is_basic, uses_in_type}
+use Rattle.name_refusals.specs.NameRefusals.{fits_sort, fits, refused_meaning, refused_use, refused_uses}
+use Rattle.name_refusals.specs.Uses.{Use, is_basic, uses_in_type}
 use Rattle.mj_schema.specs.KindTrees.{KindTree, BoolKind, IntKind, EnumKind, TextKind, HandleKind, ArrayKind, MapKind, StructKind, UnionKind}
 use Rattle.mj_schema.specs.declared.kind.Width.TheVariants.{Bits8, Bits16, Bits32, Bits64}
 use Rattle.const_eval.specs.Kinds.{basic_of_parts}

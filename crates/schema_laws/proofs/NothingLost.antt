@@ -19,8 +19,8 @@ use Rattle.module_resolver.specs.declared.target.Target.TheVariants as targets
 use Rattle.module_resolver.specs.declared.target.DefinitionSort.{DefinitionSort}
 use Rattle.module_resolver.specs.declared.file_names.FileNames.{FileNames}
 use Rattle.module_resolver.specs.LookUp.{sort_of}
-use Rattle.module_resolver.specs.Uses.{Use, response_of, uses_in_type, uses_in_option, uses_in_attributes, uses_in_field, uses_in_struct, uses_in_union, uses_in_parameter, uses_in_method, uses_in_interface, uses_in_item, uses_of}
-use Rattle.module_resolver.specs.NameRefusals.{refused_uses}
+use Rattle.name_refusals.specs.Uses.{Use, response_of, uses_in_type, uses_in_option, uses_in_attributes, uses_in_field, uses_in_struct, uses_in_union, uses_in_parameter, uses_in_method, uses_in_interface, uses_in_item, uses_of}
+use Rattle.name_refusals.specs.NameRefusals.{refused_uses}
 use Rattle.const_eval.specs.declared.consts.Consts.{Consts}
 use Rattle.draft_rows.specs.declared.counts.Counts.{Counts}
 use Rattle.draft_rows.specs.declared.counts.FileRows.{FileRows}

@@ -10,9 +10,9 @@ use Rattle.std.proofs.lemmas.Slice.Eq.{bytes_eq-Decides}
 use Rattle.mojom_ast.specs.declared.names.Identifier.{Identifier}
 use Rattle.mojom_files.specs.declared.named_file.NamedFile.{NamedFile}
 use Rattle.mojom_files.specs.Definitions.{Defined, definitions_of}
-use Rattle.module_resolver.specs.Known.{with_name}
+use Rattle.name_refusals.specs.Known.{with_name}
 use Rattle.module_resolver.specs.NamesOf.{names_of}
-use Rattle.module_resolver.specs.NameRefusals.{duplicate, repeated, repeated_in, of_file, full_names, names_before, is_among, refusals_in, names_refusal}
+use Rattle.name_refusals.specs.NameRefusals.{duplicate, repeated, repeated_in, of_file, full_names, names_before, is_among, refusals_in, names_refusal}
 use Rattle.schema_laws.proofs.Quiet.{both_empty, map_empty, quiet_names}
 use Rattle.schema_laws.proofs.Doubles.{one_if, one_if_small, times, times_append, times_of_none}
 

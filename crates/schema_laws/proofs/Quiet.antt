@@ -9,8 +9,8 @@ use Rattle.mojom_files.specs.Definitions.{Defined, definitions_of}
 use Rattle.mojom_files.specs.Refusals.{where_true, best_of, IsAnswered, first_refusal}
 use Rattle.mojom_files.proofs.Best.{best_is_first}
 use Rattle.module_resolver.specs.declared.file_names.FileNames.{FileNames}
-use Rattle.module_resolver.specs.NameRefusals as resolver
-use Rattle.module_resolver.specs.NameRefusals.{names_refusal}
+use Rattle.name_refusals.specs.NameRefusals as resolver
+use Rattle.name_refusals.specs.NameRefusals.{names_refusal}
 use Rattle.const_eval.specs.declared.consts.Consts.{Consts}
 use Rattle.const_eval.specs.Evaluated.{const_refusals, const_refusal}
 use Rattle.kind_refusals.specs.KindRefusals.{refused_definition, refusals_in, refusals_at, kinds_refusal}

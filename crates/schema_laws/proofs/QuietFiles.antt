@@ -10,9 +10,9 @@ use Rattle.mojom_files.specs.Definitions.{Defined, definitions_of}
 use Rattle.module_resolver.specs.declared.file_names.FileNames.{FileNames}
 use Rattle.import_order.specs.Imports.{has}
 use Rattle.module_resolver.specs.NamesOf.{names_of}
-use Rattle.module_resolver.specs.NameRefusals.{is_among, names_before, duplicate, repeated_in, of_file, refused_uses, refusals_in}
-use Rattle.module_resolver.specs.NameRefusals as resolver
-use Rattle.module_resolver.specs.Uses.{uses_of}
+use Rattle.name_refusals.specs.NameRefusals.{is_among, names_before, duplicate, repeated_in, of_file, refused_uses, refusals_in}
+use Rattle.name_refusals.specs.NameRefusals as resolver
+use Rattle.name_refusals.specs.Uses.{uses_of}
 use Rattle.const_eval.specs.declared.consts.Consts.{Consts}
 use Rattle.const_eval.specs.Evaluated.{refused_in}
 use Rattle.kind_refusals.specs.KindRefusals.{refused_definition}

@@ -5,9 +5,9 @@ use Rattle.mojom_files.specs.declared.named_file.NamedFile.{NamedFile}
 use Rattle.mojom_files.specs.declared.refusal.Refusal.{Refusal}
 use Rattle.module_resolver.specs.declared.file_names.Names.{Names}
 use Rattle.module_resolver.specs.NamesOf.{names_of}
-use Rattle.module_resolver.specs.NameRefusals.{names_refusal}
+use Rattle.name_refusals.specs.NameRefusals.{names_refusal}
 use Rattle.import_order.specs.Order.{IsOrdered, IsDisordered}
-use Rattle.module_resolver.specs.Resolved.{AreNames}
+use Rattle.name_refusals.specs.Resolved.{AreNames}
 use Rattle.const_eval.specs.declared.consts.Consts.{Consts}
 use Rattle.const_eval.specs.Consts.{AreConsts}
 use Rattle.const_eval.specs.Evaluated.{const_refusal, IsEvaluated}

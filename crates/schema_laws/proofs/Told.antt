@@ -17,11 +17,11 @@ use Rattle.mojom_files.specs.Definitions.{Defined, definitions_of}
 use Rattle.module_resolver.specs.declared.target.Target.{Target}
 use Rattle.module_resolver.specs.declared.target.Target.TheVariants as targets
 use Rattle.module_resolver.specs.declared.target.DefinitionSort.{DefinitionSort}
-use Rattle.module_resolver.specs.declared.uses.Wanted.TheVariants as wants
+use Rattle.name_refusals.specs.declared.uses.Wanted.TheVariants as wants
 use Rattle.module_resolver.specs.LookUp.{look_up, sort_of}
 use Rattle.module_resolver.specs.NamesOf.{sort_of_item, names_of}
-use Rattle.module_resolver.specs.NameRefusals.{fits_sort, fits, refused_uses}
-use Rattle.module_resolver.specs.Uses.{uses_in_value}
+use Rattle.name_refusals.specs.NameRefusals.{fits_sort, fits, refused_uses}
+use Rattle.name_refusals.specs.Uses.{uses_in_value}
 use Rattle.const_eval.specs.declared.file_things.FileThings.{FileThings}
 use Rattle.const_meanings.specs.declared.literal.Literal.{Literal}
 use Rattle.const_meanings.specs.declared.literal.Literal.TheVariants as literals

@@ -3,7 +3,7 @@ use Rattle.std.specs.Prelude.{ℕ, ◌≡◌, List, None}
 use Rattle.mojom_files.specs.declared.named_file.NamedFile.{NamedFile}
 use Rattle.module_resolver.specs.declared.file_names.Names.{Names}
 use Rattle.import_order.specs.Order.{IsOrdered}
-use Rattle.module_resolver.specs.Resolved.{AreNames}
+use Rattle.name_refusals.specs.Resolved.{AreNames}
 use Rattle.const_eval.specs.declared.consts.Consts.{Consts}
 use Rattle.const_eval.specs.Evaluated.{IsEvaluated}
 use Rattle.kind_refusals.specs.KindRefusals.{kinds_refusal}

@@ -4,7 +4,7 @@ use Rattle.mojom_files.specs.declared.named_file.NamedFile.{NamedFile}
 use Rattle.mojom_files.specs.declared.refusal.Refusal.{Refusal}
 use Rattle.module_resolver.specs.declared.file_names.Names.{Names}
 use Rattle.import_order.specs.Order.{IsOrdered, IsDisordered}
-use Rattle.module_resolver.specs.Resolved.{AreNames, IsRefused}
+use Rattle.name_refusals.specs.Resolved.{AreNames, IsRefused}
 use Rattle.const_eval.specs.declared.consts.Consts.{Consts}
 use Rattle.const_eval.specs.Evaluated.{IsEvaluated, IsConstRefused}
 use Rattle.kind_refusals.specs.KindRefusals.{kinds_refusal}

@@ -15,8 +15,8 @@ use Rattle.mojom_files.specs.declared.basic.Basic.TheVariants as basics
 use Rattle.mojom_files.specs.Definitions.{Defined, definitions_of, enumerators_of}
 use Rattle.module_resolver.specs.declared.file_names.FileNames.{FileNames}
 use Rattle.module_resolver.specs.NamesOf.{names_of}
-use Rattle.module_resolver.specs.NameRefusals.{refused_uses}
-use Rattle.module_resolver.specs.Uses.{uses_in_option, uses_in_attributes, uses_in_enum, uses_in_item, uses_of}
+use Rattle.name_refusals.specs.NameRefusals.{refused_uses}
+use Rattle.name_refusals.specs.Uses.{uses_in_option, uses_in_attributes, uses_in_enum, uses_in_item, uses_of}
 use Rattle.const_eval.specs.declared.consts.Consts.{Consts}
 use Rattle.const_meanings.specs.declared.literal.Literal.TheVariants as literals
 use Rattle.const_meanings.specs.declared.origin.Origin.{Origin}

@@ -6,8 +6,8 @@ use Rattle.std.proofs.lemmas.Option.{none-some, same_Some}
 use Rattle.mojom_ast.specs.TypeTrees.{BaseTree, TypeTree}
 use Rattle.mojom_ast.specs.declared.names.Value.{Value}
 use Rattle.mojom_files.specs.declared.refusal.Refusal.{Refusal}
-use Rattle.module_resolver.specs.NameRefusals.{refused_uses}
-use Rattle.module_resolver.specs.Uses.{uses_in_option, uses_in_value, uses_in_attributes}
+use Rattle.name_refusals.specs.NameRefusals.{refused_uses}
+use Rattle.name_refusals.specs.Uses.{uses_in_option, uses_in_value, uses_in_attributes}
 use Rattle.mojom_files.specs.declared.basic.Basic.{Basic}
 use Rattle.mojom_files.specs.declared.basic.Basic.TheVariants as basics
 use Rattle.const_meanings.specs.Known.{Known}

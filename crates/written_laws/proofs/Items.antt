@@ -15,8 +15,8 @@ use Rattle.mojom_ast.specs.declared.definitions.Parameter.{Parameter}
 use Rattle.mojom_files.specs.Names.{within}
 use Rattle.mojom_files.specs.Definitions.{Defined}
 use Rattle.module_resolver.specs.declared.file_names.FileNames.{FileNames}
-use Rattle.module_resolver.specs.NameRefusals.{refused_uses}
-use Rattle.module_resolver.specs.Uses.{response_of, uses_in_attributes, uses_in_struct, uses_in_union, uses_in_parameter, uses_in_method, uses_in_interface, uses_in_item}
+use Rattle.name_refusals.specs.NameRefusals.{refused_uses}
+use Rattle.name_refusals.specs.Uses.{response_of, uses_in_attributes, uses_in_struct, uses_in_union, uses_in_parameter, uses_in_method, uses_in_interface, uses_in_item}
 use Rattle.const_eval.specs.declared.consts.Consts.{Consts}
 use Rattle.const_eval.specs.Refused.{refused_ordinals, refused_struct_member, refused_union_field, refused_parameter, refused_parameters, refused_interface_member, refused_method, refused_versions, refused_item, struct_members, union_members, interface_members, parameter_members, Member as Ordinal}
 use Rattle.mj_schema.specs.declared.rows.MethodRow.{MethodRow}

@@ -18,8 +18,8 @@ use Rattle.mojom_ast.specs.declared.definitions.Enumerator.{Enumerator}
 use Rattle.mojom_files.specs.declared.named_file.NamedFile.{NamedFile}
 use Rattle.mojom_files.specs.Definitions.{Defined, definitions_of}
 use Rattle.module_resolver.specs.declared.file_names.Names.{Names}
-use Rattle.module_resolver.specs.Uses.{response_of}
-use Rattle.module_resolver.specs.NameRefusals.{field_name, method_name, parameter_names, parameter_lists as resolver_lists, repeated_members}
+use Rattle.name_refusals.specs.Uses.{response_of}
+use Rattle.name_refusals.specs.NameRefusals.{field_name, method_name, parameter_names, parameter_lists as resolver_lists, repeated_members}
 use Rattle.const_eval.specs.declared.consts.Consts.{Consts}
 use Rattle.kind_refusals.specs.declared.list_sort.ListSort.TheVariants.{Fields, UnionFields, Methods, Parameters}
 use Rattle.kind_scope.specs.Scopes.{Scope}

@@ -10,8 +10,8 @@ use Rattle.mojom_ast.specs.declared.definitions.StructItem.TheVariants as struct
 use Rattle.mojom_ast.specs.declared.definitions.UnionField.{UnionField}
 use Rattle.mojom_ast.specs.declared.definitions.Parameter.{Parameter}
 use Rattle.module_resolver.specs.declared.file_names.FileNames.{FileNames}
-use Rattle.module_resolver.specs.NameRefusals.{refused_uses}
-use Rattle.module_resolver.specs.Uses.{uses_in_option, Use, uses_in_type, uses_in_attributes, uses_in_field, uses_in_struct, uses_in_union, uses_in_parameter}
+use Rattle.name_refusals.specs.NameRefusals.{refused_uses}
+use Rattle.name_refusals.specs.Uses.{uses_in_option, Use, uses_in_type, uses_in_attributes, uses_in_field, uses_in_struct, uses_in_union, uses_in_parameter}
 use Rattle.mojom_ast.specs.TypeTrees.{TypeTree}
 use Rattle.mojom_ast.specs.declared.names.Value.{Value}
 use Rattle.mojom_ast.specs.declared.definitions.Field.{Field}

@@ -20,10 +20,10 @@ use Rattle.mojom_ast.specs.declared.definitions.Parameter.{Parameter}
 use Rattle.mojom_ast.specs.declared.definitions.Enumerator.{Enumerator}
 use Rattle.mojom_files.specs.declared.named_file.NamedFile.{NamedFile}
 use Rattle.mojom_files.specs.Definitions.{Defined, definitions_of}
-use Rattle.module_resolver.specs.Known.{no_names, with_name}
+use Rattle.name_refusals.specs.Known.{no_names, with_name}
 use Rattle.module_resolver.specs.NamesOf.{names_of as names_of_files}
-use Rattle.module_resolver.specs.Uses.{uses_of}
-use Rattle.module_resolver.specs.NameRefusals.{duplicate, is_among, field_name, method_name, parameter_names, member_lists, repeated, repeated_members, repeated_definitions, named_as_basic, repeated_in, of_file, names_before, refused_uses, refusals_in, refusals_at, names_refusal}
+use Rattle.name_refusals.specs.Uses.{uses_of}
+use Rattle.name_refusals.specs.NameRefusals.{duplicate, is_among, field_name, method_name, parameter_names, member_lists, repeated, repeated_members, repeated_definitions, named_as_basic, repeated_in, of_file, names_before, refused_uses, refusals_in, refusals_at, names_refusal}
 use Rattle.schema_laws.proofs.Among.{IsAmong, place_of}
 use Rattle.schema_laws.proofs.Quiet.{both_empty, map_empty, quiet_names}
 use Rattle.schema_laws.proofs.Each.{all_empty}

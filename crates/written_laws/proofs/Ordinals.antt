@@ -13,7 +13,7 @@ use Rattle.mojom_ast.specs.declared.definitions.Parameter.{Parameter}
 use Rattle.mojom_files.specs.declared.named_file.NamedFile.{NamedFile}
 use Rattle.mojom_files.specs.Definitions.{Defined, definitions_of}
 use Rattle.module_resolver.specs.declared.file_names.Names.{Names}
-use Rattle.module_resolver.specs.Uses.{response_of}
+use Rattle.name_refusals.specs.Uses.{response_of}
 use Rattle.const_eval.specs.declared.consts.Consts.{Consts}
 use Rattle.const_eval.specs.Refused.{Site, Member as Ordinal, refused_ordinals, refused_struct_member, refused_union_field, refused_parameter, refused_parameters, refused_interface_member, refused_method, refused_versions, refused_item, struct_members, union_members, interface_members, parameter_members}
 use Rattle.kind_refusals.specs.declared.list_sort.ListSort.{ListSort}

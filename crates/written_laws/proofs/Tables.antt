@@ -11,7 +11,7 @@ use Rattle.module_resolver.specs.declared.target.Target.TheVariants as targets
 use Rattle.module_resolver.specs.declared.target.DefinitionSort.{DefinitionSort}
 use Rattle.module_resolver.specs.LookUp.{sort_of}
 use Rattle.module_resolver.specs.NamesOf.{names_of}
-use Rattle.module_resolver.specs.Uses.{uses_in_attributes, uses_in_item}
+use Rattle.name_refusals.specs.Uses.{uses_in_attributes, uses_in_item}
 use Rattle.const_eval.specs.declared.consts.Consts.{Consts}
 use Rattle.const_eval.specs.Refused.{refused_versions}
 use Rattle.draft_rows.specs.declared.counts.Counts.{Counts}

@@ -14,8 +14,8 @@ use Rattle.mojom_files.specs.Names.{dotted}
 use Rattle.module_resolver.specs.declared.target.Target.{Target}
 use Rattle.module_resolver.specs.LookUp.{look_up}
 use Rattle.module_resolver.specs.NamesOf.{names_of}
-use Rattle.module_resolver.specs.NameRefusals.{refused_uses}
-use Rattle.module_resolver.specs.Uses.{is_min_version, uses_in_value, uses_in_option, uses_in_attribute, uses_in_attributes}
+use Rattle.name_refusals.specs.NameRefusals.{refused_uses}
+use Rattle.name_refusals.specs.Uses.{is_min_version, uses_in_value, uses_in_option, uses_in_attribute, uses_in_attributes}
 use Rattle.const_eval.specs.declared.consts.Consts.{Consts}
 use Rattle.const_eval.specs.declared.file_things.FileThings.{FileThings}
 use Rattle.const_meanings.specs.Known.{Known, TextValue, BoolValue, NumberValue, FloatValue, signed}

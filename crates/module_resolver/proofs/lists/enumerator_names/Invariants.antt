@@ -1,5 +1,0 @@
-use Rattle.std.proofs.Common.{◌≡◌, take, map}
-use Rattle.module_resolver.proofs.lists.enumerator_names.Given as goal
-
-abbrev pub invariant-loop-enumerator : goal.invariant-loop-enumerator
-invariant-loop-enumerator l = map (λ n. n.now) l.names.items ≡ map (λ e. e.name) (take l.enumerator-index l.enumerators)

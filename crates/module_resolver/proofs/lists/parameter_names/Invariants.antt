@@ -1,6 +1,0 @@
-use Rattle.std.proofs.Common.{◌≡◌, take, map}
-use Rattle.module_resolver.specs.NameRefusals.{parameter_names}
-use Rattle.module_resolver.proofs.lists.parameter_names.Given as goal
-
-abbrev pub invariant-loop-parameter : goal.invariant-loop-parameter
-invariant-loop-parameter l = map (λ n. n.now) l.names.items ≡ parameter_names (take l.parameter-index l.parameters)

@@ -1,0 +1,5 @@
+pub mod Known
+pub mod Uses
+pub mod NameRefusals
+pub mod Resolved
+pub mod steps
