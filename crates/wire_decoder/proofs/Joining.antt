@@ -11,7 +11,7 @@ use Rattle.wire_model.specs.Slots.{element_slots, field_slot}
 use Rattle.wire_model.specs.Trees.{Tree, Trees, view, trees, none, more}
 use Rattle.wire_model.specs.Values.{Behind, value_if, slot_value, slots_value}
 use Rattle.wire_decoder.specs.steps.Joined.{joined}
-use Rattle.wire_decoder.specs.steps.Rooms.{field_value}
+use Rattle.readable_marks.specs.Rooms.{field_value}
 use Rattle.wire_model.specs.Marks.{has_value}
 use Rattle.mj_schema.specs.Parts.{flag_place}
 
@@ -61,10 +61,6 @@ all_added vs ws ts e h = sym (joined_none (map view ws)) ∙ h ∙ from_none vs 
 -- so many of some fields
 pub few_of : (n : ℕ) (xs ys : List FieldRow) → ys ≡ take n xs → length ys ≤ length xs
 few_of n xs ys e = omega (arith, ap length e, length-take n xs)
-
--- values behind others that were read
-pub joined_on : (xs : List Tree) (a b : Trees) → a ≡ b → joined xs a ≡ joined xs b
-joined_on xs a b e = ap (joined xs) e
 
 -- the fields that a version lacks
 pub absent_more : (schema : Schema) (fields : List FieldRow) (i : ℕ) (f : FieldRow) (v : Value) (vs ws : List Value) (all : Trees)

@@ -8,11 +8,11 @@ use Rattle.wire_model.specs.Slots.{element_slots}
 use Rattle.wire_model.specs.Marks.{visit}
 use Rattle.wire_model.specs.Trees.{Tree, Fields, view, trees, none}
 use Rattle.wire_model.specs.Values.{value, slots_value}
-use Rattle.wire_decoder.specs.steps.Readable.{AreReadable}
-use Rattle.wire_decoder.proofs.Contents.{content_as_slots}
+use Rattle.readable_marks.specs.Readable.{AreReadable}
+use Rattle.wire_laws.proofs.Elements.{content_as_slots}
 use Rattle.wire_decoder.proofs.Joining.{all_added, few_of, from_none, field_more, fields_done, element_more, elements_done}
-use Rattle.wire_decoder.proofs.Reading.{readable_struct, readable_field, readable_element, fits_long, readable_behind, value_behind, object_array, object_map, object_union, array_value, union_readable, union_is_slot, not_zero, one_less}
-use Rattle.wire_decoder.proofs.Rooms.{within_bytes, field_in, element_room}
+use Rattle.readable_marks.proofs.Reading.{readable_struct, readable_field, readable_element, fits_long, readable_behind, value_behind, object_array, object_map, object_union, array_value, union_readable, union_is_slot, not_zero, one_less}
+use Rattle.readable_marks.proofs.Rooms.{within_bytes, field_in, element_room}
 use Rattle.wire_decoder.proofs.walk.+decode.Goals as goal
 
 -- arrays

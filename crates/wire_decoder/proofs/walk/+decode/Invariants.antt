@@ -7,7 +7,7 @@ use Rattle.wire_model.specs.Slots.{element_slots, field_slot}
 use Rattle.wire_model.specs.Trees.{Trees, view, none}
 use Rattle.wire_model.specs.Values.{value, slots_value}
 use Rattle.wire_decoder.specs.steps.Joined.{joined}
-use Rattle.wire_decoder.specs.steps.Readable.{AreReadable}
+use Rattle.readable_marks.specs.Readable.{AreReadable}
 use Rattle.wire_decoder.proofs.walk.+decode.Given as goal
 
 abbrev pub decreases-decode_pointer : goal.decreases-decode_pointer

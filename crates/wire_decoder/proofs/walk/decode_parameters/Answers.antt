@@ -3,8 +3,8 @@ use Rattle.std.specs.Option.{option_copied}
 use Rattle.mj_schema.specs.declared.rows.StructRow.{StructRow}
 use Rattle.wire_model.specs.Marks.{found_struct_marks, visit}
 use Rattle.wire_model.specs.Tight.{MAX_DEPTH}
-use Rattle.wire_decoder.specs.steps.Readable.{AreReadable}
-use Rattle.wire_decoder.proofs.Reading.{parameters_readable}
+use Rattle.readable_marks.specs.Readable.{AreReadable}
+use Rattle.readable_marks.proofs.Reading.{parameters_readable}
 use Rattle.wire_decoder.proofs.walk.decode_parameters.Goals as goal
 
 pub decode_struct-requires-clause-readable : goal.decode_struct-requires-clause-readable
