@@ -36,19 +36,19 @@ pub delivers : (wire : Wire) (past : List Event) (seq : SeqId) (y : EndId) (m : 
 delivers wire past seq y m header read other found e what t =
     subst (λ (h : Result Header Fault). Tells wire past y what (headed wire past seq y m h)) (sym read.says)
     (subst (λ (b : Bool). Tells wire past y what
-    (if b then controlled wire past y m (wire.closed_id m.bytes) else at_endpoint wire past seq y m (header_of m header)
+    (if b then controlled wire past y m (wire.says m.bytes) else at_endpoint wire past seq y m (header_of m header)
     (endpoint_at wire past y header.interface_id)))
     (sym (ne_eqb header.interface_id CONTROL_ID other))
     (subst (λ (r : Option Endpoint). Tells wire past y what (at_endpoint wire past seq y m (header_of m header) r)) e t))
 
 -- a control is told what it says
 pub obeys : (wire : Wire) (past : List Event) (seq : SeqId) (y : EndId) (m : Message) (h : Header) → wire.header m.bytes ≡ Ok h → h.id ≡ CONTROL_ID
-    → (what : Found) → Tells wire past y what (controlled wire past y m (wire.closed_id m.bytes))
+    → (what : Found) → Tells wire past y what (controlled wire past y m (wire.says m.bytes))
     → Tells wire past y what (headed wire past seq y m (wire.header m.bytes))
 obeys wire past seq y m h read is what t =
     subst (λ (r : Result Header Fault). Tells wire past y what (headed wire past seq y m r)) (sym read)
     (subst (λ (b : Bool). Tells wire past y what
-    (if b then controlled wire past y m (wire.closed_id m.bytes) else at_endpoint wire past seq y m h (endpoint_at wire past y h.id)))
+    (if b then controlled wire past y m (wire.says m.bytes) else at_endpoint wire past seq y m h (endpoint_at wire past y h.id)))
     (sym (eq-eqb h.id CONTROL_ID is)) t)
 
 -- a message that stands is told by whether it is a response that nobody waits for

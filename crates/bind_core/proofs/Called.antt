@@ -1,15 +1,16 @@
 -- That a call is refused or done, by its way.
-use Rattle.std.proofs.Common.{◌≡◌, ◌≤◌, ℕ, ◌+◌, Bool, true, false, List, [], ◌∷◌, ◌++◌, length, refl, sym, ap, ◌∙◌, subst, arith}
+use Rattle.std.proofs.Common.{◌≡◌, ◌≤◌, ◌<◌, ℕ, ◌+◌, Bool, true, false, List, [], ◌∷◌, ◌++◌, length, refl, sym, ap, ◌∙◌, subst, arith}
 use Rattle.std.specs.Prelude.{if◌then◌else◌, ◌&&◌, ◌||◌, not, ◌==◌, Option, Some, Result, Ok, Err, is_some, IsSome, IsTrue}
 use Rattle.std.proofs.lemmas.List.{length-reverse}
 use Rattle.mj_base.specs.declared.ids.EndId.{EndId}
 use Rattle.mj_base.specs.declared.ids.SeqId.{SeqId}
-use Rattle.mj_base.specs.declared.limits.TheConstants.{MAX_EVENTS}
+use Rattle.mj_base.specs.declared.limits.TheConstants.{MAX_EVENTS, MAX_UNREAD_MESSAGES}
 use Rattle.handle_table.specs.Things.{has, same_end}
 use Rattle.handle_table.specs.declared.places.Place.TheVariants as places
 use Rattle.handle_table.specs.declared.thing.Thing.TheVariants.{End}
 use Rattle.message_pipe.specs.Contents.{Becomes, Contents}
-use Rattle.message_pipe.specs.Ends.{end_of, is_closed, with_message}
+use Rattle.message_pipe.specs.Ends.{end_of, is_closed, unread_at, with_message}
+use Rattle.message_pipe.specs.Mail.{weighs}
 use Rattle.message_pipe.specs.declared.message.Message.{Message}
 use Rattle.message_pipe.specs.declared.pipe_end.PipeEnd.{PipeEnd}
 use Rattle.bind_model.specs.declared.asked.Asked.TheVariants as asks
@@ -83,7 +84,7 @@ module _ (old : State) (seq : SeqId) (r : Request) (can : CanDo old seq (command
 
   pub call_refused : (why : Why) → way_named names ≡ Err why → told_in old seq (command_of r) ≡ tells.No why
   call_refused why h =
-      way_refused (schema_of old) old.seqs (past_of old) k old.pipes old.endpoints can.able.holds.agrees can.able.holds.legal few_past
+      way_refused (schema_of old) old.seqs (past_of old) k old.pipes old.endpoints can.able.holds.agrees can.able.holds.legal few_past can.able.holds.early
       old.rights.pendings can.able.holds.pendings seq r.end r.id r.prepared can.prepared names why h
 
   -- what is asked, and what is told where it is sent
@@ -99,19 +100,23 @@ module _ (old : State) (seq : SeqId) (r : Request) (can : CanDo old seq (command
   module _ (x : EndId) (free : way_named names ≡ Ok x) where
     g : (is_response r.prepared.target.side ≡ false) × Fits (past_of old) old.pipes r.end r.prepared names x
     g =
-        goes (schema_of old) old.seqs (past_of old) k old.pipes old.endpoints can.able.holds.agrees can.able.holds.legal few_past
+        goes (schema_of old) old.seqs (past_of old) k old.pipes old.endpoints can.able.holds.agrees can.able.holds.legal few_past can.able.holds.early
         old.rights.pendings can.able.holds.pendings seq r.end r.id r.prepared can.prepared names x free
 
     -- its ids may be written
     pub wanted : length (ids_of names.pendings) ≡ length r.prepared.endpoints.items
     wanted = g.1.wanted
 
+    -- the end that it goes to isn't full
+    pub room : weighs (unread_at old.pipes.ends x) < MAX_UNREAD_MESSAGES
+    room = g.1.room
+
     pub are_ids : AreIds (ids_of names.pendings)
     are_ids = g.1.ids
 
     sends : told_in old seq (command_of r) ≡ tells.Sent number (bytes_for number)
     sends =
-        way_sends (schema_of old) old.seqs (past_of old) k old.pipes old.endpoints can.able.holds.agrees can.able.holds.legal few_past
+        way_sends (schema_of old) old.seqs (past_of old) k old.pipes old.endpoints can.able.holds.agrees can.able.holds.legal few_past can.able.holds.early
         old.rights.pendings can.able.holds.pendings seq r.end r.id r.prepared can.prepared names x g.0 free
 
     known : Writes (wire_in old) (past_of old) r.end r.carried.handles × ((e : Endpoint) × Open (wire_in old) (past_of old) seq r.end r.id e)
@@ -138,7 +143,7 @@ module _ (old : State) (seq : SeqId) (r : Request) (can : CanDo old seq (command
 
     opens : (e : Endpoint) × (open_here ≡ Ok e)
     opens =
-        open_ok (schema_of old) old.seqs (past_of old) k old.pipes old.endpoints can.able.holds.agrees can.able.holds.legal few_past
+        open_ok (schema_of old) old.seqs (past_of old) k old.pipes old.endpoints can.able.holds.agrees can.able.holds.legal few_past can.able.holds.early
         old.rights.pendings can.able.holds.pendings seq r.end r.id r.prepared can.prepared names open_here x
         (passed (not (all_own old.pipes old.rights.pendings names)) NoName _ x free).1
 

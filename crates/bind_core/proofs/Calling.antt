@@ -1,4 +1,6 @@
 -- What a call is told, by its way.
+use Rattle.bind_core.specs.Early.{IsEarly}
+use Rattle.bind_core.proofs.Early.{unbusy}
 use Rattle.std.proofs.Common.{◌≡◌, ◌≤◌, ℕ, ◌+◌, Bool, true, false, List, ◌∷◌, length, refl, sym, ap, ◌∙◌}
 use Rattle.std.specs.Prelude.{if◌then◌else◌, ◌&&◌, not, ◌==◌, is_some, Option, Some, None, Result, Ok, Err}
 use Rattle.std.specs.List.{list_all}
@@ -31,7 +33,8 @@ use Rattle.bind_model.specs.WireOf.{wire_of, has_response}
 use Rattle.bind_model.specs.Machine.{made, is_gone, endpoint_at}
 use Rattle.bind_model.specs.Pendings.{KnowsPendings}
 use Rattle.bind_model.specs.Replies as machine
-use Rattle.bind_model.specs.Replies.{answer, called, cannot_write, distinct_pendings, drawn, first_of, has_pending, ids_of, is_receiver, is_response, legal, pendings_out, request_of, unless, wrong_tokens}
+use Rattle.bind_model.specs.Replies.{answer, called, cannot_write, distinct_pendings, drawn, first_of, has_pending, ids_of, is_receiver, is_response}
+use Rattle.bind_model.specs.Replies.{legal, pendings_out, request_of, unless, wrong_tokens}
 use Rattle.bind_model.proofs.Kept.{Kept, bound_made}
 use Rattle.bind_core.specs.Agreement.{Agrees}
 use Rattle.bind_core.specs.Routers.{Routers, found_at}
@@ -63,14 +66,15 @@ unfolding wire_of
 responds_is schema prepared p h = rw p.flags (responds_by (method_of schema prepared.target) prepared.target h)
 
 pub sealed_is : (schema : Schema) (prepared : Prepared) → IsPrepared schema prepared → (id request : ℕ) (ids : List ℕ)
-    → (wire_of schema).sealed prepared.target (view prepared.value) (record { id = id; request = request; ids = ids }) ≡ sealed_bytes id request ids prepared
+    → (wire_of schema).sealed prepared.target (view prepared.value) (record { id = id; request = request; ids = ids; moment = None })
+    ≡ sealed_bytes id request ids prepared
 unfolding wire_of
 sealed_is schema prepared p id request ids = rw (← p.flags, ← p.payload) refl
 
 -- ## Calls
 
 module _ (schema : Schema) (seqs : ℕ) (past : List Event) (k : Kept (wire_of schema) past) (pipes : Contents) (endpoints : Routers)
-    (a : Agrees (wire_of schema) past pipes endpoints) (h : legal (wire_of schema) seqs past) (few : length past ≤ MAX_EVENTS)
+    (a : Agrees (wire_of schema) past pipes endpoints) (h : legal (wire_of schema) seqs past) (few : length past ≤ MAX_EVENTS) (young : IsEarly past)
     (table : List (EndpointName × Bool)) (known : KnowsPendings past table)
     (seq : SeqId) (y : EndId) (id : ℕ) (prepared : Prepared) (p : IsPrepared schema prepared) (names : CarriedNames) where
   abbrev pub outgoing : Outgoing
@@ -79,7 +83,7 @@ module _ (schema : Schema) (seqs : ℕ) (past : List Event) (k : Kept (wire_of s
   abbrev pub sent : Told
   sent = Sent (request_of (wire_of schema) past y id prepared.target)
       ((wire_of schema).sealed prepared.target (view prepared.value)
-      (record { id = id; request = request_of (wire_of schema) past y id prepared.target; ids = ids_of names.pendings }))
+      (record { id = id; request = request_of (wire_of schema) past y id prepared.target; ids = ids_of names.pendings; moment = None }))
 
   abbrev pub tests_of : Endpoint → List (Option Why)
   tests_of r =
@@ -103,7 +107,8 @@ module _ (schema : Schema) (seqs : ℕ) (past : List Event) (k : Kept (wire_of s
   opened_way own m r =
       test_if (is_receiver r.side) WrongSide _ _ sent
       (test_not (asks_of r.interface prepared.target) WrongMethod (way_with prepared names pipes endpoints y r.peer_closed) _ sent
-      (with_told schema seqs past k pipes endpoints a h few prepared p names y r.peer_closed (outs own) m sent))
+      (with_told schema seqs past k pipes endpoints a h few prepared p names y r.peer_closed (outs own)
+      (unbusy (wire_of schema) seqs past h young names.things) m sent))
 
   each_way : own_past ≡ true → (o : Result Endpoint Why) → (has (made past) (End y) ≡ true)
       → told_of_way sent (way_open prepared names pipes endpoints y o) ≡ told_of_opened o (λ r. first_of (tests_of r) sent)

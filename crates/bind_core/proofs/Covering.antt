@@ -1,4 +1,5 @@
 -- A set that covers what is ready covers it after each command, once the end that the command is about and its peer are added.
+use Rattle.bind_model.specs.Notices.{first_unmet, waits}
 use Rattle.std.proofs.Common.{◌≡◌, ℕ, Bool, true, false, List, [], ◌∷◌, refl, sym, ap, ◌∙◌, subst}
 use Rattle.std.specs.Prelude.{◌&&◌, ◌||◌, not, nat_lt, reverse, Some, None, is_some, Result, Ok, Err, IfOk, IfErr}
 use Rattle.std.proofs.lemmas.List.{reverse-append}
@@ -39,7 +40,8 @@ use Rattle.bind_core.specs.declared.state.State.{State}
 use Rattle.bind_core.proofs.Untouched.{about, associated_end, bound_end, ready_far}
 use Rattle.bind_core.proofs.FirstReady.{first_is}
 use Rattle.bind_core.proofs.NearAsked.{near_asked}
-use Rattle.bind_core.proofs.WhoTakes.{some_taker, taker_is, taker_of_is}
+use Rattle.bind_core.proofs.Early.{unpaused}
+use Rattle.bind_core.proofs.WhoTakes.{some_taker, taker_is, taker_of_is, Unpaused}
 
 -- ## The peer of an end that was not made is itself
 
@@ -122,12 +124,16 @@ pub covers_more : (s : State) (old new : List EndId) → Covers s old → IsWith
 covers_more s old new c more x r = more x (c x r)
 
 pub covers_still : (s : State) (old new : List EndId) → Holds s → Covers s old → KeepsTaken s old new → Covers s new
-covers_still s old new h c keeps x r = keeps x (ap (λ o. is_some o) (taker_of_is s h x) ∙ (some_taker (wire_in s) (past_of s) x ∙ r)) (c x r)
+covers_still s old new h c keeps x r =
+    keeps x
+    (ap (λ o. is_some o) (taker_of_is s h x)
+    ∙ (some_taker (wire_in s) (past_of s) x (unpaused (wire_in s) s.seqs (past_of s) h.legal h.early x) ∙ r))
+    (c x r)
 
 pub ready_is : (s : State) (ends : List EndId) → Holds s → Covers s ends → Ascends ends → first_taken (taker_of s) ends ≡ ready (wire_in s) (past_of s)
 ready_is s ends h c a =
-    first_is (wire_in s) (past_of s) (kept (wire_in s) s.seqs (past_of s) h.legal) (taker_of s)
-    (λ x. taker_of_is s h x ∙ taker_is (wire_in s) (past_of s) x) ends a c
+    first_is (wire_in s) (past_of s) (kept (wire_in s) s.seqs (past_of s) h.legal) (unpaused (wire_in s) s.seqs (past_of s) h.legal h.early) (taker_of s)
+    (λ x. taker_of_is s h x ∙ taker_is (wire_in s) (past_of s) x (unpaused (wire_in s) s.seqs (past_of s) h.legal h.early x)) ends a c
 
 module _ (old new : State) (before after : List EndId) (covers : Covers old before) (more : IsWithin before after) where
   same_ready : (past : List Event) → schema_of new ≡ schema_of old → past_of new ≡ past → (x : EndId) → is_ready (wire_in new) (past_of new) x ≡ true
@@ -138,16 +144,25 @@ module _ (old new : State) (before after : List EndId) (covers : Covers old befo
   pub covers_undone : (command : Command) (refused : Refused) → Undone old new command refused → Covers new after
   covers_undone command refused u x r = more x (covers x (same_ready (past_of old) u.schema (ap reverse u.events) x r))
 
-  pub covers_done : (seq : SeqId) (command : Command) (reply : Reply) → HasNear old (end_named command) after → Done old new seq command reply
+  pub covers_done : Holds old → (seq : SeqId) (command : Command) (reply : Reply) → HasNear old (end_named command) after → Done old new seq command reply
       → Covers new after
-  covers_done seq command reply near d x r = go (is_near (past_of old) (about (asked_of command) (told_in old seq command)) x) refl
+  covers_done h seq command reply near d x r = go (is_near (past_of old) (about (asked_of command) (told_in old seq command)) x) refl
     where
+      event : Event
+      event = record { seq = seq; asked = asked_of command; told = told_in old seq command }
+
+      now : past_of new ≡ event ∷ past_of old
+      now = ap reverse d.events ∙ reverse-append old.log.events (event ∷ [])
+
+      free : Unpaused (wire_in old) (event ∷ past_of old) x
+      free = subst (λ (es : List Event). first_unmet es (waits es x) ≡ None) now
+          (unpaused (wire_in new) new.seqs (past_of new) d.holds.legal d.holds.early x)
+
       go : (b : Bool) → is_near (past_of old) (about (asked_of command) (told_in old seq command)) x ≡ b → has_end after x ≡ true
       go true e = near x (near_named (wire_in old) old.seqs (past_of old) seq x command (told_in old seq command) refl e)
       go false e =
-          more x (covers x (ready_far (wire_in old) (past_of old) x (record { seq = seq; asked = asked_of command; told = told_in old seq command }) e
-          (same_ready (record { seq = seq; asked = asked_of command; told = told_in old seq command } ∷ past_of old) d.schema
-          (ap reverse d.events ∙ reverse-append old.log.events (record { seq = seq; asked = asked_of command; told = told_in old seq command } ∷ [])) x r)))
+          more x (covers x (ready_far (wire_in old) (past_of old) x event e (unpaused (wire_in old) old.seqs (past_of old) h.legal h.early x) free
+          (same_ready (event ∷ past_of old) d.schema now x r)))
 
 -- what stands still does after a command was done or came back
 pub stands_after : (old new : State) (seq : SeqId) (command : Command) (r : Result Reply Refused) (before mid after : List EndId) → Stands old before
@@ -156,6 +171,9 @@ pub stands_after : (old new : State) (seq : SeqId) (command : Command) (r : Resu
     → KeepsTaken new mid after
     → Stands new after
 stands_after old new seq command (Ok reply) before mid after s more near d u keeps =
-    record { holds = d.holds; covers = covers_still new mid after d.holds (covers_done old new before mid s.covers more seq command reply near d) keeps }
+    record {
+      holds = d.holds;
+      covers = covers_still new mid after d.holds (covers_done old new before mid s.covers more s.holds seq command reply near d) keeps;
+    }
 stands_after old new seq command (Err refused) before mid after s more near d u keeps =
     record { holds = u.holds; covers = covers_still new mid after u.holds (covers_undone old new before mid s.covers more command refused u) keeps }

@@ -1,4 +1,5 @@
 -- What is emitted, by the code and by the events.
+use Rattle.bind_model.specs.declared.control.Control.TheVariants as says
 use Rattle.std.proofs.Common.{◌≡◌, ◌<◌, ℕ, zero, suc, Bool, true, false, List, [], ◌∷◌, length, get_or, refl, sym, ap, ◌∙◌, arith, subst}
 use Rattle.std.specs.Prelude.{if◌then◌else◌, ◌&&◌, not, ◌==◌, Option, Some, None, filter, is_some}
 use Rattle.std.specs.Option.{option_map}
@@ -119,7 +120,7 @@ module _ (schema : Schema) where
 
     -- at each end those that the events put there
     pub adds_is : (ids : List ℕ) (new : Contents) → EmitsTo (peer_of (end_of pipes.ends y)) (controls_at endpoints y ids) pipes new
-        → Adds (emits (wire_of schema) past y (endpoint_at (wire_of schema) past y) ids) pipes new
+        → Adds (emits (wire_of schema) past y (endpoint_at (wire_of schema) past y) says.Closed ids) pipes new
     adds_is ids new e =
         let m : Emits (peer past y) (not (is_gone past (peer past y))) (due ids) pipes new = emits_is ids new e in
         record { ends = λ x. m.ends x ∙ at x (end_of pipes.ends x); table = m.table; made = m.made }
@@ -137,7 +138,7 @@ module _ (schema : Schema) where
 
         at : (x : EndId) (o : Option PipeEnd)
             → (if same_end (peer past y) x && not (is_gone past (peer past y)) then option_map (with_messages (due ids)) o else o)
-            ≡ option_map (with_messages (emits (wire_of schema) past y (endpoint_at (wire_of schema) past y) ids x)) o
+            ≡ option_map (with_messages (emits (wire_of schema) past y (endpoint_at (wire_of schema) past y) says.Closed ids x)) o
         at x o =
             ap (λ (b : Bool). if b then option_map (with_messages (due ids)) o else o) (alike x (same_end (peer past y) x) refl)
             ∙ go (same_end (peer past y) x && not (is_gone past x)) (due ids) o

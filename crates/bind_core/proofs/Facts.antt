@@ -22,7 +22,9 @@ use Rattle.bind_model.specs.Machine.{made, made_by, out, gone, is_gone, peer, bo
 use Rattle.bind_model.specs.Replies.{legal, serials, tokens}
 use Rattle.bind_model.proofs.Counting.{absent, present, times-absent, times-present}
 use Rattle.bind_model.proofs.Kept.{Kept, most, bound_held}
-use Rattle.bind_model.proofs.Outcomes.{Outcome, outcome, joins, mints, binds, associates, attaches, calls, answers, writes, gets, drops, controls, spoils, closes, closes_pending, closes_responder, closes_end, closes_endpoint, skips, refuses}
+use Rattle.bind_model.proofs.Outcomes.{Outcome, outcome, joins, mints, binds, associates, attaches, calls, answers, writes, gets, drops, controls, spoils}
+use Rattle.bind_model.proofs.Outcomes.{closes, closes_pending, closes_responder, closes_end, closes_endpoint, notifies, pauses, pipes, flows, skips}
+use Rattle.bind_model.proofs.Outcomes.{refuses}
 use Rattle.bind_core.specs.Routers.{Routers}
 use Rattle.bind_core.specs.Agreement.{Agrees, end_with}
 
@@ -107,6 +109,10 @@ module _ (wire : Wire) (seqs : ℕ) where
   few_step (closes_responder e) = omega arith
   few_step (closes_end r i o e) = omega arith
   few_step (closes_endpoint r i o e) = omega arith
+  few_step (notifies r o e w s f p) = omega arith
+  few_step (pauses rb ra e f g s) = omega arith
+  few_step (pipes e p q) = omega arith
+  few_step (flows d o e f) = omega arith
   few_step skips = omega arith
   few_step refuses = omega arith
 

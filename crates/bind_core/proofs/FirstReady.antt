@@ -19,7 +19,7 @@ use Rattle.bind_core.specs.EndSets.{has_end}
 use Rattle.bind_core.specs.steps.FirstTaken.{Ascends, IsFirst, first_taken}
 use Rattle.bind_core.specs.steps.Takers.{taker_open}
 use Rattle.bind_core.proofs.Leasts.{AllFrom, has_of_made, has_passing_of, least_at, none_pass}
-use Rattle.bind_core.proofs.WhoTakes.{some_taker}
+use Rattle.bind_core.proofs.WhoTakes.{some_taker, Unpaused}
 
 -- what comes behind the first
 behind_first : (x y : EndId) (xs : List EndId) → IsFirst x xs → has_end xs y ≡ true → is_before x y ≡ true
@@ -35,11 +35,11 @@ has_main : (f : Message → Option _) (a : _ → Option Endpoint) (c : Bool) (fr
 has_main f a c front None h = absurd cc
 has_main f a c front (Some r) h = refl
 
-module _ (wire : Wire) (past : List Event) (k : Kept wire past) where
+module _ (wire : Wire) (past : List Event) (k : Kept wire past) (free : (x : EndId) → Unpaused wire past x) where
   ready_made : (x : EndId) → is_ready wire past x ≡ true → has (made past) (End x) ≡ true
   ready_made x h = go (endpoint_at wire past x 0) refl
       (has_main (λ n. meant wire n) (endpoint_at wire past x) (is_gone past x) (front_of (unread wire past x)) (endpoint_at wire past x 0)
-      (some_taker wire past x ∙ h))
+      (some_taker wire past x (free x) ∙ h))
     where
       go : (o : Option Endpoint) → endpoint_at wire past x 0 ≡ o → is_some o ≡ true → has (made past) (End x) ≡ true
       go None e s = absurd cc

@@ -1,7 +1,9 @@
 -- What calls, answers and raw bytes share: the tests of what goes with a message, and of the pipe.
-use Rattle.std.proofs.Common.{◌≡◌, ◌≤◌, ◌<◌, ℕ, Bool, true, false, List, [], ◌∷◌, length, refl, sym, ap, ◌∙◌, arith}
+use Rattle.bind_model.specs.Replies.{busy}
+use Rattle.std.proofs.Common.{◌≡◌, ◌≤◌, ◌<◌, ℕ, Bool, true, false, List, [], ◌∷◌, length, refl, sym, ap, ◌∙◌, subst, arith}
 use Rattle.std.specs.Prelude.{if◌then◌else◌, ◌||◌, ◌&&◌, not, ◌==◌, nat_le, Option, Some, None, Result, Ok, Err}
 use Rattle.std.specs.List.{list_all}
+use Rattle.std.proofs.lemmas.Bool.{leb-false}
 use Rattle.mj_base.specs.declared.limits.TheConstants.{MAX_EVENTS, MAX_UNREAD_MESSAGES}
 use Rattle.mj_base.specs.declared.ids.EndId.{EndId}
 use Rattle.mj_schema.specs.declared.schema.Schema.{Schema}
@@ -32,7 +34,8 @@ use Rattle.bind_model.specs.declared.told.Why.TheVariants.{Disconnected, SelfSen
 use Rattle.bind_model.specs.Machine.{endpoint_at, is_gone, is_local, made, other_side, out, peer, unread}
 use Rattle.bind_model.specs.Pendings.{KnowsPendings, is_out as is_pending_out}
 use Rattle.bind_model.specs.Replies as machine
-use Rattle.bind_model.specs.Replies.{all_suit, cannot_write, distinct_pendings, first_of, has_pending, ids_of, legal, pendings_out, same_side, tokens_right, unless, wrong_tokens}
+use Rattle.bind_model.specs.Replies.{all_suit, cannot_write, distinct_pendings, first_of, has_pending, ids_of, legal, pendings_out, same_side}
+use Rattle.bind_model.specs.Replies.{tokens_right, unless, wrong_tokens}
 use Rattle.bind_model.specs.Wire.{Wire}
 use Rattle.bind_model.specs.WireOf.{wire_of, handles_met, endpoints_met}
 use Rattle.bind_model.proofs.Entering.{is_pending_state}
@@ -221,19 +224,19 @@ fit_apart endpoints ps wants h = go (all_fit endpoints ps wants) refl
 
 module _ (wire : Wire) (past : List Event) (k : Kept wire past) (pipes : Contents) (endpoints : Routers)
     (a : Agrees wire past pipes endpoints) (things : List Thing) where
-  pub last : (y : EndId) (done : Told) (peer_closed : Bool) → told_of_way done (way_at pipes peer_closed things (peer past y))
+  pub last : busy past things ≡ None → (y : EndId) (done : Told) (peer_closed : Bool) → told_of_way done (way_at pipes peer_closed things (peer past y))
       ≡ first_of (cannot_write wire past y peer_closed things) done
-  last y done peer_closed =
-      rw (closed_is wire past k pipes endpoints a (peer past y), unread_is wire past k pipes endpoints a (peer past y))
+  last free y done peer_closed =
+      rw (free, closed_is wire past k pipes endpoints a (peer past y), unread_is wire past k pipes endpoints a (peer past y))
       (test_if (has things (End (peer past y))) SelfSend _ _ done
       (test_if (is_gone past (peer past y) || peer_closed) Disconnected _ _ done
       (test_if (nat_le MAX_UNREAD_MESSAGES (weighs (unread wire past (peer past y)))) Full (Ok (peer past y)) [] done refl)))
 
-  pub last_to : (y : EndId) → has (made past) (End y) ≡ true → (done : Told) (peer_closed : Bool)
+  pub last_to : busy past things ≡ None → (y : EndId) → has (made past) (End y) ≡ true → (done : Told) (peer_closed : Bool)
       → told_of_way done (way_to pipes peer_closed things (peer_of (end_of pipes.ends y)))
       ≡ first_of (cannot_write wire past y peer_closed things) done
-  last_to y m done peer_closed =
-      ap (λ (o : Option EndId). told_of_way done (way_to pipes peer_closed things o)) (peer_is wire past k pipes endpoints a y m) ∙ last y done peer_closed
+  last_to free y m done peer_closed =
+      ap (λ (o : Option EndId). told_of_way done (way_to pipes peer_closed things o)) (peer_is wire past k pipes endpoints a y m) ∙ last free y done peer_closed
 
   -- the handles of all are with callers
   pub outs_is : all_out pipes things ≡ machine.all_out past things
@@ -248,15 +251,30 @@ module _ (pipes : Contents) (things : List Thing) where
       let c = passed (nat_le MAX_UNREAD_MESSAGES (weighs (unread_at pipes.ends z))) Full _ x b.1 in
       let d : ◌≡◌ {A = Result EndId Why} (Ok z) (Ok x) = c.1 in cc
 
+  -- that end isn't full
+  at_room : (peer_closed : Bool) (z x : EndId) → way_at pipes peer_closed things z ≡ Ok x → weighs (unread_at pipes.ends x) < MAX_UNREAD_MESSAGES
+  at_room peer_closed z x h =
+      let a = passed (has things (End z)) SelfSend _ x h in
+      let b = passed (is_closed (end_of pipes.ends z) || peer_closed) Disconnected _ x a.1 in
+      let c = passed (nat_le MAX_UNREAD_MESSAGES (weighs (unread_at pipes.ends z))) Full _ x b.1 in
+      subst (λ (w : EndId). weighs (unread_at pipes.ends w) < MAX_UNREAD_MESSAGES) (at_is peer_closed z x h)
+      (leb-false MAX_UNREAD_MESSAGES (weighs (unread_at pipes.ends z)) c.0)
+
+  pub to_room : (peer_closed : Bool) (o : Option EndId) (x : EndId) → way_to pipes peer_closed things o ≡ Ok x
+      → weighs (unread_at pipes.ends x) < MAX_UNREAD_MESSAGES
+  to_room peer_closed None x h = absurd cc
+  to_room peer_closed (Some z) x h = at_room peer_closed z x h
+
   pub to_is : (peer_closed : Bool) (o : Option EndId) (x : EndId) → way_to pipes peer_closed things o ≡ Ok x → o ≡ Some x
   to_is peer_closed None x h = absurd cc
   to_is peer_closed (Some z) x h = ap (λ (w : EndId). Some w) (at_is peer_closed z x h)
 
 -- ## What goes with a message
 
--- what is known where it fits: the end that the message goes to, and that its ids may be written
+-- what is known where it fits: the end that the message goes to, which isn't full, and that its ids may be written
 pub record Fits (past : List Event) (pipes : Contents) (y : EndId) (prepared : Prepared) (names : CarriedNames) (x : EndId) : Type 0 where
   pub peer : peer_of (end_of pipes.ends y) ≡ Some x
+  pub room : weighs (unread_at pipes.ends x) < MAX_UNREAD_MESSAGES
   pub wanted : length (ids_of names.pendings) ≡ length prepared.endpoints.items
   pub ids : AreIds (ids_of names.pendings)
 
@@ -289,19 +307,20 @@ module _ (schema : Schema) (seqs : ℕ) (past : List Event) (k : Kept (wire_of s
     abbrev tests : List (Option Why)
     tests = cannot_write (wire_of schema) past y peer_closed names.things
 
-    pipe_tests : has (made past) (End y) ≡ true → (done : Told)
+    pipe_tests : busy past names.things ≡ None → has (made past) (End y) ≡ true → (done : Told)
         → told_of_way done (way_unless (wrong_pipe endpoints y names.pendings) rest) ≡ first_of (machine.wrong_pipe past y names.pendings ∷ tests) done
-    pipe_tests m done =
+    pipe_tests free m done =
         ap (λ (o : Option Why). told_of_way done (way_unless o rest)) (pipe_is (wire_of schema) seqs past h few endpoints found y names.pendings own)
         ∙ test_unless (machine.wrong_pipe past y names.pendings) rest tests done
-        (last_to (wire_of schema) past k pipes endpoints a names.things y m done peer_closed)
+        (last_to (wire_of schema) past k pipes endpoints a names.things free y m done peer_closed)
 
-    pub with_told : has (made past) (End y) ≡ true → (done : Told) → told_of_way done (way_with prepared names pipes endpoints y peer_closed)
+    pub with_told : busy past names.things ≡ None → has (made past) (End y) ≡ true → (done : Told)
+        → told_of_way done (way_with prepared names pipes endpoints y peer_closed)
         ≡ first_of (wrong_tokens (wire_of schema) past (outgoing_named prepared names) ∷ machine.wrong_pipe past y names.pendings ∷ tests) done
-    with_told m done =
+    with_told free m done =
         ap (λ (b : Bool). told_of_way done (if not b then Err WrongTokens else way_unless (wrong_pipe endpoints y names.pendings) rest)) suits_is
         ∙ test_not (tokens_right (wire_of schema) past (outgoing_named prepared names)) WrongTokens
-        (way_unless (wrong_pipe endpoints y names.pendings) rest) (machine.wrong_pipe past y names.pendings ∷ tests) done (pipe_tests m done)
+        (way_unless (wrong_pipe endpoints y names.pendings) rest) (machine.wrong_pipe past y names.pendings ∷ tests) done (pipe_tests free m done)
 
     pub with_fits : (x : EndId) → way_with prepared names pipes endpoints y peer_closed ≡ Ok x → Fits past pipes y prepared names x
     with_fits x e =
@@ -309,6 +328,7 @@ module _ (schema : Schema) (seqs : ℕ) (past : List Event) (k : Kept (wire_of s
         let u = passed_unless (wrong_pipe endpoints y names.pendings) rest x t.1 in
         record {
           peer = to_is pipes names.things peer_closed (peer_of (end_of pipes.ends y)) x u.1;
+          room = to_room pipes names.things peer_closed (peer_of (end_of pipes.ends y)) x u.1;
           wanted = fit_length endpoints names.pendings prepared.endpoints.items
               (and_right (length names.things == prepared.handles) (all_fit endpoints names.pendings prepared.endpoints.items)
               (held_not (suits prepared names endpoints) t.0));

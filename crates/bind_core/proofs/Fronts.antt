@@ -1,4 +1,5 @@
 -- What a legal take says of the message that it consumed, and of its handles.
+use Rattle.bind_model.specs.declared.told.Noted.{Noted}
 use Rattle.std.proofs.Common.{◌≡◌, ◌≤◌, ◌<◌, ℕ, ◌+◌, true, false, List, [], ◌∷◌, drop, refl, ap, ◌∙◌, arith}
 use Rattle.std.specs.Prelude.{if◌then◌else◌, is_some, IsSome, Option, Some, None}
 use Rattle.mj_base.specs.declared.ids.EndId.{EndId}
@@ -77,9 +78,9 @@ module _ (wire : Wire) (seqs : ℕ) (past : List Event) (h : legal wire seqs pas
         let f = (all_stand wire seqs (record { seq = seq; asked = Take y; told = Dropped id goes } ∷ past) (within, told, h)).0 in
         there y f.0 f.1 f.2
 
-    pub control_there : (id : ℕ) → Control id ≡ answer wire seqs past seq (Take y) → IsSome (end_of pipes.ends y)
-    control_there id told =
-        let f = (all_stand wire seqs (record { seq = seq; asked = Take y; told = Control id } ∷ past) (within, told, h)).0 in
+    pub control_there : (c : Noted) → Control c ≡ answer wire seqs past seq (Take y) → IsSome (end_of pipes.ends y)
+    control_there c told =
+        let f = (all_stand wire seqs (record { seq = seq; asked = Take y; told = Control c } ∷ past) (within, told, h)).0 in
         there y f.0 f.1 f.2
 
     module _ (g : Got) (told : Taken g ≡ answer wire seqs past seq (Take y)) where

@@ -1,4 +1,5 @@
 -- What a take that consumes a control makes of pipes, places and endpoints.
+use Rattle.bind_model.specs.declared.told.Noted.TheVariants as noted
 use Rattle.std.proofs.Common.{◌≡◌, ◌≤◌, ℕ, Bool, true, false, List, [], ◌∷◌, ◌++◌, length, drop, refl, sym, ap, ◌∙◌, arith}
 use Rattle.std.specs.Prelude.{if◌then◌else◌, ◌||◌, ◌&&◌, not, ◌==◌, is_some, Option, Some, None}
 use Rattle.std.specs.Option.{option_map}
@@ -205,11 +206,11 @@ one_taken false a = refl
 
 -- what a control does
 pub control_read : (wire : Wire) (past : List Event) (seq : SeqId) (y : EndId) (id : ℕ)
-    → IsReading wire (record { seq = seq; asked = Take y; told = Control id }) past y
+    → IsReading wire (record { seq = seq; asked = Take y; told = Control (noted.Closed id) }) past y
 control_read wire past seq y id = record {
   made = refl;
   given = refl;
-  takes = λ x. one_taken (same_end y x) (Control id);
+  takes = λ x. one_taken (same_end y x) (Control (noted.Closed id));
   puts = λ x. refl;
   peer = λ x. refl;
 }

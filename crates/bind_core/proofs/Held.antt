@@ -17,6 +17,8 @@ use Rattle.bind_model.specs.declared.commands.Reply.{Reply}
 use Rattle.bind_model.specs.Pendings.{KnowsPendings}
 use Rattle.bind_core.specs.declared.state.Rights.{Rights}
 use Rattle.bind_core.specs.declared.state.State.{State}
+use Rattle.bind_core.specs.Early.{IsEarly}
+use Rattle.bind_core.proofs.Early.{early}
 use Rattle.bind_core.proofs.Quiet.{IsQuiet, counts_still, pendings_still}
 
 reverse-snoc : (events : List Event) (event : Event) → reverse (events ++ event ∷ []) ≡ event ∷ reverse events
@@ -60,6 +62,7 @@ module _ (old new : State) (seq : SeqId) (command : Command) (reply : Reply) whe
               (subst (λ (p : List Event). CountsResponders (wire_in old) p new.rights.responders) (sym past) responders);
           pendings = subst (λ (p : List Event). KnowsPendings p new.rights.pendings) (sym past) pendings;
           few = let n = can.few in omega (arith, ap length events, length-append old.log.events (event_of seq command reply ∷ []));
+          early = subst (λ (p : List Event). IsEarly p) (sym past) (early command, can.holds.early);
         };
         schema = schema;
         seqs = seqs;

@@ -64,3 +64,6 @@ mod FirstReady
 mod Covering
 mod SoleStepper
 mod Leaving
+mod HandlesFew
+pub mod Early
+pub mod Crossing

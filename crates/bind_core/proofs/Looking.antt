@@ -1,4 +1,6 @@
 -- What a take is told, by what is found at the end.
+use Rattle.bind_model.specs.Notices.{first_unmet, waits}
+use Rattle.bind_core.proofs.Early.{unpaused}
 use Rattle.std.proofs.Common.{◌≡◌, Bool, true, false, List, [], ◌∷◌, refl, sym, ap, ◌∙◌}
 use Rattle.std.specs.Prelude.{if◌then◌else◌, not, is_some, Option, Some, None, Result, Ok, Err}
 use Rattle.mj_base.specs.declared.ids.EndId.{EndId}
@@ -67,8 +69,16 @@ module _ (wire : Wire) (past : List Event) (k : Kept wire past) (pipes : Content
       go true = refl
       go false = open_told m (unread wire past y)
 
-  pub front_told : told_of_front next (front_found pipes endpoints y) ≡ took wire past seq y
-  front_told = rw (found_is a y 0) (bound_told (endpoint_at wire past y 0) refl)
+  pub front_told : first_unmet past (waits past y) ≡ None → told_of_front next (front_found pipes endpoints y) ≡ took wire past seq y
+  front_told free =
+      rw (found_is a y 0, free) (bound_told (endpoint_at wire past y 0) refl
+      ∙ go (is_some (endpoint_at wire past y 0)) (not (is_gone past y)) (took_front wire past seq y (unread wire past y)))
+    where
+      go : (b c : Bool) (t : Told) → first_of (unless b NoName ∷ unless c Disconnected ∷ []) t
+          ≡ first_of (unless b NoName ∷ unless c Disconnected ∷ None ∷ []) t
+      go true true t = refl
+      go true false t = refl
+      go false c t = refl
 
 -- what is found is the oldest unread message
 module _ (wire : Wire) (past : List Event) (k : Kept wire past) (pipes : Contents) (endpoints : Routers)
@@ -95,6 +105,9 @@ module _ (s : State) (h : Holds s) (y : EndId) where
   kept_here : Kept (wire_in s) (past_of s)
   kept_here = kept (wire_in s) s.seqs (past_of s) h.legal
 
+  free : first_unmet (past_of s) (waits (past_of s) y) ≡ None
+  free = unpaused (wire_in s) s.seqs (past_of s) h.legal h.early y
+
   pub front_is : (m : Message) → front_found s.pipes s.endpoints y ≡ Ok m → front_at (wire_in s) (past_of s) y ≡ Some m
   front_is m e = found_front (wire_in s) (past_of s) kept_here s.pipes s.endpoints h.agrees y m e
 
@@ -102,9 +115,9 @@ module _ (s : State) (h : Holds s) (y : EndId) where
       → headed (wire_in s) (past_of s) seq y m ((wire_in s).header m.bytes) ≡ told_to s seq (asks.Take y)
   front_read seq m e =
       ap (told_of_front (λ (n : Message). headed (wire_in s) (past_of s) seq y n ((wire_in s).header n.bytes))) (sym e)
-      ∙ front_told (wire_in s) (past_of s) kept_here s.pipes s.endpoints h.agrees seq y
+      ∙ front_told (wire_in s) (past_of s) kept_here s.pipes s.endpoints h.agrees seq y free
 
   pub front_refused : (seq : SeqId) (why : Why) → front_found s.pipes s.endpoints y ≡ Err why → told_to s seq (asks.Take y) ≡ No why
   front_refused seq why e =
-      sym (front_told (wire_in s) (past_of s) kept_here s.pipes s.endpoints h.agrees seq y)
+      sym (front_told (wire_in s) (past_of s) kept_here s.pipes s.endpoints h.agrees seq y free)
       ∙ ap (told_of_front (λ (n : Message). headed (wire_in s) (past_of s) seq y n ((wire_in s).header n.bytes))) e

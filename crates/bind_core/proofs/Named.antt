@@ -1,4 +1,5 @@
 -- The ids of endpoints, other than 0, can be named by controls: an end makes few, and the others came with headers that were read.
+use Rattle.bind_model.specs.declared.told.Noted.TheVariants as noted
 use Rattle.std.proofs.Common.{◌≡◌, ◌<◌, ◌≤◌, ℕ, zero, suc, ◌+◌, Bool, true, false, List, [], ◌∷◌, length, refl, ap, ◌∙◌, arith, inl, inr, cond}
 use Rattle.std.specs.Prelude.{if◌then◌else◌, ◌||◌, ◌&&◌, ◌==◌, nat_lt, Option, Some, None, Result, Ok, Err, is_some}
 use Rattle.std.specs.Option.{option_map}
@@ -28,12 +29,15 @@ use Rattle.bind_model.specs.declared.told.Got.{Got}
 use Rattle.bind_model.specs.declared.told.Told.{Told}
 use Rattle.bind_model.specs.declared.told.Told.TheVariants.{Dropped, Taken}
 use Rattle.bind_model.specs.Laws.{has_number}
-use Rattle.bind_model.specs.Machine.{Endpoints, Entry, changes, endpoint_at, endpoint_named, enters_from, entries_of, entry_in, ids_in, is_local, is_strange, only_at, unread_of, with_peer_closed, with_state, written}
+use Rattle.bind_model.specs.Machine.{Endpoints, Entry, changes, endpoint_at, endpoint_named, enters_from, entries_of, entry_in, ids_in, is_local}
+use Rattle.bind_model.specs.Machine.{is_strange, only_at, unread_of, with_peer_closed, with_state, written}
 use Rattle.bind_model.specs.Replies.{legal}
 use Rattle.bind_model.specs.Tables.{ids_of_entries}
 use Rattle.bind_model.specs.Wire.{Header, Named}
 use Rattle.bind_model.specs.WireOf.{unless_fault, wire_of}
-use Rattle.bind_model.proofs.Outcomes.{Outcome, outcome, joins, mints, binds, associates, attaches, calls, answers, writes, gets, drops, controls, spoils, closes, closes_pending, closes_responder, closes_end, closes_endpoint, skips, refuses}
+use Rattle.bind_model.proofs.Outcomes.{Outcome, outcome, joins, mints, binds, associates, attaches, calls, answers, writes, gets, drops, controls, spoils}
+use Rattle.bind_model.proofs.Outcomes.{closes, closes_pending, closes_responder, closes_end, closes_endpoint, notifies, pauses, pipes, flows, skips}
+use Rattle.bind_model.proofs.Outcomes.{refuses}
 use Rattle.bind_model.proofs.PendingFacts.{next_below}
 use Rattle.bind_core.specs.steps.Emitting.{IsNamed}
 
@@ -205,7 +209,11 @@ module _ (schema : Schema) (seqs : ℕ) where
     step (drops {y} {id = n} {goes} m f e d) h =
         if_here (same_end y x) _ id (endpoint_at (wire_of schema) past x id) h
         (enters_dropped (endpoint_at (wire_of schema) past y) n goes (front_of (unread_of past y (written (wire_of schema) past y))) id) before
-    step (controls {y} {id = n} m f e d) h =
+    step (controls {c = noted.Queried n v} m f e d) h = before h
+    step (controls {c = noted.Version n v} m f e d) h = before h
+    step (controls {c = noted.Required n v} m f e d) h = before h
+    step (controls {c = noted.Flushed n} m f e d) h = before h
+    step (controls {y} {c = noted.Closed n} m f e d) h =
         before (some_still (same_end y x && (n == id)) with_peer_closed (endpoint_at (wire_of schema) past x id) h)
     step (spoils m f e) h = before h
     step (closes o e) h = before h
@@ -223,6 +231,10 @@ module _ (schema : Schema) (seqs : ℕ) where
         before (some_still (same_end y x && (n == id)) (with_state states.Closed) (endpoint_at (wire_of schema) past x id) h)
     step (closes_endpoint {y} {id = n} r i o e) h =
         before (some_still (same_end y x && (n == id)) (with_state states.Closed) (endpoint_at (wire_of schema) past x id) h)
+    step (notifies r o e w s f p) h = before h
+    step (pauses rb ra e f g s) h = before h
+    step (pipes e p q) h = before h
+    step (flows d o e f) h = before h
     step skips h = before h
     step refuses h = before h
 

@@ -8,7 +8,8 @@ use Rattle.handle_table.specs.declared.thing.Thing.{Thing}
 use Rattle.handle_table.specs.declared.thing.Thing.TheVariants.{End, Token}
 use Rattle.wire_encoder.specs.declared.endpoint.EndpointSide.{EndpointSide}
 use Rattle.bind_model.specs.declared.asked.Asked.{Asked}
-use Rattle.bind_model.specs.declared.asked.Asked.TheVariants.{Answer, Associate, Attach, Bind, Call, Close, Join, Mint, Pipe, Raw, Skip, Take}
+use Rattle.bind_model.specs.declared.asked.Asked.TheVariants.{Answer, Associate, Attach, Bind, Call, Close, Join, Mint, Pipe, Raw, Skip, Take, Notify}
+use Rattle.bind_model.specs.declared.asked.Asked.TheVariants.{Pause, Data, Flow}
 use Rattle.bind_model.specs.declared.asked.Closing.TheVariants as closings
 use Rattle.bind_model.specs.declared.event.Event.{Event}
 use Rattle.bind_model.specs.declared.limits.TheConstants.{MAX_RAW_BYTES, MAX_RAW_HANDLES}
@@ -31,6 +32,7 @@ end_asked (Call x id s) = Some x
 end_asked (Answer r s) = Some r.end
 end_asked (Raw (End x) bytes handles) = Some x
 end_asked (Take x) = Some x
+end_asked (Notify x notice) = Some x
 end_asked (Close (closings.Endpoint x id)) = Some x
 end_asked (Close (closings.Pending p)) = Some p.end
 end_asked asked = None
@@ -80,3 +82,7 @@ module _ (wire : Wire) (seqs : ℕ) (past : List Event) (seq : SeqId) (y : EndId
   near_asked (Close (closings.Responder r)) told e h = h
   near_asked (Close (closings.Endpoint x id)) told e h = h
   near_asked (Skip line) told e h = h
+  near_asked (Notify x notice) told e h = h
+  near_asked (Pause b a k) told e h = h
+  near_asked (Data size) told e h = h
+  near_asked (Flow x f) told e h = h

@@ -1,4 +1,5 @@
 -- What a control is told, and that it is done.
+use Rattle.bind_model.specs.declared.told.Noted.TheVariants as noted
 use Rattle.std.proofs.Common.{◌≡◌, ℕ, List, [], ◌∷◌, ◌++◌, length, refl, sym, ap, ◌∙◌}
 use Rattle.std.specs.Prelude.{if◌then◌else◌, IsSome, Option, None, Some}
 use Rattle.std.specs.Option.{option_map}
@@ -41,19 +42,21 @@ use Rattle.bind_core.proofs.WireReads.{control_fails, control_reads}
 
 module _ (schema : Schema) (past : List Event) (y : EndId) (m : Message) (bytes : List ℕ) (same : m.bytes ≡ bytes) where
   abbrev told_of_control : Told
-  told_of_control = controlled (wire_of schema) past y m ((wire_of schema).closed_id m.bytes)
+  told_of_control = controlled (wire_of schema) past y m ((wire_of schema).says m.bytes)
 
   -- a test fails
   pub control_bad : (fault : Fault) → first_failed (control_marks bytes) ≡ Some fault → told_of_control ≡ bad (wire_of schema) past y (bads.Message fault)
   control_bad fault h = ap (controlled (wire_of schema) past y m) (control_fails schema m.bytes fault (rw same h))
 
   -- all hold, and there are no handles
-  pub control_told : (id : ℕ) → IsFine (control_marks bytes) → id ≡ control_id bytes → length m.handles ≡ 0 → told_of_control ≡ tells.Control id
+  pub control_told : (id : ℕ) → IsFine (control_marks bytes) → id ≡ control_id bytes → length m.handles ≡ 0
+      → told_of_control ≡ tells.Control (noted.Closed id)
   control_told id fine e none =
       ap (controlled (wire_of schema) past y m) (control_reads schema m.bytes id (rw same fine) (rw same e)) ∙ go m.handles none
     where
       go : (hs : List Thing) → length hs ≡ 0
-          → (if is_none hs then tells.Control id else bad (wire_of schema) past y (bads.Message (record { kind = IllegalHandle; at = 0 }))) ≡ tells.Control id
+          → (if is_none hs then tells.Control (noted.Closed id) else bad (wire_of schema) past y (bads.Message (record { kind = IllegalHandle; at = 0 })))
+          ≡ tells.Control (noted.Closed id)
       go [] h = refl
       go (x ∷ hs) h = absurd cc
 
@@ -64,7 +67,7 @@ module _ (schema : Schema) (past : List Event) (y : EndId) (m : Message) (bytes 
       ap (controlled (wire_of schema) past y m) (control_reads schema m.bytes id (rw same fine) (rw same e)) ∙ go m.handles some
     where
       go : (hs : List Thing) → (length hs ≡ 0 → ⊥)
-          → (if is_none hs then tells.Control id else bad (wire_of schema) past y (bads.Message (record { kind = IllegalHandle; at = 0 })))
+          → (if is_none hs then tells.Control (noted.Closed id) else bad (wire_of schema) past y (bads.Message (record { kind = IllegalHandle; at = 0 })))
           ≡ bad (wire_of schema) past y (bads.Message (record { kind = IllegalHandle; at = 0 }))
       go [] h = absurd (h refl)
       go (x ∷ hs) h = refl
@@ -85,21 +88,22 @@ none_closed pipes = record {
     go x None = refl
     go x (Some e) = refl
 
-module _ (s : State) (seq : SeqId) (able : HasRoom s seq) (y : EndId) (id : ℕ) (told : told_to s seq (asks.Take y) ≡ tells.Control id) where
+module _ (s : State) (seq : SeqId) (able : HasRoom s seq) (y : EndId) (id : ℕ) (told : told_to s seq (asks.Take y) ≡ tells.Control (noted.Closed id)) where
   pub obey_there : IsSome (end_of s.pipes.ends y)
-  obey_there = control_there (wire_in s) s.seqs (past_of s) able.holds.legal s.pipes s.endpoints able.holds.agrees seq able.within y id (sym told)
+  obey_there =
+      control_there (wire_in s) s.seqs (past_of s) able.holds.legal s.pipes s.endpoints able.holds.agrees seq able.within y (noted.Closed id) (sym told)
 
   pub obey_done : (new : State) → schema_of new ≡ schema_of s → new.seqs ≡ s.seqs → new.rights ≡ s.rights
-      → new.log.events ≡ s.log.events ++ record { seq = seq; asked = asks.Take y; told = tells.Control id } ∷ []
+      → new.log.events ≡ s.log.events ++ record { seq = seq; asked = asks.Take y; told = tells.Control (noted.Closed id) } ∷ []
       → TurnsAt marked y id s.endpoints new.endpoints → Becomes y without_front s.pipes new.pipes
-      → Done s new seq (commands.Take y) (replies.Control id)
+      → Done s new seq (commands.Take y) (replies.Control (noted.Closed id))
   obey_done new schema seqs unmoved events t b =
-      finish s new seq (commands.Take y) (replies.Control id) able schema seqs unmoved
+      finish s new seq (commands.Take y) (replies.Control (noted.Closed id)) able schema seqs unmoved
       (record { none = refl; handed = λ wire. refl; after = λ rs. refl; gives = refl; hands = refl; halves = λ wire past. refl }) events (sym told)
-      (read_agrees (wire_in s) (event_of seq (commands.Take y) (replies.Control id)) (past_of s) y
+      (read_agrees (wire_in s) (event_of seq (commands.Take y) (replies.Control (noted.Closed id))) (past_of s) y
       (kept (wire_in s) s.seqs (past_of s) able.holds.legal)
-      (kept (wire_in s) s.seqs (event_of seq (commands.Take y) (replies.Control id) ∷ past_of s)
-      (goes s new seq (commands.Take y) (replies.Control id) able (sym told)))
+      (kept (wire_in s) s.seqs (event_of seq (commands.Take y) (replies.Control (noted.Closed id)) ∷ past_of s)
+      (goes s new seq (commands.Take y) (replies.Control (noted.Closed id)) able (sym told)))
       (control_read (wire_in s) (past_of s) seq y id) s.pipes new.pipes new.pipes new.pipes s.endpoints new.endpoints b (none_closed new.pipes)
       (none_put new.pipes)
       (control_turns (wire_in s) (past_of s) seq s.endpoints new.endpoints able.holds.agrees.routers y id t) able.holds.agrees)

@@ -11,7 +11,7 @@ use Rattle.bind_model.specs.Pendings.{Half, is_out}
 use Rattle.bind_model.specs.Replies.{has_pending, pendings_at, same_pending}
 use Rattle.bind_model.specs.declared.endpoint.PendingId.{PendingId}
 use Rattle.bind_model.specs.declared.names.EndpointName.{EndpointName}
-use Rattle.bind_model.specs.steps.PendingKeys.{has_place}
+use Rattle.bind_model.specs.Pendings.{has_place}
 use Rattle.bind_core.specs.steps.Founds.{is_pending, pending_ids}
 use Rattle.bind_core.specs.steps.Pending.{HavePlaces, half_entered, halves_from, pending_at}
 

@@ -7,7 +7,8 @@ use Rattle.bind_model.specs.declared.endpoint.PendingId.{PendingId}
 use Rattle.bind_model.specs.declared.endpoint.ResponderId.{ResponderId}
 use Rattle.bind_model.specs.declared.event.Event.{Event}
 use Rattle.bind_core.specs.steps.Carrying.{SpendsAll}
-use Rattle.bind_model.specs.Replies.{has_pending, pendings_given, pendings_handed, pendings_out, responders_after, responders_handed, responders_out, same_responder}
+use Rattle.bind_model.specs.Replies.{has_pending, pendings_given, pendings_handed, pendings_out, responders_after, responders_handed, responders_out}
+use Rattle.bind_model.specs.Replies.{same_responder}
 use Rattle.bind_model.specs.Wire.{Wire}
 use Rattle.bind_model.specs.Plain.{HandsPendings, asked_of, told_of, responders_in}
 use Rattle.bind_model.specs.Pendings.{KnowsPendings}

@@ -1,7 +1,9 @@
 -- That raw bytes are refused or written, by their way.
-use Rattle.std.proofs.Common.{◌≡◌, ℕ, Bool, true, false, List, [], ◌∷◌, ◌++◌, length, refl, sym, ap, ◌∙◌, subst, arith}
+use Rattle.bind_core.proofs.Early.{unbusy}
+use Rattle.std.proofs.Common.{◌≡◌, ◌<◌, ℕ, Bool, true, false, List, [], ◌∷◌, ◌++◌, length, refl, sym, ap, ◌∙◌, subst, arith}
 use Rattle.std.specs.Prelude.{if◌then◌else◌, ◌&&◌, not, nat_le, nat_lt, Option, Some, Result, Ok, Err, is_some}
 use Rattle.std.specs.List.{list_all}
+use Rattle.mj_base.specs.declared.limits.TheConstants.{MAX_UNREAD_MESSAGES}
 use Rattle.mj_base.specs.declared.ids.EndId.{EndId}
 use Rattle.mj_base.specs.declared.ids.SeqId.{SeqId}
 use Rattle.handle_table.specs.Things.{has, is_distinct}
@@ -10,7 +12,8 @@ use Rattle.handle_table.specs.declared.thing.Thing.{Thing}
 use Rattle.handle_table.specs.declared.thing.Thing.TheVariants.{End, Token}
 use Rattle.handle_table.proofs.ThingsLemmas.{and_left}
 use Rattle.message_pipe.specs.Contents.{Becomes, Contents}
-use Rattle.message_pipe.specs.Ends.{end_of, peer_of, with_message}
+use Rattle.message_pipe.specs.Ends.{end_of, peer_of, unread_at, with_message}
+use Rattle.message_pipe.specs.Mail.{weighs}
 use Rattle.message_pipe.specs.declared.message.Message.{Message}
 use Rattle.message_pipe.specs.declared.pipe_end.PipeEnd.{PipeEnd}
 use Rattle.bind_model.specs.Machine.{made, out, peer}
@@ -39,7 +42,7 @@ use Rattle.bind_core.specs.steps.Ways.{all_out, way_to}
 use Rattle.bind_core.specs.declared.raw.RawBytes.{RawBytes}
 use Rattle.bind_core.specs.declared.state.State.{State}
 use Rattle.bind_core.proofs.Facts.{peer_is}
-use Rattle.bind_core.proofs.Fitted.{held_not, last_to, outs_is, passed, test_if, to_is, told_of_way}
+use Rattle.bind_core.proofs.Fitted.{held_not, last_to, outs_is, passed, test_if, to_is, to_room, told_of_way}
 use Rattle.bind_core.proofs.Held.{finish}
 use Rattle.bind_core.proofs.Sending.{IsWriting, sent_agrees}
 use Rattle.bind_core.proofs.Steady.{steady}
@@ -104,7 +107,8 @@ module _ (old : State) (seq : SeqId) (r : RawBytes) (can : CanDo old seq (comman
       test_most (length r.bytes) MAX_RAW_BYTES TooLong _ _ (tells.Wrote x)
       (test_most (length r.handles) MAX_RAW_HANDLES TooManyHandles (way_to old.pipes false r.handles (peer_of (end_of old.pipes.ends x)))
       (cannot_write (wire_in old) (past_of old) x false r.handles) (tells.Wrote x)
-      (last_to (wire_in old) (past_of old) k old.pipes old.endpoints can.able.holds.agrees r.handles x m (tells.Wrote x) false))
+      (last_to (wire_in old) (past_of old) k old.pipes old.endpoints can.able.holds.agrees r.handles
+      (unbusy (wire_in old) old.seqs (past_of old) can.able.holds.legal can.able.holds.early r.handles) x m (tells.Wrote x) false))
 
   out_first : own_past ≡ true → has (out (past_of old)) r.handle ≡ true
   out_first h =
@@ -141,6 +145,17 @@ module _ (old : State) (seq : SeqId) (r : RawBytes) (can : CanDo old seq (comman
 
     here : (y : EndId) × (r.handle ≡ End y) × (peer_of (end_of old.pipes.ends y) ≡ Some x)
     here = from_end r.handle held.1
+
+    -- that end isn't full
+    has_room : (z : Thing) → raw_way_from z (length r.bytes) r.handles old.pipes ≡ Ok x → weighs (unread_at old.pipes.ends x) < MAX_UNREAD_MESSAGES
+    has_room (Token t) h = absurd cc
+    has_room (End y) h =
+        let a = passed (nat_lt MAX_RAW_BYTES (length r.bytes)) TooLong _ x h in
+        let b = passed (nat_lt MAX_RAW_HANDLES (length r.handles)) TooManyHandles _ x a.1 in
+        to_room old.pipes r.handles false (peer_of (end_of old.pipes.ends y)) x b.1
+
+    pub room : weighs (unread_at old.pipes.ends x) < MAX_UNREAD_MESSAGES
+    room = has_room r.handle held.1
 
     abbrev y : EndId
     y = here.0

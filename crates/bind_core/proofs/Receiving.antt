@@ -68,6 +68,7 @@ plain_of r = record {
   handles = r.handles;
   pendings = names_of r.pendings;
   gone = r.gone;
+  moment = None;
 }
 
 -- ## What is known of the message
@@ -101,6 +102,7 @@ module _ (s : State) (seq : SeqId) (able : HasRoom s seq) (y : EndId) (a : Arriv
     handles = a.named;
     pendings = names;
     gone = gone;
+    moment = None;
   }
 
   abbrev names : List PendingId

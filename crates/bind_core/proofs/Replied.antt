@@ -1,9 +1,9 @@
 -- That an answer is refused or done, by its way.
-use Rattle.std.proofs.Common.{◌≡◌, ◌≤◌, arith, ℕ, ◌+◌, Bool, true, false, List, [], ◌∷◌, ◌++◌, length, refl, sym, ap, ◌∙◌, subst}
+use Rattle.std.proofs.Common.{◌≡◌, ◌≤◌, ◌<◌, arith, ℕ, ◌+◌, Bool, true, false, List, [], ◌∷◌, ◌++◌, length, refl, sym, ap, ◌∙◌, subst}
 use Rattle.std.specs.Prelude.{if◌then◌else◌, ◌&&◌, not, ◌==◌, Result, Ok, Err, Option, is_some}
 use Rattle.std.specs.List.{list_any}
 use Rattle.std.proofs.lemmas.List.{length-reverse}
-use Rattle.mj_base.specs.declared.limits.TheConstants.{MAX_EVENTS}
+use Rattle.mj_base.specs.declared.limits.TheConstants.{MAX_EVENTS, MAX_UNREAD_MESSAGES}
 use Rattle.mj_base.specs.declared.ids.EndId.{EndId}
 use Rattle.mj_base.specs.declared.ids.SeqId.{SeqId}
 use Rattle.handle_table.specs.Things.{has}
@@ -11,7 +11,8 @@ use Rattle.handle_table.specs.declared.places.Place.TheVariants as places
 use Rattle.handle_table.specs.declared.thing.Thing.{Thing}
 use Rattle.handle_table.specs.declared.thing.Thing.TheVariants.{End}
 use Rattle.message_pipe.specs.Contents.{Becomes, Contents}
-use Rattle.message_pipe.specs.Ends.{end_of, with_message}
+use Rattle.message_pipe.specs.Ends.{end_of, unread_at, with_message}
+use Rattle.message_pipe.specs.Mail.{weighs}
 use Rattle.message_pipe.specs.declared.message.Message.{Message}
 use Rattle.message_pipe.specs.declared.pipe_end.PipeEnd.{PipeEnd}
 use Rattle.bind_model.specs.declared.asked.Asked.TheVariants as asks
@@ -84,7 +85,7 @@ module _ (old : State) (seq : SeqId) (r : Response) (can : CanDo old seq (comman
 
   pub answer_refused : (why : Why) → way_named names ≡ Err why → told_in old seq (command_of r) ≡ tells.No why
   answer_refused why h =
-      back_refused (schema_of old) old.seqs (past_of old) k old.pipes old.endpoints can.able.holds.agrees can.able.holds.legal few_past
+      back_refused (schema_of old) old.seqs (past_of old) k old.pipes old.endpoints can.able.holds.agrees can.able.holds.legal few_past can.able.holds.early
       old.rights.pendings can.able.holds.pendings old.rights.responders can.able.holds.responders seq r.responder r.prepared can.prepared names why h
 
   abbrev out : Outgoing
@@ -96,7 +97,7 @@ module _ (old : State) (seq : SeqId) (r : Response) (can : CanDo old seq (comman
   module _ (x : EndId) (free : way_named names ≡ Ok x) where
     g : (not (count_of old.rights.responders r.responder == 0) ≡ true) × Fits (past_of old) old.pipes r.responder.end r.prepared names x
     g =
-        back_goes (schema_of old) old.seqs (past_of old) k old.pipes old.endpoints can.able.holds.agrees can.able.holds.legal few_past
+        back_goes (schema_of old) old.seqs (past_of old) k old.pipes old.endpoints can.able.holds.agrees can.able.holds.legal few_past can.able.holds.early
         old.rights.pendings can.able.holds.pendings old.rights.responders can.able.holds.responders seq r.responder r.prepared can.prepared names x free
 
     -- the caller has the responder
@@ -107,12 +108,16 @@ module _ (old : State) (seq : SeqId) (r : Response) (can : CanDo old seq (comman
     pub wanted : length (ids_of names.pendings) ≡ length r.prepared.endpoints.items
     wanted = g.1.wanted
 
+    -- the end that it goes to isn't full
+    pub room : weighs (unread_at old.pipes.ends x) < MAX_UNREAD_MESSAGES
+    room = g.1.room
+
     pub are_ids : AreIds (ids_of names.pendings)
     are_ids = g.1.ids
 
     sends : told_in old seq (command_of r) ≡ tells.Sent r.responder.request bytes
     sends =
-        back_sends (schema_of old) old.seqs (past_of old) k old.pipes old.endpoints can.able.holds.agrees can.able.holds.legal few_past
+        back_sends (schema_of old) old.seqs (past_of old) k old.pipes old.endpoints can.able.holds.agrees can.able.holds.legal few_past can.able.holds.early
         old.rights.pendings can.able.holds.pendings old.rights.responders can.able.holds.responders seq r.responder r.prepared can.prepared names x free
 
     known : Writes (wire_in old) (past_of old) r.responder.end r.carried.handles

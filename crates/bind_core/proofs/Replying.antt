@@ -1,4 +1,6 @@
 -- What an answer is told, by its way.
+use Rattle.bind_core.specs.Early.{IsEarly}
+use Rattle.bind_core.proofs.Early.{unbusy}
 use Rattle.std.proofs.Common.{◌≡◌, ◌≤◌, ℕ, Bool, true, false, List, ◌∷◌, length, refl, sym, ap, ◌∙◌}
 use Rattle.std.specs.Prelude.{if◌then◌else◌, ◌||◌, ◌&&◌, not, ◌==◌, Option, Some, None, Result, Ok, Err}
 use Rattle.std.specs.List.{list_all, list_any}
@@ -30,7 +32,8 @@ use Rattle.bind_model.specs.WireOf.{wire_of}
 use Rattle.bind_model.specs.Machine.{made, is_closed, is_gone, endpoint_at}
 use Rattle.bind_model.specs.Pendings.{KnowsPendings}
 use Rattle.bind_model.specs.Replies as machine
-use Rattle.bind_model.specs.Replies.{answer, answered_with, cannot_write, distinct_pendings, elsewhere, first_of, has_pending, ids_of, is_response, legal, pendings_out, responders_out, same_responder, same_target, sent, unless, wrong_tokens}
+use Rattle.bind_model.specs.Replies.{answer, answered_with, cannot_write, distinct_pendings, elsewhere, first_of, has_pending, ids_of, is_response, legal}
+use Rattle.bind_model.specs.Replies.{pendings_out, responders_out, same_responder, same_target, sent, unless, wrong_tokens}
 use Rattle.bind_model.specs.Responders.{CountsResponders, count_of}
 use Rattle.bind_model.specs.declared.responder.ResponderName.{ResponderName}
 use Rattle.bind_model.proofs.Kept.{Kept, bound_made}
@@ -73,7 +76,7 @@ reached_tests : (gone : Bool) (seq : SeqId) (e : Endpoint) (tests : Endpoint →
 reached_tests gone seq e tests done = tested_is gone seq e e.state tests done
 
 module _ (schema : Schema) (seqs : ℕ) (past : List Event) (k : Kept (wire_of schema) past) (pipes : Contents) (endpoints : Routers)
-    (a : Agrees (wire_of schema) past pipes endpoints) (h : legal (wire_of schema) seqs past) (few : length past ≤ MAX_EVENTS)
+    (a : Agrees (wire_of schema) past pipes endpoints) (h : legal (wire_of schema) seqs past) (few : length past ≤ MAX_EVENTS) (young : IsEarly past)
     (table : List (EndpointName × Bool)) (known : KnowsPendings past table)
     (counts : List (ResponderName × ℕ)) (c : CountsResponders (wire_of schema) past counts)
     (seq : SeqId) (r : ResponderId) (prepared : Prepared) (p : IsPrepared schema prepared) (names : CarriedNames) where
@@ -132,7 +135,8 @@ module _ (schema : Schema) (seqs : ℕ) (past : List Event) (k : Kept (wire_of s
       ap (λ (b : Bool). told_of_way done (if not b then Err WrongMethod else way_with prepared names pipes endpoints r.end e.peer_closed)) answers_is
       ∙ test_not (same_target prepared.target (record { interface = r.interface; method = r.method; side = Response })) WrongMethod
       (way_with prepared names pipes endpoints r.end e.peer_closed) _ done
-      (with_told schema seqs past k pipes endpoints a h few prepared p names r.end e.peer_closed (outs o) m done)
+      (with_told schema seqs past k pipes endpoints a h few prepared p names r.end e.peer_closed (outs o)
+      (unbusy (wire_of schema) seqs past h young names.things) m done)
 
   each_way : own_past ≡ true → (o : Result Endpoint Why) → has (made past) (End r.end) ≡ true
       → told_of_way done (way_reached r prepared names pipes endpoints o) ≡ told_of_opened o (λ e. first_of (tests_of e) done)

@@ -1,4 +1,5 @@
 -- That a pending which was made here is closed, by what the parts of this did.
+use Rattle.bind_model.specs.declared.control.Control.TheVariants as says
 use Rattle.std.proofs.Common.{◌≡◌, ℕ, Bool, true, false, List, [], ◌∷◌, ◌++◌, length, refl, sym, ap, ◌∙◌, subst, arith}
 use Rattle.std.specs.Prelude.{if◌then◌else◌, ◌&&◌, ◌||◌, not, ◌==◌, Option, Some, IsSome}
 use Rattle.std.specs.Option.{option_map}
@@ -123,7 +124,7 @@ module _ (s : State) (seq : SeqId) (able : HasRoom s seq) (p : PendingId) where
           handed = refl;
           takes = λ x. refl;
           puts = λ x. none_put (is_gone (past_of s) p.end) (is_local (past_of s) p)
-              (emits (wire_in s) (past_of s) p.end (endpoint_at (wire_in s) (past_of s) p.end) (p.id ∷ []) x) local;
+              (emits (wire_in s) (past_of s) p.end (endpoint_at (wire_in s) (past_of s) p.end) says.Closed (p.id ∷ []) x) local;
           peer = λ x. refl;
         })
         s.pipes s.endpoints new (marked_now new u) able.holds.agrees

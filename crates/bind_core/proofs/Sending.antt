@@ -21,7 +21,8 @@ use Rattle.bind_model.specs.declared.asked.Asked.{Asked}
 use Rattle.bind_model.specs.declared.told.Told.{Told}
 use Rattle.bind_model.specs.declared.event.Event.{Event}
 use Rattle.bind_model.specs.Wire.{Wire}
-use Rattle.bind_model.specs.Machine.{made, made_by, peer, peer_by, gone, gone_by, is_gone, given, handed, lands, out, puts, taken, takes, written, unread, endpoint_at}
+use Rattle.bind_model.specs.Machine.{made, made_by, peer, peer_by, gone, gone_by, is_gone, given, handed, lands, out, puts, taken, takes, written, unread}
+use Rattle.bind_model.specs.Machine.{endpoint_at}
 use Rattle.bind_model.specs.Replies.{all_out}
 use Rattle.bind_model.proofs.Kept.{Kept, most, own_times}
 use Rattle.bind_model.proofs.Counting.{absent, times-present}

@@ -1,4 +1,5 @@
 -- That an endpoint other than 0 is closed, by what the parts of this did.
+use Rattle.bind_model.specs.declared.control.Control.TheVariants as says
 use Rattle.std.proofs.Common.{◌≡◌, ◌<◌, ℕ, zero, suc, Bool, true, false, List, [], ◌∷◌, ◌++◌, Some, refl, sym, ap, ◌∙◌, subst, arith}
 use Rattle.std.specs.Prelude.{if◌then◌else◌, ◌&&◌, not, ◌==◌, Option, filter, is_some, IsSome}
 use Rattle.std.proofs.lemmas.List.{length-reverse}
@@ -42,7 +43,7 @@ use Rattle.bind_core.proofs.Turned.{found_row}
 
 -- nothing is emitted at an end that is gone
 pub none_gone : (wire : Wire) (past : List Event) (y : EndId) (endpoints : Endpoints) (ids : List ℕ) (x : EndId) → is_gone past x ≡ true
-    → emits wire past y endpoints ids x ≡ []
+    → emits wire past y endpoints says.Closed ids x ≡ []
 none_gone wire past y endpoints ids x h =
     go (same_end (peer past y) x) (is_gone past x) (controls_of wire (filter (λ id. not (is_peer_closed (endpoints id))) ids)) h
   where
@@ -85,7 +86,7 @@ module _ (s : State) (seq : SeqId) (able : HasRoom s seq) (y : EndId) (id : ℕ)
       above (suc n) h = omega arith
 
   pub shut_adds : (new : Contents) → EmitsTo (peer_of (end_of s.pipes.ends y)) (controls_at s.endpoints y (id ∷ [])) s.pipes new
-      → Adds (emits (wire_in s) (past_of s) y (endpoint_at (wire_in s) (past_of s) y) (id ∷ [])) s.pipes new
+      → Adds (emits (wire_in s) (past_of s) y (endpoint_at (wire_in s) (past_of s) y) says.Closed (id ∷ [])) s.pipes new
   shut_adds new e = adds_is (schema_of s) (past_of s) keeps s.pipes s.endpoints able.holds.agrees y made_here (id ∷ []) new e
 
   -- ## It is closed
@@ -94,14 +95,14 @@ module _ (s : State) (seq : SeqId) (able : HasRoom s seq) (y : EndId) (id : ℕ)
   shut_event = record { seq = seq; asked = asks.Close (closings.Endpoint y id); told = tells.Closed [] }
 
   module _ (other : (id == 0) ≡ false) where
-    adding : IsAdding (wire_in s) shut_event (past_of s) (emits (wire_in s) (past_of s) y (endpoint_at (wire_in s) (past_of s) y) (id ∷ []))
+    adding : IsAdding (wire_in s) shut_event (past_of s) (emits (wire_in s) (past_of s) y (endpoint_at (wire_in s) (past_of s) y) says.Closed (id ∷ []))
     adding = record {
       made = refl;
       gone = refl;
       given = refl;
       handed = refl;
       takes = λ x. refl;
-      puts = λ x. ap (λ (b : Bool). if b then [] else emits (wire_in s) (past_of s) y (endpoint_at (wire_in s) (past_of s) y) (id ∷ []) x) other;
+      puts = λ x. ap (λ (b : Bool). if b then [] else emits (wire_in s) (past_of s) y (endpoint_at (wire_in s) (past_of s) y) says.Closed (id ∷ []) x) other;
       none = λ x g. none_gone (wire_in s) (past_of s) y (endpoint_at (wire_in s) (past_of s) y) (id ∷ []) x g;
       peer = λ x. refl;
     }
@@ -111,7 +112,7 @@ module _ (s : State) (seq : SeqId) (able : HasRoom s seq) (y : EndId) (id : ℕ)
         → TurnsAt (in_state states.Closed) y id s.endpoints after → Agrees (wire_in s) (shut_event ∷ past_of s) pipes after
     shut_agrees pipes after e t =
         adds_agree (wire_in s) shut_event (past_of s)
-        (emits (wire_in s) (past_of s) y (endpoint_at (wire_in s) (past_of s) y) (id ∷ [])) keeps adding s.pipes pipes s.endpoints after
+        (emits (wire_in s) (past_of s) y (endpoint_at (wire_in s) (past_of s) y) says.Closed (id ∷ [])) keeps adding s.pipes pipes s.endpoints after
         (shut_adds pipes e) (close_turns (wire_in s) (past_of s) seq s.endpoints after able.holds.agrees.routers y id [] t) able.holds.agrees
 
     pub shut_done : (new : State) (noted told : List Thing) → noted ≡ [] → told ≡ []

@@ -11,7 +11,8 @@ use Rattle.wire_encoder.specs.Checks.{Check, Test, HandleAt, EndpointAt, Held, a
 use Rattle.wire_encoder.specs.Checks.{endpoint_remote_checks, field_held, list_checks, map_checks, member_checks, slot_checks, struct_checks}
 use Rattle.wire_model.specs.Depth.{deeper}
 use Rattle.wire_model.specs.Rows.{member_kind, row_of}
-use Rattle.wire_model.specs.Trees.{Tree, Trees, Flag, Whole, Text, Items, Pairs, Fields, Member, Unknown, Handle, Remote, Endpoint, EndpointRemote, Null, none, more, count}
+use Rattle.wire_model.specs.Trees.{Tree, Trees, Flag, Whole, Text, Items, Pairs, Fields, Member, Unknown, Handle, Remote, Endpoint, EndpointRemote, Null}
+use Rattle.wire_model.specs.Trees.{none, more, count}
 use Rattle.bind_model.specs.Wire.{Named}
 use Rattle.bind_model.specs.WireOf.{endpoints_named}
 use Rattle.bind_core.specs.steps.Slots.{array_names, each_names, field_names, map_names, member_names, names, receiver_names, remote_names, struct_names}

@@ -1,5 +1,6 @@
 -- Places that are noted one after the other.
-use Rattle.std.proofs.Common.{◌≡◌, ◌<◌, ◌≤◌, ℕ, zero, suc, ◌+◌, Bool, true, false, List, [], ◌∷◌, ◌++◌, length, map, drop, take, replicate, get_or, Option, Some, None, Vec, Global, refl, sym, ap, ◌∙◌, arith, rules, add-one, drop-cons}
+use Rattle.std.proofs.Common.{◌≡◌, ◌<◌, ◌≤◌, ℕ, zero, suc, ◌+◌, Bool, true, false, List, [], ◌∷◌, ◌++◌, length, map, drop, take, replicate, get_or, Option}
+use Rattle.std.proofs.Common.{Some, None, Vec, Global, refl, sym, ap, ◌∙◌, arith, rules, add-one, drop-cons}
 use Rattle.std.specs.Prelude.{slice_set, slice_get, ◌==◌}
 use Rattle.std.proofs.lemmas.Bool.{eqb-true, eq-eqb}
 use Rattle.std.proofs.lemmas.List.{drop_all, take-append-le, take_all}

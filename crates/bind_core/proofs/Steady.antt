@@ -1,4 +1,5 @@
 -- What one event makes of the routers of all ends.
+use Rattle.bind_model.specs.declared.told.Noted.TheVariants as noted
 use Rattle.std.proofs.Common.{◌≡◌, ℕ, ◌+◌, Bool, true, false, List, [], ◌∷◌, ◌++◌, length, Some, refl, sym, ap, ◌∙◌, subst}
 use Rattle.std.specs.Prelude.{if◌then◌else◌, not, ◌==◌, ◌&&◌, Option}
 use Rattle.std.specs.Option.{option_map}
@@ -100,14 +101,14 @@ module _ (wire : Wire) (past : List Event) (seq : SeqId) (old new : Routers) (a 
       }
 
   -- one whose peer is closed
-  pub control_turns : (y : EndId) (n : ℕ) → TurnsAt marked y n old new → AllAgree wire (event_of (asks.Take y) (tells.Control n) ∷ past) new
+  pub control_turns : (y : EndId) (n : ℕ) → TurnsAt marked y n old new → AllAgree wire (event_of (asks.Take y) (tells.Control (noted.Closed n)) ∷ past) new
   control_turns y n t = λ x.
       record {
         rows = λ id.
             (t x).rows id
             ∙ (ap (λ (o : Option RowSeen). if same_end y x && (n == id) then option_map marked o else o) ((a x).rows id)
             ∙ sym (control_row wire past seq y n x id));
-        drawn = (t x).drawn ∙ ((a x).drawn ∙ same_drawn past (event_of (asks.Take y) (tells.Control n)) x refl);
+        drawn = (t x).drawn ∙ ((a x).drawn ∙ same_drawn past (event_of (asks.Take y) (tells.Control (noted.Closed n))) x refl);
       }
 
   -- one that enters at its binding

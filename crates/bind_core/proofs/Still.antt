@@ -115,6 +115,7 @@ undone s pipes after command back h e same given few = record {
     responders = h.responders;
     pendings = h.pendings;
     few = h.few;
+    early = h.early;
   };
   schema = refl;
   seqs = refl;

@@ -1,4 +1,5 @@
 -- What a take that consumes a message makes of pipes, places and endpoints, where ids enter and controls are emitted.
+use Rattle.bind_model.specs.declared.control.Control.TheVariants as says
 use Rattle.std.proofs.Common.{◌≡◌, ◌≤◌, ℕ, Bool, true, false, List, [], ◌∷◌, ◌++◌, length, drop, refl, sym, ap, ◌∙◌}
 use Rattle.std.specs.Prelude.{if◌then◌else◌, ◌||◌, ◌&&◌, not, ◌==◌, filter, is_some, Option, Some, None}
 use Rattle.std.specs.Option.{option_map}
@@ -270,7 +271,7 @@ module _ (wire : Wire) (seqs : ℕ) (past : List Event) (seq : SeqId) (y : EndId
     few = few_read wire seqs past seq k y m front (Taken g);
     takes = λ x. one_taken (same_end y x) (Taken g);
     front = (m, front.rest, front.stands);
-    puts = λ x. ap (λ (js : List ℕ). emits wire past y (endpoint_at wire past y) js x) is;
+    puts = λ x. ap (λ (js : List ℕ). emits wire past y (endpoint_at wire past y) says.Closed js x) is;
     peer = λ x. refl;
   }
 
@@ -283,6 +284,6 @@ module _ (wire : Wire) (seqs : ℕ) (past : List Event) (seq : SeqId) (y : EndId
     few = few_read wire seqs past seq k y m front (Dropped id goes);
     takes = λ x. one_taken (same_end y x) (Dropped id goes);
     front = (m, front.rest, front.stands);
-    puts = λ x. ap (λ (js : List ℕ). emits wire past y (endpoint_at wire past y) js x) is;
+    puts = λ x. ap (λ (js : List ℕ). emits wire past y (endpoint_at wire past y) says.Closed js x) is;
     peer = λ x. refl;
   }

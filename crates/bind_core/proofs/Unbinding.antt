@@ -1,4 +1,5 @@
 -- That a pending which was received is closed, by what the parts of this did.
+use Rattle.bind_model.specs.declared.control.Control.TheVariants as says
 use Rattle.std.proofs.Common.{◌≡◌, ℕ, Bool, true, false, List, [], ◌∷◌, ◌++◌, Some, length, refl, sym, ap, ◌∙◌, subst, arith}
 use Rattle.std.specs.Prelude.{if◌then◌else◌, ◌&&◌, ◌||◌, not, ◌==◌, Option, is_some, IsSome}
 use Rattle.std.specs.Option.{option_map}
@@ -100,7 +101,7 @@ module _ (s : State) (seq : SeqId) (able : HasRoom s seq) (p : PendingId) (held 
   -- ## The control that is emitted, unless the end is gone
 
   abbrev due : EndId → List Message
-  due x = emits (wire_in s) (past_of s) p.end (endpoint_at (wire_in s) (past_of s) p.end) (p.id ∷ []) x
+  due x = emits (wire_in s) (past_of s) p.end (endpoint_at (wire_in s) (past_of s) p.end) says.Closed (p.id ∷ []) x
 
   abbrev added : EndId → List Message
   added x = if is_gone (past_of s) p.end then [] else due x

@@ -1,4 +1,5 @@
 -- An event makes no take ready but at the end that it is about, and at its peer.
+use Rattle.bind_model.specs.declared.told.Noted.TheVariants as noted
 use Rattle.std.proofs.Common.{◌≡◌, ℕ, Bool, true, false, List, [], ◌∷◌, ◌++◌, length, drop, refl, sym, ap, ◌∙◌}
 use Rattle.std.specs.Prelude.{◌==◌, ◌||◌, if◌then◌else◌, Option, Some, None, is_some}
 use Rattle.std.proofs.lemmas.List.{append-nil}
@@ -8,11 +9,11 @@ use Rattle.handle_table.specs.declared.thing.Thing.TheVariants.{End}
 use Rattle.message_pipe.specs.Mail.{front_of}
 use Rattle.message_pipe.specs.declared.message.Message.{Message}
 use Rattle.bind_model.specs.declared.asked.Asked.{Asked}
-use Rattle.bind_model.specs.declared.asked.Asked.TheVariants.{Bind, Associate, Attach, Call, Answer, Raw, Take, Close}
+use Rattle.bind_model.specs.declared.asked.Asked.TheVariants.{Bind, Associate, Attach, Call, Answer, Raw, Take, Close, Notify}
 use Rattle.bind_model.specs.declared.asked.Closing.TheVariants as closings
 use Rattle.bind_model.specs.declared.event.Event.{Event}
 use Rattle.bind_model.specs.declared.told.Told.{Told}
-use Rattle.bind_model.specs.declared.told.Told.TheVariants.{Associated, Attached, Bound, Closed, Control, Dropped, Sent, Taken, Wrote}
+use Rattle.bind_model.specs.declared.told.Told.TheVariants.{Associated, Attached, Bound, Closed, Control, Dropped, Sent, Taken, Wrote, Notified as Informed}
 use Rattle.bind_model.specs.Machine.{changes, endpoint_at, gone_by, is_gone, is_local, peer, puts, taken, takes, unread, written}
 use Rattle.bind_model.specs.Ready.{is_ready, meant}
 use Rattle.bind_model.specs.Wire.{Wire}
@@ -20,7 +21,7 @@ use Rattle.bind_model.proofs.Outcomes.{left_false, right_false}
 use Rattle.bind_core.specs.steps.Watching.{is_near}
 use Rattle.bind_core.specs.steps.Takers.{taker_at}
 use Rattle.bind_core.proofs.After.{gone_after}
-use Rattle.bind_core.proofs.WhoTakes.{same_taker, some_taker, taker_closed}
+use Rattle.bind_core.proofs.WhoTakes.{same_taker, some_taker, taker_closed, Unpaused}
 
 abbrev pub bound_end : Told → Option EndId
 bound_end (Bound x) = Some x
@@ -43,6 +44,7 @@ about (Call x id s) told = Some x
 about (Answer r s) told = Some r.end
 about (Raw x bytes handles) told = written_end told
 about (Take x) told = Some x
+about (Notify x notice) told = Some x
 about (Close (closings.Endpoint x id)) told = Some x
 about (Close (closings.Pending p)) told = Some p.end
 about asked told = None
@@ -57,7 +59,7 @@ module _ (wire : Wire) (past : List Event) (y : EndId) where
   takes_far : (told : Told) (asked : Asked) → is_near past (about asked told) y ≡ false → takes told asked y ≡ []
   takes_far (Taken g) (Take x) h = rw (left x h) refl
   takes_far (Dropped id goes) (Take x) h = rw (left x h) refl
-  takes_far (Control id) (Take x) h = rw (left x h) refl
+  takes_far (Control c) (Take x) h = rw (left x h) refl
   takes_far told asked h = refl
 
   either : (b : Bool) (xs : List Message) → xs ≡ [] → (if b then [] else xs) ≡ []
@@ -73,6 +75,13 @@ module _ (wire : Wire) (past : List Event) (y : EndId) where
   puts_far (Dropped id goes) (Take x) h = rw (right x h) refl
   puts_far (Closed goes) (Close (closings.Endpoint x id)) h = either (id == 0) _ (rw (right x h) refl)
   puts_far (Closed goes) (Close (closings.Pending p)) h = either (is_gone past p.end || is_local past p) _ (rw (right p.end h) refl)
+  puts_far (Control (noted.Queried n (Some v))) (Take x) h = rw (right x h) refl
+  puts_far (Control (noted.Queried n None)) (Take x) h = refl
+  puts_far (Control (noted.Closed n)) (Take x) h = refl
+  puts_far (Control (noted.Version n v)) (Take x) h = refl
+  puts_far (Control (noted.Required n v)) (Take x) h = refl
+  puts_far (Control (noted.Flushed n)) (Take x) h = refl
+  puts_far (Informed n) (Notify x notice) h = rw (right x h) refl
   puts_far told asked h = refl
 
   module _ (event : Event) (far : is_near past (about event.asked event.told) y ≡ false) where
@@ -83,7 +92,11 @@ module _ (wire : Wire) (past : List Event) (y : EndId) where
     changes_far (Attached n) (Attach p t) h id = rw (left p.end h) refl
     changes_far (Taken g) (Take x) h id = rw (left x h) refl
     changes_far (Dropped n goes) (Take x) h id = rw (left x h) refl
-    changes_far (Control n) (Take x) h id = rw (left x h) refl
+    changes_far (Control (noted.Closed n)) (Take x) h id = rw (left x h) refl
+    changes_far (Control (noted.Queried n v)) (Take x) h id = refl
+    changes_far (Control (noted.Version n v)) (Take x) h id = refl
+    changes_far (Control (noted.Required n v)) (Take x) h id = refl
+    changes_far (Control (noted.Flushed n)) (Take x) h id = refl
     changes_far (Closed goes) (Close (closings.Endpoint x n)) h id = rw (left x h) refl
     changes_far (Closed goes) (Close (closings.Pending p)) h id = rw (left p.end h) refl
     changes_far told asked h id = refl
@@ -110,5 +123,5 @@ module _ (wire : Wire) (past : List Event) (y : EndId) where
         (ap (λ ms. front_of ms) (unread_far (is_gone past y) (is_gone (event ∷ past) y) before e)))) ∙ h
 
     -- a take that is ready there was ready before
-    pub ready_far : is_ready wire (event ∷ past) y ≡ true → is_ready wire past y ≡ true
-    ready_far h = sym (some_taker wire past y) ∙ open_now (is_gone (event ∷ past) y) refl (some_taker wire (event ∷ past) y ∙ h)
+    pub ready_far : Unpaused wire past y → Unpaused wire (event ∷ past) y → is_ready wire (event ∷ past) y ≡ true → is_ready wire past y ≡ true
+    ready_far old now h = sym (some_taker wire past y old) ∙ open_now (is_gone (event ∷ past) y) refl (some_taker wire (event ∷ past) y now ∙ h)

@@ -1,4 +1,8 @@
 -- Who takes at an end by what the state keeps is who takes there by the events.
+use Rattle.bind_model.specs.declared.control.Control.{Control}
+use Rattle.bind_model.specs.declared.control.Control.TheVariants as says
+use Rattle.bind_model.specs.Replies.{heard, is_older, version_of}
+use Rattle.bind_model.specs.Notices.{query_pends}
 use Rattle.std.proofs.Common.{◌≡◌, ℕ, Bool, true, false, List, [], ◌∷◌, length, refl, ap, ◌∙◌}
 use Rattle.std.specs.Prelude.{◌==◌, ◌&&◌, ◌||◌, not, if◌then◌else◌, Option, Some, None, Result, Ok, Err, is_some, option_and_then}
 use Rattle.std.proofs.lemmas.Bool.{eq-eqb}
@@ -19,12 +23,14 @@ use Rattle.bind_model.specs.declared.endpoint.Endpoint.{Endpoint}
 use Rattle.bind_model.specs.declared.endpoint.State.{State as EndpointState}
 use Rattle.bind_model.specs.declared.endpoint.State.TheVariants as states
 use Rattle.bind_model.specs.declared.event.Event.{Event}
+use Rattle.bind_model.specs.Notices.{first_unmet, waits}
 use Rattle.bind_model.specs.declared.told.Told.{Told}
 use Rattle.bind_model.specs.declared.told.Told.TheVariants.{No}
 use Rattle.bind_model.specs.declared.told.Why.TheVariants.{NoName, Disconnected, Empty, PeerClosed}
 use Rattle.bind_model.specs.Machine.{endpoint_at, first_strange, is_gone, peer, unread}
 use Rattle.bind_model.specs.Ready.{is_ready, is_settled, meant, on_of, or_else, settles, taker}
-use Rattle.bind_model.specs.Replies.{at_endpoint, at_state, bad, controlled, first_of, got_known, headed, is_asked, is_none, is_response, judged, took, took_front, unless}
+use Rattle.bind_model.specs.Replies.{at_endpoint, at_state, bad, controlled, first_of, got_known, headed, is_asked, is_none, is_response, judged, took}
+use Rattle.bind_model.specs.Replies.{took_front, unless}
 use Rattle.bind_model.specs.Wire.{Content, Header, Wire}
 use Rattle.bind_model.specs.WireOf.{header_in, wire_of}
 use Rattle.bind_model.specs.declared.told.BadWhy.TheVariants as bads
@@ -103,9 +109,16 @@ none_settled f None e = refl
 none_settled f (Some t) e = rw (e t) refl
 
 module _ (wire : Wire) (past : List Event) (y : EndId) where
-  control_settled : (m : Message) (c : Result ℕ Fault) → is_settled (controlled wire past y m c) ≡ true
+  heard_settled : (c : Control) → is_settled (heard wire past y c) ≡ true
+  heard_settled (says.Closed id) = refl
+  heard_settled (says.Query id) = refl
+  heard_settled (says.Version id v) = settled_if (query_pends past y id (endpoint_at wire past y id)) _ _ refl refl
+  heard_settled (says.Require id v) = settled_if (is_older (version_of wire (endpoint_at wire past y id)) v) _ _ refl refl
+  heard_settled (says.Flush k) = refl
+
+  control_settled : (m : Message) (c : Result Control Fault) → is_settled (controlled wire past y m c) ≡ true
   control_settled m (Err fault) = refl
-  control_settled m (Ok id) = settled_if (is_none m.handles) _ _ refl refl
+  control_settled m (Ok c) = settled_if (is_none m.handles) _ _ (heard_settled c) refl
 
   known_settled : (m : Message) (h : Header) (c : Content) (o : Option ℕ) → is_settled (got_known wire past y m h c o) ≡ true
   known_settled m h c None = refl
@@ -139,13 +152,13 @@ module _ (wire : Wire) (past : List Event) (y : EndId) where
 
   abbrev told_if : Message → Header → Bool → SeqId → Told
   told_if m h b t =
-      if b then controlled wire past y m (wire.closed_id m.bytes) else at_endpoint wire past t y m h (endpoint_at wire past y h.id)
+      if b then controlled wire past y m (wire.says m.bytes) else at_endpoint wire past t y m h (endpoint_at wire past y h.id)
 
   by_control : (m : Message) (h : Header) (main : Option SeqId) (b : Bool)
       → taker_meant (λ n. meant wire n) (endpoint_at wire past y) main (if b then None else Some h.id)
       ≡ taken_if (settles_told (told_if m h b) (or_else (on_meant (if b then None else Some h.id)) main))
       (or_else (on_meant (if b then None else Some h.id)) main)
-  by_control m h main true = all_settled (told_if m h true) main (λ t. control_settled m (wire.closed_id m.bytes))
+  by_control m h main true = all_settled (told_if m h true) main (λ t. control_settled m (wire.says m.bytes))
   by_control m h main false = by_endpoint m h main (endpoint_at wire past y h.id)
 
   -- the endpoint that a header says, as the definition of who takes reads it
@@ -183,17 +196,28 @@ module _ (wire : Wire) (past : List Event) (y : EndId) where
   by_open true (Some r) = none_settled (told_at (Some r) true) (taker_with (on_of (Some r)) (unread wire past y)) (λ t. refl)
   by_open false (Some r) = by_front (on_of (Some r)) (unread wire past y)
 
-  settles_is : (o : Option SeqId) → settles_told (told_at (endpoint_at wire past y 0) (is_gone past y)) o ≡ settles wire past y o
-  settles_is None = refl
-  settles_is (Some t) = refl
+  -- where the end doesn't wait
+  abbrev pub Unpaused : Type 0
+  Unpaused = first_unmet past (waits past y) ≡ None
+
+  settles_is : Unpaused → (o : Option SeqId) → settles_told (told_at (endpoint_at wire past y 0) (is_gone past y)) o ≡ settles wire past y o
+  settles_is free None = refl
+  settles_is free (Some t) = rw free (go (is_some (endpoint_at wire past y 0)) (not (is_gone past y)))
+    where
+      go : (a b : Bool) → is_settled (first_of (unless a NoName ∷ unless b Disconnected ∷ []) (took_front wire past t y (unread wire past y)))
+          ≡ is_settled (first_of (unless a NoName ∷ unless b Disconnected ∷ None ∷ []) (took_front wire past t y (unread wire past y)))
+      go true true = refl
+      go true false = refl
+      go false b = refl
 
   -- who takes at the end, where a take there is ready
-  pub taker_is : taker_at (λ n. meant wire n) (endpoint_at wire past y) (is_gone past y) (front_of (unread wire past y))
+  pub taker_is : Unpaused → taker_at (λ n. meant wire n) (endpoint_at wire past y) (is_gone past y) (front_of (unread wire past y))
       ≡ (if is_ready wire past y then taker wire past y else None)
-  taker_is = by_open (is_gone past y) (endpoint_at wire past y 0) ∙ ap (λ (b : Bool). taken_if b (taker wire past y)) (settles_is (taker wire past y))
+  taker_is free = by_open (is_gone past y) (endpoint_at wire past y 0) ∙ ap (λ (b : Bool). taken_if b (taker wire past y)) (settles_is free (taker wire past y))
 
-  pub some_taker : is_some (taker_at (λ n. meant wire n) (endpoint_at wire past y) (is_gone past y) (front_of (unread wire past y))) ≡ is_ready wire past y
-  some_taker = ap (λ (o : Option SeqId). is_some o) taker_is ∙ go (taker wire past y)
+  pub some_taker : Unpaused
+      → is_some (taker_at (λ n. meant wire n) (endpoint_at wire past y) (is_gone past y) (front_of (unread wire past y))) ≡ is_ready wire past y
+  some_taker free = ap (λ (o : Option SeqId). is_some o) (taker_is free) ∙ go (taker wire past y)
     where
       when : (b : Bool) (t : SeqId) → is_some (taken_if b (Some t)) ≡ b
       when true t = refl

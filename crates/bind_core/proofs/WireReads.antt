@@ -1,4 +1,5 @@
 -- What bytes stand for at a schema's wire, by what the reader and the validator answer.
+use Rattle.bind_model.specs.declared.control.Control.TheVariants.{Closed}
 use Rattle.std.proofs.Common.{◌≡◌, ℕ, true, List, refl, sym, ap, ◌∙◌, subst}
 use Rattle.std.specs.Prelude.{Option, Some, None, Result, Ok, Err, is_ok, option_and_then}
 use Rattle.bounds_claims.specs.Runs.{first_fault, run, passes}
@@ -34,12 +35,12 @@ header_reads schema bytes header fine e = rw (fine_passes (header_marks bytes) f
 
 -- a control of which a test fails, and one of which each holds
 pub control_fails : (schema : Schema) (bytes : List ℕ) (fault : Fault) → first_failed (control_marks bytes) ≡ Some fault
-    → (wire_of schema).closed_id bytes ≡ Err fault
+    → (wire_of schema).says bytes ≡ Err fault
 unfolding wire_of
 control_fails schema bytes fault h = rw h refl
 
 pub control_reads : (schema : Schema) (bytes : List ℕ) (id : ℕ) → IsFine (control_marks bytes) → id ≡ control_id bytes
-    → (wire_of schema).closed_id bytes ≡ Ok id
+    → (wire_of schema).says bytes ≡ Ok (Closed id)
 unfolding wire_of
 control_reads schema bytes id fine e = rw (fine_passes (control_marks bytes) fine, e) refl
 

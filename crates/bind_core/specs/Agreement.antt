@@ -22,6 +22,7 @@ use Rattle.bind_model.specs.Replies.{legal, serials, tokens}
 use Rattle.bind_model.specs.Pendings.{KnowsPendings}
 use Rattle.bind_model.specs.Responders.{CountsResponders}
 use Rattle.endpoint_router.specs.Agreement.{Agrees as AgreesAt}
+use Rattle.bind_core.specs.Early.{IsEarly}
 use Rattle.bind_core.specs.Routers.{Routers, router_at}
 use Rattle.bind_core.specs.declared.state.State.{State}
 
@@ -34,11 +35,12 @@ end_with false p c ms = None
 abbrev pub end_in : Wire → List Event → EndId → Option PipeEnd
 end_in wire past x = end_with (has (made past) (End x)) (peer past x) (is_gone past x) (unread wire past x)
 
--- whether a handle is with a caller, and whether its thing is closed, by its place
+-- whether a handle is with a caller, by its place
 abbrev pub is_out : Option Place → Bool
 is_out None = false
 is_out (Some place) = elim place [ places.Out ↦ true | places.Unread end ↦ false | places.Bound ↦ false | places.Closed ↦ false ]
 
+-- whether a thing is closed, by its place
 abbrev pub is_shut : Option Place → Bool
 is_shut None = false
 is_shut (Some place) = elim place [ places.Out ↦ false | places.Unread end ↦ false | places.Bound ↦ false | places.Closed ↦ true ]
@@ -58,10 +60,11 @@ pub record Agrees (wire : Wire) (past : List Event) (pipes : Contents) (endpoint
 abbrev pub past_of : State → List Event
 past_of s = reverse s.log.events
 
--- the schema, and its wire
+-- the schema
 abbrev pub schema_of : State → Schema
 schema_of s = arc_value s.schema
 
+-- the wire of its schema
 abbrev pub wire_in : State → Wire
 wire_in s = wire_of (schema_of s)
 
@@ -72,3 +75,4 @@ pub record Holds (s : State) : Type 0 where
   pub responders : CountsResponders (wire_in s) (past_of s) s.rights.responders
   pub pendings : KnowsPendings (past_of s) s.rights.pendings
   pub few : length s.log.events ≤ MAX_EVENTS
+  pub early : IsEarly (past_of s)

@@ -4,3 +4,4 @@ pub mod EndSets
 pub mod Play
 pub mod Routers
 pub mod steps
+pub mod Early

@@ -15,6 +15,10 @@ pub struct Alone<'a> {
 }
 
 impl Stepper for Alone<'_> {
+    type Home = ();
+
+    ghost home = { λ a. tt };
+
     ghost schema = { λ a. a.core.now.schema };
 
     ghost seqs = { λ a. a.core.now.seqs };

@@ -13,7 +13,7 @@ ghost use Rattle.bind_core.specs.steps.Doing.{CanDo, Done, Undone};
 use crate::carried::{Carried, CarriedNames, all_own, spend_all};
 use crate::state::{State, refuse};
 use crate::things::put_all;
-use crate::writing::{outgoing, way_with, writes_of};
+use crate::writing::{outgoing, put_message, way_with, writes_of};
 use bind_model::{
     Asked, Closing, Command, Endpoint, Event, PendingList, Refused, Reply, Responder, ResponderId,
     State as EndpointState, ToClose, Told, Why,
@@ -201,8 +201,7 @@ fn send(
     let Ok(writes) = writes_of(alloc, &response.prepared, id.id, id.request, names) else {
         return Err(Refused::Memory(response.into_command()));
     };
-    // The way was free, so the end isn't full.
-    let Ok(()) = state.pipes.push(peer, writes.message) else {
+    let Ok(()) = put_message(&mut state.pipes, peer, writes.message) else {
         return Err(Refused::Memory(response.into_command()));
     };
     let Response {

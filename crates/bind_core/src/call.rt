@@ -19,7 +19,7 @@ use crate::routers::Routers;
 use crate::state::{State, refuse};
 use crate::things::put_all;
 use crate::turns::Turn;
-use crate::writing::{outgoing, way_with, writes_of};
+use crate::writing::{outgoing, put_message, way_with, writes_of};
 use bind_model::{Asked, Command, Event, PendingList, Refused, Reply, Told, Why};
 use handle_table::{Handles, Place};
 use mj_base::{EndId, SeqId};
@@ -219,8 +219,7 @@ fn send(
     let Ok(()) = reserve_sent(&mut state.endpoints, request.end, request.id, request_id) else {
         return Err(Refused::Memory(request.into_command()));
     };
-    // The way was free, so the end isn't full.
-    let Ok(()) = state.pipes.push(peer, writes.message) else {
+    let Ok(()) = put_message(&mut state.pipes, peer, writes.message) else {
         return Err(Refused::Memory(request.into_command()));
     };
     let Request {

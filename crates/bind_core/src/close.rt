@@ -158,7 +158,8 @@ fn close_end(
 ) -> Result<Items<Thing>, AllocError>
     requires able { HasRoom state.old seq }
     requires here { IsSome (row_at (router_at state.old.endpoints end) 0) }
-    requires told { told_to state.old seq (asks.Close (closings.Endpoint end 0)) ≡ tells.Closed (gone_with (wire_in state.old) (past_of state.old) (End end ∷ [])) }
+    requires told { told_to state.old seq (asks.Close (closings.Endpoint end 0))
+        ≡ tells.Closed (gone_with (wire_in state.old) (past_of state.old) (End end ∷ [])) }
     ensures done { IfOk result (λ goes. Done state.old state.new seq (Command.Close (ToClose.Endpoint end 0)) (Reply.Closed goes)) }
     ensures undone { OnErr result (Stays state.old state.new) }
 {

@@ -1,14 +1,19 @@
 //! The core itself.
 
-ghost use Rattle.std.specs.Prelude.{◌≡◌, ◌<◌, ◌++◌, [], ◌∷◌, length, reverse, IfOk, IfErr, OnOk};
+ghost use Rattle.std.specs.Prelude.{◌≡◌, ◌<◌, ◌≤◌, ◌++◌, [], ◌∷◌, length, reverse, IfOk, IfErr, OnOk};
 ghost use Rattle.std.specs.Arc.{arc_value};
-ghost use Rattle.bind_model.specs.Laws.{OnePlace, OwnResponses, AllOfAskers, InOrder, AllStand};
+ghost use Rattle.bind_model.specs.Flushes.{FlushesNumbered, AllBehind};
+ghost use Rattle.bind_model.specs.Laws.{OnePlace, OwnResponses, AllOfAskers, InOrder, AllStand, AllUnpaused, DataInOrder};
 ghost use Rattle.bind_model.specs.Origins.{HaveWriters};
 ghost use Rattle.bind_model.specs.Ready.{ready};
 ghost use Rattle.bind_model.specs.Replies.{Legal};
 ghost use Rattle.bind_model.specs.WireOf.{wire_of};
 ghost use Rattle.bind_model.specs.Left.{left};
 ghost use Rattle.bind_model.specs.Plain.{asked_of, told_of, HandsBack, HandsPendings, HandsResponders, command_of, IsSpentAt, IsOf};
+ghost use Rattle.ending_laws.specs.Closings.{AllGotOpen};
+ghost use Rattle.ending_laws.specs.Endings.{AllInTime};
+ghost use Rattle.reply_laws.specs.Once.{AllFirst};
+ghost use Rattle.reply_laws.specs.Own.{AllOwn};
 ghost use Rattle.bind_core.specs.Play.{told_at};
 
 use crate::end_set::EndSet;
@@ -25,6 +30,7 @@ use mj_schema::Schema;
 use std::alloc::{AllocError, Global};
 use std::marker::Model;
 use std::sync::Arc;
+use wire_encoder::laws::passed_is_encodable;
 
 /// A core: it does the commands of its sequences, and keeps their history. Contracts see its schema,
 /// how many sequences it has, and all events.
@@ -118,6 +124,8 @@ impl Core {
         ensures events { result.now.events ≡ self.now.events }
         // Each reply is the one that the events before it give.
         ensures legal { Legal (wire_of self.now.schema) self.now.seqs self.now.events }
+        // It is never longer than a history may be.
+        ensures few { length self.now.events ≤ MAX_EVENTS }
         // Each thing that was made has one place: with a caller, in an unread message, bound, or gone.
         ensures one_place { OnePlace (wire_of self.now.schema) (reverse self.now.events) }
         // At each end the messages are consumed in the order in which they were written, while it is open.
@@ -130,7 +138,25 @@ impl Core {
         ensures of_askers { AllOfAskers (reverse self.now.events) }
         // Each message is the one that its writer says.
         ensures have_writers { HaveWriters (wire_of self.now.schema) (reverse self.now.events) }
+        // What a take gets was sent by its peer, where nothing was written raw on its pipe: a request by a call, and a
+        // response by the answer to the request. It is the value that was sent, where that fits its method.
+        ensures all_own { AllOwn self.now.schema (reverse self.now.events) }
+        // An answer that is sent is the first to its request, where nothing was written raw on its pipe.
+        ensures all_first { AllFirst (reverse self.now.events) }
+        // No response is got at an endpoint that a reply has shown to be over.
+        ensures all_in_time { AllInTime (wire_of self.now.schema) (reverse self.now.events) }
+        // Nothing is got at an endpoint that was closed, nor at an end that is gone.
+        ensures all_got_open { AllGotOpen (reverse self.now.events) }
+        // A paused end takes nothing: what is consumed there comes after all that its waits are for.
+        ensures all_unpaused { AllUnpaused (reverse self.now.events) }
+        // The flushes of an end have the numbers 1, 2, 3 and so on.
+        ensures flushes_numbered { FlushesNumbered (reverse self.now.events) }
+        // A flush that is consumed has all behind it that was written there before it, where nothing was written raw.
+        ensures all_behind { AllBehind (wire_of self.now.schema) (reverse self.now.events) }
+        // What comes out of a data pipe is the beginning of what went in, and it holds the rest.
+        ensures data_in_order { DataInOrder (reverse self.now.events) }
     {
+        passed_is_encodable();
         &self.state.log
     }
 

@@ -1,10 +1,9 @@
 //! The pendings of endpoints that enter with a message.
 
 ghost use Rattle.std.specs.Prelude.{◌≡◌, ◌≤◌, ◌<◌, ◌||◌, ◌++◌, ◌∷◌, [], true, length, vec_len, vec_capacity, IfOk, OnOk};
-ghost use Rattle.bind_model.specs.Pendings.{is_out};
+ghost use Rattle.bind_model.specs.Pendings.{has_place, is_out};
 ghost use Rattle.bind_model.specs.Replies.{has_pending, pendings_at};
 ghost use Rattle.bind_model.specs.declared.endpoint.PendingId.{PendingId as pending_id};
-ghost use Rattle.bind_model.specs.steps.PendingKeys.{has_place};
 ghost use Rattle.bind_core.specs.steps.Founds.{is_pending, pending_ids};
 ghost use Rattle.bind_core.specs.steps.Pending.{HavePlaces, halves_from, pending_at};
 

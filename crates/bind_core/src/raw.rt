@@ -8,7 +8,7 @@ ghost use Rattle.bind_core.specs.steps.Raw.{all_out_with, command_of, raw_way, r
 
 use crate::state::{State, refuse};
 use crate::things::{all_out, contains, is_out, put_all};
-use crate::writing::way_to;
+use crate::writing::{put_message, way_to};
 use bind_model::limits::{MAX_RAW_BYTES, MAX_RAW_HANDLES};
 use bind_model::{Asked, Command, Event, Refused, Reply, Told, Why};
 use handle_table::{Handle, Handles, Place, Thing};
@@ -180,8 +180,7 @@ fn write(
     let Ok(message) = message_of(alloc, &raw.bytes, &things) else {
         return Err(Refused::Memory(raw.into_command()));
     };
-    // The way was free, so the end isn't full.
-    let Ok(()) = state.pipes.push(peer, message) else {
+    let Ok(()) = put_message(&mut state.pipes, peer, message) else {
         return Err(Refused::Memory(raw.into_command()));
     };
     let RawBytes {

@@ -1,6 +1,6 @@
 //! What a message that is taken says.
 
-ghost use Rattle.std.specs.Prelude.{◌≡◌, ◌&&◌, not, false, [], List, length, Some, None, Ok, IfOk};
+ghost use Rattle.std.specs.Prelude.{◌≡◌, ◌<◌, ◌^◌, ◌&&◌, not, false, [], List, length, Some, None, Ok, IfOk};
 ghost use Rattle.mj_base.specs.declared.ids.EndId.{EndId as end_id};
 ghost use Rattle.message_pipe.specs.declared.message.Message.{Message as a_message};
 ghost use Rattle.bind_model.specs.declared.event.Event.{Event};
@@ -208,6 +208,7 @@ fn judge(
 ) -> Result<Found, AllocError>
     requires holds { Holds state.now }
     requires ids { ids.now ≡ ids_read message.now.bytes }
+    requires few { length message.now.handles < 2 ^ 32 }
     requires there { endpoint_at (wire_in state.now) (past_of state.now) end header.now.interface_id ≡ Some endpoint }
     requires alive { is_closed endpoint ≡ false }
     ensures { IfOk result (λ found. IsRead (wire_in state.now) (past_of state.now) end message.now header.now
@@ -221,7 +222,7 @@ fn judge(
     };
     // No message has more: each of its handles is of a thing of its own that was made.
     let Ok(handles) = u32::try_from(message.handles.len()) else {
-        return Err(AllocError);
+        unreachable!();
     };
     let checked = match check(&state.schema, expected, message.bytes.as_slice(), handles) {
         Err(fault) => return Ok(Found::Bad(BadWhy::Message(fault))),
@@ -246,6 +247,7 @@ fn deliver(
 ) -> Result<Found, AllocError>
     requires holds { Holds state.now }
     requires ids { ids.now ≡ ids_read message.now.bytes }
+    requires few { length message.now.handles < 2 ^ 32 }
     requires there { endpoint ≡ endpoint_at (wire_in state.now) (past_of state.now) end header.now.interface_id }
     ensures { IfOk result (λ found. IsRead (wire_in state.now) (past_of state.now) end message.now header.now
         → Tells (wire_in state.now) (past_of state.now) end found
@@ -270,7 +272,7 @@ fn control(bytes: &[u8], handles: usize, header: &Header) -> Found
     requires placed { IsPlaced bytes.now header.now }
     requires control { header.now.interface_id ≡ CONTROL_ID }
     ensures { (schema : Schema) (past : List Event) (y : end_id) (m : a_message) → m.bytes ≡ bytes.now → length m.handles ≡ handles
-        → Tells (wire_of schema) past y result (controlled (wire_of schema) past y m ((wire_of schema).closed_id m.bytes)) }
+        → Tells (wire_of schema) past y result (controlled (wire_of schema) past y m ((wire_of schema).says m.bytes)) }
 {
     let id = match read_control(bytes, header) {
         Ok(id) => id,

@@ -18,12 +18,11 @@ ghost use Rattle.bind_model.specs.declared.endpoint.PendingId.{PendingId as pend
 ghost use Rattle.bind_model.specs.declared.endpoint.ResponderId.{ResponderId as responder_id};
 ghost use Rattle.bind_core.specs.Agreement.{past_of, wire_in};
 ghost use Rattle.bind_core.specs.Routers.{router_at};
-ghost use Rattle.bind_model.specs.Responders.{count_of};
+ghost use Rattle.bind_model.specs.Responders.{count_of, has_count};
 ghost use Rattle.bind_core.specs.steps.Doing.{Done, HasRoom, Undone, told_to};
 ghost use Rattle.bind_core.specs.steps.Entries.{ArePlaced};
 ghost use Rattle.bind_core.specs.steps.Founds.{IsGot, is_pending, pending_ids};
 ghost use Rattle.bind_core.specs.steps.Pending.{HavePlaces};
-ghost use Rattle.bind_model.specs.steps.Keys.{has_count};
 ghost use Rattle.bind_core.specs.steps.Placing.{PutsAll};
 ghost use Rattle.bind_core.specs.steps.Taking.{AnswersAt, IsBrought, LieThere, responder_due, times_in};
 ghost use Rattle.bind_core.specs.steps.Turns.{IsSame};
@@ -98,6 +97,7 @@ fn gather(pipes: &Pipes, alloc: Global, end: EndId, arrived: &Arrived) -> Result
         handles: arrived.named.copy(alloc)?,
         pendings: names_at(alloc, end, entries)?,
         gone: goes.noted,
+        moment: None,
     };
     let things = arrived.named.copy(alloc)?;
     let room = Vec::with_capacity(alloc, things.len())?;

@@ -1,5 +1,6 @@
 //! Taking: the oldest unread message at an end.
 
+ghost use Rattle.bind_model.specs.declared.told.Noted.TheVariants as noted;
 ghost use Rattle.std.specs.Prelude.{◌≡◌, Ok, Err, Some, IfOk, IfErr};
 ghost use Rattle.message_pipe.specs.Ends.{carried_in, end_of, peer_of, spread, unread_at};
 ghost use Rattle.message_pipe.specs.Mail.{front_of};
@@ -20,7 +21,7 @@ use crate::receive::receive;
 use crate::routers::Routers;
 use crate::state::{State, refuse};
 use crate::turns::Turn;
-use bind_model::{Asked, BadWhy, Command, Event, Refused, Reply, Told, Why};
+use bind_model::{Asked, BadWhy, Command, Event, Noted, Refused, Reply, Told, Why};
 use handle_table::Thing;
 use message_pipe::{Message, Pipes};
 use mj_base::{EndId, Items, SeqId};
@@ -120,7 +121,7 @@ fn mark_peer(endpoints: &mut Routers, end: EndId, id: u32)
 /// Takes a control away: the peer of the endpoint that it names is closed.
 fn obey(state: &mut State, seq: SeqId, end: EndId, id: u32) -> Reply
     requires able { HasRoom state.old seq }
-    requires told { told_to state.old seq (asks.Take end) ≡ tells.Control id }
+    requires told { told_to state.old seq (asks.Take end) ≡ tells.Control (noted.Closed id) }
     ensures { Done state.old state.new seq (Command.Take end) result }
 {
     let _front = state.pipes.pop_front(end);
@@ -128,9 +129,9 @@ fn obey(state: &mut State, seq: SeqId, end: EndId, id: u32) -> Reply
     state.log.push_reserved(Event {
         seq,
         asked: Asked::Take(end),
-        told: Told::Control(id),
+        told: Told::Control(Noted::Closed(id)),
     });
-    Reply::Control(id)
+    Reply::Control(Noted::Closed(id))
 }
 
 /// What goes with things of the message that is taken at an end. Nothing is closed yet.

@@ -1,7 +1,10 @@
 //! What a message is made of, and the end that it goes to.
 
-ghost use Rattle.std.specs.Prelude.{◌≡◌, ◌==◌, ◌&&◌, length, IfOk};
-ghost use Rattle.message_pipe.specs.Ends.{end_of, peer_of};
+ghost use Rattle.std.specs.Prelude.{◌≡◌, ◌<◌, ◌==◌, ◌&&◌, length, IfOk, IsSome, OnErr, OnOk};
+ghost use Rattle.mj_base.specs.declared.limits.TheConstants.{MAX_UNREAD_MESSAGES};
+ghost use Rattle.message_pipe.specs.Contents.{Becomes};
+ghost use Rattle.message_pipe.specs.Ends.{end_of, peer_of, unread_at, with_message};
+ghost use Rattle.message_pipe.specs.Mail.{weighs};
 ghost use Rattle.wire_model.specs.Message.{AreIds};
 ghost use Rattle.bind_model.specs.Replies.{ids_of};
 ghost use Rattle.bind_core.specs.steps.Calls.{AreOf, outgoing_named, sealed_bytes};
@@ -16,7 +19,7 @@ use crate::state::State;
 use crate::things::contains;
 use bind_model::{Outgoing, Parameters, PendingId, Why};
 use handle_table::Thing;
-use message_pipe::{Message, Pipes};
+use message_pipe::{Message, Pipes, PushRefused};
 use mj_base::{EndId, Items};
 use std::alloc::{AllocError, Global};
 use wire_encoder::{Head, Prepared, seal};
@@ -84,6 +87,20 @@ pub(crate) fn way_with(
     }
 }
 
+/// Writes a message for reading at an end that isn't full. Without memory nothing changes.
+pub(crate) fn put_message(pipes: &mut Pipes, end: EndId, message: Message) -> Result<(), AllocError>
+    requires there { IsSome (end_of pipes.old.ends end) }
+    requires room { weighs (unread_at pipes.old.ends end) < MAX_UNREAD_MESSAGES }
+    ensures ok { OnOk result (Becomes end (with_message message) pipes.old pipes.new) }
+    ensures err { OnErr result (pipes.new ≡ pipes.old) }
+{
+    match pipes.push(end, message) {
+        Ok(()) => Ok(()),
+        Err(PushRefused::Memory(_)) => Err(AllocError),
+        Err(PushRefused::Full(_)) => unreachable!(),
+    }
+}
+
 /// What goes out with these names, as plain data.
 pub(crate) fn outgoing(
     alloc: Global,
@@ -98,6 +115,7 @@ pub(crate) fn outgoing(
         parameters,
         handles: names.things,
         pendings: names.pendings,
+        moment: None,
     })
 }
 

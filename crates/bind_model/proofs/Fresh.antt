@@ -1,5 +1,5 @@
 -- New things have new names; every legal history keeps what Kept says.
-use Rattle.std.proofs.Common.{◌≡◌, ◌<◌, ℕ, ◌+◌, Bool, true, false, List, [], ◌∷◌, ◌++◌, refl, ap, ◌∙◌, arith, inl, inr}
+use Rattle.std.proofs.Common.{sym, ◌≡◌, ◌<◌, ℕ, ◌+◌, Bool, true, false, List, [], ◌∷◌, ◌++◌, refl, ap, ◌∙◌, arith, inl, inr}
 use Rattle.std.specs.Prelude.{if◌then◌else◌, not, ◌&&◌, ◌||◌, ◌==◌}
 use Rattle.std.specs.List.{count_by}
 use Rattle.std.proofs.lemmas.List.{append-nil}
@@ -24,7 +24,7 @@ use Rattle.bind_model.proofs.Balance.{conserved}
 use Rattle.bind_model.proofs.Kept.{Kept}
 use Rattle.bind_model.proofs.Moving.{moves, new_end, new_token}
 use Rattle.bind_model.proofs.Keeping.{rows_step, pendings_step, peers_step, mail_step, counted_step}
-use Rattle.bind_model.proofs.Outcomes.{Outcome, outcome, joins, mints, binds, associates, attaches, calls, answers, writes, gets, drops, controls, spoils, closes, closes_pending, closes_responder, closes_end, closes_endpoint, skips, refuses}
+use Rattle.bind_model.proofs.Outcomes.{Outcome, outcome, joins, mints, binds, associates, attaches, calls, answers, writes, gets, drops, controls, spoils, closes, closes_pending, closes_responder, closes_end, closes_endpoint, notifies, pauses, pipes, flows, skips, refuses}
 
 module _ (wire : Wire) (seqs : ℕ) (past : List Event) (seq : SeqId) (k : Kept wire past) where
   ends_same : (x : EndId) → has (made past ++ []) (End x) ≡ true → x.serial < count_by (λ y. is_end y && (seq_of y == x.seq)) (made past ++ [])
@@ -68,6 +68,10 @@ module _ (wire : Wire) (seqs : ℕ) (past : List Event) (seq : SeqId) (k : Kept 
     )
     | inr s ↦ absurd cc
   ]
+  ends_step (pipes {p = a} {q = b} z p q) x h = elim (has-cases (made past) (Token a ∷ Token b ∷ []) (End x) h) [
+    | inl s ↦ omega (arith, k.ends x s, sum_by-append (λ y. if is_end y && (seq_of y == x.seq) then 1 else 0) (made past) (Token a ∷ Token b ∷ []))
+    | inr s ↦ absurd cc
+  ]
   ends_step (binds o) x h = ends_same x h
   ends_step (associates main e g q) x h = ends_same x h
   ends_step (attaches o g l e) x h = ends_same x h
@@ -83,11 +87,33 @@ module _ (wire : Wire) (seqs : ℕ) (past : List Event) (seq : SeqId) (k : Kept 
   ends_step (closes_responder e) x h = ends_same x h
   ends_step (closes_end r i o e) x h = ends_same x h
   ends_step (closes_endpoint r i o e) x h = ends_same x h
+  ends_step (notifies n_r n_o n_e n_w n_s n_f n_p) x h = ends_same x h
+  ends_step (pauses n_b n_a n_e n_f n_g n_s) x h = ends_same x h
+  ends_step (flows n_d n_o n_e n_f) x h = ends_same x h
   ends_step skips x h = ends_same x h
   ends_step refuses x h = ends_same x h
 
   abbrev new_seq : TokenId
   new_seq = record { seq = seq.0; serial = tokens past seq.0 }
+
+  tokens_two : (a b t : TokenId) → a ≡ record { seq = seq.0; serial = tokens past seq.0 } → b ≡ record { seq = seq.0; serial = tokens past seq.0 + 1 }
+      → has (made past ++ Token a ∷ Token b ∷ []) (Token t) ≡ true
+      → t.serial < tokens past t.seq + ((if a.seq == t.seq then 1 else 0) + (if b.seq == t.seq then 1 else 0))
+  tokens_two a b t p q h =
+      let qa : a.seq ≡ seq.0 = ap (λ e. e.seq) p in
+      let na : a.serial ≡ tokens past seq.0 = ap (λ e. e.serial) p in
+      let qb : b.seq ≡ seq.0 = ap (λ e. e.seq) q in
+      let nb : b.serial ≡ tokens past seq.0 + 1 = ap (λ e. e.serial) q in
+      elim (has-cases (made past) (Token a ∷ Token b ∷ []) (Token t) h) [
+        | inl s ↦ omega (arith, k.tokens t s)
+        | inr s ↦ elim (or_cases (same_token a t) (same_token b t || false) s) [
+          | inl u ↦ rw (← same_token-true a t u, eq-eqb a.seq a.seq refl) (omega (arith, ap (tokens past) qa))
+          | inr u ↦ elim (or_cases (same_token b t) false u) [
+            | inl v ↦ rw (← same_token-true b t v, eq-eqb b.seq b.seq refl, qa, eq-eqb seq.0 b.seq (sym qb)) (omega (arith, ap (tokens past) qb))
+            | inr v ↦ absurd (let none : false ≡ true = v in cc)
+          ]
+        ]
+      ]
 
   tokens_step : {asked : Asked} {told : Told} → Outcome wire seqs past seq asked told → (t : TokenId) → has (made past ++ made_by told) (Token t) ≡ true
       → t.serial < count_by (λ y. not (is_end y) && (seq_of y == t.seq)) (made past ++ made_by told)
@@ -104,6 +130,9 @@ module _ (wire : Wire) (seqs : ℕ) (past : List Event) (seq : SeqId) (k : Kept 
           | inr u ↦ absurd (let none : false ≡ true = u in cc)
         ]
       ]
+  tokens_step (pipes {p = a} {q = b} z p q) t h =
+      let n = tokens_two a b t p q h in
+      omega (arith, n, sum_by-append (λ y. if not (is_end y) && (seq_of y == t.seq) then 1 else 0) (made past) (Token a ∷ Token b ∷ []))
   tokens_step (binds o) x h = tokens_same x h
   tokens_step (associates main e g q) x h = tokens_same x h
   tokens_step (attaches o g l e) x h = tokens_same x h
@@ -119,6 +148,9 @@ module _ (wire : Wire) (seqs : ℕ) (past : List Event) (seq : SeqId) (k : Kept 
   tokens_step (closes_responder e) x h = tokens_same x h
   tokens_step (closes_end r i o e) x h = tokens_same x h
   tokens_step (closes_endpoint r i o e) x h = tokens_same x h
+  tokens_step (notifies n_r n_o n_e n_w n_s n_f n_p) x h = tokens_same x h
+  tokens_step (pauses n_b n_a n_e n_f n_g n_s) x h = tokens_same x h
+  tokens_step (flows n_d n_o n_e n_f) x h = tokens_same x h
   tokens_step skips x h = tokens_same x h
   tokens_step refuses x h = tokens_same x h
 
@@ -153,6 +185,13 @@ module _ (wire : Wire) (seqs : ℕ) (past : List Event) (seq : SeqId) (k : Kept 
   distinct_step (joins {a = a} {b = b} t j p q) = distinct_two (made past) (End a) (End b) k.distinct (new_end wire seqs past seq k a (rw p (omega arith)))
       (new_end wire seqs past seq k b (rw q (omega arith))) (apart_two t a b p q)
   distinct_step mints = distinct_one (made past) (Token new_seq) k.distinct (new_token wire seqs past seq k new_seq (omega arith))
+  distinct_step (pipes {p = a} {q = b} z p q) = distinct_two (made past) (Token a) (Token b) k.distinct
+      (new_token wire seqs past seq k a (rw p (omega arith))) (new_token wire seqs past seq k b (rw q (omega arith)))
+      (rw (p, q) (go (seq.0 == seq.0)))
+    where
+      go : (c : Bool) → (c && (tokens past seq.0 == (tokens past seq.0 + 1))) ≡ false
+      go true = grind (arith, nat_tests)
+      go false = refl
   distinct_step (binds o) = rw append-nil k.distinct
   distinct_step (associates main e g q) = rw append-nil k.distinct
   distinct_step (attaches o g l e) = rw append-nil k.distinct
@@ -168,6 +207,9 @@ module _ (wire : Wire) (seqs : ℕ) (past : List Event) (seq : SeqId) (k : Kept 
   distinct_step (closes_responder e) = rw append-nil k.distinct
   distinct_step (closes_end r i o e) = rw append-nil k.distinct
   distinct_step (closes_endpoint r i o e) = rw append-nil k.distinct
+  distinct_step (notifies n_r n_o n_e n_w n_s n_f n_p) = rw append-nil k.distinct
+  distinct_step (pauses n_b n_a n_e n_f n_g n_s) = rw append-nil k.distinct
+  distinct_step (flows n_d n_o n_e n_f) = rw append-nil k.distinct
   distinct_step skips = rw append-nil k.distinct
   distinct_step refuses = rw append-nil k.distinct
 
@@ -185,7 +227,17 @@ module _ (wire : Wire) (seqs : ℕ) (past : List Event) (seq : SeqId) (k : Kept 
   }
 
 pub kept : (wire : Wire) (seqs : ℕ) (past : List Event) → legal wire seqs past → Kept wire past
-kept wire seqs [] h = record { one = λ z. refl; distinct = refl; ends = λ x e. absurd cc; tokens = λ t e. absurd cc; endpoints = λ x id r e. absurd cc; pendings = λ p e. absurd cc; peers = λ x e. absurd cc; mail = λ x e. refl; counted = λ x. omega arith }
+kept wire seqs [] h = record {
+  one = λ z. refl;
+  distinct = refl;
+  ends = λ x e. absurd cc;
+  tokens = λ t e. absurd cc;
+  endpoints = λ x id r e. absurd cc;
+  pendings = λ p e. absurd cc;
+  peers = λ x e. absurd cc;
+  mail = λ x e. refl;
+  counted = λ x. omega arith;
+}
 kept wire seqs (event ∷ past) h = kept_step wire seqs past event.seq (kept wire seqs past h.2) (outcome wire seqs past event.seq event.asked event.told h.1)
 
 -- each thing has one place

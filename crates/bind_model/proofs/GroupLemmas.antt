@@ -13,14 +13,15 @@ use Rattle.bind_model.specs.declared.asked.Asked.TheVariants.{Pipe, Join}
 use Rattle.bind_model.specs.declared.told.Told.{Told}
 use Rattle.bind_model.specs.declared.told.Told.TheVariants.{Taken, Dropped}
 use Rattle.bind_model.specs.declared.event.Event.{Event}
+use Rattle.bind_model.specs.declared.control.Control.TheVariants as says
 use Rattle.handle_table.specs.Things.{same, same_end, has, seq_of}
 use Rattle.bind_model.specs.Wire.{Wire}
-use Rattle.bind_model.specs.Machine.{peer, peer_by, is_gone, is_local, written, endpoint_at, puts, emits, enters, closed_ids, handles_of, carried, spread, taken}
+use Rattle.bind_model.specs.Machine.{peer, peer_by, is_gone, is_local, written, endpoint_at, puts, emits, emits_for, control_of, enters, closed_ids, handles_of, carried, spread, taken}
 use Rattle.bind_model.specs.Replies.{legal}
 use Rattle.bind_model.specs.Groups.{seqs_of, seqs_of_pendings, names, AllIn, Apart}
 use Rattle.handle_table.proofs.ThingsLemmas.{same-refl, same-true, same_end-true, has-cases, has-back, or_cases}
-use Rattle.bind_model.proofs.Moving.{emits_none}
-use Rattle.bind_model.proofs.Outcomes.{Outcome, AsksJoin, outcome, joins, mints, binds, associates, attaches, calls, answers, writes, gets, drops, controls, spoils, closes, closes_pending, closes_responder, closes_end, closes_endpoint, skips, refuses}
+use Rattle.bind_model.proofs.Moving.{emits_none, emits_for_none}
+use Rattle.bind_model.proofs.Outcomes.{Outcome, AsksJoin, outcome, joins, mints, binds, associates, attaches, calls, answers, writes, gets, drops, controls, spoils, closes, closes_pending, closes_responder, closes_end, closes_endpoint, notifies, pauses, pipes, flows, skips, refuses}
 
 module _ (inside : ℕ → Bool) where
   -- the list's things are as this sequence is
@@ -79,6 +80,10 @@ module _ (inside : ℕ → Bool) where
     peers_step (closes_responder e) h x = so.peers x
     peers_step (closes_end r i o e) h x = so.peers x
     peers_step (closes_endpoint r i o e) h x = so.peers x
+    peers_step (notifies n_r n_o n_e n_w n_s n_f n_p) h x = so.peers x
+    peers_step (pauses n_b n_a n_e n_f n_g n_s) h x = so.peers x
+    peers_step (pipes n_z n_p n_q) h x = so.peers x
+    peers_step (flows n_d n_o n_e n_f) h x = so.peers x
     peers_step skips h x = so.peers x
     peers_step refuses h x = so.peers x
 
@@ -119,32 +124,45 @@ module _ (inside : ℕ → Bool) where
         (listed seq.0 s.handles (seqs_of_pendings s.pendings) h.1)
     mail_step (writes {x = z} {bytes = bytes} {handles = handles} o w) h x = mail_sent z x bytes handles h.0 (listed_all seq.0 handles h.1)
     mail_step (gets {y = y} m hd r c f {g = g} e) h x = mail_bare x
-        (emits wire past y (endpoint_at wire past y) (closed_ids (enters wire past y (written wire past y) (endpoint_at wire past y) (Taken g))) x)
-        (emits_none wire past y (endpoint_at wire past y) (closed_ids (enters wire past y (written wire past y) (endpoint_at wire past y) (Taken g))) x)
+        (emits wire past y (endpoint_at wire past y) says.Closed (closed_ids (enters wire past y (written wire past y) (endpoint_at wire past y) (Taken g))) x)
+        (emits_none wire past y (endpoint_at wire past y) says.Closed
+        (closed_ids (enters wire past y (written wire past y) (endpoint_at wire past y) (Taken g))) x)
     mail_step (drops {y = y} {id = n} {goes = goes} m f e d) h x = mail_bare x
-        (emits wire past y (endpoint_at wire past y) (closed_ids (enters wire past y (written wire past y) (endpoint_at wire past y) (Dropped n goes))) x)
-        (emits_none wire past y (endpoint_at wire past y) (closed_ids (enters wire past y (written wire past y) (endpoint_at wire past y) (Dropped n goes))) x)
-    mail_step (controls m f e d) h x = mail_same x
+        (emits wire past y (endpoint_at wire past y) says.Closed
+        (closed_ids (enters wire past y (written wire past y) (endpoint_at wire past y) (Dropped n goes))) x)
+        (emits_none wire past y (endpoint_at wire past y) says.Closed
+        (closed_ids (enters wire past y (written wire past y) (endpoint_at wire past y) (Dropped n goes))) x)
+    mail_step (controls {y = y} {c = c} m f e d) h x = mail_bare x (emits_for wire past y (endpoint_at wire past y) c x)
+        (emits_for_none wire past y (endpoint_at wire past y) c x)
+    mail_step (notifies {y = y} {notice = notice} {told = told} r o e w s f p) h x = mail_sent y x (wire.control (control_of notice told)) [] h.0
+        (λ z i. absurd cc)
     mail_step (spoils m f e) h x = mail_same x
     mail_step (closes o e) h x = mail_same x
     mail_step (closes_pending {p = p} o e) h x = go (is_gone past p.end || is_local past p)
       where
         go : (b : Bool) → Within x.seq (handles_of (written wire past x
-            ++ (if b then [] else emits wire past p.end (endpoint_at wire past p.end) (p.id ∷ []) x)))
+            ++ (if b then [] else emits wire past p.end (endpoint_at wire past p.end) says.Closed (p.id ∷ []) x)))
         go true = mail_same x
-        go false = mail_bare x (emits wire past p.end (endpoint_at wire past p.end) (p.id ∷ []) x)
-            (emits_none wire past p.end (endpoint_at wire past p.end) (p.id ∷ []) x)
+        go false = mail_bare x (emits wire past p.end (endpoint_at wire past p.end) says.Closed (p.id ∷ []) x)
+            (emits_none wire past p.end (endpoint_at wire past p.end) says.Closed (p.id ∷ []) x)
     mail_step (closes_responder e) h x = mail_same x
     mail_step (closes_end {y = y} {id = n} r i o e) h x = go (n == 0)
       where
-        go : (b : Bool) → Within x.seq (handles_of (written wire past x ++ (if b then [] else emits wire past y (endpoint_at wire past y) (n ∷ []) x)))
+        go : (b : Bool) → Within x.seq
+            (handles_of (written wire past x ++ (if b then [] else emits wire past y (endpoint_at wire past y) says.Closed (n ∷ []) x)))
         go true = mail_same x
-        go false = mail_bare x (emits wire past y (endpoint_at wire past y) (n ∷ []) x) (emits_none wire past y (endpoint_at wire past y) (n ∷ []) x)
+        go false = mail_bare x (emits wire past y (endpoint_at wire past y) says.Closed (n ∷ []) x)
+            (emits_none wire past y (endpoint_at wire past y) says.Closed (n ∷ []) x)
     mail_step (closes_endpoint {y = y} {id = n} r i o e) h x = go (n == 0)
       where
-        go : (b : Bool) → Within x.seq (handles_of (written wire past x ++ (if b then [] else emits wire past y (endpoint_at wire past y) (n ∷ []) x)))
+        go : (b : Bool) → Within x.seq
+            (handles_of (written wire past x ++ (if b then [] else emits wire past y (endpoint_at wire past y) says.Closed (n ∷ []) x)))
         go true = mail_same x
-        go false = mail_bare x (emits wire past y (endpoint_at wire past y) (n ∷ []) x) (emits_none wire past y (endpoint_at wire past y) (n ∷ []) x)
+        go false = mail_bare x (emits wire past y (endpoint_at wire past y) says.Closed (n ∷ []) x)
+            (emits_none wire past y (endpoint_at wire past y) says.Closed (n ∷ []) x)
+    mail_step (pauses n_b n_a n_e n_f n_g n_s) h x = mail_same x
+    mail_step (pipes n_z n_p n_q) h x = mail_same x
+    mail_step (flows n_d n_o n_e n_f) h x = mail_same x
     mail_step skips h x = mail_same x
     mail_step refuses h x = mail_same x
 

@@ -14,18 +14,22 @@ use Rattle.message_pipe.specs.declared.message.Message.{Message}
 use Rattle.bind_model.specs.declared.endpoint.PendingId.{PendingId}
 use Rattle.bind_model.specs.declared.endpoint.Endpoint.{Endpoint}
 use Rattle.bind_model.specs.declared.asked.Asked.{Asked}
-use Rattle.bind_model.specs.declared.asked.Asked.TheVariants.{Call, Answer, Raw, Take, Close}
+use Rattle.bind_model.specs.declared.asked.Asked.TheVariants.{Call, Answer, Raw, Take, Close, Notify}
+use Rattle.bind_model.specs.declared.control.Control.{Control as ControlType}
+use Rattle.bind_model.specs.declared.control.Control.TheVariants as says
+use Rattle.bind_model.specs.declared.told.Noted.{Noted}
+use Rattle.bind_model.specs.declared.told.Noted.TheVariants as noted
 use Rattle.bind_model.specs.declared.told.Told.{Told}
-use Rattle.bind_model.specs.declared.told.Told.TheVariants.{Sent, Wrote, Taken, Dropped, Control, Closed}
+use Rattle.bind_model.specs.declared.told.Told.TheVariants.{Sent, Wrote, Taken, Dropped, Control, Closed, Notified as Informed}
 use Rattle.bind_model.specs.declared.event.Event.{Event}
 use Rattle.handle_table.specs.Things.{same_end, has}
 use Rattle.bind_model.specs.Wire.{Wire, Named}
-use Rattle.bind_model.specs.Machine.{made, made_by, peer, peer_by, is_gone, bounds, bound_by, taken, takes, written, endpoint_at, changes, puts, emits, enters, entry_in, only_at, closed_ids, is_local, is_peer_closed, with_state, with_peer_closed, Entry}
-use Rattle.bind_model.specs.Replies.{tokens, has_pending, same_pending, pendings_out, pendings_given, pendings_handed, pendings_at, picked}
+use Rattle.bind_model.specs.Machine.{made, made_by, peer, peer_by, is_gone, bounds, bound_by, taken, takes, written, endpoint_at, changes, puts, emits, emits_for, marks, control_of, enters, entry_in, only_at, closed_ids, is_local, is_peer_closed, with_state, with_peer_closed, Entry}
+use Rattle.bind_model.specs.Replies.{from_id, tokens, has_pending, same_pending, pendings_out, pendings_given, pendings_handed, pendings_at, picked}
 use Rattle.handle_table.proofs.ThingsLemmas.{same_end-true, same_end-refl, has-front, has-back, has-cases, has-not_front, or_left, or_right, or_cases, and_left}
 use Rattle.bind_model.proofs.Kept.{Kept, bound_made}
 use Rattle.bind_model.proofs.Moving.{few_read, row_made, made_one}
-use Rattle.bind_model.proofs.Outcomes.{Outcome, Fronts, joins, mints, binds, associates, attaches, calls, answers, writes, gets, drops, controls, spoils, closes, closes_pending, closes_responder, closes_end, closes_endpoint, skips, refuses}
+use Rattle.bind_model.proofs.Outcomes.{Outcome, Fronts, joins, mints, binds, associates, attaches, calls, answers, writes, gets, drops, controls, spoils, closes, closes_pending, closes_responder, closes_end, closes_endpoint, notifies, pauses, pipes, flows, skips, refuses}
 
 from_map : (f : Endpoint → Endpoint) (o : Option Endpoint) (r : Endpoint) → option_map f o ≡ Some r → (r0 : Endpoint) × (o ≡ Some r0)
 from_map f None r h = absurd cc
@@ -60,6 +64,13 @@ module _ (wire : Wire) (seqs : ℕ) (past : List Event) (seq : SeqId) (k : Kept 
     | inr s ↦ as_before [] x id r s
   ]
 
+  marked_at : (y x : EndId) (c : Noted) (id : ℕ) (r : Endpoint) → marks y c x id (endpoint_at wire past x id) ≡ Some r → has (bounds past ++ []) (End x) ≡ true
+  marked_at y x (noted.Closed n) id r h = changed with_peer_closed y n x id r h
+  marked_at y x (noted.Queried n v) id r h = as_before [] x id r h
+  marked_at y x (noted.Version n v) id r h = as_before [] x id r h
+  marked_at y x (noted.Required n v) id r h = as_before [] x id r h
+  marked_at y x (noted.Flushed n) id r h = as_before [] x id r h
+
   pub rows_step : {asked : Asked} {told : Told} → Outcome wire seqs past seq asked told → (x : EndId) (id : ℕ) (r : Endpoint)
       → changes wire past (written wire past) (endpoint_at wire past) seq told asked x id ≡ Some r → has (bounds past ++ bound_by told) (End x) ≡ true
   rows_step (joins t j p q) x id r h = as_before [] x id r h
@@ -84,7 +95,7 @@ module _ (wire : Wire) (seqs : ℕ) (past : List Event) (seq : SeqId) (k : Kept 
       (same_end y x) refl (k.endpoints y 0 f.front.main f.front.bound) h
   rows_step (drops {y = y} {id = n} {goes = goes} m f e d) x id r h = taken_at y x
       (enters wire past y (written wire past y) (endpoint_at wire past y) (Dropped n goes)) id r (same_end y x) refl (k.endpoints y 0 f.main f.bound) h
-  rows_step (controls {y = y} {id = n} m f e d) x id r h = changed with_peer_closed y n x id r h
+  rows_step (controls {y = y} {c = c} m f e d) x id r h = marked_at y x c id r h
   rows_step (spoils m f e) x id r h = as_before [] x id r h
   rows_step (closes o e) x id r h = as_before [] x id r h
   rows_step (closes_pending {p = p} o e) x id r h = elim
@@ -101,6 +112,10 @@ module _ (wire : Wire) (seqs : ℕ) (past : List Event) (seq : SeqId) (k : Kept 
   rows_step (closes_responder e) x id r h = as_before [] x id r h
   rows_step (closes_end {y = y} {id = n} r0 i o e) x id r h = changed (with_state states.Closed) y n x id r h
   rows_step (closes_endpoint {y = y} {id = n} r0 i o e) x id r h = changed (with_state states.Closed) y n x id r h
+  rows_step (notifies n_r n_o n_e n_w n_s n_f n_p) x id r h = as_before [] x id r h
+  rows_step (pauses n_b n_a n_e n_f n_g n_s) x id r h = as_before [] x id r h
+  rows_step (pipes n_z n_p n_q) x id r h = as_before [] x id r h
+  rows_step (flows n_d n_o n_e n_f) x id r h = as_before [] x id r h
   rows_step skips x id r h = as_before [] x id r h
   rows_step refuses x id r h = as_before [] x id r h
 
@@ -159,6 +174,10 @@ module _ (wire : Wire) (seqs : ℕ) (past : List Event) (seq : SeqId) (k : Kept 
   pendings_step (closes_responder e) p h = pendings_more [] [] [] p (λ s. absurd cc) h
   pendings_step (closes_end r0 i o e) p h = pendings_more [] [] [] p (λ s. absurd cc) h
   pendings_step (closes_endpoint r0 i o e) p h = pendings_more [] [] [] p (λ s. absurd cc) h
+  pendings_step (notifies n_r n_o n_e n_w n_s n_f n_p) p h = pendings_more [] [] [] p (λ s. absurd cc) h
+  pendings_step (pauses n_b n_a n_e n_f n_g n_s) p h = pendings_more [] [] [] p (λ s. absurd cc) h
+  pendings_step (pipes n_z n_p n_q) p h = pendings_more [] [] [] p (λ s. absurd cc) h
+  pendings_step (flows n_d n_o n_e n_f) p h = pendings_more [] [] [] p (λ s. absurd cc) h
   pendings_step skips p h = pendings_more [] [] [] p (λ s. absurd cc) h
   pendings_step refuses p h = pendings_more [] [] [] p (λ s. absurd cc) h
 
@@ -184,6 +203,10 @@ module _ (wire : Wire) (seqs : ℕ) (past : List Event) (seq : SeqId) (k : Kept 
     | inl s ↦ has-front (made past) (Token (record { seq = seq.0; serial = tokens past seq.0 }) ∷ []) (End (peer past x)) (k.peers x s)
     | inr s ↦ absurd cc
   ]
+  peers_step (pipes {p = a} {q = b} z p q) x h = elim (has-cases (made past) (Token a ∷ Token b ∷ []) (End x) h) [
+    | inl s ↦ has-front (made past) (Token a ∷ Token b ∷ []) (End (peer past x)) (k.peers x s)
+    | inr s ↦ absurd cc
+  ]
   peers_step (binds o) x h = peer_same x h
   peers_step (associates main e g q) x h = peer_same x h
   peers_step (attaches o g l e) x h = peer_same x h
@@ -199,6 +222,9 @@ module _ (wire : Wire) (seqs : ℕ) (past : List Event) (seq : SeqId) (k : Kept 
   peers_step (closes_responder e) x h = peer_same x h
   peers_step (closes_end r i o e) x h = peer_same x h
   peers_step (closes_endpoint r i o e) x h = peer_same x h
+  peers_step (notifies n_r n_o n_e n_w n_s n_f n_p) x h = peer_same x h
+  peers_step (pauses n_b n_a n_e n_f n_g n_s) x h = peer_same x h
+  peers_step (flows n_d n_o n_e n_f) x h = peer_same x h
   peers_step skips x h = peer_same x h
   peers_step refuses x h = peer_same x h
 
@@ -212,12 +238,13 @@ module _ (wire : Wire) (seqs : ℕ) (past : List Event) (seq : SeqId) (k : Kept 
       let none : has (made past) (End x) ≡ false = rw append-nil at h in cc)
   mail_more x q ps false e known h = mail_same x h
 
-  mail_emits : (x q : EndId) (ids : List ℕ) → has (made past) (End q) ≡ true → has (made past ++ []) (End x) ≡ false
-      → written wire past x ++ emits wire past q (endpoint_at wire past q) ids x ≡ []
-  mail_emits x q ids known h = go (same_end (peer past q) x) refl
+  mail_emits : (x q : EndId) (control : ℕ → ControlType) (ids : List ℕ) → has (made past) (End q) ≡ true → has (made past ++ []) (End x) ≡ false
+      → written wire past x ++ emits wire past q (endpoint_at wire past q) control ids x ≡ []
+  mail_emits x q control ids known h = go (same_end (peer past q) x) refl
     where
       cs : List Message
-      cs = map (λ id. record { bytes = wire.control id; handles = []; emitted = true }) (filter (λ id. not (is_peer_closed (endpoint_at wire past q id))) ids)
+      cs = map (λ id. record { bytes = wire.control (control id); handles = []; emitted = true })
+          (filter (λ id. not (is_peer_closed (endpoint_at wire past q id))) ids)
 
       go : (b : Bool) → same_end (peer past q) x ≡ b → written wire past x ++ (if b && not (is_gone past x) then cs else []) ≡ []
       go true e = absurd (
@@ -226,9 +253,18 @@ module _ (wire : Wire) (seqs : ℕ) (past : List Event) (seq : SeqId) (k : Kept 
       go false e = mail_same x h
 
   mail_if : (x q : EndId) (ids : List ℕ) (b : Bool) → has (made past) (End q) ≡ true → has (made past ++ []) (End x) ≡ false
-      → written wire past x ++ (if b then [] else emits wire past q (endpoint_at wire past q) ids x) ≡ []
+      → written wire past x ++ (if b then [] else emits wire past q (endpoint_at wire past q) says.Closed ids x) ≡ []
   mail_if x q ids true known h = mail_same x h
-  mail_if x q ids false known h = mail_emits x q ids known h
+  mail_if x q ids false known h = mail_emits x q says.Closed ids known h
+
+  mail_heard : (x q : EndId) (c : Noted) → has (made past) (End q) ≡ true → has (made past ++ []) (End x) ≡ false
+      → written wire past x ++ emits_for wire past q (endpoint_at wire past q) c x ≡ []
+  mail_heard x q (noted.Queried id (Some v)) known h = mail_emits x q (λ n. says.Version n v) (id ∷ []) known h
+  mail_heard x q (noted.Queried id None) known h = mail_same x h
+  mail_heard x q (noted.Closed id) known h = mail_same x h
+  mail_heard x q (noted.Version id v) known h = mail_same x h
+  mail_heard x q (noted.Required id v) known h = mail_same x h
+  mail_heard x q (noted.Flushed n) known h = mail_same x h
 
   pub mail_step : {asked : Asked} {told : Told} → Outcome wire seqs past seq asked told → (x : EndId) → has (made past ++ made_by told) (End x) ≡ false
       → written wire past x ++ puts wire past (written wire past) (endpoint_at wire past) told asked x ≡ []
@@ -244,12 +280,16 @@ module _ (wire : Wire) (seqs : ℕ) (past : List Event) (seq : SeqId) (k : Kept 
       (row_made wire seqs past seq k q.end q.id r o.here) h
   mail_step (writes {x = z} {bytes = bytes} {handles = handles} o w) x h = mail_more x z (record { bytes = bytes; handles = handles; emitted = false } ∷ [])
       (same_end (peer past z) x) refl (made_one wire seqs past seq k z o) h
-  mail_step (gets {y = y} m hd r c f {g = g} e) x h = mail_emits x y
+  mail_step (gets {y = y} m hd r c f {g = g} e) x h = mail_emits x y says.Closed
       (closed_ids (enters wire past y (written wire past y) (endpoint_at wire past y) (Taken g)))
       (row_made wire seqs past seq k y 0 f.front.main f.front.bound) h
-  mail_step (drops {y = y} {id = n} {goes = goes} m f e d) x h = mail_emits x y
+  mail_step (drops {y = y} {id = n} {goes = goes} m f e d) x h = mail_emits x y says.Closed
       (closed_ids (enters wire past y (written wire past y) (endpoint_at wire past y) (Dropped n goes))) (row_made wire seqs past seq k y 0 f.main f.bound) h
-  mail_step (controls m f e d) x h = mail_same x h
+  mail_step (controls {y = y} {c = c} m f e d) x h = mail_heard x y c (row_made wire seqs past seq k y 0 f.main f.bound) h
+  mail_step (notifies {y = y} {notice = notice} {told = told} r o e w s f p) x h = mail_more x y
+      (record { bytes = wire.control (control_of notice told); handles = []; emitted = false } ∷ []) (same_end (peer past y) x) refl
+      (row_made wire seqs past seq k y (from_id notice) r o.here) h
+  mail_step (pipes {p = a} {q = b} z p q) x h = rw append-nil (k.mail x (has-not_front (made past) (Token a ∷ Token b ∷ []) (End x) h))
   mail_step (spoils m f e) x h = mail_same x h
   mail_step (closes o e) x h = mail_same x h
   mail_step (closes_pending {p = p} o e) x h = mail_if x p.end (p.id ∷ []) (is_gone past p.end || is_local past p)
@@ -257,6 +297,8 @@ module _ (wire : Wire) (seqs : ℕ) (past : List Event) (seq : SeqId) (k : Kept 
   mail_step (closes_responder e) x h = mail_same x h
   mail_step (closes_end {y = y} {id = n} r i o e) x h = mail_if x y (n ∷ []) (n == 0) (row_made wire seqs past seq k y n r o.here) h
   mail_step (closes_endpoint {y = y} {id = n} r i o e) x h = mail_if x y (n ∷ []) (n == 0) (row_made wire seqs past seq k y n r o.here) h
+  mail_step (pauses n_b n_a n_e n_f n_g n_s) x h = mail_same x h
+  mail_step (flows n_d n_o n_e n_f) x h = mail_same x h
   mail_step skips x h = mail_same x h
   mail_step refuses x h = mail_same x h
 
@@ -286,7 +328,9 @@ module _ (wire : Wire) (seqs : ℕ) (past : List Event) (seq : SeqId) (k : Kept 
       (puts wire past (written wire past) (endpoint_at wire past) (Taken g) (Take y) x)
   counted_step (drops {y = y} {id = n} {goes = goes} m f e d) x = counted_read y m f (Dropped n goes) x
       (puts wire past (written wire past) (endpoint_at wire past) (Dropped n goes) (Take y) x)
-  counted_step (controls {y = y} {id = n} m f e d) x = counted_read y m f (Control n) x []
+  counted_step (controls {y = y} {c = c} m f e d) x = counted_read y m f (Control c) x (emits_for wire past y (endpoint_at wire past y) c x)
+  counted_step (notifies {y = y} {notice = notice} {told = told} r o e w s f p) x = counted_same x
+      (puts wire past (written wire past) (endpoint_at wire past) (Informed told) (Notify y notice) x)
   counted_step (spoils m f e) x = counted_same x []
   counted_step (closes o e) x = counted_same x []
   counted_step (closes_pending {p = p} {goes = goes} o e) x = counted_same x
@@ -296,5 +340,8 @@ module _ (wire : Wire) (seqs : ℕ) (past : List Event) (seq : SeqId) (k : Kept 
       (puts wire past (written wire past) (endpoint_at wire past) (Closed goes) (Close (closings.Endpoint y n)) x)
   counted_step (closes_endpoint {y = y} {id = n} {goes = goes} r i o e) x = counted_same x
       (puts wire past (written wire past) (endpoint_at wire past) (Closed goes) (Close (closings.Endpoint y n)) x)
+  counted_step (pauses n_b n_a n_e n_f n_g n_s) x = counted_same x []
+  counted_step (pipes n_z n_p n_q) x = counted_same x []
+  counted_step (flows n_d n_o n_e n_f) x = counted_same x []
   counted_step skips x = counted_same x []
   counted_step refuses x = counted_same x []

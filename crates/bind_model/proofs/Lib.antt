@@ -1,18 +1,19 @@
 pub mod Counting
 pub mod Balance
+pub mod Cases
+mod MoveOutcomes
 pub mod Outcomes
 pub mod Kept
 pub mod Moving
 pub mod Keeping
 pub mod Fresh
 pub mod Responses
-pub mod TableLemmas
-mod Worked
 pub mod OriginLemmas
+pub mod TableLemmas
+pub mod Pauses
+pub mod DataLemmas
 pub mod TableAfter
 pub mod GroupLemmas
-pub mod NameOrder
-pub mod ResponderCounts
 pub mod Entering
 pub mod Telling
 pub mod Turns
@@ -23,5 +24,13 @@ pub mod TurnOf
 pub mod Controls
 pub mod Growing
 pub mod PendingFacts
-pub mod PendingTable
 pub mod Askers
+mod SmallWire
+mod Worked
+mod Played
+pub mod FlushLemmas
+pub mod NameOrder
+pub mod ResponderCounts
+pub mod PendingTable
+pub mod CoreFacts
+pub mod Crossing

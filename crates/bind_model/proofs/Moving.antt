@@ -1,6 +1,6 @@
 -- What each event moves.
 use Rattle.std.proofs.Common.{◌≡◌, ◌<◌, ◌≤◌, ℕ, zero, suc, ◌+◌, Bool, true, false, List, [], ◌∷◌, ◌++◌, length, drop, refl, sym, ap, ◌∙◌, subst, arith}
-use Rattle.std.specs.Prelude.{Some, if◌then◌else◌, not, ◌&&◌, ◌||◌, ◌==◌, map, filter}
+use Rattle.std.specs.Prelude.{Some, None, if◌then◌else◌, not, ◌&&◌, ◌||◌, ◌==◌, map, filter}
 use Rattle.std.specs.List.{flat_map, list_any}
 use Rattle.std.proofs.lemmas.List.{append-nil, length-append, length-drop}
 use Rattle.std.proofs.Math.Seq.{drop-nil}
@@ -14,37 +14,51 @@ use Rattle.bind_model.specs.declared.asked.Closing.TheVariants as closings
 use Rattle.message_pipe.specs.declared.message.Message.{Message}
 use Rattle.bind_model.specs.declared.endpoint.Endpoint.{Endpoint}
 use Rattle.bind_model.specs.declared.asked.Asked.{Asked}
-use Rattle.bind_model.specs.declared.asked.Asked.TheVariants.{Bind, Associate, Attach, Call, Answer, Raw, Take, Close, Skip}
+use Rattle.bind_model.specs.declared.asked.Asked.TheVariants.{Bind, Associate, Attach, Call, Answer, Raw, Take, Close, Notify, Pause, Data, Flow as Move, Skip}
+use Rattle.bind_model.specs.declared.control.Control.{Control as ControlType}
+use Rattle.bind_model.specs.declared.control.Control.TheVariants as says
+use Rattle.bind_model.specs.declared.told.Noted.{Noted}
+use Rattle.bind_model.specs.declared.told.Noted.TheVariants as noted
 use Rattle.bind_model.specs.declared.told.Told.{Told}
-use Rattle.bind_model.specs.declared.told.Told.TheVariants.{Made, Bound, Associated, Attached, Sent, Wrote, Dropped, Control, Bad, Closed, Skipped, No}
+use Rattle.bind_model.specs.declared.told.Told.TheVariants.{Made, Bound, Associated, Attached, Sent, Wrote, Dropped, Control, Bad, Closed, Notified as Informed, Pausing, Flowed, Skipped, No}
 use Rattle.bind_model.specs.declared.event.Event.{Event}
 use Rattle.handle_table.specs.Things.{same, same_end, has, times, without}
 use Rattle.bind_model.specs.Wire.{Wire}
-use Rattle.bind_model.specs.Machine.{made, made_by, gone_by, given, handed, bound_by, peer, gone, is_gone, out, bounds, taken, written, endpoint_at, unread, emits, enters, closed_ids, is_local, is_peer_closed, Endpoints, handles_of, carried, carried_behind, goes_behind, goes_with, held_unread, held_bound, spread}
-use Rattle.bind_model.specs.Replies.{serials, tokens, all_out, picked, unpicked, got}
+use Rattle.bind_model.specs.Machine.{made, made_by, gone_by, given, handed, bound_by, peer, gone, is_gone, out, bounds, taken, written, endpoint_at, unread, emits, emits_for, control_of, enters, closed_ids, is_local, is_peer_closed, Endpoints, handles_of, carried, carried_behind, goes_behind, goes_with, held_unread, held_bound, spread}
+use Rattle.bind_model.specs.Replies.{serials, tokens, all_out, picked, unpicked, got, from_id}
 use Rattle.handle_table.proofs.ThingsLemmas.{same-sym, same_end-true}
 use Rattle.bind_model.proofs.Counting.{times-append, times-absent, absent, gather, gathers}
 use Rattle.bind_model.proofs.Balance.{Moves}
 use Rattle.bind_model.proofs.Kept.{Kept, out_made, bound_made, made_once, own_times, one_own, one_bound, carry, quiet}
-use Rattle.bind_model.proofs.Outcomes.{Outcome, Fronts, joins, mints, binds, associates, attaches, calls, answers, writes, gets, drops, controls, spoils, closes, closes_pending, closes_responder, closes_end, closes_endpoint, skips, refuses}
+use Rattle.bind_model.proofs.Outcomes.{Outcome, Fronts, joins, mints, binds, associates, attaches, calls, answers, writes, gets, drops, controls, spoils, closes, closes_pending, closes_responder, closes_end, closes_endpoint, notifies, pauses, pipes, flows, skips, refuses}
 
 spread_nil : (c : Thing → List Thing) (n : ℕ) → spread c n [] ≡ []
 spread_nil c zero = refl
 spread_nil c (suc n) = refl
 
 -- controls carry no handles
-control_handles : (wire : Wire) (ids : List ℕ) → handles_of (map (λ id. record { bytes = wire.control id; handles = []; emitted = true }) ids) ≡ []
-control_handles wire [] = refl
-control_handles wire (id ∷ ids) = control_handles wire ids
+control_handles : (wire : Wire) (control : ℕ → ControlType) (ids : List ℕ)
+    → handles_of (map (λ id. record { bytes = wire.control (control id); handles = []; emitted = true }) ids) ≡ []
+control_handles wire control [] = refl
+control_handles wire control (id ∷ ids) = control_handles wire control ids
 
-pub emits_none : (wire : Wire) (past : List Event) (y : EndId) (endpoints : Endpoints) (ids : List ℕ) (x : EndId)
-    → handles_of (emits wire past y endpoints ids x) ≡ []
-emits_none wire past y endpoints ids x = go (same_end (peer past y) x && not (is_gone past x))
+pub emits_none : (wire : Wire) (past : List Event) (y : EndId) (endpoints : Endpoints) (control : ℕ → ControlType) (ids : List ℕ) (x : EndId)
+    → handles_of (emits wire past y endpoints control ids x) ≡ []
+emits_none wire past y endpoints control ids x = go (same_end (peer past y) x && not (is_gone past x))
   where
-    go : (b : Bool) → handles_of (if b then map (λ id. record { bytes = wire.control id; handles = []; emitted = true })
+    go : (b : Bool) → handles_of (if b then map (λ id. record { bytes = wire.control (control id); handles = []; emitted = true })
         (filter (λ id. not (is_peer_closed (endpoints id))) ids) else []) ≡ []
-    go true = control_handles wire (filter (λ id. not (is_peer_closed (endpoints id))) ids)
+    go true = control_handles wire control (filter (λ id. not (is_peer_closed (endpoints id))) ids)
     go false = refl
+
+pub emits_for_none : (wire : Wire) (past : List Event) (y : EndId) (endpoints : Endpoints) (c : Noted) (x : EndId)
+    → handles_of (emits_for wire past y endpoints c x) ≡ []
+emits_for_none wire past y endpoints (noted.Queried id (Some v)) x = emits_none wire past y endpoints (λ n. says.Version n v) (id ∷ []) x
+emits_for_none wire past y endpoints (noted.Queried id None) x = refl
+emits_for_none wire past y endpoints (noted.Closed id) x = refl
+emits_for_none wire past y endpoints (noted.Version id v) x = refl
+emits_for_none wire past y endpoints (noted.Required id v) x = refl
+emits_for_none wire past y endpoints (noted.Flushed k) x = refl
 
 -- a list is those picked and the others
 pub split : (at : List ℕ) (k : ℕ) (xs : List Thing) (z : Thing) → times z xs ≡ times z (picked at k xs) + times z (unpicked at k xs)
@@ -321,20 +335,23 @@ module _ (wire : Wire) (seqs : ℕ) (past : List Event) (seq : SeqId) (k : Kept 
       (k.peers x (made_one x o)) w.open_there (λ v. refl)
   moves (gets {y = y} m h r c f {g = g} e) = subst (λ t. Moves wire past (record { seq = seq; asked = Take y; told = t })) (sym e) (
       of_read y m f.front (got wire past y m h c) (Take y) (unpicked c.handles 0 m.handles)
-      (λ x. emits wire past y (endpoint_at wire past y) (closed_ids
+      (λ x. emits wire past y (endpoint_at wire past y) says.Closed (closed_ids
       (enters wire past y (written wire past y) (endpoint_at wire past y) (got wire past y m h c))) x)
       (record { seq = seq; asked = Take y; told = got wire past y m h c }) refl refl refl refl (λ z. omega (arith, split c.handles 0 m.handles z))
-      (λ x. emits_none wire past y (endpoint_at wire past y)
+      (λ x. emits_none wire past y (endpoint_at wire past y) says.Closed
       (closed_ids (enters wire past y (written wire past y) (endpoint_at wire past y) (got wire past y m h c))) x) (λ x. refl))
   moves (drops {y = y} {id = id} {goes = goes} m f e d) =
       of_read y m f (Dropped id goes) (Take y) m.handles
-      (λ x. emits wire past y (endpoint_at wire past y) (closed_ids (enters wire past y (written wire past y) (endpoint_at wire past y) (Dropped id goes))) x)
+      (λ x. emits wire past y (endpoint_at wire past y) says.Closed
+      (closed_ids (enters wire past y (written wire past y) (endpoint_at wire past y) (Dropped id goes))) x)
       (record { seq = seq; asked = Take y; told = Dropped id goes }) refl refl e refl (λ z. omega arith)
-      (λ x. emits_none wire past y (endpoint_at wire past y)
+      (λ x. emits_none wire past y (endpoint_at wire past y) says.Closed
       (closed_ids (enters wire past y (written wire past y) (endpoint_at wire past y) (Dropped id goes))) x) (λ x. refl)
-  moves (controls {y = y} {id = id} m f e d) =
-      of_read y m f (Control id) (Take y) [] (λ x. []) (record { seq = seq; asked = Take y; told = Control id }) refl refl
-      (sym (spread_nil (carried_behind wire past y) (length (made past)))) refl (λ z. rw e refl) (λ x. refl) (λ x. refl)
+  moves (controls {y = y} {c = c} m f e d) =
+      of_read y m f (Control c) (Take y) [] (λ x. emits_for wire past y (endpoint_at wire past y) c x)
+      (record { seq = seq; asked = Take y; told = Control c }) refl refl
+      (sym (spread_nil (carried_behind wire past y) (length (made past)))) refl (λ z. rw e refl)
+      (λ x. emits_for_none wire past y (endpoint_at wire past y) c x) (λ x. refl)
   moves (spoils {y = y} {why = why} {goes = goes} m f e) =
       of_still (record { seq = seq; asked = Take y; told = Bad why goes }) (End y ∷ []) (End y ∷ []) (λ w. []) refl e (λ z. omega arith) (λ z. omega arith)
       (λ z. omega arith) (λ z. omega arith) (one_bound wire past k y (k.endpoints y 0 f.main f.bound) f.open_here) (λ w. refl) (λ w. refl)
@@ -343,35 +360,46 @@ module _ (wire : Wire) (seqs : ℕ) (past : List Event) (seq : SeqId) (k : Kept 
       (λ z. omega arith) (λ z. omega arith) (one_own wire past k x o) none_left (λ w. refl) (λ w. refl)
   moves (closes_pending {p = p} {goes = goes} o e) =
       of_still (record { seq = seq; asked = Close (closings.Pending p); told = Closed goes }) [] []
-      (λ w. if is_gone past p.end || is_local past p then [] else emits wire past p.end (endpoint_at wire past p.end) (p.id ∷ []) w)
+      (λ w. if is_gone past p.end || is_local past p then [] else emits wire past p.end (endpoint_at wire past p.end) says.Closed (p.id ∷ []) w)
       refl (e ∙ sym (spread_nil (carried wire past) (length (made past)))) (λ z. omega arith) (λ z. omega arith) (λ z. omega arith)
       (λ z. omega arith) none_left (λ w. none w (is_gone past p.end || is_local past p)) (λ w. refl)
     where
-      none : (w : EndId) (b : Bool) → handles_of (if b then [] else emits wire past p.end (endpoint_at wire past p.end) (p.id ∷ []) w) ≡ []
+      none : (w : EndId) (b : Bool) → handles_of (if b then [] else emits wire past p.end (endpoint_at wire past p.end) says.Closed (p.id ∷ []) w) ≡ []
       none w true = refl
-      none w false = emits_none wire past p.end (endpoint_at wire past p.end) (p.id ∷ []) w
+      none w false = emits_none wire past p.end (endpoint_at wire past p.end) says.Closed (p.id ∷ []) w
   moves (closes_responder {q = q} {goes = goes} e) =
       of_still (record { seq = seq; asked = Close (closings.Responder q); told = Closed goes }) [] [] (λ w. []) refl
       (e ∙ sym (spread_nil (carried wire past) (length (made past)))) (λ z. omega arith) (λ z. omega arith) (λ z. omega arith)
       (λ z. omega arith) none_left (λ w. refl) (λ w. refl)
   moves (closes_end {y = y} {id = id} {goes = goes} r i o e) =
       of_still (record { seq = seq; asked = Close (closings.Endpoint y id); told = Closed goes }) (End y ∷ []) (End y ∷ [])
-      (λ w. if id == 0 then [] else emits wire past y (endpoint_at wire past y) (id ∷ []) w)
+      (λ w. if id == 0 then [] else emits wire past y (endpoint_at wire past y) says.Closed (id ∷ []) w)
       refl e (λ z. omega arith) (λ z. omega arith) (λ z. omega arith) (λ z. omega arith) (one_bound wire past k y (k.endpoints y id r o.here) o.open_here)
       (λ w. none w (id == 0)) (λ w. refl)
     where
-      none : (w : EndId) (b : Bool) → handles_of (if b then [] else emits wire past y (endpoint_at wire past y) (id ∷ []) w) ≡ []
+      none : (w : EndId) (b : Bool) → handles_of (if b then [] else emits wire past y (endpoint_at wire past y) says.Closed (id ∷ []) w) ≡ []
       none w true = refl
-      none w false = emits_none wire past y (endpoint_at wire past y) (id ∷ []) w
+      none w false = emits_none wire past y (endpoint_at wire past y) says.Closed (id ∷ []) w
   moves (closes_endpoint {y = y} {id = id} {goes = goes} r i o e) =
       of_still (record { seq = seq; asked = Close (closings.Endpoint y id); told = Closed goes }) [] []
-      (λ w. if id == 0 then [] else emits wire past y (endpoint_at wire past y) (id ∷ []) w)
+      (λ w. if id == 0 then [] else emits wire past y (endpoint_at wire past y) says.Closed (id ∷ []) w)
       refl (e ∙ sym (spread_nil (carried wire past) (length (made past)))) (λ z. omega arith) (λ z. omega arith) (λ z. omega arith)
       (λ z. omega arith) none_left (λ w. none w (id == 0)) (λ w. refl)
     where
-      none : (w : EndId) (b : Bool) → handles_of (if b then [] else emits wire past y (endpoint_at wire past y) (id ∷ []) w) ≡ []
+      none : (w : EndId) (b : Bool) → handles_of (if b then [] else emits wire past y (endpoint_at wire past y) says.Closed (id ∷ []) w) ≡ []
       none w true = refl
-      none w false = emits_none wire past y (endpoint_at wire past y) (id ∷ []) w
+      none w false = emits_none wire past y (endpoint_at wire past y) says.Closed (id ∷ []) w
+  moves (notifies {y = y} {notice = notice} {told = told} r o e w s f p) =
+      of_sent (record { seq = seq; asked = Notify y notice; told = Informed told }) (peer past y) (wire.control (control_of notice told)) [] refl refl refl
+      refl refl refl (k.peers y (row_made y (from_id notice) r o.here)) w.open_there (λ x. refl)
+  moves (pauses {b = b} {a = a} {k = n} rb ra e f g s) =
+      of_still (record { seq = seq; asked = Pause b a n; told = Pausing }) [] [] (λ w. []) refl (sym (spread_nil (carried wire past) (length (made past))))
+      (λ z. omega arith) (λ z. omega arith) (λ z. omega arith) (λ z. omega arith) none_left (λ w. refl) (λ w. refl)
+  moves (pipes {size = size} {p = p} {q = q} z e f) = of_new {asked = Data size} (Token p ∷ Token q ∷ []) (λ w. refl)
+  moves (flows {t = t} {f = f} {told = told} d o e w) =
+      of_still (record { seq = seq; asked = Move (Token t) f; told = Flowed t told }) [] [] (λ x. []) refl
+      (sym (spread_nil (carried wire past) (length (made past))))
+      (λ z. omega arith) (λ z. omega arith) (λ z. omega arith) (λ z. omega arith) none_left (λ x. refl) (λ x. refl)
   moves (skips {line = line}) =
       of_still (record { seq = seq; asked = Skip line; told = Skipped }) [] [] (λ w. []) refl (sym (spread_nil (carried wire past) (length (made past))))
       (λ z. omega arith) (λ z. omega arith) (λ z. omega arith) (λ z. omega arith) none_left (λ w. refl) (λ w. refl)

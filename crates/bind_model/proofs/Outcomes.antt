@@ -1,5 +1,5 @@
--- What a reply can be, case by case, with what each case knows.
-use Rattle.std.proofs.Common.{sym, ◌≡◌, ℕ, ◌+◌, Bool, true, false, List, [], ◌∷◌, length, refl, ap, ◌∙◌, ◌⊎◌, inl, inr}
+-- Each reply is one of the cases.
+use Rattle.std.proofs.Common.{sym, ◌≡◌, ℕ, Bool, true, false, List, [], ◌∷◌, length, refl, ap, ◌∙◌, inl, inr}
 use Rattle.std.specs.Prelude.{Option, Some, None, Result, Ok, Err, if◌then◌else◌, not, ◌&&◌, ◌||◌, ◌==◌, nat_le, nat_lt, is_some}
 use Rattle.std.specs.List.{list_any, list_all}
 use Rattle.std.proofs.lemmas.Bool.{eqb-true}
@@ -11,7 +11,6 @@ use Rattle.wire_encoder.specs.declared.endpoint.EndpointSide.{EndpointSide}
 use Rattle.wire_model.specs.declared.target.MessageSide.TheVariants.{Response}
 use Rattle.mj_base.specs.declared.fault.Fault.{Fault}
 use Rattle.message_pipe.specs.declared.message.Message.{Message}
-use Rattle.bind_model.specs.declared.endpoint.PendingId.{PendingId}
 use Rattle.bind_model.specs.declared.endpoint.ResponderId.{ResponderId}
 use Rattle.bind_model.specs.declared.endpoint.Endpoint.{Endpoint}
 use Rattle.bind_model.specs.declared.asked.Outgoing.{Outgoing}
@@ -20,147 +19,36 @@ use Rattle.bind_model.specs.declared.endpoint.State.TheVariants as states
 use Rattle.bind_model.specs.declared.asked.Closing.{Closing}
 use Rattle.bind_model.specs.declared.asked.Closing.TheVariants as closings
 use Rattle.bind_model.specs.declared.asked.Asked.{Asked}
-use Rattle.bind_model.specs.declared.asked.Asked.TheVariants.{Pipe, Join, Mint, Bind, Associate, Attach, Call, Answer, Raw, Take, Close, Skip}
-use Rattle.bind_model.specs.declared.told.Got.{Got}
+use Rattle.bind_model.specs.declared.asked.Asked.TheVariants.{Pipe, Join, Mint, Bind, Associate, Attach, Call, Answer, Raw, Take, Close, Notify, Pause, Data}
+use Rattle.bind_model.specs.declared.asked.Asked.TheVariants.{Flow as Move, Skip}
+use Rattle.bind_model.specs.declared.asked.Notice.{Notice}
+use Rattle.bind_model.specs.declared.control.Control.{Control as ControlType}
+use Rattle.bind_model.specs.declared.control.Control.TheVariants as says
+use Rattle.bind_model.specs.declared.told.Noted.TheVariants as noted
 use Rattle.bind_model.specs.declared.told.BadWhy.{BadWhy}
 use Rattle.bind_model.specs.declared.told.BadWhy.TheVariants as bads
-use Rattle.bind_model.specs.declared.told.Why.{Why}
-use Rattle.bind_model.specs.declared.told.Why.TheVariants.{NoName, Disconnected, Elsewhere, WrongSide, WrongMethod, WrongPipe, SelfSend, TooLong, TooManyHandles, Full, Empty, PeerClosed}
+use Rattle.bind_model.specs.declared.told.Why.TheVariants.{NoName, Disconnected, Elsewhere, WrongSide, WrongMethod, WrongPipe, SelfSend, TooLong}
+use Rattle.bind_model.specs.declared.told.Why.TheVariants.{TooManyHandles, Full, Empty, PeerClosed, SelfPause, BadSize}
 use Rattle.bind_model.specs.declared.told.Told.{Told}
-use Rattle.bind_model.specs.declared.told.Told.TheVariants.{Made, Bound, Associated, Attached, Sent, Wrote, Taken, Dropped, Control, Bad, Closed, Skipped, No}
+use Rattle.bind_model.specs.declared.told.Told.TheVariants.{Associated, Attached, Sent, Wrote, Control, Closed, Notified as Informed, Pausing, No}
 use Rattle.bind_model.specs.declared.event.Event.{Event}
-use Rattle.handle_table.specs.Things.{has, is_distinct}
-use Rattle.bind_model.specs.Laws.{WasDropped, WasControl}
+use Rattle.handle_table.specs.Things.{has, is_distinct, same_end}
+use Rattle.bind_model.specs.Notices.{query_pends, waits, first_unmet}
 use Rattle.wire_model.specs.HeaderMarks.{CONTROL_ID}
 use Rattle.mj_base.specs.declared.fault.FaultKind.TheVariants.{IllegalHandle}
 use Rattle.bind_model.specs.declared.limits.TheConstants.{MAX_RAW_BYTES, MAX_RAW_HANDLES}
 use Rattle.bind_model.specs.Wire.{Wire, Header, Content}
-use Rattle.bind_model.specs.Machine.{peer, is_gone, out, is_local, endpoint_at, unread, is_closed, first_strange, goes_with, goes_behind}
-use Rattle.bind_model.specs.Replies.{is_response, is_asked, has_pending, pendings_out, same_responder, responders_out, first_of, unless, all_out, all_pending, unbound, elsewhere, is_receiver, wrong_tokens, wrong_pipe, cannot_write, is_full, same_target, serials, tokens, joined, bound_as, next_id, request_of, ids_of, called, answered_with, wrote_at, bad, got, got_known, judged, at_state, at_endpoint, is_none, controlled, headed, took_front, took, closed_at, closed, half_closed, answer}
-
--- ## The first test that fails
-
-abbrev pub Passes : List (Option Why) → Type 0
-Passes [] = Unit {0}
-Passes (t ∷ ts) = (t ≡ None) × Passes ts
-
-abbrev pub Refused : Told → Type 0
-Refused told = (why : Why) × (told ≡ No why)
-
-pub first_cases : (tests : List (Option Why)) (done told : Told) → told ≡ first_of tests done → Refused told ⊎ (Passes tests × (told ≡ done))
-first_cases [] done told h = inr (tt, h)
-first_cases (None ∷ ts) done told h = elim (first_cases ts done told h) [
-  | inl r ↦ inl r
-  | inr p ↦ inr ((refl, p.0), p.1)
-]
-first_cases (Some why ∷ ts) done told h = inl (why, h)
-
-pub held : (b : Bool) (why : Why) → unless b why ≡ None → b ≡ true
-held true why h = refl
-held false why h = cc
-
-pub is_true : (b : Bool) → not b ≡ true → b ≡ false
-is_true true h = cc
-is_true false h = refl
-
-pub left_true : (a b : Bool) → (a && b) ≡ true → a ≡ true
-left_true true b h = refl
-left_true false b h = cc
-
-pub right_true : (a b : Bool) → (a && b) ≡ true → b ≡ true
-right_true true b h = h
-right_true false b h = cc
-
-pub left_false : (a b : Bool) → (a || b) ≡ false → a ≡ false
-left_false true b h = cc
-left_false false b h = refl
-
-pub right_false : (a b : Bool) → (a || b) ≡ false → b ≡ false
-right_false true b h = cc
-right_false false b h = h
-
-pub there : {A : Type 0} (o : Option A) → is_some o ≡ true → (a : A) × (o ≡ Some a)
-there None h = absurd cc
-there (Some a) h = (a, refl)
-
--- ## The cases
-
--- what is known where a message is written at y
-pub record Writes (wire : Wire) (past : List Event) (y : EndId) (handles : List Thing) : Type 0 where
-  pub own : all_out past handles ≡ true
-  pub apart : has handles (End (peer past y)) ≡ false
-  pub open_there : is_gone past (peer past y) ≡ false
-  pub room : is_full wire past (peer past y) ≡ false
-
--- the oldest unread message of a bound end that is open
-pub record Fronts (wire : Wire) (past : List Event) (y : EndId) (m : Message) : Type 0 where
-  pub main : Endpoint
-  pub rest : List Message
-  pub bound : endpoint_at wire past y 0 ≡ Some main
-  pub open_here : is_gone past y ≡ false
-  pub stands : unread wire past y ≡ m ∷ rest
-
--- an endpoint that is open, on the sequence that asks
-pub record Open (wire : Wire) (past : List Event) (seq : SeqId) (y : EndId) (id : ℕ) (r : Endpoint) : Type 0 where
-  pub here : endpoint_at wire past y id ≡ Some r
-  pub open_here : is_gone past y ≡ false
-  pub not_shut : is_closed r ≡ false
-
--- what a got message was
-pub record Gets (wire : Wire) (past : List Event) (seq : SeqId) (y : EndId) (m : Message) (h : Header) (r : Endpoint) (c : Content) : Type 0 where
-  pub front : Fronts wire past y m
-  pub header : wire.header m.bytes ≡ Ok h
-  pub plain : (h.id == CONTROL_ID) ≡ false
-  pub at : endpoint_at wire past y h.id ≡ Some r
-  pub state : r.state ≡ states.Bound seq
-  pub stands : wire.stands r.side r.interface m.bytes (length m.handles) ≡ Ok c
-  pub awaited : is_response c.target.side ≡ true → (r.peer_closed ≡ false) × (is_asked past y h.id c.request c.target.method ≡ true)
-  pub known : first_strange (endpoint_at wire past y) [] h.ids ≡ None
-
--- what asks for a new pipe with an end of sequence t
-abbrev pub AsksJoin : Asked → ℕ → ℕ → Type 0
-AsksJoin Pipe s t = t ≡ s
-AsksJoin (Join u) s t = t ≡ u.0
-AsksJoin asked s t = ⊥
-
-pub data Outcome (wire : Wire) (seqs : ℕ) (past : List Event) (seq : SeqId) : Asked → Told → Type 0 where
-  joins : {asked : Asked} {a b : EndId} (t : ℕ) → AsksJoin asked seq.0 t → a ≡ record { seq = seq.0; serial = serials past seq.0 }
-      → b ≡ record { seq = t; serial = serials past t + (if t == seq.0 then 1 else 0) } → Outcome wire seqs past seq asked (Made (End a ∷ End b ∷ []))
-  mints : {asked : Asked} → Outcome wire seqs past seq asked (Made (Token (record { seq = seq.0; serial = tokens past seq.0 }) ∷ []))
-  binds : {x : EndId} {side : EndpointSide} {interface : ℕ} → has (out past) (End x) ≡ true → Outcome wire seqs past seq (Bind (End x) side interface) (Bound x)
-  associates : {y : EndId} {side : EndpointSide} {interface : ℕ} {p : PendingId} (main : Endpoint) → endpoint_at wire past y 0 ≡ Some main
-      → is_gone past y ≡ false → p ≡ record { end = y; id = next_id wire past y } → Outcome wire seqs past seq (Associate y side interface) (Associated p)
-  attaches : {p : PendingId} {t : SeqId} {n : ℕ} → has_pending (pendings_out past) p ≡ true → is_gone past p.end ≡ false → is_local past p ≡ false → n ≡ p.id
-      → Outcome wire seqs past seq (Attach p t) (Attached n)
-  calls : {y : EndId} {id : ℕ} {s : Outgoing} {request : ℕ} {bytes : List ℕ} (r : Endpoint) → Open wire past seq y id r → all_pending past s.pendings ≡ true
-      → r.peer_closed ≡ false → request ≡ request_of wire past y id s.target → Writes wire past y s.handles
-      → bytes ≡ wire.sealed s.target s.parameters (record { id = id; request = request; ids = ids_of s.pendings })
-      → Outcome wire seqs past seq (Call y id s) (Sent request bytes)
-  answers : {q : ResponderId} {s : Outgoing} {request : ℕ} {bytes : List ℕ} (r : Endpoint) → Open wire past seq q.end q.id r
-      → list_any (λ p. same_responder p q) (responders_out wire past) ≡ true → all_pending past s.pendings ≡ true → request ≡ q.request
-      → Writes wire past q.end s.handles → bytes ≡ wire.sealed s.target s.parameters (record { id = q.id; request = request; ids = ids_of s.pendings })
-      → Outcome wire seqs past seq (Answer q s) (Sent request bytes)
-  writes : {x : EndId} {bytes : List ℕ} {handles : List Thing} → has (out past) (End x) ≡ true → Writes wire past x handles
-      → Outcome wire seqs past seq (Raw (End x) bytes handles) (Wrote x)
-  gets : {y : EndId} (m : Message) (h : Header) (r : Endpoint) (c : Content) → Gets wire past seq y m h r c → {g : Got} → Taken g ≡ got wire past y m h c
-      → Outcome wire seqs past seq (Take y) (Taken g)
-  drops : {y : EndId} {id : ℕ} {goes : List Thing} (m : Message) → Fronts wire past y m → goes ≡ goes_behind wire past y m.handles
-      → WasDropped wire past y id m → Outcome wire seqs past seq (Take y) (Dropped id goes)
-  controls : {y : EndId} {id : ℕ} (m : Message) → Fronts wire past y m → m.handles ≡ [] → WasControl wire id m
-      → Outcome wire seqs past seq (Take y) (Control id)
-  spoils : {y : EndId} {why : BadWhy} {goes : List Thing} (m : Message) → Fronts wire past y m → goes ≡ goes_with wire past (End y ∷ [])
-      → Outcome wire seqs past seq (Take y) (Bad why goes)
-  closes : {x : Thing} {goes : List Thing} → has (out past) x ≡ true → goes ≡ goes_with wire past (x ∷ [])
-      → Outcome wire seqs past seq (Close (closings.Handle x)) (Closed goes)
-  closes_pending : {p : PendingId} {goes : List Thing} → has_pending (pendings_out past) p ≡ true → goes ≡ []
-      → Outcome wire seqs past seq (Close (closings.Pending p)) (Closed goes)
-  closes_responder : {q : ResponderId} {goes : List Thing} → goes ≡ [] → Outcome wire seqs past seq (Close (closings.Responder q)) (Closed goes)
-  closes_end : {y : EndId} {id : ℕ} {goes : List Thing} (r : Endpoint) → id ≡ 0 → Open wire past seq y id r → goes ≡ goes_with wire past (End y ∷ [])
-      → Outcome wire seqs past seq (Close (closings.Endpoint y id)) (Closed goes)
-  closes_endpoint : {y : EndId} {id : ℕ} {goes : List Thing} (r : Endpoint) → (id == 0) ≡ false → Open wire past seq y id r → goes ≡ []
-      → Outcome wire seqs past seq (Close (closings.Endpoint y id)) (Closed goes)
-  skips : {line : ℕ} → Outcome wire seqs past seq (Skip line) Skipped
-  refuses : {asked : Asked} {why : Why} → Outcome wire seqs past seq asked (No why)
+use Rattle.bind_model.specs.Machine.{peer, is_gone, out, is_local, endpoint_at, unread, is_closed, first_strange, goes_with}
+use Rattle.bind_model.specs.Replies.{is_response, is_asked, has_pending, pendings_out, same_responder, responders_out, unless, all_out, all_pending, unbound}
+use Rattle.bind_model.specs.Replies.{elsewhere, is_receiver, wrong_tokens, wrong_pipe, cannot_write, is_full, same_target, joined, bound_as, next_id}
+use Rattle.bind_model.specs.Replies.{request_of, ids_of, called, answered_with, wrote_at, bad, got_known, judged, at_state, at_endpoint, is_none, heard}
+use Rattle.bind_model.specs.Replies.{version_of, is_older, controlled, headed, took_front, pause_of, paused, took, closed_at, closed, half_closed, from_id}
+use Rattle.bind_model.specs.Replies.{is_flush, told_of, notified, pausing, data_made, is_right_size, moved_by, answer}
+use Rattle.bind_model.proofs.MoveOutcomes.{of_move}
+pub use Rattle.bind_model.proofs.Cases.{Passes, Refused, first_cases, held, is_true, left_true, right_true, left_false, right_false, there, Writes, Fronts}
+pub use Rattle.bind_model.proofs.Cases.{Open, Gets, AsksJoin, Flows, Outcome, joins, mints, binds, associates, attaches, calls, answers, writes, gets, drops}
+pub use Rattle.bind_model.proofs.Cases.{controls, spoils, closes, closes_pending, closes_responder, closes_end, closes_endpoint, notifies, pauses, pipes, flows}
+pub use Rattle.bind_model.proofs.Cases.{skips, refuses}
 
 module _ (wire : Wire) (seqs : ℕ) (past : List Event) (seq : SeqId) where
   no : {asked : Asked} {told : Told} → Refused told → Outcome wire seqs past seq asked told
@@ -171,14 +59,15 @@ module _ (wire : Wire) (seqs : ℕ) (past : List Event) (seq : SeqId) where
   writes_at y peer_closed handles own p = record {
     own = own;
     apart = is_true (has handles (End (peer past y))) (held (not (has handles (End (peer past y)))) SelfSend p.0);
+    still = p.1.0;
     open_there = left_false (is_gone past (peer past y)) peer_closed
-        (is_true (is_gone past (peer past y) || peer_closed) (held (not (is_gone past (peer past y) || peer_closed)) Disconnected p.1.0));
-    room = is_true (is_full wire past (peer past y)) (held (not (is_full wire past (peer past y))) Full p.1.1.0);
+        (is_true (is_gone past (peer past y) || peer_closed) (held (not (is_gone past (peer past y) || peer_closed)) Disconnected p.1.1.0));
+    room = is_true (is_full wire past (peer past y)) (held (not (is_full wire past (peer past y))) Full p.1.1.1.0);
   }
 
   unmarked_at : (y : EndId) (peer_closed : Bool) (handles : List Thing) → Passes (cannot_write wire past y peer_closed handles) → peer_closed ≡ false
   unmarked_at y peer_closed handles p = right_false (is_gone past (peer past y)) peer_closed
-      (is_true (is_gone past (peer past y) || peer_closed) (held (not (is_gone past (peer past y) || peer_closed)) Disconnected p.1.0))
+      (is_true (is_gone past (peer past y) || peer_closed) (held (not (is_gone past (peer past y) || peer_closed)) Disconnected p.1.1.0))
 
   open_at : (y : EndId) (id : ℕ) (r : Endpoint) → endpoint_at wire past y id ≡ Some r → unless (not (is_gone past y || is_closed r)) Disconnected ≡ None
       → Open wire past seq y id r
@@ -200,7 +89,7 @@ module _ (wire : Wire) (seqs : ℕ) (past : List Event) (seq : SeqId) where
       ∷ wrong_pipe past y s.pendings
       ∷ cannot_write wire past y r.peer_closed s.handles)
       (Sent (request_of wire past y id s.target) (wire.sealed s.target s.parameters
-      (record { id = id; request = request_of wire past y id s.target; ids = ids_of s.pendings }))) told h) [
+      (record { id = id; request = request_of wire past y id s.target; ids = ids_of s.pendings; moment = s.moment }))) told h) [
         | inl r0 ↦ no r0
         | inr p ↦
             let own : (all_out past s.handles && all_pending past s.pendings)
@@ -222,7 +111,7 @@ module _ (wire : Wire) (seqs : ℕ) (past : List Event) (seq : SeqId) where
       ∷ wrong_tokens wire past s
       ∷ wrong_pipe past q.end s.pendings
       ∷ cannot_write wire past q.end r.peer_closed s.handles)
-      (Sent q.request (wire.sealed s.target s.parameters (record { id = q.id; request = q.request; ids = ids_of s.pendings }))) told h) [
+      (Sent q.request (wire.sealed s.target s.parameters (record { id = q.id; request = q.request; ids = ids_of s.pendings; moment = s.moment }))) told h) [
         | inl r0 ↦ no r0
         | inr p ↦
             let all : (list_any (λ p. same_responder p q) (responders_out wire past) && all_out past s.handles && all_pending past s.pendings)
@@ -336,44 +225,71 @@ module _ (wire : Wire) (seqs : ℕ) (past : List Event) (seq : SeqId) where
         (record { h = h; header = e1; plain = e0; is = refl; closed = λ r0 s. absurd (none_some r0 (sym e ∙ s)) }))
     of_row h told e1 e0 (Some r) e k = of_state h r told e1 e0 e r.state refl k
 
-    of_empty : (h : Header) → wire.header m.bytes ≡ Ok h → (h.id == CONTROL_ID) ≡ true → (id : ℕ) (told : Told) → wire.closed_id m.bytes ≡ Ok id
-        → (xs : List Thing) → m.handles ≡ xs → told ≡ (if is_none xs then Control id else bad wire past y
-        (bads.Message (record { kind = IllegalHandle; at = 0 }))) → Outcome wire seqs past seq (Take y) told
-    of_empty h e1 e0 id told c [] e k = rw k (controls m front e (record { h = h; header = e1; control = e0; is = c }))
-    of_empty h e1 e0 id told c (x ∷ xs) e k = rw k (spoils m front refl)
+    -- of a version that nobody asked for, and of a receiver that is too old
+    of_version : (h : Header) → wire.header m.bytes ≡ Ok h → (h.id == CONTROL_ID) ≡ true → (id v : ℕ) (told : Told)
+        → wire.says m.bytes ≡ Ok (says.Version id v) → m.handles ≡ [] → (b : Bool) → query_pends past y id (endpoint_at wire past y id) ≡ b
+        → told ≡ (if b then Control (noted.Version id v) else bad wire past y (bads.Unasked 0)) → Outcome wire seqs past seq (Take y) told
+    of_version h e1 e0 id v told s e true f k = rw k (controls m front e (record { h = h; header = e1; control = e0; is = s; right = f }))
+    of_version h e1 e0 id v told s e false f k = rw k (spoils m front refl)
 
-    of_control : (h : Header) → wire.header m.bytes ≡ Ok h → (h.id == CONTROL_ID) ≡ true → (told : Told) (o : Result ℕ Fault) → wire.closed_id m.bytes ≡ o
-        → told ≡ controlled wire past y m o → Outcome wire seqs past seq (Take y) told
+    of_require : (h : Header) → wire.header m.bytes ≡ Ok h → (h.id == CONTROL_ID) ≡ true → (id v : ℕ) (told : Told)
+        → wire.says m.bytes ≡ Ok (says.Require id v) → m.handles ≡ [] → (b : Bool) → is_older (version_of wire (endpoint_at wire past y id)) v ≡ b
+        → told ≡ (if b then bad wire past y (bads.TooOld v) else Control (noted.Required id v)) → Outcome wire seqs past seq (Take y) told
+    of_require h e1 e0 id v told s e true f k = rw k (spoils m front refl)
+    of_require h e1 e0 id v told s e false f k = rw k (controls m front e (record { h = h; header = e1; control = e0; is = s; right = f }))
+
+    of_heard : (h : Header) → wire.header m.bytes ≡ Ok h → (h.id == CONTROL_ID) ≡ true → (c : ControlType) (told : Told) → wire.says m.bytes ≡ Ok c
+        → m.handles ≡ [] → told ≡ heard wire past y c → Outcome wire seqs past seq (Take y) told
+    of_heard h e1 e0 (says.Closed id) told s e k = rw k (controls m front e (record { h = h; header = e1; control = e0; is = s; right = tt }))
+    of_heard h e1 e0 (says.Query id) told s e k = rw k (controls m front e (record { h = h; header = e1; control = e0; is = s; right = refl }))
+    of_heard h e1 e0 (says.Version id v) told s e k = of_version h e1 e0 id v told s e (query_pends past y id (endpoint_at wire past y id)) refl k
+    of_heard h e1 e0 (says.Require id v) told s e k = of_require h e1 e0 id v told s e (is_older (version_of wire (endpoint_at wire past y id)) v) refl k
+    of_heard h e1 e0 (says.Flush n) told s e k = rw k (controls m front e (record { h = h; header = e1; control = e0; is = s; right = tt }))
+
+    of_empty : (h : Header) → wire.header m.bytes ≡ Ok h → (h.id == CONTROL_ID) ≡ true → (c : ControlType) (told : Told) → wire.says m.bytes ≡ Ok c
+        → (xs : List Thing) → m.handles ≡ xs → told ≡ (if is_none xs then heard wire past y c else bad wire past y
+        (bads.Message (record { kind = IllegalHandle; at = 0 }))) → Outcome wire seqs past seq (Take y) told
+    of_empty h e1 e0 c told s [] e k = of_heard h e1 e0 c told s e k
+    of_empty h e1 e0 c told s (x ∷ xs) e k = rw k (spoils m front refl)
+
+    of_control : (h : Header) → wire.header m.bytes ≡ Ok h → (h.id == CONTROL_ID) ≡ true → (told : Told) (o : Result ControlType Fault)
+        → wire.says m.bytes ≡ o → told ≡ controlled wire past y m o → Outcome wire seqs past seq (Take y) told
     of_control h e1 e0 told (Err fault) c k = rw k (spoils m front refl)
-    of_control h e1 e0 told (Ok id) c k = of_empty h e1 e0 id told c m.handles refl k
+    of_control h e1 e0 told (Ok s) c k = of_empty h e1 e0 s told c m.handles refl k
 
     of_id : (h : Header) (told : Told) → wire.header m.bytes ≡ Ok h → (b : Bool) → (h.id == CONTROL_ID) ≡ b
-        → told ≡ (if b then controlled wire past y m (wire.closed_id m.bytes) else at_endpoint wire past seq y m h (endpoint_at wire past y h.id))
+        → told ≡ (if b then controlled wire past y m (wire.says m.bytes) else at_endpoint wire past seq y m h (endpoint_at wire past y h.id))
         → Outcome wire seqs past seq (Take y) told
-    of_id h told e true e0 k = of_control h e e0 told (wire.closed_id m.bytes) refl k
+    of_id h told e true e0 k = of_control h e e0 told (wire.says m.bytes) refl k
     of_id h told e false e0 k = of_row h told e e0 (endpoint_at wire past y h.id) refl k
 
     of_header : (told : Told) (o : Result Header Fault) → wire.header m.bytes ≡ o → told ≡ headed wire past seq y m o → Outcome wire seqs past seq (Take y) told
     of_header told (Err fault) e k = rw k (spoils m front refl)
     of_header told (Ok h) e k = of_id h told e (h.id == CONTROL_ID) refl k
 
-  of_mail : (y : EndId) (told : Told) (main : Endpoint) → endpoint_at wire past y 0 ≡ Some main → is_gone past y ≡ false → (ms : List Message)
+  of_mail : (y : EndId) (told : Told) (main : Endpoint) → endpoint_at wire past y 0 ≡ Some main → is_gone past y ≡ false
+      → first_unmet past (waits past y) ≡ None → (ms : List Message)
       → unread wire past y ≡ ms → told ≡ took_front wire past seq y ms → Outcome wire seqs past seq (Take y) told
-  of_mail y told main e o [] u h = none (is_gone past (peer past y)) h
+  of_mail y told main e o w [] u h = none (is_gone past (peer past y)) h
     where
       none : (b : Bool) → told ≡ (if b then No PeerClosed else No Empty) → Outcome wire seqs past seq (Take y) told
       none true h = rw h refuses
       none false h = rw h refuses
-  of_mail y told main e o (m ∷ ms) u h = of_header y m (record { main = main; rest = ms; bound = e; open_here = o; stands = u }) told
+  of_mail y told main e o w (m ∷ ms) u h = of_header y m (record { main = main; rest = ms; bound = e; open_here = o; stands = u; unpaused = w }) told
       (wire.header m.bytes) refl h
 
+  none_unmet : (o : Option EndId) → pause_of o ≡ None → o ≡ None
+  none_unmet None h = refl
+  none_unmet (Some x) h = absurd cc
+
   of_take : (y : EndId) (told : Told) → told ≡ took wire past seq y → Outcome wire seqs past seq (Take y) told
-  of_take y told h = elim (first_cases (unless (is_some (endpoint_at wire past y 0)) NoName ∷ unless (not (is_gone past y)) Disconnected ∷ [])
+  of_take y told h = elim (first_cases (unless (is_some (endpoint_at wire past y 0)) NoName ∷ unless (not (is_gone past y)) Disconnected ∷ paused past y ∷ [])
       (took_front wire past seq y (unread wire past y)) told h) [
         | inl r ↦ no r
         | inr p ↦
             let main = there (endpoint_at wire past y 0) (held (is_some (endpoint_at wire past y 0)) NoName p.0.0) in
-            of_mail y told main.0 main.1 (is_true (is_gone past y) (held (not (is_gone past y)) Disconnected p.0.1.0)) (unread wire past y) refl p.1
+            of_mail y told main.0 main.1 (is_true (is_gone past y) (held (not (is_gone past y)) Disconnected p.0.1.0))
+            (none_unmet (first_unmet past (waits past y)) p.0.1.1.0) (unread wire past y) refl p.1
       ]
 
   of_closed_at : (y : EndId) (id : ℕ) (told : Told) (r : Endpoint) → Open wire past seq y id r → (b : Bool) → (id == 0) ≡ b
@@ -410,6 +326,42 @@ module _ (wire : Wire) (seqs : ℕ) (past : List Event) (seq : SeqId) where
       → Outcome wire seqs past seq (Bind x side interface) told
   of_bind (End x) side interface told o h = rw h (binds o)
   of_bind (Token t) side interface told o h = rw h refuses
+
+  -- ## Controls that ends write, and data pipes
+
+  of_notice : (y : EndId) (notice : Notice) (told : Told) (o : Option Endpoint) → endpoint_at wire past y (from_id notice) ≡ o
+      → told ≡ notified wire past seq y notice o → Outcome wire seqs past seq (Notify y notice) told
+  of_notice y notice told None e h = rw h refuses
+  of_notice y notice told (Some r) e h = elim (first_cases (
+      unless (not (is_gone past y || is_closed r)) Disconnected
+      ∷ unbound (from_id notice) r
+      ∷ elsewhere seq r
+      ∷ unless (is_flush notice || not (is_receiver r.side)) WrongSide
+      ∷ cannot_write wire past y (not (is_flush notice) && r.peer_closed) [])
+      (Informed (told_of past y notice)) told h) [
+        | inl w ↦ no w
+        | inr p ↦
+            let w = p.0.1.1.1.1 in
+            rw p.1 (notifies r (open_at y (from_id notice) r e p.0.0) refl (writes_at y (not (is_flush notice) && r.peer_closed) [] refl w) p.0.1.1.0
+            (held (is_flush notice || not (is_receiver r.side)) WrongSide p.0.1.1.1.0)
+            (unmarked_at y (not (is_flush notice) && r.peer_closed) [] w))
+      ]
+
+  of_pause : (b a : EndId) (k : ℕ) (told : Told) (ob oa : Option Endpoint) → endpoint_at wire past b 0 ≡ ob → endpoint_at wire past a 0 ≡ oa
+      → told ≡ pausing past seq b a ob oa → Outcome wire seqs past seq (Pause b a k) told
+  of_pause b a k told None oa e f h = rw h refuses
+  of_pause b a k told (Some rb) None e f h = rw h refuses
+  of_pause b a k told (Some rb) (Some ra) e f h = elim (first_cases (
+      unless (not (is_gone past b)) Disconnected
+      ∷ elsewhere seq rb
+      ∷ (if is_gone past a then None else elsewhere seq ra)
+      ∷ unless (not (same_end b a)) SelfPause
+      ∷ [])
+      Pausing told h) [
+        | inl w ↦ no w
+        | inr p ↦ rw p.1 (pauses rb ra e f (is_true (is_gone past b) (held (not (is_gone past b)) Disconnected p.0.0))
+            (is_true (same_end b a) (held (not (same_end b a)) SelfPause p.0.1.1.1.0)))
+      ]
 
   -- a reply is one of these
   pub outcome : (asked : Asked) (told : Told) → told ≡ answer wire seqs past seq asked → Outcome wire seqs past seq asked told
@@ -459,4 +411,14 @@ module _ (wire : Wire) (seqs : ℕ) (past : List Event) (seq : SeqId) where
   ]
   outcome (Take y) told h = of_take y told h
   outcome (Close thing) told h = of_close thing told h
+  outcome (Notify y notice) told h = of_notice y notice told (endpoint_at wire past y (from_id notice)) refl h
+  outcome (Pause b a k) told h = of_pause b a k told (endpoint_at wire past b 0) (endpoint_at wire past a 0) refl refl h
+  outcome (Data size) told h = elim (first_cases (unless (is_right_size size) (BadSize size) ∷ []) (data_made past seq.0) told h) [
+    | inl r ↦ no r
+    | inr p ↦ rw p.1 (pipes (held (is_right_size size) (BadSize size) p.0.0) refl refl)
+  ]
+  outcome (Move x f) told h = elim (first_cases (unless (has (out past) x) NoName ∷ []) (moved_by past x f) told h) [
+    | inl r ↦ no r
+    | inr p ↦ of_move wire seqs past seq x f told (held (has (out past) x) NoName p.0.0) p.1
+  ]
   outcome (Skip line) told h = rw h skips

@@ -5,18 +5,21 @@ use Rattle.bind_model.specs.declared.endpoint.PendingId.{PendingId}
 use Rattle.bind_model.specs.declared.asked.Closing.{Closing}
 use Rattle.bind_model.specs.declared.asked.Closing.TheVariants as closings
 use Rattle.bind_model.specs.declared.asked.Asked.{Asked}
-use Rattle.bind_model.specs.declared.asked.Asked.TheVariants.{Join, Bind, Associate, Attach, Call, Answer, Raw, Take, Close}
+use Rattle.bind_model.specs.declared.asked.Asked.TheVariants.{Join, Bind, Associate, Attach, Call, Answer, Raw, Take, Close, Notify, Pause, Flow}
 use Rattle.bind_model.specs.declared.event.Event.{Event}
 use Rattle.handle_table.specs.Things.{seq_of}
 use Rattle.bind_model.specs.Wire.{Wire}
 use Rattle.bind_model.specs.Replies.{legal}
 
+-- the sequences that numbered these things
 abbrev pub seqs_of : List Thing → List ℕ
 seqs_of things = map seq_of things
 
+-- the sequences that numbered the ends of these pendings
 abbrev pub seqs_of_pendings : List PendingId → List ℕ
 seqs_of_pendings ps = map (λ (p : PendingId). p.end.seq) ps
 
+-- the sequence that numbered what is closed
 abbrev pub closes_seqs : Closing → List ℕ
 closes_seqs (closings.Handle x) = seq_of x ∷ []
 closes_seqs (closings.Pending p) = p.end.seq ∷ []
@@ -34,6 +37,9 @@ names (Answer r s) = r.end.seq ∷ seqs_of s.handles ++ seqs_of_pendings s.pendi
 names (Raw x bytes handles) = seq_of x ∷ seqs_of handles
 names (Take y) = y.seq ∷ []
 names (Close thing) = closes_seqs thing
+names (Notify y notice) = y.seq ∷ []
+names (Pause b a k) = b.seq ∷ a.seq ∷ []
+names (Flow x f) = seq_of x ∷ []
 names asked = []
 
 -- all of these are in the group, or none, as this one

@@ -17,9 +17,17 @@ use Rattle.bind_model.specs.declared.endpoint.State.{State}
 use Rattle.bind_model.specs.declared.endpoint.State.TheVariants as states
 use Rattle.bind_model.specs.declared.asked.Closing.TheVariants as closings
 use Rattle.bind_model.specs.declared.asked.Asked.{Asked}
-use Rattle.bind_model.specs.declared.asked.Asked.TheVariants.{Bind, Associate, Attach, Call, Answer, Raw, Take, Close}
+use Rattle.bind_model.specs.declared.asked.Asked.TheVariants.{Bind, Associate, Attach, Call, Answer, Raw, Take, Close, Notify}
 use Rattle.bind_model.specs.declared.told.Told.{Told}
-use Rattle.bind_model.specs.declared.told.Told.TheVariants.{Made, Bound, Associated, Attached, Sent, Wrote, Taken, Dropped, Control, Bad, Closed}
+use Rattle.bind_model.specs.declared.told.Told.TheVariants.{Made, Bound, Associated, Attached, Sent, Wrote, Taken, Dropped, Control, Bad, Closed, Notified as Informed}
+use Rattle.bind_model.specs.declared.asked.Notice.{Notice}
+use Rattle.bind_model.specs.declared.asked.Notice.TheVariants.{Query, Require, Flush}
+use Rattle.bind_model.specs.declared.control.Control.{Control as ControlType}
+use Rattle.bind_model.specs.declared.control.Control.TheVariants as controls
+use Rattle.bind_model.specs.declared.told.Noted.{Noted}
+use Rattle.bind_model.specs.declared.told.Noted.TheVariants as noted
+use Rattle.bind_model.specs.declared.told.Notified.{Notified}
+use Rattle.bind_model.specs.declared.told.Notified.TheVariants.{Flushing}
 use Rattle.bind_model.specs.declared.event.Event.{Event}
 use Rattle.bind_model.specs.declared.limits.TheConstants.{REMOTE_IDS}
 pub use Rattle.message_pipe.specs.Ends.{spread}
@@ -34,6 +42,7 @@ abbrev pub made_by : Told → List Thing
 made_by (Made things) = things
 made_by told = []
 
+-- all things that were made, in the order of their making
 abbrev pub made : List Event → List Thing
 made [] = []
 made (event ∷ past) = made past ++ made_by event.told
@@ -43,6 +52,7 @@ abbrev pub peer_in : List Thing → EndId → EndId → EndId
 peer_in (End a ∷ End b ∷ []) x before = if same_end a x then b else (if same_end b x then a else before)
 peer_in things x before = before
 
+-- the other end of an end, by what an event made and what it was before
 abbrev pub peer_by : Told → EndId → EndId → EndId
 peer_by (Made things) x before = peer_in things x before
 peer_by told x before = before
@@ -60,10 +70,12 @@ gone_by (Bad why gone) = gone
 gone_by (Closed gone) = gone
 gone_by told = []
 
+-- all things that went, in order
 abbrev pub gone : List Event → List Thing
 gone [] = []
 gone (event ∷ past) = gone past ++ gone_by event.told
 
+-- whether an end went
 abbrev pub is_gone : List Event → EndId → Bool
 is_gone past x = has (gone past) (End x)
 
@@ -72,6 +84,7 @@ abbrev pub bound_by : Told → List Thing
 bound_by (Bound x) = End x ∷ []
 bound_by told = []
 
+-- all ends that were bound, in order
 abbrev pub bounds : List Event → List Thing
 bounds [] = []
 bounds (event ∷ past) = bounds past ++ bound_by event.told
@@ -100,13 +113,15 @@ out (event ∷ past) = without (given event.told event.asked) (out past) ++ hand
 abbrev pub takes : Told → Asked → EndId → List Told
 takes (Taken g) (Take y) x = if same_end y x then Taken g ∷ [] else []
 takes (Dropped id gone) (Take y) x = if same_end y x then Dropped id gone ∷ [] else []
-takes (Control id) (Take y) x = if same_end y x then Control id ∷ [] else []
+takes (Control c) (Take y) x = if same_end y x then Control c ∷ [] else []
 takes told asked x = []
 
+-- what the takes at x that consumed a message were told, in order
 abbrev pub taken : List Event → EndId → List Told
 taken [] x = []
 taken (event ∷ past) x = taken past x ++ takes event.told event.asked x
 
+-- how many messages were consumed at x
 abbrev pub consumed : List Event → EndId → ℕ
 consumed past x = length (taken past x)
 
@@ -115,6 +130,7 @@ abbrev pub associates : Told → EndId → List ℕ
 associates (Associated p) x = if same_end p.end x then p.id ∷ [] else []
 associates told x = []
 
+-- all ids that Associate gave at x, in order
 abbrev pub associated : List Event → EndId → List ℕ
 associated [] x = []
 associated (event ∷ past) x = associated past x ++ associates event.told x
@@ -137,6 +153,7 @@ ids_in wire m = elim (wire.header m.bytes) [ Ok h ↦ h.ids | Err fault ↦ [] ]
 abbrev pub Endpoints : Type 0
 Endpoints = ℕ → Option Endpoint
 
+-- whether there is an endpoint and it is a remote
 abbrev pub is_remote : Option Endpoint → Bool
 is_remote (Some e) = elim e.side [ Remote ↦ true | Receiver ↦ false ]
 is_remote None = false
@@ -149,6 +166,7 @@ is_own endpoints id = alike (nat_le REMOTE_IDS id) (is_remote (endpoints 0))
 abbrev pub is_strange : Endpoints → List ℕ → ℕ → Bool
 is_strange endpoints earlier id = is_some (endpoints id) || list_any (λ k. k == id) earlier || is_own endpoints id
 
+-- the first strange id of a list, behind those that stand before it
 abbrev pub first_strange : Endpoints → List ℕ → List ℕ → Option ℕ
 first_strange endpoints earlier [] = None
 first_strange endpoints earlier (id ∷ ids) = if is_strange endpoints earlier id then Some id else first_strange endpoints (id ∷ earlier) ids
@@ -158,9 +176,11 @@ pub record Entry : Type 0 where
   pub id : ℕ
   pub endpoint : Endpoint
 
+-- the endpoint of an id that no value names
 abbrev pub closed_endpoint : Endpoint
 closed_endpoint = record { side = Remote; interface = 0; state = states.Closed; peer_closed = false }
 
+-- the endpoint of an id that a value names
 abbrev pub pending_as : WantedEndpoint → Endpoint
 pending_as wanted = record { side = wanted.side; interface = wanted.interface; state = states.Pending; peer_closed = false }
 
@@ -169,6 +189,7 @@ abbrev pub endpoint_named : List Named → ℕ → Endpoint
 endpoint_named [] k = closed_endpoint
 endpoint_named (n ∷ named) k = if n.index == k then pending_as n.endpoint else endpoint_named named k
 
+-- how the ids of a message enter the table, those of places from k on; a strange one does not enter
 abbrev pub entries_of : Endpoints → List Named → ℕ → List ℕ → List ℕ → List Entry
 entries_of endpoints named k earlier [] = []
 entries_of endpoints named k earlier (id ∷ ids) =
@@ -180,6 +201,7 @@ abbrev pub content_at : Wire → Option Endpoint → Message → Result Content 
 content_at wire None m = Err tt
 content_at wire (Some e) m = elim (wire.stands e.side e.interface m.bytes (length m.handles)) [ Ok c ↦ Ok c | Err fault ↦ Err tt ]
 
+-- the endpoints that the value names, where the message stands
 abbrev pub named_in : Result Content Unit → List Named
 named_in (Ok c) = c.ids
 named_in (Err e) = []
@@ -190,45 +212,73 @@ enters_from wire endpoints told None = []
 enters_from wire endpoints (Taken g) (Some m) = entries_of endpoints (named_in (content_at wire (endpoints g.id) m)) 0 [] (ids_in wire m)
 enters_from wire endpoints told (Some m) = entries_of endpoints [] 0 [] (ids_in wire m)
 
+-- the ids that a take at y enters, by its mail, its table and what it is told
 abbrev pub enters : Wire → List Event → EndId → List Message → Endpoints → Told → List Entry
 enters wire past y mail endpoints told = enters_from wire endpoints told (front_of (unread_of past y mail))
 
+-- whether an endpoint is closed
 abbrev pub is_closed : Endpoint → Bool
 is_closed e = elim e.state [ states.Closed ↦ true | states.Pending ↦ false | states.Bound t ↦ false ]
 
+-- the ids that enter as closed
 abbrev pub closed_ids : List Entry → List ℕ
 closed_ids entries = map (λ (e : Entry). e.id) (filter (λ (e : Entry). is_closed e.endpoint) entries)
 
+-- whether the peer of an endpoint is known to be closed
 abbrev pub is_peer_closed : Option Endpoint → Bool
 is_peer_closed None = false
 is_peer_closed (Some e) = e.peer_closed
 
 -- the controls of these ids at an end, unless it is gone or their peer endpoint is known to be closed
-abbrev pub emits : Wire → List Event → EndId → Endpoints → List ℕ → EndId → List Message
-emits wire past y endpoints ids x =
+abbrev pub emits : Wire → List Event → EndId → Endpoints → (ℕ → ControlType) → List ℕ → EndId → List Message
+emits wire past y endpoints control ids x =
     if same_end (peer past y) x && not (is_gone past x)
-    then map (λ id. record { bytes = wire.control id; handles = []; emitted = true }) (filter (λ id. not (is_peer_closed (endpoints id))) ids)
+    then map (λ id. record { bytes = wire.control (control id); handles = []; emitted = true }) (filter (λ id. not (is_peer_closed (endpoints id))) ids)
     else []
 
+-- what a take of a control makes the machine write back: the version of the receiver that was asked
+abbrev pub emits_for : Wire → List Event → EndId → Endpoints → Noted → EndId → List Message
+emits_for wire past y endpoints (noted.Queried id (Some v)) x = emits wire past y endpoints (λ n. controls.Version n v) (id ∷ []) x
+emits_for wire past y endpoints c x = []
+
+-- the control that a notice is written as, by what is told: a flush has the number that is told
+abbrev pub control_of : Notice → Notified → ControlType
+control_of (Query id) told = controls.Query id
+control_of (Require id v) told = controls.Require id v
+control_of Flush (Flushing k) = controls.Flush k
+control_of Flush told = controls.Flush 0
+
+-- the message that is written from y, where x is at the other side
 abbrev pub lands : List Event → EndId → List ℕ → List Thing → EndId → List Message
 lands past y bytes handles x = if same_end (peer past y) x then record { bytes = bytes; handles = handles; emitted = false } ∷ [] else []
 
+-- the endpoint that an id enters with, else the one that it had
 abbrev pub entry_in : List Entry → ℕ → Option Endpoint → Option Endpoint
 entry_in [] id before = before
 entry_in (e ∷ entries) id before = if e.id == id then Some e.endpoint else entry_in entries id before
 
+-- an endpoint, in this state
 abbrev pub with_state : State → Endpoint → Endpoint
 with_state state e = record e { state = state }
 
+-- an endpoint whose peer is known to be closed
 abbrev pub with_peer_closed : Endpoint → Endpoint
 with_peer_closed e = record e { peer_closed = true }
 
+-- a new endpoint, bound on a sequence
 abbrev pub bound_on : SeqId → EndpointSide → ℕ → Endpoint
 bound_on seq side interface = record { side = side; interface = interface; state = states.Bound seq; peer_closed = false }
 
+-- the new endpoint at the place where it changes, else the one that stands
 abbrev pub only_at : EndId → ℕ → EndId → ℕ → Option Endpoint → Option Endpoint → Option Endpoint
 only_at y n x id now before = if same_end y x && (n == id) then now else before
 
+-- what a control that was consumed makes of an endpoint
+abbrev pub marks : EndId → Noted → EndId → ℕ → Option Endpoint → Option Endpoint
+marks y (noted.Closed n) x id before = only_at y n x id (option_map with_peer_closed before) before
+marks y c x id before = before
+
+-- the side of its peer
 abbrev pub other_side : EndpointSide → EndpointSide
 other_side Remote = Receiver
 other_side Receiver = Remote
@@ -244,11 +294,13 @@ module _ (wire : Wire) (past : List Event) (mail : EndId → List Message) (endp
   puts (Sent request bytes) (Call y id outgoing) x = lands past y bytes outgoing.handles x
   puts (Sent request bytes) (Answer r outgoing) x = lands past r.end bytes outgoing.handles x
   puts (Wrote z) (Raw y bytes handles) x = lands past z bytes handles x
-  puts (Taken g) (Take y) x = emits wire past y (endpoints y) (closed_ids (entering y (Taken g))) x
-  puts (Dropped id gone) (Take y) x = emits wire past y (endpoints y) (closed_ids (entering y (Dropped id gone))) x
-  puts (Closed gone) (Close (closings.Endpoint y id)) x = if id == 0 then [] else emits wire past y (endpoints y) (id ∷ []) x
+  puts (Taken g) (Take y) x = emits wire past y (endpoints y) controls.Closed (closed_ids (entering y (Taken g))) x
+  puts (Dropped id gone) (Take y) x = emits wire past y (endpoints y) controls.Closed (closed_ids (entering y (Dropped id gone))) x
+  puts (Control c) (Take y) x = emits_for wire past y (endpoints y) c x
+  puts (Informed n) (Notify y notice) x = lands past y (wire.control (control_of notice n)) [] x
+  puts (Closed gone) (Close (closings.Endpoint y id)) x = if id == 0 then [] else emits wire past y (endpoints y) controls.Closed (id ∷ []) x
   puts (Closed gone) (Close (closings.Pending p)) x =
-      if is_gone past p.end || is_local past p then [] else emits wire past p.end (endpoints p.end) (p.id ∷ []) x
+      if is_gone past p.end || is_local past p then [] else emits wire past p.end (endpoints p.end) controls.Closed (p.id ∷ []) x
   puts told asked x = []
 
   -- what the event makes of the endpoint id of x
@@ -258,7 +310,7 @@ module _ (wire : Wire) (past : List Event) (mail : EndId → List Message) (endp
   changes seq (Attached n) (Attach p t) x id = only_at p.end p.id x id (option_map (with_state (states.Bound t)) (endpoints x id)) (endpoints x id)
   changes seq (Taken g) (Take y) x id = if same_end y x then entry_in (entering y (Taken g)) id (endpoints x id) else endpoints x id
   changes seq (Dropped n gone) (Take y) x id = if same_end y x then entry_in (entering y (Dropped n gone)) id (endpoints x id) else endpoints x id
-  changes seq (Control n) (Take y) x id = only_at y n x id (option_map with_peer_closed (endpoints x id)) (endpoints x id)
+  changes seq (Control c) (Take y) x id = marks y c x id (endpoints x id)
   changes seq (Closed gone) (Close (closings.Endpoint y n)) x id = only_at y n x id (option_map (with_state states.Closed) (endpoints x id)) (endpoints x id)
   changes seq (Closed gone) (Close (closings.Pending p)) x id =
       only_at p.end p.id x id
@@ -297,6 +349,7 @@ carried_behind wire past y (Token t) = []
 abbrev pub goes_with : Wire → List Event → List Thing → List Thing
 goes_with wire past things = spread (carried wire past) (length (made past)) things
 
+-- the same, where the front at y was just consumed
 abbrev pub goes_behind : Wire → List Event → EndId → List Thing → List Thing
 goes_behind wire past y things = spread (carried_behind wire past y) (length (made past)) things
 

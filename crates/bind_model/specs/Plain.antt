@@ -47,6 +47,7 @@ outgoing_of prepared handles pendings = record {
   parameters = view prepared.value;
   handles = handles;
   pendings = names_of pendings;
+  moment = None;
 }
 
 -- the end that a handle is of; no token was ever written from
@@ -85,6 +86,7 @@ told_of (Got g) = tells.Taken (record {
   handles = g.handles;
   pendings = names_of g.pendings;
   gone = g.gone;
+  moment = None;
 })
 told_of (Dropped id gone) = tells.Dropped id gone
 told_of (Control id) = tells.Control id
@@ -130,7 +132,8 @@ abbrev pub half_of : PendingId → Option Endpoint → Half
 half_of p None = record { name = p; side = Remote; interface = 0 }
 half_of p (Some e) = record { name = p; side = e.side; interface = e.interface }
 
--- those that the machine hands out, where the events are these then: of an endpoint that is made the other half, under its id, and each endpoint that is received
+-- those that the machine hands out, where the events are these then: of an endpoint that is made the other half, under its id,
+-- and each endpoint that is received
 abbrev pub halves_handed : Wire → List Event → Told → Asked → List Half
 halves_handed wire past (tells.Associated p) (asks.Associate end side interface) = record { name = p; side = other_side side; interface = interface } ∷ []
 halves_handed wire past (tells.Taken g) (asks.Take y) = map (λ (p : PendingId). half_of p (endpoint_at wire past p.end p.id)) g.pendings

@@ -7,6 +7,9 @@ use Rattle.mj_schema.specs.Lookups.{method_in}
 use Rattle.mj_schema.specs.declared.rows.MethodRow.{MethodRow}
 use Rattle.mj_schema.specs.declared.schema.Schema.{Schema}
 use Rattle.message_header.specs.Controls.{control_bytes, control_id, control_marks}
+use Rattle.bind_model.specs.ControlBytes.{short_control, long_control}
+use Rattle.bind_model.specs.declared.control.Control.TheVariants.{Closed, Query, Version, Require, Flush}
+use Rattle.bind_model.specs.declared.control.Control.{Control}
 use Rattle.message_header.specs.FirstFailed.{first_failed}
 use Rattle.message_validator.specs.Before.{before_payload}
 use Rattle.wire_encoder.specs.Checks.{Check, Test, HandleAt, EndpointAt, checks}
@@ -35,14 +38,17 @@ unless_fault (Some fault) answer = Err fault
 
 -- ## What is sent
 
+-- whether there is such a method and it has a response
 abbrev pub has_response : Option MethodRow → Bool
 has_response None = false
 has_response (Some method) = is_some method.response
 
+-- how many handles parameters name, where they fit
 abbrev pub handles_met : Result Met Refusal → ℕ
 handles_met (Ok met) = met.handles
 handles_met (Err refusal) = 0
 
+-- the endpoints that parameters name, where they fit
 abbrev pub endpoints_met : Result Met Refusal → List WantedEndpoint
 endpoints_met (Ok met) = met.endpoints
 endpoints_met (Err refusal) = []
@@ -63,11 +69,26 @@ sealed schema target parameters head = message
 
 -- ## What is received
 
+-- the header of a message, or its first fault
 abbrev pub header_in : List ℕ → Result Header Fault
 header_in bytes = unless_fault (first_failed (header_marks bytes)) (record { id = number32 bytes 8; ids = ids_read bytes })
 
+-- the id of the endpoint that a control closes, or its first fault
 abbrev pub closed_id_in : List ℕ → Result ℕ Fault
 closed_id_in bytes = unless_fault (first_failed (control_marks bytes)) (control_id bytes)
+
+-- only controls that close an endpoint are read
+abbrev pub closing_said : Result ℕ Fault → Result Control Fault
+closing_said (Ok id) = Ok (Closed id)
+closing_said (Err fault) = Err fault
+
+-- the bytes of a control
+abbrev pub written_control : Control → List ℕ
+written_control (Closed id) = control_bytes id
+written_control (Query id) = short_control 2 id
+written_control (Version id v) = long_control 3 id v
+written_control (Require id v) = long_control 4 id v
+written_control (Flush k) = short_control 5 k
 
 -- a receiver gets requests, and a remote responses
 abbrev pub comes_to : EndpointSide → MessageSide
@@ -89,6 +110,7 @@ content_of schema expected bytes number parameters = record {
   parameters = parameters;
   handles = handles_of parameters;
   ids = endpoints_named (checks schema 0 false (StructKind number false) parameters);
+  moment = None;
 }
 
 -- the number of the struct of a message's parameters; meaningful where the message stands
@@ -96,14 +118,17 @@ abbrev pub struct_named : Schema → Expected → List ℕ → ℕ
 struct_named schema expected bytes =
     elim (option_and_then (struct_of expected.side) (method_named schema expected bytes)) [ Some number ↦ number | None ↦ 0 ]
 
+-- what a message stands for whose parameters are of the struct of a number
 abbrev pub content_in : Schema → Expected → List ℕ → ℕ → Content
 content_in schema expected bytes number = content_of schema expected bytes number (value_of schema bytes (payload_start bytes) number)
 
+-- what a message stands for, or its first fault
 abbrev pub stands_in : Schema → Expected → List ℕ → ℕ → Result Content Fault
 stands_in schema expected bytes handles =
     unless_fault (first_fault (before_payload bytes handles) (message_marks schema expected bytes))
     (content_in schema expected bytes (struct_named schema expected bytes))
 
+-- the wire of a schema
 unfoldable pub wire_of : Schema → Wire
 wire_of schema = record {
   interfaces = length schema.interfaces;
@@ -111,8 +136,9 @@ wire_of schema = record {
   handles = λ target parameters. handles_met (verdict schema target parameters);
   wants = λ target parameters. endpoints_met (verdict schema target parameters);
   sealed = sealed schema;
-  control = control_bytes;
+  version = λ interface. 0;
+  control = written_control;
   header = header_in;
-  closed_id = closed_id_in;
+  says = λ bytes. closing_said (closed_id_in bytes);
   stands = λ side interface bytes handles. stands_in schema (record { interface = interface; side = comes_to side }) bytes handles;
 }

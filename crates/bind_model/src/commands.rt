@@ -3,7 +3,7 @@
 use crate::parameters::Parameters;
 use crate::pending::{Pending, PendingList};
 use crate::responder::Responder;
-use crate::told::{BadWhy, Why};
+use crate::told::{BadWhy, Noted, Why};
 use handle_table::{Ended, Handle, Handles, Thing, TokenSort};
 use mj_base::{EndId, Items, SeqId};
 use wire_encoder::{EndpointSide, Prepared};
@@ -81,8 +81,8 @@ pub enum Reply {
     Got(Received),
     /// A message for the endpoint of this id, which isn't there or is closed, and what went with it.
     Dropped(u32, Items<Thing>),
-    /// The peer of the endpoint of this id is closed.
-    Control(u32),
+    /// The oldest message was a control.
+    Control(Noted),
     /// The oldest message is bad; the end is closed with it, and all this went.
     Bad(BadWhy, Items<Thing>),
     /// All that went.

@@ -1,14 +1,15 @@
 //! What a sequence may be told.
 
 use crate::endpoint::PendingId;
+use crate::flow::Flowed;
 use crate::parameters::Parameters;
-use handle_table::Thing;
+use handle_table::{Thing, TokenId};
 use mj_base::{EndId, Fault, Items, SeqId};
 use wire_model::Target;
 
 /// What a take got: the id of the endpoint that the message was for, its method and side, its
 /// parameters, its request id (0 where it has none), the handles and endpoints that these name in the
-/// order of their indexes, and what went with the handles that they don't name.
+/// order of their indexes, what went with the handles that they don't name, and its moment.
 #[derive(Drop)]
 pub struct Got {
     pub id: u32,
@@ -18,6 +19,7 @@ pub struct Got {
     pub handles: Items<Thing>,
     pub pendings: Items<PendingId>,
     pub gone: Items<Thing>,
+    pub moment: Option<i64>,
 }
 
 /// Why a message is bad.
@@ -29,6 +31,8 @@ pub enum BadWhy {
     Unasked(u64),
     /// It carries this id, which the end has already or would make itself.
     StrangeId(u32),
+    /// It requires this version, and the interface has an older one.
+    TooOld(u32),
 }
 
 /// Why a command is refused.
@@ -66,12 +70,52 @@ pub enum Why {
     Empty,
     /// Nothing is unread, and the other end is closed.
     PeerClosed,
+    /// A wait for a flush at this end isn't met.
+    Paused(EndId),
+    /// An end can't wait for itself.
+    SelfPause,
+    /// A data pipe doesn't hold so many bytes.
+    BadSize(u32),
+    /// The handle isn't of that side of a data pipe.
+    NotData,
+    /// Something was begun at this token, and hasn't ended.
+    Busy(TokenId),
+    /// Nothing was begun.
+    Idle,
+    /// There is room for so many bytes, or so many are held.
+    Short(u32),
+}
+
+/// What was written by a control.
+#[derive(Clone, Copy, Debug, PartialEq, Eq)]
+pub enum Notified {
+    /// The version was asked for.
+    Asking,
+    /// A version was required.
+    Requiring,
+    /// The flush of this number was written.
+    Flushing(u32),
+}
+
+/// What a control told where it was consumed.
+#[derive(Clone, Copy, Debug, PartialEq, Eq)]
+pub enum Noted {
+    /// The peer of the endpoint of this id is closed.
+    Closed(u32),
+    /// The version of the receiver of this id was asked for, and told, unless there is no such receiver.
+    Queried(u32, Option<u32>),
+    /// The receiver of this id has that version.
+    Version(u32, u32),
+    /// That version of the receiver of this id was required.
+    Required(u32, u32),
+    /// The flush of this number.
+    Flushed(u32),
 }
 
 /// What it was told.
 #[derive(Drop)]
 pub enum Told {
-    /// The ends of a new pipe, or a new token.
+    /// The ends of a new pipe, a new token, or the producer and the consumer of a new data pipe.
     Made(Items<Thing>),
     Bound(EndId),
     Associated(PendingId),
@@ -82,12 +126,18 @@ pub enum Told {
     Taken(Got),
     /// A message for the endpoint of this id, which isn't there or is closed, and what went with it.
     Dropped(u32, Items<Thing>),
-    /// The peer of the endpoint of this id is closed.
-    Control(u32),
+    /// The oldest message was a control.
+    Control(Noted),
     /// The oldest message is bad; the end is closed with it, and all this went.
     Bad(BadWhy, Items<Thing>),
     /// All that went.
     Closed(Items<Thing>),
+    /// The other end gets a control.
+    Notified(Notified),
+    /// The end takes nothing till the wait is met.
+    Pausing,
+    /// Bytes were moved at this token.
+    Flowed(TokenId, Flowed),
     Skipped,
     No(Why),
 }

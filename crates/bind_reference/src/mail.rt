@@ -4,7 +4,9 @@ use crate::entering::{Entry, entries};
 use crate::kinds::{Named, endpoints_named};
 use crate::past::{consumed, is_gone, peer};
 use crate::pendings::is_local;
-use bind_model::{Asked, Closing, Endpoint, EndpointName, Event, Got, PendingId, State, Told};
+use bind_model::{
+    Asked, Closing, Endpoint, EndpointName, Event, Got, Noted, PendingId, State, Told,
+};
 use handle_table::Thing;
 use mj_base::{EndId, SeqId};
 use mj_schema::Schema;
@@ -127,7 +129,9 @@ impl<'a> Mail<'a> {
             (Told::Attached(_), Asked::Attach(half, on)) => {
                 self.set_state(half.end, half.id, State::Bound(*on))
             }
-            (Told::Control(id), Asked::Take(end)) => self.set_peer_closed(*end, *id),
+            (Told::Control(Noted::Closed(id)), Asked::Take(end)) => {
+                self.set_peer_closed(*end, *id)
+            }
             _ => Ok(()),
         }
     }

@@ -21,6 +21,7 @@ pub fn outgoing(
         parameters: Parameters::new(copied(alloc, &prepared.value)?),
         handles: Items::from_vec(handles),
         pendings: Items::from_vec(pendings),
+        moment: None,
     })
 }
 

@@ -109,5 +109,9 @@ pub fn answer(
         Asked::Take(end) => took(alloc, schema, &mail, seq, *end),
         Asked::Close(closing) => closed(alloc, schema, &mail, seq, *closing),
         Asked::Skip(_) => Ok(Told::Skipped),
+        // No line of a script asks for these.
+        Asked::Notify(_, _) | Asked::Pause(_, _, _) | Asked::Data(_) | Asked::Flow(_, _) => {
+            Ok(Told::Skipped)
+        }
     }
 }

@@ -11,7 +11,8 @@ fn are_same_outgoing(alloc: Global, one: &Outgoing, two: &Outgoing) -> Result<bo
         values
             && one.target == two.target
             && one.handles.as_slice() == two.handles.as_slice()
-            && one.pendings.as_slice() == two.pendings.as_slice(),
+            && one.pendings.as_slice() == two.pendings.as_slice()
+            && one.moment == two.moment,
     )
 }
 
@@ -54,7 +55,8 @@ fn are_same_got(alloc: Global, one: &Got, two: &Got) -> Result<bool, AllocError>
             && one.request == two.request
             && one.handles.as_slice() == two.handles.as_slice()
             && one.pendings.as_slice() == two.pendings.as_slice()
-            && one.gone.as_slice() == two.gone.as_slice(),
+            && one.gone.as_slice() == two.gone.as_slice()
+            && one.moment == two.moment,
     )
 }
 
@@ -69,9 +71,8 @@ pub fn are_same_told(alloc: Global, one: &Told, two: &Told) -> Result<bool, Allo
             Ok(one == two)
         }
         (Told::Associated(one), Told::Associated(two)) => Ok(one == two),
-        (Told::Attached(one), Told::Attached(two)) | (Told::Control(one), Told::Control(two)) => {
-            Ok(one == two)
-        }
+        (Told::Attached(one), Told::Attached(two)) => Ok(one == two),
+        (Told::Control(one), Told::Control(two)) => Ok(one == two),
         (Told::Sent(number, one), Told::Sent(other, two)) => {
             Ok(number == other && one.as_slice() == two.as_slice())
         }

@@ -7,7 +7,7 @@ use crate::mail::{Letter, Mail, Text};
 use crate::past::{is_asked, is_gone, peer};
 use crate::values::handles_named;
 use crate::wire::{Content, Whom, meant_for, stands};
-use bind_model::{BadWhy, Endpoint, Got, Parameters, PendingId, State, Told, Why};
+use bind_model::{BadWhy, Endpoint, Got, Noted, Parameters, PendingId, State, Told, Why};
 use handle_table::Thing;
 use mj_base::{EndId, Items, SeqId};
 use mj_schema::Schema;
@@ -98,6 +98,7 @@ fn accept(
         handles: Items::from_vec(handles),
         pendings: Items::from_vec(pendings),
         gone: Items::from_vec(gone),
+        moment: None,
     }))
 }
 
@@ -181,11 +182,11 @@ fn headed(
 ) -> Result<Told, AllocError> {
     let bytes = match letter.text {
         Text::Bytes(bytes) => bytes,
-        Text::Control(id) => return Ok(Told::Control(id)),
+        Text::Control(id) => return Ok(Told::Control(Noted::Closed(id))),
     };
     match meant_for(bytes, letter.handles.len()) {
         Ok(Whom::For(id)) => meant(alloc, schema, mail, seq, end, id, letter, bytes),
-        Ok(Whom::Closed(id)) => Ok(Told::Control(id)),
+        Ok(Whom::Closed(id)) => Ok(Told::Control(Noted::Closed(id))),
         Err(fault) => bad(alloc, mail, end, BadWhy::Message(fault)),
     }
 }

@@ -61,7 +61,11 @@ const REQUEST: [u32; 10] = [24, 0, 1, 0, 0, 0, 16, 0, 0, 0];
 /// Messages by their numbers, whether they have a handle, and what is found at them where no endpoint
 /// is there.
 const FOUND: [([u32; 10], bool, Next); 3] = [
-    (CONTROL, false, Next::Control(5)),
+    (
+        CONTROL,
+        false,
+        Next::Control(bind_model::Control::Closed(5)),
+    ),
     (
         CONTROL,
         true,

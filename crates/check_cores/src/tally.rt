@@ -49,6 +49,13 @@ fn refusal(why: Why) -> &'static str {
         Why::Full => "no full",
         Why::Empty => "no empty",
         Why::PeerClosed => "no peer-closed",
+        Why::Paused(_) => "no paused",
+        Why::SelfPause => "no self-pause",
+        Why::BadSize(_) => "no bad-size",
+        Why::NotData => "no not-data",
+        Why::Busy(_) => "no busy",
+        Why::Idle => "no idle",
+        Why::Short(_) => "no short",
     }
 }
 
@@ -58,6 +65,7 @@ fn flaw(why: BadWhy) -> &'static str {
         BadWhy::Message(_) => "bad message",
         BadWhy::Unasked(_) => "bad unasked",
         BadWhy::StrangeId(_) => "bad strange id",
+        BadWhy::TooOld(_) => "bad too old",
     }
 }
 
@@ -76,6 +84,9 @@ fn word(told: &Told) -> &'static str {
         },
         Told::Dropped(_, _) => "dropped",
         Told::Control(_) => "control",
+        Told::Notified(_) => "notified",
+        Told::Pausing => "pausing",
+        Told::Flowed(_, _) => "flowed",
         Told::Bad(why, _) => flaw(*why),
         Told::Closed(_) => "closed",
         Told::Skipped => "skipped",

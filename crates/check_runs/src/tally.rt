@@ -39,6 +39,13 @@ fn refusal(why: Why) -> &'static str {
         Why::WrongPipe(_) => "no wrong-pipe",
         Why::TooLong => "no too-long",
         Why::TooManyHandles => "no too-many-handles",
+        Why::Paused(_) => "no paused",
+        Why::SelfPause => "no self-pause",
+        Why::BadSize(_) => "no bad-size",
+        Why::NotData => "no not-data",
+        Why::Busy(_) => "no busy",
+        Why::Idle => "no idle",
+        Why::Short(_) => "no short",
     }
 }
 
@@ -61,6 +68,9 @@ fn word(told: &Told) -> &'static str {
         Told::Attached(_) => "attached",
         Told::Wrote(_) => "wrote",
         Told::Control(_) => "control",
+        Told::Notified(_) => "notified",
+        Told::Pausing => "pausing",
+        Told::Flowed(_, _) => "flowed",
     }
 }
 

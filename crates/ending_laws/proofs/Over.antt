@@ -1,6 +1,6 @@
 -- What is over stays so: a closed endpoint, an end that has gone, an end whose peer has with nothing left to take.
 use Rattle.std.proofs.Common.{◌≡◌, ◌≤◌, ℕ, ◌+◌, ◌-◌, Bool, true, false, List, [], ◌∷◌, ◌++◌, length, drop, refl, sym, ap, ◌∙◌, subst, arith, length-drop, length-append}
-use Rattle.std.specs.Prelude.{Some, if◌then◌else◌, ◌||◌, ◌==◌}
+use Rattle.std.specs.Prelude.{Some, None, if◌then◌else◌, ◌||◌, ◌==◌}
 use Rattle.std.proofs.lemmas.List.{append-nil}
 use Rattle.std.proofs.Math.ListN.{drop_of_length-le}
 use Rattle.mj_base.specs.declared.ids.EndId.{EndId}
@@ -14,15 +14,19 @@ use Rattle.bind_model.specs.declared.asked.Asked.{Asked}
 use Rattle.bind_model.specs.declared.endpoint.Endpoint.{Endpoint}
 use Rattle.bind_model.specs.declared.endpoint.PendingId.{PendingId}
 use Rattle.bind_model.specs.declared.event.Event.{Event}
+use Rattle.bind_model.specs.declared.control.Control.{Control}
+use Rattle.bind_model.specs.declared.control.Control.TheVariants as says
+use Rattle.bind_model.specs.declared.told.Noted.{Noted}
+use Rattle.bind_model.specs.declared.told.Noted.TheVariants as noted
 use Rattle.bind_model.specs.declared.told.Told.{Told}
 use Rattle.bind_model.specs.declared.told.Told.TheVariants.{Taken, Dropped}
-use Rattle.bind_model.specs.Machine.{made, made_by, peer, gone, gone_by, is_gone, out, taken, takes, written, endpoint_at, puts, emits, enters, closed_ids, unread, is_local}
+use Rattle.bind_model.specs.Machine.{made, made_by, peer, gone, gone_by, is_gone, out, taken, takes, written, endpoint_at, puts, emits, emits_for, enters, closed_ids, unread, is_local}
 use Rattle.bind_model.specs.Replies.{legal}
 use Rattle.bind_model.specs.Wire.{Wire}
 use Rattle.bind_model.proofs.Counting.{times-present}
 use Rattle.bind_model.proofs.Fresh.{kept}
 use Rattle.bind_model.proofs.Kept.{Kept, most}
-use Rattle.bind_model.proofs.Outcomes.{Outcome, outcome, calls, answers as responds, writes, gets, drops, closes_pending, closes_end, closes_endpoint}
+use Rattle.bind_model.proofs.Outcomes.{Outcome, outcome, calls, answers as responds, writes, gets, drops, controls, notifies, closes_pending, closes_end, closes_endpoint}
 use Rattle.ending_laws.proofs.PeerLemmas.{told_peer, not_again, back}
 use Rattle.ending_laws.proofs.Standing.{is_shut, stands_on}
 
@@ -60,18 +64,27 @@ module _ (wire : Wire) (seqs : ℕ) (past : List Event) (seq : SeqId) (k : Kept 
   no_mail : (y : EndId) (ms : List Message) → is_gone past y ≡ false → (if same_end (peer past y) x then ms else []) ≡ []
   no_mail y ms here = ap (λ (b : Bool). if b then ms else []) (not_there y here)
 
-  no_emits : (y : EndId) (ids : List ℕ) → is_gone past y ≡ false → emits wire past y (endpoint_at wire past y) ids x ≡ []
-  no_emits y ids here = rw (not_there y here) refl
+  no_emits : (y : EndId) (control : ℕ → Control) (ids : List ℕ) → is_gone past y ≡ false → emits wire past y (endpoint_at wire past y) control ids x ≡ []
+  no_emits y control ids here = rw (not_there y here) refl
+
+  no_version : (y : EndId) (c : Noted) → is_gone past y ≡ false → emits_for wire past y (endpoint_at wire past y) c x ≡ []
+  no_version y (noted.Queried id (Some v)) here = no_emits y (λ n. says.Version n v) (id ∷ []) here
+  no_version y (noted.Queried id None) here = refl
+  no_version y (noted.Closed id) here = refl
+  no_version y (noted.Version id v) here = refl
+  no_version y (noted.Required id v) here = refl
+  no_version y (noted.Flushed k) here = refl
 
   no_half : (p : PendingId) (g l : Bool) → is_gone past p.end ≡ g
-      → (if g || l then [] else emits wire past p.end (endpoint_at wire past p.end) (p.id ∷ []) x) ≡ []
+      → (if g || l then [] else emits wire past p.end (endpoint_at wire past p.end) says.Closed (p.id ∷ []) x) ≡ []
   no_half p true l here = refl
   no_half p false true here = refl
-  no_half p false false here = no_emits p.end (p.id ∷ []) here
+  no_half p false false here = no_emits p.end says.Closed (p.id ∷ []) here
 
-  no_close : (y : EndId) (id : ℕ) (b : Bool) → is_gone past y ≡ false → (if b then [] else emits wire past y (endpoint_at wire past y) (id ∷ []) x) ≡ []
+  no_close : (y : EndId) (id : ℕ) (b : Bool) → is_gone past y ≡ false
+      → (if b then [] else emits wire past y (endpoint_at wire past y) says.Closed (id ∷ []) x) ≡ []
   no_close y id true here = refl
-  no_close y id false here = no_emits y (id ∷ []) here
+  no_close y id false here = no_emits y says.Closed (id ∷ []) here
 
   none_put : {asked : Asked} {told : Told} → Outcome wire seqs past seq asked told
       → puts wire past (written wire past) (endpoint_at wire past) told asked x ≡ []
@@ -79,12 +92,14 @@ module _ (wire : Wire) (seqs : ℕ) (past : List Event) (seq : SeqId) (k : Kept 
   none_put (responds {q = q} r o rs ps e w b) = no_mail q.end _ o.open_here
   none_put (writes {x = z} o w) = no_mail z _ (out_here z o)
   none_put (gets {y = y} m hd r c f {g = g} e) =
-      no_emits y (closed_ids (enters wire past y (written wire past y) (endpoint_at wire past y) (Taken g))) f.front.open_here
+      no_emits y says.Closed (closed_ids (enters wire past y (written wire past y) (endpoint_at wire past y) (Taken g))) f.front.open_here
   none_put (drops {y = y} {id = n} {goes = goes} m f e d) =
-      no_emits y (closed_ids (enters wire past y (written wire past y) (endpoint_at wire past y) (Dropped n goes))) f.open_here
+      no_emits y says.Closed (closed_ids (enters wire past y (written wire past y) (endpoint_at wire past y) (Dropped n goes))) f.open_here
   none_put (closes_pending {p = p} o e) = no_half p (is_gone past p.end) (is_local past p) refl
   none_put (closes_end {y = y} {id = n} r i o e) = no_close y n (n == 0) o.open_here
   none_put (closes_endpoint {y = y} {id = n} r i o e) = no_close y n (n == 0) o.open_here
+  none_put (controls {y = y} {c = c} m f e d) = no_version y c f.open_here
+  none_put (notifies {y = y} r o e w s f p) = no_mail y _ o.open_here
   none_put o = refl
 
 -- ## What is over stays so

@@ -20,13 +20,17 @@ use Rattle.bind_model.specs.declared.endpoint.Endpoint.{Endpoint}
 use Rattle.bind_model.specs.declared.endpoint.State.{State}
 use Rattle.bind_model.specs.declared.endpoint.State.TheVariants as states
 use Rattle.bind_model.specs.declared.event.Event.{Event}
+use Rattle.bind_model.specs.declared.control.Control.{Control as ControlType}
+use Rattle.bind_model.specs.declared.control.Control.TheVariants as says
+use Rattle.bind_model.specs.declared.told.Noted.TheVariants as noted
+use Rattle.bind_model.specs.Notices.{waits, first_unmet}
 use Rattle.bind_model.specs.declared.told.BadWhy.TheVariants as bads
 use Rattle.bind_model.specs.declared.told.Told.{Told}
 use Rattle.bind_model.specs.declared.told.Told.TheVariants.{Associated, Attached, Control, Closed, No}
 use Rattle.bind_model.specs.declared.told.Why.{Why}
 use Rattle.bind_model.specs.declared.told.Why.TheVariants as whys
 use Rattle.bind_model.specs.Machine.{made, gone, is_gone, peer, endpoint_at, unread, is_local, is_closed, with_state, with_peer_closed, spread, carried, goes_with}
-use Rattle.bind_model.specs.Replies.{legal, answer, first_of, unless, unbound, elsewhere, half_closed, has_pending, pendings_out, next_id, got_known, judged, at_state, at_endpoint, controlled, headed, took_front, took, closed_at, bad}
+use Rattle.bind_model.specs.Replies.{legal, answer, first_of, unless, unbound, elsewhere, half_closed, has_pending, pendings_out, next_id, got_known, judged, at_state, at_endpoint, heard, pause_of, controlled, headed, took_front, took, closed_at, bad}
 use Rattle.bind_model.specs.Wire.{Wire, Header, Content}
 use Rattle.bind_model.proofs.Fresh.{kept}
 use Rattle.bind_model.proofs.Kept.{Kept, bound_made}
@@ -91,15 +95,31 @@ module _ (wire : Wire) (past : List Event) (seq : SeqId) (y : EndId) (m : Messag
   endpoint_speaks hd None = tt
   endpoint_speaks hd (Some r) = state_speaks hd r r.state
 
-  empty_speaks : (id : ℕ) (b : Bool) → Speaks (if b then Control id else bad wire past y (bads.Message (record { kind = IllegalHandle; at = 0 })))
-  empty_speaks id true = tt
-  empty_speaks id false = tt
+  version_speaks : (id v : ℕ) (b : Bool) → Speaks (if b then Control (noted.Version id v) else bad wire past y (bads.Unasked 0))
+  version_speaks id v true = tt
+  version_speaks id v false = tt
 
-  control_speaks : (o : Result ℕ Fault) → Speaks (controlled wire past y m o)
+  require_speaks : (id v : ℕ) (b : Bool) → Speaks (if b then bad wire past y (bads.TooOld v) else Control (noted.Required id v))
+  require_speaks id v true = tt
+  require_speaks id v false = tt
+
+  heard_speaks : (c : ControlType) → Speaks (heard wire past y c)
+  heard_speaks (says.Closed id) = tt
+  heard_speaks (says.Query id) = tt
+  heard_speaks (says.Version id v) = version_speaks id v _
+  heard_speaks (says.Require id v) = require_speaks id v _
+  heard_speaks (says.Flush k) = tt
+
+  empty_speaks : (c : ControlType) (b : Bool)
+      → Speaks (if b then heard wire past y c else bad wire past y (bads.Message (record { kind = IllegalHandle; at = 0 })))
+  empty_speaks c true = heard_speaks c
+  empty_speaks c false = tt
+
+  control_speaks : (o : Result ControlType Fault) → Speaks (controlled wire past y m o)
   control_speaks (Err fault) = tt
-  control_speaks (Ok id) = empty_speaks id _
+  control_speaks (Ok c) = empty_speaks c _
 
-  id_speaks : (hd : Header) (b : Bool) → Speaks (if b then controlled wire past y m (wire.closed_id m.bytes) else at_endpoint wire past seq y m hd
+  id_speaks : (hd : Header) (b : Bool) → Speaks (if b then controlled wire past y m (wire.says m.bytes) else at_endpoint wire past seq y m hd
       (endpoint_at wire past y hd.id))
   id_speaks hd true = control_speaks _
   id_speaks hd false = endpoint_speaks hd _
@@ -130,15 +150,20 @@ module _ (wire : Wire) (seqs : ℕ) (past : List Event) (seq : SeqId) (k : Kept 
 
   took_alone : (y : EndId) (id : ℕ) (r : Endpoint) → endpoint_at wire past y id ≡ Some r → No whys.PeerClosed ≡ took wire past seq y → IsAlone wire past y
   took_alone y id r there e =
-      let found = took_none y (unread wire past y) (go (is_some (endpoint_at wire past y 0)) (not (is_gone past y)) e) in
+      let found = took_none y (unread wire past y) (go (is_some (endpoint_at wire past y 0)) (not (is_gone past y)) (first_unmet past (waits past y)) e) in
       record { known = bound_made wire past k (End y) (k.endpoints y id r there); peer_gone = found.1; none = found.0 }
     where
-      go : (a b : Bool) → No whys.PeerClosed ≡ first_of (unless a whys.NoName ∷ unless b whys.Disconnected ∷ [])
+      go : (a b : Bool) (w : Option EndId) → No whys.PeerClosed ≡ first_of (unless a whys.NoName ∷ unless b whys.Disconnected ∷ pause_of w ∷ [])
           (took_front wire past seq y (unread wire past y))
           → No whys.PeerClosed ≡ took_front wire past seq y (unread wire past y)
-      go true true e = e
-      go true false e = absurd (subst Unended (sym e) tt)
-      go false b e = absurd (subst Unended (sym e) tt)
+      go true true None e = e
+      go true true (Some z) e = absurd (subst Unended (sym e) tt)
+      go true false w e = absurd (subst Unended (sym e) tt)
+      go false b w e = absurd (subst Unended (sym e) tt)
+
+  paused_connected : (w : Option EndId) (done : Told) → Connected done → Connected (first_of (pause_of w ∷ []) done)
+  paused_connected None done h = h
+  paused_connected (Some z) done h = tt
 
   front_connected : (y : EndId) (ms : List Message) → Connected (took_front wire past seq y ms)
   front_connected y [] = go (is_gone past (peer past y))
@@ -201,8 +226,9 @@ module _ (wire : Wire) (seqs : ℕ) (past : List Event) (seq : SeqId) (k : Kept 
   closed_over : (asked : Asked) → No whys.Disconnected ≡ answer wire seqs past seq asked → (x : EndId) (id : ℕ) (r : Endpoint)
       → endpoint_at wire past x id ≡ Some r → needs_open asked x id ≡ true → IsOver wire past x id
   closed_over (Take y) h x id r there e = gone_over y x id e
-      (first_gone (is_some (endpoint_at wire past y 0)) (is_gone past y) [] (took_front wire past seq y (unread wire past y))
-      (front_connected y (unread wire past y)) h)
+      (first_gone (is_some (endpoint_at wire past y 0)) (is_gone past y) (pause_of (first_unmet past (waits past y)) ∷ [])
+      (took_front wire past seq y (unread wire past y))
+      (paused_connected (first_unmet past (waits past y)) (took_front wire past seq y (unread wire past y)) (front_connected y (unread wire past y))) h)
   closed_over (Associate y side interface) h x id r there e = gone_over y x id e
       (first_gone (is_some (endpoint_at wire past y 0) && nat_lt interface wire.interfaces) (is_gone past y) []
       (Associated (record { end = y; id = next_id wire past y })) tt h)
@@ -222,7 +248,7 @@ module _ (wire : Wire) (seqs : ℕ) (past : List Event) (seq : SeqId) (k : Kept 
 
   -- ## Each reply that shows it
 
-  at_end : (y x : EndId) (goes : List Thing) → same_end y x ≡ true → goes ≡ goes_with wire past (End y ∷ []) → has (gone past ++ goes) (End x) ≡ true
+  pub at_end : (y x : EndId) (goes : List Thing) → same_end y x ≡ true → goes ≡ goes_with wire past (End y ∷ []) → has (gone past ++ goes) (End x) ≡ true
   at_end y x goes e is =
       has-back (gone past) goes (End x) (subst (λ z. has goes (End z) ≡ true) (same_end-true y x e)
       (subst (λ things. has things (End y) ≡ true) (sym is) (first_there (carried wire past) (length (made past)) (End y))))
@@ -244,7 +270,7 @@ module _ (wire : Wire) (seqs : ℕ) (past : List Event) (seq : SeqId) (k : Kept 
   shown_over : {asked : Asked} {told : Told} → Outcome wire seqs past seq asked told → told ≡ answer wire seqs past seq asked
       → (x : EndId) (id : ℕ) (r : Endpoint)
       → endpoint_at wire past x id ≡ Some r → shows_over told asked x id ≡ true → IsOver wire past x id ⊎ IsOver wire (Then asked told) x id
-  shown_over (controls {y = y} {id = n} m f e d) h x id r there s =
+  shown_over (controls {y = y} {c = noted.Closed n} m f e d) h x id r there s =
       let now = changed_shut with_peer_closed (same_end y x && (n == id)) (endpoint_at wire past x id) r s there in
       inr (shut (with_peer_closed r) now (or_right (is_closed r) true refl))
   shown_over (drops {y = y} {id = n} m f e d) h x id r there s =

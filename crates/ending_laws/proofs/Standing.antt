@@ -23,6 +23,7 @@ use Rattle.bind_model.specs.declared.told.Why.TheVariants.{NoName, Disconnected,
 use Rattle.bind_model.specs.declared.told.Told.{Told}
 use Rattle.bind_model.specs.declared.told.Told.TheVariants.{Associated, Attached, Taken, Dropped, No}
 use Rattle.bind_model.specs.declared.event.Event.{Event}
+use Rattle.bind_model.specs.declared.told.Noted.TheVariants as noted
 use Rattle.handle_table.specs.Things.{same_end, has, alike}
 use Rattle.bind_model.specs.Wire.{Wire, Named}
 use Rattle.bind_model.specs.Machine.{bounds, gone, is_gone, out, associated, associates, written, endpoint_at, changes, enters, enters_from, unread_of, front_of, entry_in, entries_of, is_strange, is_own, is_remote, is_closed, endpoint_named, only_at, is_local, with_state, with_peer_closed, Endpoints}
@@ -41,6 +42,7 @@ is_shut r = is_closed r || r.peer_closed
 pub record StaysAs (r s : Endpoint) : Type 0 where
   pub side : s.side ≡ r.side
   pub shut : is_shut r ≡ true → is_shut s ≡ true
+  pub closed : is_closed r ≡ true → is_closed s ≡ true
 
 abbrev pub Stands : Option Endpoint → Option Endpoint → Type 0
 Stands before now = (r : Endpoint) → before ≡ Some r → (s : Endpoint) × (now ≡ Some s) × StaysAs r s
@@ -48,7 +50,7 @@ Stands before now = (r : Endpoint) → before ≡ Some r → (s : Endpoint) × (
 -- ## What an event makes of one endpoint
 
 same_stands : (o : Option Endpoint) → Stands o o
-same_stands o r e = (r, e, record { side = refl; shut = λ h. h })
+same_stands o r e = (r, e, record { side = refl; shut = λ h. h; closed = λ h. h })
 
 map_stands : (f : Endpoint → Endpoint) (o : Option Endpoint) → ((r : Endpoint) → o ≡ Some r → StaysAs r (f r)) → Stands o (option_map f o)
 map_stands f None good r e = absurd (cc)
@@ -63,13 +65,17 @@ only_stands y n x id now before here = go (same_end y x && (n == id)) refl
     go false e = same_stands before
 
 closes_it : (r : Endpoint) → StaysAs r (with_state states.Closed r)
-closes_it r = record { side = refl; shut = λ h. refl }
+closes_it r = record { side = refl; shut = λ h. refl; closed = λ h. refl }
 
 marks_it : (r : Endpoint) → StaysAs r (with_peer_closed r)
-marks_it r = record { side = refl; shut = λ h. or_right (is_closed r) true refl }
+marks_it r = record { side = refl; shut = λ h. or_right (is_closed r) true refl; closed = λ h. h }
 
 attaches_it : (t : SeqId) (r : Endpoint) → is_closed r ≡ false → StaysAs r (with_state (states.Bound t) r)
-attaches_it t r still = record { side = refl; shut = λ h. let marked : (false || r.peer_closed) ≡ true = rw still at h in marked }
+attaches_it t r still = record {
+  side = refl;
+  shut = λ h. let marked : (false || r.peer_closed) ≡ true = rw still at h in marked;
+  closed = λ h. absurd (let no : true ≡ false = sym h ∙ still in cc);
+}
 
 -- ## Ids that come with a message
 
@@ -254,7 +260,7 @@ module _ (wire : Wire) (seqs : ℕ) (past : List Event) (seq : SeqId) (k : Kept 
           let here : endpoint_at wire past y id ≡ Some r = subst (λ z. endpoint_at wire past z id ≡ Some r) (sym (same_end-true y x e)) there in (
             r,
             known_from wire (endpoint_at wire past y) told (front_of (unread_of past y (written wire past y))) id r (endpoint_at wire past x id) here ∙ there,
-            record { side = refl; shut = λ h. h },
+            record { side = refl; shut = λ h. h; closed = λ h. h },
           )
       go false e r there = same_stands (endpoint_at wire past x id) r there
 
@@ -271,7 +277,11 @@ module _ (wire : Wire) (seqs : ℕ) (past : List Event) (seq : SeqId) (k : Kept 
   stand_step (attaches {p = p} {t = t} {n = n} o g l e) h x id = attach_stands p t x id (attach_open p t n h)
   stand_step (gets {y = y} m hd r c f {g = g} e) h x id = take_stands y (Taken g) x id
   stand_step (drops {y = y} {id = n} {goes = goes} m f e d) h x id = take_stands y (Dropped n goes) x id
-  stand_step (controls {y = y} {id = n} m f e d) h x id = map_at with_peer_closed y n x id marks_it
+  stand_step (controls {y = y} {c = noted.Closed n} m f e d) h x id = map_at with_peer_closed y n x id marks_it
+  stand_step (controls {c = noted.Queried n v} m f e d) h x id = same_stands (endpoint_at wire past x id)
+  stand_step (controls {c = noted.Version n v} m f e d) h x id = same_stands (endpoint_at wire past x id)
+  stand_step (controls {c = noted.Required n v} m f e d) h x id = same_stands (endpoint_at wire past x id)
+  stand_step (controls {c = noted.Flushed n} m f e d) h x id = same_stands (endpoint_at wire past x id)
   stand_step (closes_pending {p = p} o e) h x id = half_stands (is_local past p) p x id
   stand_step (closes_end {y = y} {id = n} r i o e) h x id = map_at (with_state states.Closed) y n x id closes_it
   stand_step (closes_endpoint {y = y} {id = n} r i o e) h x id = map_at (with_state states.Closed) y n x id closes_it
@@ -436,7 +446,11 @@ module _ (wire : Wire) (seqs : ℕ) (past : List Event) (seq : SeqId) (k : Kept 
       state_remote t false o = refl
   below_step (gets {y = q} m hd s c f {g = g} e) y id r there plain own = below_take q (Taken g) f.front.main f.front.bound y id r there plain own
   below_step (drops {y = q} {id = n} {goes = goes} m f e d) y id r there plain own = below_take q (Dropped n goes) f.main f.bound y id r there plain own
-  below_step (controls {y = q} {id = n} m f e d) y id r there plain own = below_mapped with_peer_closed q n marks_it y id r there plain own
+  below_step (controls {y = q} {c = noted.Closed n} m f e d) y id r there plain own = below_mapped with_peer_closed q n marks_it y id r there plain own
+  below_step (controls {c = noted.Queried n v} m f e d) y id r there plain own = own_kept y [] (endpoint_at wire past y 0) id r refl there plain own
+  below_step (controls {c = noted.Version n v} m f e d) y id r there plain own = own_kept y [] (endpoint_at wire past y 0) id r refl there plain own
+  below_step (controls {c = noted.Required n v} m f e d) y id r there plain own = own_kept y [] (endpoint_at wire past y 0) id r refl there plain own
+  below_step (controls {c = noted.Flushed n} m f e d) y id r there plain own = own_kept y [] (endpoint_at wire past y 0) id r refl there plain own
   below_step (closes_pending {p = p} o e) y id r there plain own = below_half (is_local past p) p y id r there plain own
   below_step (closes_end {y = q} {id = n} s i o e) y id r there plain own = below_mapped (with_state states.Closed) q n closes_it y id r there plain own
   below_step (closes_endpoint {y = q} {id = n} s i o e) y id r there plain own = below_mapped (with_state states.Closed) q n closes_it y id r there plain own

@@ -5,6 +5,7 @@ use Rattle.bind_model.specs.declared.asked.Asked.{Asked}
 use Rattle.bind_model.specs.declared.asked.Asked.TheVariants.{Associate, Attach, Take, Close}
 use Rattle.bind_model.specs.declared.asked.Closing.TheVariants.{Endpoint, Pending}
 use Rattle.bind_model.specs.declared.event.Event.{Event}
+use Rattle.bind_model.specs.declared.told.Noted.TheVariants as noted
 use Rattle.bind_model.specs.declared.told.Told.{Told}
 use Rattle.bind_model.specs.declared.told.Told.TheVariants.{Taken, Dropped, Control, Bad, Closed, No}
 use Rattle.bind_model.specs.declared.told.Why.TheVariants.{Disconnected, PeerClosed}
@@ -25,7 +26,7 @@ needs_open asked x id = false
 -- whether a reply shows that the endpoint of an id at x is over, if there is one: it is closed, its peer is, its end has gone, or the
 -- end's peer has and nothing is left to take
 abbrev pub shows_over : Told → Asked → EndId → ℕ → Bool
-shows_over (Control n) (Take y) x id = same_end y x && (n == id)
+shows_over (Control (noted.Closed n)) (Take y) x id = same_end y x && (n == id)
 shows_over (Dropped n gone) (Take y) x id = same_end y x && (n == id)
 shows_over (Bad why gone) (Take y) x id = same_end y x
 shows_over (No PeerClosed) (Take y) x id = same_end y x
@@ -44,6 +45,7 @@ abbrev pub IsInTime : Wire → List Event → Told → Asked → Type 0
 IsInTime wire past (Taken g) (Take y) = is_response g.target.side ≡ true → was_shown wire past y g.id ≡ false
 IsInTime wire past told asked = Unit {0}
 
+-- and no take does
 abbrev pub AllInTime : Wire → List Event → Type 0
 AllInTime wire [] = Unit {0}
 AllInTime wire (event ∷ past) = IsInTime wire past event.told event.asked × AllInTime wire past

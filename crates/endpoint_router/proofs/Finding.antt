@@ -14,6 +14,7 @@ use Rattle.bind_model.specs.declared.endpoint.Endpoint.{Endpoint}
 use Rattle.bind_model.specs.declared.endpoint.State.{State}
 use Rattle.bind_model.specs.declared.endpoint.State.TheVariants.{Bound, Closed, Pending}
 use Rattle.bind_model.specs.declared.event.Event.{Event}
+use Rattle.bind_model.specs.declared.control.Control.{Control as ControlType}
 use Rattle.bind_model.specs.declared.told.Told.TheVariants.{No}
 use Rattle.bind_model.specs.declared.told.Why.TheVariants as whys
 use Rattle.endpoint_router.specs.declared.next.Next.TheVariants.{Check, Elsewhere}
@@ -21,7 +22,7 @@ use Rattle.endpoint_router.specs.Nexts.{Tells, control_found, endpoint_found, he
 
 module _ (wire : Wire) (past : List Event) (seq : SeqId) (y : EndId) where
   -- a control, with these handles
-  control_told : (bytes : List ℕ) (handles : List Thing) (emitted : Bool) (c : Result ℕ Fault)
+  control_told : (bytes : List ℕ) (handles : List Thing) (emitted : Bool) (c : Result ControlType Fault)
       → Tells wire past y (record { bytes = bytes; handles = handles; emitted = emitted }) (control_found handles c)
       (controlled wire past y (record { bytes = bytes; handles = handles; emitted = emitted }) c)
   control_told bytes handles emitted (Err fault) = refl
@@ -52,9 +53,9 @@ module _ (wire : Wire) (past : List Event) (seq : SeqId) (y : EndId) where
     header_told = go (h.id == CONTROL_ID)
       where
         go : (b : Bool) → Tells wire past y m
-            (if b then control_found m.handles (wire.closed_id m.bytes) else endpoint_found seq h.id (endpoint_at wire past y h.id))
-            (if b then controlled wire past y m (wire.closed_id m.bytes) else at_endpoint wire past seq y m h (endpoint_at wire past y h.id))
-        go true = control_told m.bytes m.handles m.emitted (wire.closed_id m.bytes)
+            (if b then control_found m.handles (wire.says m.bytes) else endpoint_found seq h.id (endpoint_at wire past y h.id))
+            (if b then controlled wire past y m (wire.says m.bytes) else at_endpoint wire past seq y m h (endpoint_at wire past y h.id))
+        go true = control_told m.bytes m.handles m.emitted (wire.says m.bytes)
         go false = endpoint_told (endpoint_at wire past y h.id) refl
 
 -- what is found at a message is what is told of it

@@ -17,7 +17,8 @@ use Rattle.wire_model.specs.Message.{ids_read}
 use Rattle.wire_model.specs.Stands.{IsFine}
 use Rattle.bind_model.specs.Machine.{Endpoints}
 use Rattle.bind_model.specs.Replies.{is_none}
-use Rattle.bind_model.specs.WireOf.{closed_id_in, wire_of}
+use Rattle.bind_model.specs.WireOf.{closed_id_in, closing_said, wire_of}
+use Rattle.bind_model.specs.declared.control.Control.TheVariants.{Closed}
 use Rattle.endpoint_router.specs.Nexts.{control_found, endpoint_found, header_found, next_of}
 use Rattle.endpoint_router.specs.declared.next.Next.TheVariants.{Bad}
 
@@ -32,12 +33,12 @@ header_reads : (schema : Schema) (bytes : List ℕ) (header : Read) → IsFine (
 unfolding wire_of
 header_reads schema bytes header fine e = rw (fine_passes (header_marks bytes) fine, e) refl
 
-closed_id_reads : (schema : Schema) (bytes : List ℕ) → (wire_of schema).closed_id bytes ≡ closed_id_in bytes
+closed_id_reads : (schema : Schema) (bytes : List ℕ) → (wire_of schema).says bytes ≡ closing_said (closed_id_in bytes)
 unfolding wire_of
 closed_id_reads schema bytes = refl
 
 -- a control of which each test holds
-pub control_reads : (bytes : List ℕ) (id : ℕ) → IsFine (control_marks bytes) → id ≡ control_id bytes → closed_id_in bytes ≡ Ok id
+pub control_reads : (bytes : List ℕ) (id : ℕ) → IsFine (control_marks bytes) → id ≡ control_id bytes → closing_said (closed_id_in bytes) ≡ Ok (Closed id)
 control_reads bytes id fine e = rw (fine_passes (control_marks bytes) fine, e) refl
 
 -- whether there are handles
@@ -64,7 +65,8 @@ module _ (schema : Schema) (endpoints : Endpoints) (seq : SeqId) (m : Message) w
     read = ap (header_found (wire_of schema) endpoints seq m) (header_reads schema m.bytes header fine said)
 
     -- a control
-    pub control_next : header.interface_id ≡ CONTROL_ID → control_found m.handles (closed_id_in m.bytes) ≡ next_of (wire_of schema) endpoints seq m
+    pub control_next : header.interface_id ≡ CONTROL_ID
+        → control_found m.handles (closing_said (closed_id_in m.bytes)) ≡ next_of (wire_of schema) endpoints seq m
     control_next e = sym (read ∙ rw (e, closed_id_reads schema m.bytes) refl)
 
     -- another message

@@ -25,6 +25,7 @@ use Rattle.bind_model.specs.declared.endpoint.Endpoint.{Endpoint}
 use Rattle.bind_model.specs.declared.endpoint.PendingId.{PendingId}
 use Rattle.bind_model.specs.declared.endpoint.State.TheVariants.{Bound, Closed}
 use Rattle.bind_model.specs.declared.event.Event.{Event}
+use Rattle.bind_model.specs.declared.told.Noted.TheVariants as noted
 use Rattle.bind_model.specs.declared.told.Got.{Got}
 use Rattle.bind_model.specs.declared.told.Told.{Told}
 use Rattle.bind_model.specs.declared.told.Told.TheVariants as tells
@@ -74,10 +75,10 @@ module _ (wire : Wire) (past : List Event) (seq : SeqId) where
       ∙ mapped x id (with_state (Bound t)) (in_state (Bound t)) (λ e. refl) (same_end p.end x && (p.id == id)) (endpoint_at wire past x id)
 
   pub control_row : (y : EndId) (n : ℕ) (x : EndId) (id : ℕ)
-      → row_told wire (event_of seq (asks.Take y) (tells.Control n) ∷ past) x id
+      → row_told wire (event_of seq (asks.Take y) (tells.Control (noted.Closed n)) ∷ past) x id
       ≡ (if same_end y x && (n == id) then option_map marked (row_told wire past x id) else row_told wire past x id)
   control_row y n x id =
-      row_moves (asks.Take y) (tells.Control n) x id refl refl
+      row_moves (asks.Take y) (tells.Control (noted.Closed n)) x id refl refl
       ∙ mapped x id with_peer_closed marked (λ e. refl) (same_end y x && (n == id)) (endpoint_at wire past x id)
 
   pub closed_row : (y : EndId) (n : ℕ) (gone : List Thing) (x : EndId) (id : ℕ)

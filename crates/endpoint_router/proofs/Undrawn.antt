@@ -18,7 +18,8 @@ use Rattle.bind_model.specs.declared.endpoint.Endpoint.{Endpoint}
 use Rattle.bind_model.specs.declared.event.Event.{Event}
 use Rattle.bind_model.specs.declared.told.Told.{Told}
 use Rattle.bind_model.proofs.Outcomes.{Outcome, outcome, joins, mints, binds, associates, attaches, calls, answers, writes, gets, drops}
-use Rattle.bind_model.proofs.Outcomes.{controls, spoils, closes, closes_pending, closes_responder, closes_end, closes_endpoint, skips, refuses}
+use Rattle.bind_model.proofs.Outcomes.{controls, spoils, closes, closes_pending, closes_responder, closes_end, closes_endpoint, notifies, pauses, pipes}
+use Rattle.bind_model.proofs.Outcomes.{flows, skips, refuses}
 use Rattle.bind_model.proofs.TableAfter.{all_there}
 use Rattle.bind_model.proofs.TableLemmas.{NoneElse, none_else}
 
@@ -64,6 +65,10 @@ module _ (wire : Wire) (seqs : ℕ) (past : List Event) (seq : SeqId) (none : No
   step (closes_responder e) x id h = still x id _ h
   step (closes_end r i o e) x id h = still x id _ h
   step (closes_endpoint r i o e) x id h = still x id _ h
+  step (notifies n_r n_o n_e n_w n_s n_f n_p) x id h = still x id _ h
+  step (pauses n_b n_a n_e n_f n_g n_s) x id h = still x id _ h
+  step (pipes n_z n_p n_q) x id h = still x id _ h
+  step (flows n_d n_o n_e n_f) x id h = still x id _ h
   step skips x id h = still x id _ h
   step refuses x id h = still x id _ h
 

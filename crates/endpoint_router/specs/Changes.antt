@@ -29,11 +29,12 @@ without_request ended row = record {
   asked = λ request method. row.asked request method && not (ended == request);
 }
 
--- whether a row is of an endpoint in a state
+-- a row is of an endpoint that waits to be bound
 abbrev pub IsPending : Option RowSeen → Type 0
 IsPending None = ⊥
 IsPending (Some row) = row.endpoint.state ≡ states.Pending
 
+-- a row is of an endpoint that is bound
 abbrev pub IsBound : Option RowSeen → Type 0
 IsBound None = ⊥
 IsBound (Some row) = elim row.endpoint.state [ states.Bound t ↦ Unit {0} | states.Pending ↦ ⊥ | states.Closed ↦ ⊥ ]

@@ -8,7 +8,8 @@ use Rattle.handle_table.specs.declared.thing.Thing.{Thing}
 use Rattle.message_pipe.specs.declared.message.Message.{Message}
 use Rattle.wire_model.specs.HeaderMarks.{CONTROL_ID}
 use Rattle.bind_model.specs.Machine.{Endpoints, endpoint_at, goes_behind}
-use Rattle.bind_model.specs.Replies.{bad, is_none, judged}
+use Rattle.bind_model.specs.Replies.{bad, heard, is_none, judged}
+use Rattle.bind_model.specs.declared.control.Control.{Control as ControlType}
 use Rattle.bind_model.specs.Wire.{Header, Wire}
 use Rattle.bind_model.specs.declared.endpoint.Endpoint.{Endpoint}
 use Rattle.bind_model.specs.declared.endpoint.State.{State}
@@ -22,9 +23,9 @@ use Rattle.endpoint_router.specs.declared.next.Next.{Next}
 use Rattle.endpoint_router.specs.declared.next.Next.TheVariants.{Bad, Check, Control, Dropped, Elsewhere, Unbound}
 
 -- a control has no handles
-abbrev pub control_found : List Thing → Result ℕ Fault → Next
+abbrev pub control_found : List Thing → Result ControlType Fault → Next
 control_found handles (Err fault) = Bad fault
-control_found handles (Ok id) = if is_none handles then Control id else Bad (record { kind = IllegalHandle; at = 0 })
+control_found handles (Ok c) = if is_none handles then Control c else Bad (record { kind = IllegalHandle; at = 0 })
 
 -- a message for an endpoint in a state, taken by a sequence
 abbrev pub state_found : SeqId → ℕ → State → Next
@@ -41,7 +42,7 @@ endpoint_found seq id (Some endpoint) = state_found seq id endpoint.state
 abbrev pub header_found : Wire → Endpoints → SeqId → Message → Result Header Fault → Next
 header_found wire endpoints seq m (Err fault) = Bad fault
 header_found wire endpoints seq m (Ok header) =
-    if header.id == CONTROL_ID then control_found m.handles (wire.closed_id m.bytes) else endpoint_found seq header.id (endpoints header.id)
+    if header.id == CONTROL_ID then control_found m.handles (wire.says m.bytes) else endpoint_found seq header.id (endpoints header.id)
 
 -- what a take by a sequence finds at a message, where these are the endpoints
 abbrev pub next_of : Wire → Endpoints → SeqId → Message → Next
@@ -61,7 +62,7 @@ pub record IsJudged (wire : Wire) (past : List Event) (y : EndId) (m : Message) 
 -- a take at y is told what was found at its oldest message
 abbrev pub Tells : Wire → List Event → EndId → Message → Next → Told → Type 0
 Tells wire past y m (Bad fault) told = told ≡ bad wire past y (bads.Message fault)
-Tells wire past y m (Control id) told = told ≡ tells.Control id
+Tells wire past y m (Control c) told = told ≡ heard wire past y c
 Tells wire past y m (Dropped id) told = told ≡ tells.Dropped id (goes_behind wire past y m.handles)
 Tells wire past y m (Unbound id) told = told ≡ tells.No (whys.Unbound id)
 Tells wire past y m (Elsewhere t) told = told ≡ tells.No (whys.Elsewhere t)

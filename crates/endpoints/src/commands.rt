@@ -63,6 +63,7 @@ pub fn command_of(alloc: Global, schema: &Schema, held: &mut Held, asked: Asked)
                 parameters,
                 handles,
                 pendings,
+                moment: _,
             } = outgoing;
             let sent = prepared(alloc, schema, target, parameters.into_value())?;
             let handles = held.take_handles(alloc, handles.as_slice());
@@ -80,6 +81,7 @@ pub fn command_of(alloc: Global, schema: &Schema, held: &mut Held, asked: Asked)
                 parameters,
                 handles,
                 pendings,
+                moment: _,
             } = outgoing;
             let sent = prepared(alloc, schema, target, parameters.into_value())?;
             let responder = held.take_responder(id)?;
@@ -98,5 +100,9 @@ pub fn command_of(alloc: Global, schema: &Schema, held: &mut Held, asked: Asked)
         Asked::Take(end) => Command::Take(end),
         Asked::Close(closing) => Command::Close(to_close(held, closing)?),
         Asked::Skip(line) => Command::Skip(line),
+        // No command asks for these yet.
+        Asked::Notify(_, _) | Asked::Pause(_, _, _) | Asked::Data(_) | Asked::Flow(_, _) => {
+            return None;
+        }
     })
 }

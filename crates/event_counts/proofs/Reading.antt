@@ -29,7 +29,9 @@ use Rattle.wire_encoder.specs.declared.endpoint.EndpointSide.{EndpointSide}
 use Rattle.bounds_claims.specs.Runs.{run, step, first_fault, ◌>>=◌}
 use Rattle.bounds_claims.specs.declared.claims.Claims.{Claims}
 use Rattle.bounds_claims.proofs.Steps.{run_append}
-use Rattle.message_header.specs.Controls.{control_bytes}
+use Rattle.message_header.specs.Controls.{control_id, control_marks}
+use Rattle.bind_model.specs.declared.control.Control.{Control}
+use Rattle.bind_model.specs.declared.control.Control.TheVariants as says
 use Rattle.message_header.specs.FirstFailed.{first_failed}
 use Rattle.message_header.specs.Said.{IsPlaced, header_said, ids_at, no_ids}
 use Rattle.message_header.proofs.Facts.{placed}
@@ -38,8 +40,9 @@ use Rattle.message_validator.specs.Before.{before_payload}
 use Rattle.bind_model.specs.Replies.{is_response}
 use Rattle.bind_model.specs.Wire as machine
 use Rattle.bind_model.specs.Wire.{Content, Header}
-use Rattle.bind_model.specs.WireOf.{wire_of, comes_to, has_response, sealed, stands_in, unless_fault}
-use Rattle.event_counts.specs.Counts.{carries, is_asking}
+use Rattle.bind_model.specs.WireOf.{wire_of, comes_to, has_response, sealed, stands_in, unless_fault, written_control, closing_said}
+use Rattle.event_counts.specs.Counts.{carries, is_asking, query_headed, query_in, query_of, query_said}
+use Rattle.wire_model.specs.HeaderMarks.{CONTROL_ID}
 
 -- ## Requests with a response
 
@@ -161,18 +164,26 @@ response_light schema target parameters head none side = sealed_light schema tar
 
 -- ## Controls
 
-control_flags : (id : ℕ) → is_asking (control_bytes id) ≡ false
+control_flags : (c : Control) → is_asking (written_control c) ≡ false
 unfolding number32 bytes32 bytes64
-control_flags id = refl
+control_flags (says.Closed id) = refl
+control_flags (says.Query id) = refl
+control_flags (says.Version id v) = refl
+control_flags (says.Require id v) = refl
+control_flags (says.Flush k) = refl
 
 -- a control asks for no response
-pub control_asks : (schema : Schema) (id : ℕ) → is_asking ((wire_of schema).control id) ≡ false
+pub control_asks : (schema : Schema) (c : Control) → is_asking ((wire_of schema).control c) ≡ false
 unfolding wire_of
-control_asks schema id = control_flags id
+control_asks schema c = control_flags c
 
-control_ids : (id : ℕ) → ids_read (control_bytes id) ≡ []
+control_ids : (c : Control) → ids_read (written_control c) ≡ []
 unfolding number32 bytes32 bytes64
-control_ids id = refl
+control_ids (says.Closed id) = refl
+control_ids (says.Query id) = refl
+control_ids (says.Version id v) = refl
+control_ids (says.Require id v) = refl
+control_ids (says.Flush k) = refl
 
 -- ## Ids
 
@@ -188,9 +199,52 @@ carries_read schema bytes = go (first_failed (header_marks bytes))
     go (Some fault) = omega arith
 
 -- a control carries none
-pub control_carries : (schema : Schema) (id : ℕ) → carries (wire_of schema) ((wire_of schema).control id) ≡ 0
+pub control_carries : (schema : Schema) (c : Control) → carries (wire_of schema) ((wire_of schema).control c) ≡ 0
 unfolding wire_of
-control_carries schema id = omega (arith, carries_read schema (control_bytes id), ap (λ (ids : List ℕ). length ids) (control_ids id))
+control_carries schema c = omega (arith, carries_read schema (written_control c), ap (λ (ids : List ℕ). length ids) (control_ids c))
+
+-- ## Versions that are asked for
+
+query_few : (o : Result Control Fault) → query_said o ≤ 1
+query_few (Ok (says.Query id)) = omega arith
+query_few (Ok (says.Closed id)) = omega arith
+query_few (Ok (says.Version id v)) = omega arith
+query_few (Ok (says.Require id v)) = omega arith
+query_few (Ok (says.Flush k)) = omega arith
+query_few (Err fault) = omega arith
+
+-- bytes ask for one at most
+pub query_one : (schema : Schema) (bytes : List ℕ) → query_in (wire_of schema) bytes ≤ 1
+query_one schema bytes = go ((wire_of schema).header bytes)
+  where
+    by : (b : Bool) → (if b then query_said ((wire_of schema).says bytes) else 0) ≤ 1
+    by true = query_few ((wire_of schema).says bytes)
+    by false = omega arith
+
+    go : (r : Result Header Fault) → query_headed (wire_of schema) bytes r ≤ 1
+    go (Ok h) = by (h.id == CONTROL_ID)
+    go (Err fault) = omega arith
+
+said_few : (schema : Schema) (c : Control) → query_said ((wire_of schema).says (written_control c)) ≤ query_of c
+unfolding wire_of
+said_few schema c = go (first_failed (control_marks (written_control c)))
+  where
+    go : (o : Option Fault) → query_said (closing_said (unless_fault o (control_id (written_control c)))) ≤ query_of c
+    go None = omega arith
+    go (Some fault) = omega arith
+
+-- no control but a query is read as one
+pub control_queries : (schema : Schema) (c : Control) → query_in (wire_of schema) ((wire_of schema).control c) ≤ query_of c
+unfolding wire_of
+control_queries schema c = go ((wire_of schema).header (written_control c))
+  where
+    by : (b : Bool) → (if b then query_said ((wire_of schema).says (written_control c)) else 0) ≤ query_of c
+    by true = said_few schema c
+    by false = omega arith
+
+    go : (r : Result Header Fault) → query_headed (wire_of schema) (written_control c) r ≤ query_of c
+    go (Ok h) = by (h.id == CONTROL_ID)
+    go (Err fault) = omega arith
 
 -- numbers of bytes
 small32 : (bytes : List ℕ) → IsBytes bytes → (at : ℕ) → number32 bytes at < 2 ^ 32

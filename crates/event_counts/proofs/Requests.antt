@@ -11,26 +11,31 @@ use Rattle.message_pipe.specs.declared.message.Message.{Message}
 use Rattle.wire_encoder.specs.declared.endpoint.EndpointSide.{EndpointSide}
 use Rattle.wire_model.specs.declared.target.Target.{Target}
 use Rattle.bind_model.specs.declared.asked.Asked.{Asked}
-use Rattle.bind_model.specs.declared.asked.Asked.TheVariants.{Bind, Associate, Attach, Call, Answer, Raw, Take, Close, Skip}
+use Rattle.bind_model.specs.declared.asked.Asked.TheVariants.{Bind, Associate, Attach, Call, Answer, Raw, Take, Close, Notify, Pause, Data, Flow as Move, Skip}
 use Rattle.bind_model.specs.declared.asked.Closing.{Closing}
 use Rattle.bind_model.specs.declared.asked.Closing.TheVariants as closings
 use Rattle.bind_model.specs.declared.endpoint.Endpoint.{Endpoint}
 use Rattle.bind_model.specs.declared.endpoint.ResponderId.{ResponderId}
 use Rattle.bind_model.specs.declared.event.Event.{Event}
+use Rattle.bind_model.specs.declared.control.Control.{Control as ControlType}
+use Rattle.bind_model.specs.declared.control.Control.TheVariants as says
+use Rattle.bind_model.specs.declared.told.Noted.TheVariants as noted
+use Rattle.handle_table.specs.Things.{same_end}
+use Rattle.std.specs.Prelude.{Some, None}
 use Rattle.bind_model.specs.declared.told.Got.{Got}
 use Rattle.bind_model.specs.declared.told.Told.{Told}
-use Rattle.bind_model.specs.declared.told.Told.TheVariants.{Made, Bound, Associated, Attached, Sent, Wrote, Taken, Dropped, Control, Bad, Closed, Skipped, No}
-use Rattle.bind_model.specs.Machine.{ids_in, peer}
+use Rattle.bind_model.specs.declared.told.Told.TheVariants.{Made, Bound, Associated, Attached, Sent, Wrote, Taken, Dropped, Control, Bad, Closed, Notified as Informed, Pausing, Flowed, Skipped, No}
+use Rattle.bind_model.specs.Machine.{control_of, ids_in, peer}
 use Rattle.bind_model.specs.Replies.{answer, got, is_response, legal, responders_handed, tokens}
 use Rattle.bind_model.specs.Wire.{Wire, Header, Content}
 use Rattle.bind_model.specs.WireOf.{wire_of}
 use Rattle.bind_model.proofs.Controls.{controls_of}
-use Rattle.bind_model.proofs.Outcomes.{Outcome, Gets, outcome, joins, mints, binds, associates, attaches, calls, answers, writes, gets, drops, controls, spoils, closes, closes_pending, closes_responder, closes_end, closes_endpoint, skips, refuses}
+use Rattle.bind_model.proofs.Outcomes.{Outcome, Gets, outcome, joins, mints, binds, associates, attaches, calls, answers, writes, gets, drops, controls, spoils, closes, closes_pending, closes_responder, closes_end, closes_endpoint, notifies, pauses, pipes, flows, skips, refuses}
 use Rattle.event_counts.specs.Counts.{asks, asks_by, handed, is_asking, requested}
 use Rattle.event_counts.proofs.Loads.{load}
 use Rattle.event_counts.proofs.Reading.{asking, control_asks}
 use Rattle.event_counts.proofs.Waiting.{AtOne, at_none, falls, grows, pending}
-use Rattle.event_counts.proofs.Written.{closed_writes, dropped_writes, got_writes, lands_few}
+use Rattle.event_counts.proofs.Written.{closed_writes, dropped_writes, got_writes, heard_writes, lands_few}
 
 -- 1 where its flags are those of a request with a response
 abbrev weight : Message → ℕ
@@ -41,11 +46,12 @@ abbrev KnowsRequests : Wire → Type 0
 KnowsRequests wire = (side : EndpointSide) (interface : ℕ) (bytes : List ℕ) (n : ℕ) (c : Content) → wire.stands side interface bytes n ≡ Ok c
     → is_response c.target.side ≡ false → wire.responds c.target.interface c.target.method ≡ true → is_asking bytes ≡ true
 
-module _ (wire : Wire) (knows : KnowsRequests wire) (quiet : (id : ℕ) → is_asking (wire.control id) ≡ false) where
+module _ (wire : Wire) (knows : KnowsRequests wire) (quiet : (c : ControlType) → is_asking (wire.control c) ≡ false) where
   -- controls weigh nothing
   controls_weigh : (ids : List ℕ) → load weight (controls_of wire ids) ≡ 0
   controls_weigh [] = refl
-  controls_weigh (id ∷ ids) = let light : asks (wire.control id) ≡ 0 = rw (quiet id) refl in omega (arith, light, controls_weigh ids)
+  controls_weigh (id ∷ ids) =
+      let light : asks (wire.control (says.Closed id)) ≡ 0 = rw (quiet (says.Closed id)) refl in omega (arith, light, controls_weigh ids)
 
   none_weigh : (n : ℕ) (ids : List ℕ) → length ids ≤ n → load weight (controls_of wire ids) ≤ 0
   none_weigh n ids le = omega (arith, controls_weigh ids)
@@ -127,8 +133,40 @@ module _ (wire : Wire) (knows : KnowsRequests wire) (quiet : (id : ℕ) → is_a
     step is (drops {y = y} {id = id} {goes = goes} m f e d) =
         still (Take y) (Dropped id goes) is
         (dropped_writes weight wire past y m f.rest f.stands 0 (none_weigh (length (ids_in wire m))) id goes) refl
-    step is (controls {y = y} {id = id} m f e d) =
-        still (Take y) (Control id) is (at_none weight wire past (Control id) (Take y) (λ x. refl)) refl
+    step is (controls {y = y} {c = noted.Queried n (Some v)} m f e d) =
+        still (Take y) (Control (noted.Queried n (Some v))) is
+        (heard_writes weight wire past y 0
+        (λ id w. let light : asks (wire.control (says.Version id w)) ≡ 0 = rw (quiet (says.Version id w)) refl in omega (arith, light)) n v) refl
+    step is (controls {y = y} {c = noted.Closed n} m f e d) =
+        still (Take y) (Control (noted.Closed n)) is (at_none weight wire past (Control (noted.Closed n)) (Take y) (λ x. refl)) refl
+    step is (controls {y = y} {c = noted.Queried n None} m f e d) =
+        still (Take y) (Control (noted.Queried n None)) is (at_none weight wire past (Control (noted.Queried n None)) (Take y) (λ x. refl)) refl
+    step is (controls {y = y} {c = noted.Version n v} m f e d) =
+        still (Take y) (Control (noted.Version n v)) is (at_none weight wire past (Control (noted.Version n v)) (Take y) (λ x. refl)) refl
+    step is (controls {y = y} {c = noted.Required n v} m f e d) =
+        still (Take y) (Control (noted.Required n v)) is (at_none weight wire past (Control (noted.Required n v)) (Take y) (λ x. refl)) refl
+    step is (controls {y = y} {c = noted.Flushed n} m f e d) =
+        still (Take y) (Control (noted.Flushed n)) is (at_none weight wire past (Control (noted.Flushed n)) (Take y) (λ x. refl)) refl
+    step is (notifies {y = y} {notice = notice} {told = told} r o e w s f p) =
+        still (Notify y notice) (Informed told) is
+        (record {
+          end = peer past y;
+          few = λ x. none (same_end (peer past y) x)
+              (lands_few weight wire past y (wire.control (control_of notice told)) [] x);
+        }) refl
+      where
+        light : asks (wire.control (control_of notice told)) ≡ 0
+        light = rw (quiet (control_of notice told)) refl
+
+        none : (b : Bool) {n : ℕ} → n ≤ (if b then asks (wire.control (control_of notice told)) else 0) → n ≤ (if b then 0 else 0)
+        none true h = omega (arith, h, light)
+        none false h = h
+    step is (pauses {b = b} {a = a} {k = k} rb ra e f g s) =
+        still (Pause b a k) Pausing is (at_none weight wire past Pausing (Pause b a k) (λ x. refl)) refl
+    step is (pipes {size = size} {p = p} {q = q} z e f) =
+        still (Data size) (Made (Token p ∷ Token q ∷ [])) is (at_none weight wire past (Made (Token p ∷ Token q ∷ [])) (Data size) (λ x. refl)) refl
+    step is (flows {t = t} {f = f} {told = told} d o e w) =
+        still (Move (Token t) f) (Flowed t told) is (at_none weight wire past (Flowed t told) (Move (Token t) f) (λ x. refl)) refl
     step is (spoils {y = y} {why = why} {goes = goes} m f e) =
         still (Take y) (Bad why goes) is (at_none weight wire past (Bad why goes) (Take y) (λ x. refl)) refl
     step is (closes {x = x} {goes = goes} o e) = closed (closings.Handle x) goes is

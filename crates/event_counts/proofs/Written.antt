@@ -1,6 +1,6 @@
 -- The weight of what an event writes.
 use Rattle.std.proofs.Common.{◌≡◌, ◌≤◌, ℕ, zero, suc, Bool, true, false, List, [], ◌∷◌, length, refl, sym, subst, arith}
-use Rattle.std.specs.Prelude.{◌==◌, ◌&&◌, ◌||◌, not, filter, if◌then◌else◌, Some}
+use Rattle.std.specs.Prelude.{◌==◌, ◌&&◌, ◌||◌, not, map, filter, if◌then◌else◌, Some}
 use Rattle.mj_base.specs.declared.ids.EndId.{EndId}
 use Rattle.handle_table.specs.Things.{has, same_end}
 use Rattle.handle_table.specs.declared.thing.Thing.{Thing}
@@ -11,9 +11,11 @@ use Rattle.bind_model.specs.declared.asked.Asked.TheVariants.{Close, Take}
 use Rattle.bind_model.specs.declared.asked.Closing.{Closing}
 use Rattle.bind_model.specs.declared.asked.Closing.TheVariants as closings
 use Rattle.bind_model.specs.declared.event.Event.{Event}
+use Rattle.bind_model.specs.declared.control.Control.TheVariants as says
+use Rattle.bind_model.specs.declared.told.Noted.TheVariants as noted
 use Rattle.bind_model.specs.declared.told.Got.{Got}
 use Rattle.bind_model.specs.declared.told.Told.{Told}
-use Rattle.bind_model.specs.declared.told.Told.TheVariants.{Taken, Dropped, Closed}
+use Rattle.bind_model.specs.declared.told.Told.TheVariants.{Taken, Dropped, Control, Closed}
 use Rattle.bind_model.specs.Machine.{Endpoints, closed_ids, content_at, emits, endpoint_at, enters, enters_from, front_of, ids_in, is_gone, is_local, is_peer_closed, lands, named_in, peer, unread, written}
 use Rattle.bind_model.specs.Wire.{Wire}
 use Rattle.bind_model.proofs.Controls.{closed_few, controls_of}
@@ -62,7 +64,7 @@ module _ (w : Message → ℕ) (wire : Wire) (past : List Event) where
 
   -- and controls do
   emits_few : (y : EndId) (endpoints : Endpoints) (n k : ℕ) → Weigh n k → (ids : List ℕ) → length ids ≤ n → (x : EndId)
-      → load w (emits wire past y endpoints ids x) ≤ (if same_end (peer past y) x then k else 0)
+      → load w (emits wire past y endpoints says.Closed ids x) ≤ (if same_end (peer past y) x then k else 0)
   emits_few y endpoints n k few ids le x = go (same_end (peer past y) x) (not (is_gone past x))
     where
       left : List ℕ
@@ -100,6 +102,24 @@ module _ (w : Message → ℕ) (wire : Wire) (past : List Event) where
         (entered_few wire past y m rest front (Dropped id goes));
   }
 
+  -- a version that is told weighs so much at most
+  abbrev pub VersionWeighs : ℕ → Type 0
+  VersionWeighs k = (id v : ℕ) → w (record { bytes = wire.control (says.Version id v); handles = []; emitted = true }) ≤ k
+
+  version_few : (y : EndId) (k : ℕ) → VersionWeighs k → (id v : ℕ) (x : EndId)
+      → load w (emits wire past y (endpoint_at wire past y) (λ n. says.Version n v) (id ∷ []) x) ≤ (if same_end (peer past y) x then k else 0)
+  version_few y k few id v x = go (same_end (peer past y) x) (not (is_gone past x)) (not (is_peer_closed (endpoint_at wire past y id)))
+    where
+      go : (a b c : Bool) → load w (if (a && b) then map (λ n. record { bytes = wire.control (says.Version n v); handles = []; emitted = true })
+          (if c then id ∷ [] else []) else []) ≤ (if a then k else 0)
+      go true true true = omega (arith, few id v)
+      go true true false = omega arith
+      go true false c = omega arith
+      go false b c = omega arith
+
+  pub heard_writes : (y : EndId) (k : ℕ) → VersionWeighs k → (id v : ℕ) → AtOne w wire past (Control (noted.Queried id (Some v))) (Take y) k
+  heard_writes y k few id v = record { end = peer past y; few = version_few y k few id v }
+
   -- what is closed brings one control at most
   pub closed_writes : (k : ℕ) → Weigh 1 k → (thing : Closing) (goes : List Thing) → AtOne w wire past (Closed goes) (Close thing) k
   closed_writes k few (closings.Handle x) goes = record { end = some_end; few = λ x. omega arith }
@@ -107,13 +127,13 @@ module _ (w : Message → ℕ) (wire : Wire) (past : List Event) where
   closed_writes k few (closings.Endpoint y id) goes = record {
     end = peer past y;
     few = λ x.
-        unless_few (id == 0) (emits wire past y (endpoint_at wire past y) (id ∷ []) x) (if same_end (peer past y) x then k else 0)
+        unless_few (id == 0) (emits wire past y (endpoint_at wire past y) says.Closed (id ∷ []) x) (if same_end (peer past y) x then k else 0)
         (emits_few y (endpoint_at wire past y) 1 k few (id ∷ []) (omega arith) x);
   }
   closed_writes k few (closings.Pending p) goes = record {
     end = peer past p.end;
     few = λ x.
-        unless_few (is_gone past p.end || is_local past p) (emits wire past p.end (endpoint_at wire past p.end) (p.id ∷ []) x)
+        unless_few (is_gone past p.end || is_local past p) (emits wire past p.end (endpoint_at wire past p.end) says.Closed (p.id ∷ []) x)
         (if same_end (peer past p.end) x then k else 0)
         (emits_few p.end (endpoint_at wire past p.end) 1 k few (p.id ∷ []) (omega arith) x);
   }

@@ -1,14 +1,20 @@
 -- How many messages come to be taken, and how many requests to be answered: each is read off the commands and the replies that brought them.
-use Rattle.std.specs.Prelude.{ℕ, ◌+◌, ◌%◌, ◌==◌, Bool, List, [], ◌∷◌, length, Ok, Err, if◌then◌else◌}
+use Rattle.std.specs.Prelude.{ℕ, ◌≡◌, ◌≤◌, Result, ◌+◌, ◌%◌, ◌==◌, Bool, List, [], ◌∷◌, length, Ok, Err, if◌then◌else◌}
 use Rattle.wire_model.specs.Bytes.{number32}
 use Rattle.bind_model.specs.declared.asked.Asked.{Asked}
-use Rattle.bind_model.specs.declared.asked.Asked.TheVariants.{Raw}
+use Rattle.bind_model.specs.declared.asked.Asked.TheVariants.{Raw, Notify}
+use Rattle.bind_model.specs.declared.asked.Notice.{Notice}
+use Rattle.bind_model.specs.declared.asked.Notice.TheVariants.{Query, Require, Flush}
+use Rattle.bind_model.specs.declared.control.Control.{Control}
+use Rattle.bind_model.specs.declared.control.Control.TheVariants as controls
+use Rattle.mj_base.specs.declared.fault.Fault.{Fault}
+use Rattle.wire_model.specs.HeaderMarks.{CONTROL_ID}
 use Rattle.bind_model.specs.declared.event.Event.{Event}
 use Rattle.bind_model.specs.declared.told.Told.{Told}
-use Rattle.bind_model.specs.declared.told.Told.TheVariants.{Sent, Wrote, Closed}
+use Rattle.bind_model.specs.declared.told.Told.TheVariants.{Sent, Wrote, Closed, Notified as Informed}
 use Rattle.bind_model.specs.Ready.{is_settled}
 use Rattle.bind_model.specs.Replies.{responders_handed}
-use Rattle.bind_model.specs.Wire.{Wire}
+use Rattle.bind_model.specs.Wire.{Header, Wire}
 
 -- the sum over events
 abbrev pub counted : (Told → Asked → ℕ) → List Event → ℕ
@@ -21,11 +27,42 @@ counted count (event ∷ past) = count event.told event.asked + counted count pa
 abbrev pub carries : Wire → List ℕ → ℕ
 carries wire bytes = length {A = ℕ} (elim (wire.header bytes) [ Ok h ↦ h.ids | Err fault ↦ [] ])
 
--- how many messages come of an event at most: the one that it writes, with a control for each id that this carries, or the control of what
--- it closes
+-- 1 for a control that asks for a version, which its take writes back
+abbrev pub query_of : Control → ℕ
+query_of (controls.Query id) = 1
+query_of c = 0
+
+-- the same for what bytes say, where they say a control
+abbrev pub query_said : Result Control Fault → ℕ
+query_said (Ok c) = query_of c
+query_said (Err fault) = 0
+
+-- the same, by the header of the bytes
+abbrev pub query_headed : Wire → List ℕ → Result Header Fault → ℕ
+query_headed wire bytes (Ok h) = if h.id == CONTROL_ID then query_said (wire.says bytes) else 0
+query_headed wire bytes (Err fault) = 0
+
+-- 1 for bytes that a take reads as such a control
+abbrev pub query_in : Wire → List ℕ → ℕ
+query_in wire bytes = query_headed wire bytes (wire.header bytes)
+
+-- a wire knows the controls that it writes: they carry no ids, and no other is read as one that asks for a version
+pub record ReadsControls (wire : Wire) : Type 0 where
+  pub bare : (c : Control) → carries wire (wire.control c) ≡ 0
+  pub asks : (c : Control) → query_in wire (wire.control c) ≤ query_of c
+
+-- how many messages come of a notice: its control, and the version that it asks for
+abbrev pub notice_brings : Notice → ℕ
+notice_brings (Query id) = 2
+notice_brings (Require id v) = 1
+notice_brings Flush = 1
+
+-- how many messages come of an event at most: the one that it writes, with a control for each id that this carries and a version where it
+-- asks for one, or the control of what it closes
 abbrev pub brings : Wire → Told → Asked → ℕ
-brings wire (Sent request bytes) asked = 1 + carries wire bytes
-brings wire (Wrote z) (Raw y bytes handles) = 1 + carries wire bytes
+brings wire (Sent request bytes) asked = 1 + carries wire bytes + query_in wire bytes
+brings wire (Wrote z) (Raw y bytes handles) = 1 + carries wire bytes + query_in wire bytes
+brings wire (Informed n) (Notify y notice) = notice_brings notice
 brings wire (Closed gone) asked = 1
 brings wire told asked = 0
 

@@ -21,7 +21,7 @@ use Rattle.bind_model.specs.Wire.{Wire}
 use Rattle.bind_model.specs.Machine.{made, made_by}
 use Rattle.bind_model.specs.Replies.{serials, tokens, joined, first_of, unless, legal, answer}
 use Rattle.bind_model.proofs.Counting.{times-append}
-use Rattle.bind_model.proofs.Outcomes.{Outcome, AsksJoin, outcome, joins, mints, binds, associates, attaches, calls, answers, writes, gets, drops, controls, spoils, closes, closes_pending, closes_responder, closes_end, closes_endpoint, skips, refuses}
+use Rattle.bind_model.proofs.Outcomes.{Outcome, AsksJoin, outcome, joins, mints, binds, associates, attaches, calls, answers, writes, gets, drops, controls, spoils, closes, closes_pending, closes_responder, closes_end, closes_endpoint, notifies, pauses, pipes, flows, skips, refuses}
 use Rattle.history_laws.proofs.Numbers.{one_if, serial_of, count}
 
 -- one number more of the first sequence
@@ -47,7 +47,8 @@ two_more counts seqs first other s n a b = go (first == s) (other == s) refl ref
         → one_if (nat_lt s seqs && nat_lt n (counts s))
         + (one_if (here && (counts first == n)) + (one_if (there && ((counts other + one_if (other == first)) == n)) + 0))
         ≡ one_if (nat_lt s seqs && nat_lt n (counts s + (one_if here + (one_if there + 0))))
-    go true true e f = rw (eqb-true first s e, eqb-true other s f, eq-eqb s s refl) (let k : s < seqs = rw (eqb-true first s e) at a in grind (arith, nat_tests))
+    go true true e f = rw (eqb-true first s e, eqb-true other s f, eq-eqb s s refl)
+        (let k : s < seqs = rw (eqb-true first s e) at a in grind (arith, nat_tests))
     go true false e f = rw (eqb-true first s e) (let k : s < seqs = rw (eqb-true first s e) at a in grind (arith, nat_tests))
     go false true e f =
         let k : s < seqs = rw (eqb-true other s f) at b in
@@ -86,7 +87,8 @@ module _ (wire : Wire) (seqs : ℕ) (past : List Event) (seq : SeqId) (here : se
   joined_step a b t below p q (End x) = rw (times-append (End x) (made past) (End a ∷ End b ∷ []), two_counted a b x.seq (made past), before (End x), p, q)
       (two_more (serials past) seqs seq.0 t x.seq x.serial here below)
   joined_step a b t below p q (Token x) =
-      let same : count false (made past ++ End a ∷ End b ∷ []) x.seq ≡ tokens past x.seq = omega (arith, counted false x.seq (made past) (End a ∷ End b ∷ [])) in
+      let same : count false (made past ++ End a ∷ End b ∷ []) x.seq
+      ≡ tokens past x.seq = omega (arith, counted false x.seq (made past) (End a ∷ End b ∷ [])) in
       rw (times-append (Token x) (made past) (End a ∷ End b ∷ []), same, before (Token x)) (omega arith)
 
   abbrev token : TokenId
@@ -99,12 +101,30 @@ module _ (wire : Wire) (seqs : ℕ) (past : List Event) (seq : SeqId) (here : se
   minted_step (Token x) = rw (times-append (Token x) (made past) (Token token ∷ []), one_counted token x.seq (made past), before (Token x))
       (one_more (tokens past) seqs seq.0 x.seq x.serial here)
 
+  two_tokens : (a b : TokenId) (seq : ℕ) (xs : List Thing)
+      → count false (xs ++ Token a ∷ Token b ∷ []) seq ≡ count false xs seq + (one_if (a.seq == seq) + (one_if (b.seq == seq) + 0))
+  two_tokens a b s xs = omega (arith, counted false s xs (Token a ∷ Token b ∷ []))
+
+  -- two tokens of one sequence
+  data_step : (a b : TokenId) → a ≡ record { seq = seq.0; serial = tokens past seq.0 } → b ≡ record { seq = seq.0; serial = tokens past seq.0 + 1 }
+      → AreNumbered seqs (made past ++ Token a ∷ Token b ∷ [])
+  data_step a b p q (End x) =
+      let same : count true (made past ++ Token a ∷ Token b ∷ []) x.seq
+      ≡ serials past x.seq = omega (arith, counted true x.seq (made past) (Token a ∷ Token b ∷ [])) in
+      rw (times-append (End x) (made past) (Token a ∷ Token b ∷ []), same, before (End x)) (omega arith)
+  data_step a b p q (Token x) =
+      let second : b ≡ record { seq = seq.0; serial = tokens past seq.0 + one_if (seq.0 == seq.0) } = rw (eq-eqb seq.0 seq.0 refl) q in
+      rw (times-append (Token x) (made past) (Token a ∷ Token b ∷ []), two_tokens a b x.seq (made past), before (Token x), p, second)
+      (two_more (tokens past) seqs seq.0 seq.0 x.seq x.serial here here)
+
   none_step : AreNumbered seqs (made past ++ [])
   none_step z = rw append-nil (before z)
 
-  step : {asked : Asked} {told : Told} → Outcome wire seqs past seq asked told → told ≡ answer wire seqs past seq asked → AreNumbered seqs (made past ++ made_by told)
+  step : {asked : Asked} {told : Told} → Outcome wire seqs past seq asked told
+      → told ≡ answer wire seqs past seq asked → AreNumbered seqs (made past ++ made_by told)
   step {asked} (joins {a = a} {b = b} t j p q) h = joined_step a b t (other_below asked t (End a ∷ End b ∷ []) j h) p q
   step mints h = minted_step
+  step (pipes {p = a} {q = b} z p q) h = data_step a b p q
   step (binds o) h = none_step
   step (associates main e g q) h = none_step
   step (attaches o g l e) h = none_step
@@ -120,6 +140,9 @@ module _ (wire : Wire) (seqs : ℕ) (past : List Event) (seq : SeqId) (here : se
   step (closes_responder e) h = none_step
   step (closes_end r i o e) h = none_step
   step (closes_endpoint r i o e) h = none_step
+  step (notifies n_r n_o n_e n_w n_s n_f n_p) h = none_step
+  step (pauses n_b n_a n_e n_f n_g n_s) h = none_step
+  step (flows n_d n_o n_e n_f) h = none_step
   step skips h = none_step
   step refuses h = none_step
 

@@ -4,7 +4,9 @@ use Rattle.std.specs.Prelude.{Option, Some, None}
 use Rattle.wire_model.specs.Bytes.{bytes32, bytes64, number32, number64}
 use Rattle.wire_model.specs.HeaderMarks.{CONTROL_ID}
 use Rattle.wire_model.specs.Message.{Head, is_plain, plain_front, front, back_of, message, request_read}
-use Rattle.message_header.specs.Controls.{control_bytes}
+use Rattle.bind_model.specs.WireOf.{written_control}
+use Rattle.bind_model.specs.declared.control.Control.{Control}
+use Rattle.bind_model.specs.declared.control.Control.TheVariants as says
 
 -- the four bytes of a number
 digits : (n : ℕ) → n % 256 + 2 ^ 8 * (n / 256 % 256) + 2 ^ 16 * (n / 65536 % 256) + 2 ^ 24 * (n / 16777216 % 256) ≡ n % 2 ^ 32
@@ -93,10 +95,18 @@ said_request h payload = front_request h.moment h.ids h (length payload) (payloa
 
 -- ## Controls
 
-pub control_says : (id : ℕ) → number32 (control_bytes id) 8 ≡ CONTROL_ID
+pub control_says : (c : Control) → number32 (written_control c) 8 ≡ CONTROL_ID
 unfolding bytes32 bytes64 number32
-control_says id = refl
+control_says (says.Closed id) = refl
+control_says (says.Query id) = refl
+control_says (says.Version id v) = refl
+control_says (says.Require id v) = refl
+control_says (says.Flush k) = refl
 
-pub control_request : (id : ℕ) → request_read (control_bytes id) ≡ 0
+pub control_request : (c : Control) → request_read (written_control c) ≡ 0
 unfolding bytes32 bytes64 number32
-control_request id = refl
+control_request (says.Closed id) = refl
+control_request (says.Query id) = refl
+control_request (says.Version id v) = refl
+control_request (says.Require id v) = refl
+control_request (says.Flush k) = refl

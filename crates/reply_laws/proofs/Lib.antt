@@ -11,3 +11,4 @@ pub mod Own
 mod Twice
 mod Numbered
 pub mod Once
+pub mod Behind

@@ -59,7 +59,8 @@ by_sender schema seqs old h {seq} {x} {g} (gets m hd q c f e) side asks found ze
         let same : m ≡ record { bytes = bytes; handles = s.handles; emitted = false } =
         one_message m (record { bytes = bytes; handles = s.handles; emitted = false }) f.front.rest came.message.0 (sym f.front.stands ∙ came.message.1) in
         let flags : number32 bytes 16 % 4 ≡ 1 = ap (λ (n : Message). number32 n.bytes 16 % 4) (sym same) ∙ one in
-        let has = called_asks schema s.target s.parameters (record { id = k; request = request; ids = ids_of s.pendings }) bytes call.sealed call.asks flags in
+        let has = called_asks schema s.target s.parameters
+        (record { id = k; request = request; ids = ids_of s.pendings; moment = s.moment }) bytes call.sealed call.asks flags in
         let number : request ≡ length (drawn found.old z k) + 1 =
         call.number ∙ ap (λ (b : Bool). if b then length (drawn found.old z k) + 1 else 0) (responds_is schema s.target ∙ has) in
         let none : request ≡ 0 = came.same_request ∙ zero in

@@ -1,23 +1,29 @@
 -- Events of a past and those before them, and how a message came to an end.
 use Rattle.std.proofs.Common.{◌≡◌, ◌≤◌, ℕ, zero, suc, ◌+◌, Bool, true, false, List, [], ◌∷◌, ◌++◌, length, drop, refl, sym, ap, ◌∙◌, arith, ◌⊎◌, inl, inr}
-use Rattle.std.specs.Prelude.{if◌then◌else◌, not, ◌&&◌, ◌||◌, ◌==◌, map, filter}
+use Rattle.std.specs.Prelude.{Some, None, if◌then◌else◌, not, ◌&&◌, ◌||◌, ◌==◌, map, filter}
 use Rattle.mj_base.specs.declared.ids.EndId.{EndId}
 use Rattle.handle_table.specs.Things.{same_end, has}
 use Rattle.handle_table.specs.declared.thing.Thing.{Thing}
 use Rattle.handle_table.specs.declared.thing.Thing.TheVariants.{End}
 use Rattle.handle_table.proofs.ThingsLemmas.{has-front, not_right}
 use Rattle.message_pipe.specs.declared.message.Message.{Message}
-use Rattle.bind_model.specs.Machine.{consumed, made, made_by, peer, is_gone, is_local, is_peer_closed, taken, written, puts, lands, emits, endpoint_at, enters, closed_ids, unread, Endpoints}
+use Rattle.bind_model.specs.Machine.{consumed, made, made_by, peer, is_gone, is_local, is_peer_closed, taken, written, puts, lands, emits, emits_for, control_of, endpoint_at, enters, closed_ids, unread, Endpoints}
 use Rattle.bind_model.specs.Replies.{legal}
 use Rattle.bind_model.specs.Wire.{Wire}
 use Rattle.bind_model.specs.declared.asked.Asked.{Asked}
-use Rattle.bind_model.specs.declared.asked.Asked.TheVariants.{Answer, Call, Close, Raw, Take}
+use Rattle.bind_model.specs.declared.asked.Asked.TheVariants.{Answer, Call, Close, Raw, Take, Notify}
 use Rattle.bind_model.specs.declared.asked.Closing.TheVariants as closings
+use Rattle.bind_model.specs.declared.asked.Notice.{Notice}
 use Rattle.bind_model.specs.declared.asked.Outgoing.{Outgoing}
 use Rattle.bind_model.specs.declared.endpoint.ResponderId.{ResponderId}
 use Rattle.bind_model.specs.declared.event.Event.{Event}
+use Rattle.bind_model.specs.declared.control.Control.{Control}
+use Rattle.bind_model.specs.declared.control.Control.TheVariants as says
+use Rattle.bind_model.specs.declared.told.Noted.{Noted}
+use Rattle.bind_model.specs.declared.told.Noted.TheVariants as noted
+use Rattle.bind_model.specs.declared.told.Notified.{Notified}
 use Rattle.bind_model.specs.declared.told.Told.{Told}
-use Rattle.bind_model.specs.declared.told.Told.TheVariants.{Closed, Dropped, Sent, Taken, Wrote}
+use Rattle.bind_model.specs.declared.told.Told.TheVariants.{Closed, Control as Heard, Dropped, Notified as Informed, Sent, Taken, Wrote}
 use Rattle.bind_model.proofs.Fresh.{kept}
 use Rattle.reply_laws.specs.Own.{Earlier, latest, before, was_raw, writes_raw}
 use Rattle.reply_laws.proofs.PeerLemmas.{told_peer, not_again}
@@ -109,6 +115,11 @@ put_by wire (event ∷ past) x m n i = elim
 
 -- ## Who put it
 
+-- whether a control is a flush
+abbrev pub is_flush : Control → Bool
+is_flush (says.Flush k) = true
+is_flush c = false
+
 -- how the message of this number came to x with an event
 pub data Came (wire : Wire) (old : List Event) (x : EndId) (m : Message) (n : ℕ) : Told → Asked → Type 0 where
   by_call : {request : ℕ} {bytes : List ℕ} {y : EndId} {id : ℕ} {s : Outgoing} → same_end (peer old y) x ≡ true
@@ -119,7 +130,10 @@ pub data Came (wire : Wire) (old : List Event) (x : EndId) (m : Message) (n : �
       → Came wire old x m n (Sent request bytes) (Answer r s)
   by_raw : {z : EndId} {w : Thing} {bytes : List ℕ} {handles : List Thing} → same_end (peer old z) x ≡ true
       → Came wire old x m n (Wrote z) (Raw w bytes handles)
-  by_machine : {told : Told} {asked : Asked} (id : ℕ) → m.bytes ≡ wire.control id → Came wire old x m n told asked
+  by_notice : {told : Notified} {y : EndId} {notice : Notice} → same_end (peer old y) x ≡ true → m.bytes ≡ wire.control (control_of notice told)
+      → length (written wire old x) ≡ n → Came wire old x m n (Informed told) (Notify y notice)
+  -- the machine writes no flush
+  by_control : {told : Told} {asked : Asked} (c : Control) → m.bytes ≡ wire.control c → is_flush c ≡ false → Came wire old x m n told asked
 
 module _ (wire : Wire) (old : List Event) (x : EndId) (m : Message) where
   in_lands : (y : EndId) (bytes : List ℕ) (handles : List Thing) (k : ℕ) → IsAt m k (lands old y bytes handles x)
@@ -132,23 +146,34 @@ module _ (wire : Wire) (old : List Event) (x : EndId) (m : Message) where
       go true (suc k) i = absurd i
       go false k i = absurd i
 
-  in_controls : (ids : List ℕ) (k : ℕ) → IsAt m k (map (λ id. record { bytes = wire.control id; handles = []; emitted = true }) ids)
-      → (id : ℕ) × (m.bytes ≡ wire.control id)
-  in_controls [] k i = absurd i
-  in_controls (id ∷ ids) zero e = (id, ap (λ (n : Message). n.bytes) e)
-  in_controls (id ∷ ids) (suc k) i = in_controls ids k i
+  abbrev Emitted : Type 0
+  Emitted = (c : Control) × (m.bytes ≡ wire.control c) × (is_flush c ≡ false)
 
-  in_emits : (y : EndId) (endpoints : Endpoints) (ids : List ℕ) (k : ℕ) → IsAt m k (emits wire old y endpoints ids x)
-      → (id : ℕ) × (m.bytes ≡ wire.control id)
-  in_emits y endpoints ids k i = go (same_end (peer old y) x && not (is_gone old x)) i
+  in_controls : (control : ℕ → Control) → ((id : ℕ) → is_flush (control id) ≡ false) → (ids : List ℕ) (k : ℕ)
+      → IsAt m k (map (λ id. record { bytes = wire.control (control id); handles = []; emitted = true }) ids) → Emitted
+  in_controls control none [] k i = absurd i
+  in_controls control none (id ∷ ids) zero e = (control id, ap (λ (n : Message). n.bytes) e, none id)
+  in_controls control none (id ∷ ids) (suc k) i = in_controls control none ids k i
+
+  in_emits : (y : EndId) (endpoints : Endpoints) (control : ℕ → Control) → ((id : ℕ) → is_flush (control id) ≡ false) → (ids : List ℕ) (k : ℕ)
+      → IsAt m k (emits wire old y endpoints control ids x) → Emitted
+  in_emits y endpoints control none ids k i = go (same_end (peer old y) x && not (is_gone old x)) i
     where
       left : List ℕ
       left = filter (λ id. not (is_peer_closed (endpoints id))) ids
 
-      go : (b : Bool) → IsAt m k (if b then map (λ id. record { bytes = wire.control id; handles = []; emitted = true }) left else [])
-          → (id : ℕ) × (m.bytes ≡ wire.control id)
-      go true i = in_controls left k i
+      go : (b : Bool) → IsAt m k (if b then map (λ id. record { bytes = wire.control (control id); handles = []; emitted = true }) left else [])
+          → Emitted
+      go true i = in_controls control none left k i
       go false i = absurd i
+
+  in_version : (y : EndId) (endpoints : Endpoints) (c : Noted) (k : ℕ) → IsAt m k (emits_for wire old y endpoints c x) → Emitted
+  in_version y endpoints (noted.Queried id (Some v)) k i = in_emits y endpoints (λ n. says.Version n v) (λ n. refl) (id ∷ []) k i
+  in_version y endpoints (noted.Queried id None) k i = absurd i
+  in_version y endpoints (noted.Closed id) k i = absurd i
+  in_version y endpoints (noted.Version id v) k i = absurd i
+  in_version y endpoints (noted.Required id v) k i = absurd i
+  in_version y endpoints (noted.Flushed n) k i = absurd i
 
   in_rest : (b : Bool) (ms : List Message) (k : ℕ) → IsAt m k (if b then [] else ms) → IsAt m k ms
   in_rest true ms k i = absurd i
@@ -162,13 +187,20 @@ module _ (wire : Wire) (old : List Event) (x : EndId) (m : Message) where
   came n (Sent request bytes) (Answer r s) p = let l = in_lands r.end bytes s.handles p.0 p.2 in by_answer l.0 l.1 (first_of n p.0 p.1 l.2)
   came n (Wrote z) (Raw w bytes handles) p = let l = in_lands z bytes handles p.0 p.2 in by_raw l.0
   came n (Taken g) (Take y) p =
-      let c = in_emits y (endpoint_at wire old y) (closed_ids (enters wire old y (written wire old y) (endpoint_at wire old y) (Taken g))) p.0 p.2 in
-      by_machine c.0 c.1
+      let c = in_emits y (endpoint_at wire old y) says.Closed (λ i. refl)
+      (closed_ids (enters wire old y (written wire old y) (endpoint_at wire old y) (Taken g))) p.0 p.2 in
+      by_control c.0 c.1 c.2
   came n (Dropped id goes) (Take y) p =
-      let c = in_emits y (endpoint_at wire old y) (closed_ids (enters wire old y (written wire old y) (endpoint_at wire old y) (Dropped id goes))) p.0 p.2 in
-      by_machine c.0 c.1
+      let c = in_emits y (endpoint_at wire old y) says.Closed (λ i. refl)
+      (closed_ids (enters wire old y (written wire old y) (endpoint_at wire old y) (Dropped id goes))) p.0 p.2 in
+      by_control c.0 c.1 c.2
   came n (Closed goes) (Close (closings.Endpoint y id)) p =
-      let c = in_emits y (endpoint_at wire old y) (id ∷ []) p.0 (in_rest (id == 0) _ p.0 p.2) in by_machine c.0 c.1
+      let c = in_emits y (endpoint_at wire old y) says.Closed (λ i. refl) (id ∷ []) p.0 (in_rest (id == 0) _ p.0 p.2) in by_control c.0 c.1 c.2
   came n (Closed goes) (Close (closings.Pending q)) p =
-      let c = in_emits q.end (endpoint_at wire old q.end) (q.id ∷ []) p.0 (in_rest (is_gone old q.end || is_local old q) _ p.0 p.2) in by_machine c.0 c.1
+      let c = in_emits q.end (endpoint_at wire old q.end) says.Closed (λ i. refl) (q.id ∷ []) p.0 (in_rest (is_gone old q.end || is_local old q) _ p.0 p.2) in
+      by_control c.0 c.1 c.2
+  came n (Heard c) (Take y) p = let d = in_version y (endpoint_at wire old y) c p.0 p.2 in by_control d.0 d.1 d.2
+  came n (Informed told) (Notify y notice) p =
+      let l = in_lands y (wire.control (control_of notice told)) [] p.0 p.2 in
+      by_notice l.0 (ap (λ (w : Message). w.bytes) l.1) (first_of n p.0 p.1 l.2)
   came n told asked p = absurd p.2

@@ -25,6 +25,7 @@ use Rattle.bounds_claims.specs.Runs.{run, step, first_fault, ◌>>=◌}
 use Rattle.bounds_claims.specs.declared.claims.Claims.{Claims}
 use Rattle.bounds_claims.proofs.Steps.{run_append}
 use Rattle.message_validator.specs.Before.{before_payload}
+use Rattle.bind_model.specs.declared.control.Control.{Control}
 use Rattle.bind_model.specs.Replies.{is_response}
 use Rattle.bind_model.specs.Wire.{Content, Head, Header}
 use Rattle.bind_model.specs.WireOf.{wire_of, comes_to, content_in, has_response, stands_in, struct_named, unless_fault}
@@ -32,7 +33,7 @@ use Rattle.reply_laws.proofs.Heads.{said_id, said_name, said_flags, said_request
 
 -- ## What is read
 
-no_fault : {A : Type 0} (o : Option Fault) (answer a : A) → unless_fault o answer ≡ Ok a → (o ≡ None) × (a ≡ answer)
+pub no_fault : {A : Type 0} (o : Option Fault) (answer a : A) → unless_fault o answer ≡ Ok a → (o ≡ None) × (a ≡ answer)
 no_fault {A} None answer a e = (refl, ap value (sym e))
   where
     value : Result A Fault → A
@@ -147,15 +148,15 @@ unfolding wire_of
 responds_is schema target = refl
 
 -- a control is for no endpoint
-pub control_is : (schema : Schema) (id : ℕ) → number32 ((wire_of schema).control id) 8 ≡ CONTROL_ID
+pub control_is : (schema : Schema) (c : Control) → number32 ((wire_of schema).control c) 8 ≡ CONTROL_ID
 unfolding wire_of
-control_is schema id = control_says id
+control_is schema c = control_says c
 
 -- and its request number has 64 bits
-pub control_numbers : (schema : Schema) (id : ℕ) (bytes : List ℕ) → bytes ≡ (wire_of schema).control id → request_read bytes < 2 ^ 64
+pub control_numbers : (schema : Schema) (c : Control) (bytes : List ℕ) → bytes ≡ (wire_of schema).control c → request_read bytes < 2 ^ 64
 unfolding wire_of
-control_numbers schema id bytes e =
-    let none : request_read bytes ≡ 0 = ap request_read e ∙ control_request id in
+control_numbers schema c bytes e =
+    let none : request_read bytes ≡ 0 = ap request_read e ∙ control_request c in
     omega (arith, none)
 
 -- ## Flags

@@ -45,7 +45,7 @@ pub record Called (wire : Wire) (past : List Event) (y : EndId) (id : ℕ) (s : 
   pub asks : is_response s.target.side ≡ false
   pub tokens : tokens_right wire past s ≡ true
   pub number : request ≡ request_of wire past y id s.target
-  pub sealed : bytes ≡ wire.sealed s.target s.parameters (record { id = id; request = request; ids = ids_of s.pendings })
+  pub sealed : bytes ≡ wire.sealed s.target s.parameters (record { id = id; request = request; ids = ids_of s.pendings; moment = s.moment })
 
 pub record Answered (wire : Wire) (past : List Event) (q : ResponderId) (s : Outgoing) (bytes : List ℕ) : Type 0 where
   pub r : Endpoint
@@ -54,7 +54,7 @@ pub record Answered (wire : Wire) (past : List Event) (q : ResponderId) (s : Out
   pub out : list_any (λ p. same_responder p q) (responders_out wire past) ≡ true
   pub target : same_target s.target (record { interface = q.interface; method = q.method; side = Response }) ≡ true
   pub tokens : tokens_right wire past s ≡ true
-  pub sealed : bytes ≡ wire.sealed s.target s.parameters (record { id = q.id; request = q.request; ids = ids_of s.pendings })
+  pub sealed : bytes ≡ wire.sealed s.target s.parameters (record { id = q.id; request = q.request; ids = ids_of s.pendings; moment = s.moment })
 
 module _ (wire : Wire) (seqs : ℕ) (past : List Event) (seq : SeqId) where
   call_by : (y : EndId) (id : ℕ) (s : Outgoing) (request : ℕ) (bytes : List ℕ) (o : Option Endpoint) → endpoint_at wire past y id ≡ o
@@ -71,7 +71,7 @@ module _ (wire : Wire) (seqs : ℕ) (past : List Event) (seq : SeqId) where
       ∷ wrong_pipe past y s.pendings
       ∷ cannot_write wire past y r.peer_closed s.handles)
       (Sent (request_of wire past y id s.target) (wire.sealed s.target s.parameters
-      (record { id = id; request = request_of wire past y id s.target; ids = ids_of s.pendings }))) (Sent request bytes) h) [
+      (record { id = id; request = request_of wire past y id s.target; ids = ids_of s.pendings; moment = s.moment }))) (Sent request bytes) h) [
         | inl n ↦ absurd (let no : Sent request bytes ≡ No n.0 = n.1 in cc)
         | inr p ↦
             let asks = right_true (s.target.interface == r.interface) (not (is_response s.target.side))
@@ -86,7 +86,8 @@ module _ (wire : Wire) (seqs : ℕ) (past : List Event) (seq : SeqId) where
               tokens = held (tokens_right wire past s) WrongTokens p.0.1.1.1.1.1.1.0;
               number = number;
               sealed = ap bytes_in p.1
-                  ∙ ap (λ (n : ℕ). wire.sealed s.target s.parameters (record { id = id; request = n; ids = ids_of s.pendings })) (sym number);
+                  ∙ ap (λ (n : ℕ). wire.sealed s.target s.parameters (record { id = id; request = n; ids = ids_of s.pendings; moment = s.moment }))
+                  (sym number);
             }
       ]
 
@@ -101,7 +102,8 @@ module _ (wire : Wire) (seqs : ℕ) (past : List Event) (seq : SeqId) where
       ∷ wrong_tokens wire past s
       ∷ wrong_pipe past q.end s.pendings
       ∷ cannot_write wire past q.end r.peer_closed s.handles)
-      (Sent q.request (wire.sealed s.target s.parameters (record { id = q.id; request = q.request; ids = ids_of s.pendings }))) (Sent request bytes) h) [
+      (Sent q.request (wire.sealed s.target s.parameters (record { id = q.id; request = q.request; ids = ids_of s.pendings; moment = s.moment })))
+      (Sent request bytes) h) [
         | inl n ↦ absurd (let no : Sent request bytes ≡ No n.0 = n.1 in cc)
         | inr p ↦
             let all = held (list_any (λ p. same_responder p q) (responders_out wire past) && all_out past s.handles && all_pending past s.pendings) NoName

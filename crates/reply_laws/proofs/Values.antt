@@ -131,11 +131,11 @@ encodes passed schema past s number fits tokens struct =
     }
 
 module _ (passed : Passed) (schema : Schema) (past : List Event) (s : Outgoing) (id request : ℕ) (bytes : List ℕ)
-    (is : bytes ≡ (wire_of schema).sealed s.target s.parameters (record { id = id; request = request; ids = ids_of s.pendings }))
+    (is : bytes ≡ (wire_of schema).sealed s.target s.parameters (record { id = id; request = request; ids = ids_of s.pendings; moment = s.moment }))
     (small : id < 2 ^ 32) (low : request < 2 ^ 64) (named : AreIds (ids_of s.pendings)) (tokens : tokens_right (wire_of schema) past s ≡ true)
     (fits : FitsMethod schema s) (number : ℕ) (struct : parameters_of schema s.target ≡ Some number) where
   abbrev head : Head
-  head = record { id = id; request = request; ids = ids_of s.pendings }
+  head = record { id = id; request = request; ids = ids_of s.pendings; moment = s.moment }
 
   abbrev front : messages.Head
   front = head_for schema s.target head
@@ -179,12 +179,12 @@ module _ (passed : Passed) (schema : Schema) (past : List Event) (s : Outgoing) 
 
 -- what was sealed stands for its value at an endpoint of its interface and side
 pub same_value : Passed → (schema : Schema) (past : List Event) (s : Outgoing) (id request : ℕ) (bytes : List ℕ)
-    → bytes ≡ (wire_of schema).sealed s.target s.parameters (record { id = id; request = request; ids = ids_of s.pendings })
+    → bytes ≡ (wire_of schema).sealed s.target s.parameters (record { id = id; request = request; ids = ids_of s.pendings; moment = s.moment })
     → id < 2 ^ 32 → request < 2 ^ 64 → AreIds (ids_of s.pendings) → tokens_right (wire_of schema) past s ≡ true → FitsMethod schema s
     → (side : EndpointSide) (interface : ℕ) (c : Content) → Stood schema side interface bytes c → interface ≡ s.target.interface
     → comes_to side ≡ s.target.side → (c.target ≡ s.target) × (c.parameters ≡ s.parameters)
 same_value passed schema past s id request bytes is small low named tokens fits side interface c q at comes =
-    let head : Head = record { id = id; request = request; ids = ids_of s.pendings } in
+    let head : Head = record { id = id; request = request; ids = ids_of s.pendings; moment = s.moment } in
     let name : number32 bytes 12 ≡ s.target.method = method_read schema s.target s.parameters head bytes is fits.method in
     let target : ◌≡◌ {A = Target} (record { interface = interface; method = number32 bytes 12; side = comes_to side }) s.target =
     λ i. record { interface = at i; method = name i; side = comes i } in

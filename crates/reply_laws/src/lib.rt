@@ -1,4 +1,4 @@
-//! Whose value a take gets.
+//! Whose value a take gets, and whose flush.
 #![tactic(auto)]
 
 ghost use Rattle.std.specs.Prelude.{ℕ, ◌≤◌, List, length};
@@ -7,6 +7,7 @@ ghost use Rattle.mj_schema.specs.declared.schema.Schema.{Schema};
 ghost use Rattle.bind_model.specs.declared.event.Event.{Event};
 ghost use Rattle.bind_model.specs.WireOf.{wire_of};
 ghost use Rattle.bind_model.specs.Replies.{legal};
+ghost use Rattle.bind_model.specs.Flushes.{AllBehind};
 ghost use Rattle.reply_laws.specs.Own.{AllOwn};
 ghost use Rattle.reply_laws.specs.Once.{AllFirst};
 
@@ -32,3 +33,10 @@ pub fn all_first()
 {
     passed_is_encodable();
 }
+
+/// Where nothing was written raw to an end, a flush that is consumed there was written by its peer, and all
+/// that was written before it was consumed before. This is a law and does nothing.
+#[tactic(auto, using(crate::proofs::Behind::all_behind))]
+pub fn all_behind()
+    ensures { (schema : Schema) (seqs : ℕ) (past : List Event) → legal (wire_of schema) seqs past → AllBehind (wire_of schema) past }
+{}

@@ -12,6 +12,7 @@ why_in id states.Closed = Some Disconnected
 why_in id (states.Bound t) = Some (WrongPipe id)
 why_in id states.Pending = None
 
+-- the same, of an endpoint that may not be there
 abbrev pub why_found : ℕ → Option Endpoint → Option Why
 why_found id None = Some NoName
 why_found id (Some e) = why_in id e.state

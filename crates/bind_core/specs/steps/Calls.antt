@@ -51,6 +51,7 @@ outgoing_named prepared names = record {
   parameters = view prepared.value;
   handles = names.things;
   pendings = names.pendings;
+  moment = None;
 }
 
 -- what goes out, the message, and the bytes twice more

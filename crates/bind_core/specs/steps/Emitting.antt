@@ -17,6 +17,7 @@ pub record IsNamed (id : ℕ) : Type 0 where
   pub some : 0 < id
   pub other : id < CONTROL_ID
 
+-- so it is with each of these ids
 abbrev pub AreNamed : List ℕ → Type 0
 AreNamed ids = (id : ℕ) → has_number ids id ≡ true → IsNamed id
 

@@ -24,8 +24,10 @@ pub record AllEnterIf (entries : List Entry) (here : Bool) (old new : Contents) 
   pub rows : (n : ℕ) → row_at new n ≡ (if here then entered_row entries n (row_at old n) else row_at old n)
   pub drawn : new.drawn ≡ old.drawn
 
+-- they enter at the end of this number of a sequence, and nowhere else there
 abbrev pub AllEnterIn : List Entry → ℕ → List Contents → List Contents → Type 0
 AllEnterIn entries number old new = (k : ℕ) → AllEnterIf entries (number == k) (router_in old k) (router_in new k)
 
+-- they enter at an end, and nowhere else
 abbrev pub AllEnterAt : List Entry → EndId → Routers → Routers → Type 0
 AllEnterAt entries x old new = (y : EndId) → AllEnterIf entries (same_end x y) (router_at old y) (router_at new y)

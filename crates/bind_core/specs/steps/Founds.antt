@@ -1,4 +1,5 @@
 -- What is found at the front of an end's mail.
+use Rattle.bind_model.specs.declared.told.Noted.TheVariants as noted
 use Rattle.std.specs.Prelude.{ℕ, ◌≡◌, ◌*◌, ◌&&◌, ◌||◌, not, Bool, true, false, List, [], length, map, filter, Option, Some, None, Ok}
 use Rattle.mj_base.specs.declared.header.Header.{Header as Read}
 use Rattle.mj_base.specs.declared.ids.EndId.{EndId}
@@ -47,6 +48,7 @@ is_pending_state states.Pending = true
 is_pending_state (states.Bound t) = false
 is_pending_state states.Closed = false
 
+-- the same of an endpoint
 abbrev pub is_pending : Endpoint → Bool
 is_pending e = is_pending_state e.state
 
@@ -73,6 +75,7 @@ pub record IsGot (wire : Wire) (past : List Event) (y : EndId) (a : Arrived) (to
     handles = a.named;
     pendings = pendings_at y (pending_ids a.admitted.entries.items);
     gone = goes_behind wire past y a.left;
+    moment = None;
   })
 
 -- a take at y is told what was found there
@@ -80,7 +83,7 @@ abbrev pub Tells : Wire → List Event → EndId → Found → Told → Type 0
 Tells wire past y (Nothing why) told = told ≡ tells.No why
 Tells wire past y (Bad why) told = told ≡ bad wire past y why
 Tells wire past y (Dropped id a) told = IsDropped wire past y id a told
-Tells wire past y (Control id) told = told ≡ tells.Control id
+Tells wire past y (Control id) told = told ≡ tells.Control (noted.Closed id)
 Tells wire past y (Value a) told = IsGot wire past y a told
 
 -- whether a message of this side, for the endpoint of an id at an end, is a response that nobody waits for

@@ -19,10 +19,11 @@ abbrev pub count_by : Sort → Store → ℕ → ℕ
 count_by Ends table seq = ends_made table seq
 count_by Tokens table seq = tokens_made table seq
 
--- all that a sequence made, and all that these sequences made
+-- all that a sequence made
 abbrev pub all_by : Sort → Store → ℕ → List Thing
 all_by sort table seq = map (numbered sort seq) (up_from 0 (count_by sort table seq))
 
+-- all that so many sequences made
 abbrev pub all_made : Sort → Store → ℕ → List Thing
 all_made sort table seqs = flat_map (all_by sort table) (up_from 0 seqs)
 

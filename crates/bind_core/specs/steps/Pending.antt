@@ -6,7 +6,7 @@ use Rattle.bind_model.specs.Machine.{Entry}
 use Rattle.bind_model.specs.Pendings.{Half}
 use Rattle.bind_model.specs.declared.endpoint.PendingId.{PendingId}
 use Rattle.bind_model.specs.declared.names.EndpointName.{EndpointName}
-use Rattle.bind_model.specs.steps.PendingKeys.{has_place}
+use Rattle.bind_model.specs.Pendings.{has_place}
 use Rattle.bind_core.specs.steps.Founds.{is_pending, pending_ids}
 
 -- the name of a pending at an end

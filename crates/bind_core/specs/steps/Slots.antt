@@ -8,17 +8,19 @@ use Rattle.mj_schema.specs.declared.schema.Schema.{Schema}
 use Rattle.wire_encoder.specs.declared.endpoint.EndpointSide.TheVariants as sides
 use Rattle.wire_encoder.specs.declared.endpoint.WantedEndpoint.{WantedEndpoint}
 use Rattle.wire_model.specs.Rows.{member_kind, row_of}
-use Rattle.wire_model.specs.Trees.{Tree, Trees, Flag, Whole, Text, Items, Pairs, Fields, Member, Unknown, Handle, Remote, Endpoint, EndpointRemote, Null, none, more}
+use Rattle.wire_model.specs.Trees.{Tree, Trees, Flag, Whole, Text, Items, Pairs, Fields, Member, Unknown, Handle, Remote, Endpoint, EndpointRemote, Null}
+use Rattle.wire_model.specs.Trees.{none, more}
 use Rattle.bind_model.specs.Wire.{Named}
 
 -- ## What a value names
 
--- a receiver or a remote of an associated endpoint
+-- a receiver of an associated endpoint
 abbrev pub receiver_names : KindTree → ℕ → List Named
 receiver_names (kinds.AssociatedReceiverKind interface nullable) index =
     record { index = index; endpoint = record { side = sides.Receiver; interface = interface } } ∷ []
 receiver_names _ index = []
 
+-- a remote of an associated endpoint
 abbrev pub remote_names : KindTree → ℕ → List Named
 remote_names (kinds.AssociatedRemoteKind interface nullable) index =
     record { index = index; endpoint = record { side = sides.Remote; interface = interface } } ∷ []

@@ -21,6 +21,7 @@ abbrev pub id_in : Result Header Fault → Option ℕ
 id_in (Err fault) = None
 id_in (Ok h) = if h.id == CONTROL_ID then None else Some h.id
 
+-- the same, by the bytes
 abbrev pub id_meant : List ℕ → Option ℕ
 id_meant bytes = id_in (header_in bytes)
 
@@ -37,10 +38,12 @@ taker_for main (Some r) = taker_in main r.state
 
 -- by which endpoint a message is for, and by the endpoints of an end
 module _ (meant : Message → Option ℕ) (endpoints : ℕ → Option Endpoint) where
+  -- a message that is for no endpoint is taken by the sequence of endpoint 0
   abbrev pub taker_meant : Option SeqId → Option ℕ → Option SeqId
   taker_meant main None = main
   taker_meant main (Some id) = taker_for main (endpoints id)
 
+  -- nobody takes where nothing is unread
   abbrev pub taker_front : Option SeqId → Option Message → Option SeqId
   taker_front main None = None
   taker_front main (Some m) = taker_meant main (meant m)
@@ -50,6 +53,7 @@ module _ (meant : Message → Option ℕ) (endpoints : ℕ → Option Endpoint) 
   taker_open closed front None = None
   taker_open closed front (Some main) = if closed then None else taker_front (on_of (Some main)) front
 
+  -- who takes at an end, by whether it is closed, and by its oldest message
   abbrev pub taker_at : Bool → Option Message → Option SeqId
   taker_at closed front = taker_open closed front (endpoints 0)
 

@@ -73,6 +73,7 @@ pub record IsBrought (pipes : Contents) (y : EndId) (a : Arrived) (b : Brings) :
     handles = a.named;
     pendings = pendings_at y (pending_ids a.admitted.entries.items);
     gone = b.gone;
+    moment = None;
   }
   pub gone : b.gone ≡ spread (carried_in pipes.ends (Some y)) pipes.made a.left
   pub things : b.things ≡ a.named

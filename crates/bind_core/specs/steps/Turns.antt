@@ -60,27 +60,34 @@ pub record CanAssociate (c : Contents) : Type 0 where
   pub absent : row_at c (own_id c) ≡ None
   pub place : IsTrue (has_place c (own_id c))
 
--- of one router, of those of a sequence, and of all
+-- a row of one router turns
 abbrev pub Turned : (RowSeen → RowSeen) → ℕ → Contents → Contents → Type 0
 Turned f id old new = TurnsIf f id true old new
 
+-- a row turns at the end of this number of a sequence, and nothing else there
 abbrev pub TurnsIn : (RowSeen → RowSeen) → ℕ → ℕ → List Contents → List Contents → Type 0
 TurnsIn f number id old new = (k : ℕ) → TurnsIf f id (number == k) (router_in old k) (router_in new k)
 
+-- a row turns at an end, and nothing else
 abbrev pub TurnsAt : (RowSeen → RowSeen) → EndId → ℕ → Routers → Routers → Type 0
 TurnsAt f x id old new = (y : EndId) → TurnsIf f id (same_end x y) (router_at old y) (router_at new y)
 
+-- an endpoint enters one router
 abbrev pub Enters : Endpoint → ℕ → Contents → Contents → Type 0
 Enters endpoint id old new = EntersIf endpoint id true old new
 
+-- an endpoint enters at the end of this number of a sequence, and nothing else there changes
 abbrev pub EntersIn : Endpoint → ℕ → ℕ → List Contents → List Contents → Type 0
 EntersIn endpoint number id old new = (k : ℕ) → EntersIf endpoint id (number == k) (router_in old k) (router_in new k)
 
+-- an endpoint enters at an end, and nothing else changes
 abbrev pub EntersAt : Endpoint → EndId → ℕ → Routers → Routers → Type 0
 EntersAt endpoint x id old new = (y : EndId) → EntersIf endpoint id (same_end x y) (router_at old y) (router_at new y)
 
+-- an endpoint enters under the next id at the end of this number of a sequence, and nothing else there changes
 abbrev pub AssociatesIn : Endpoint → ℕ → List Contents → List Contents → Type 0
 AssociatesIn endpoint number old new = (k : ℕ) → AssociatesIf endpoint (number == k) (router_in old k) (router_in new k)
 
+-- an endpoint enters under the next id at an end, and nothing else changes
 abbrev pub AssociatesAt : Endpoint → EndId → Routers → Routers → Type 0
 AssociatesAt endpoint x old new = (y : EndId) → AssociatesIf endpoint (same_end x y) (router_at old y) (router_at new y)

@@ -28,6 +28,7 @@ way_at pipes peer_closed things x =
     else (if nat_le MAX_UNREAD_MESSAGES (weighs (unread_at pipes.ends x)) then Err Full
     else Ok x))
 
+-- the end that a message goes to, by the other end of its pipe
 abbrev pub way_to : Contents → Bool → List Thing → Option EndId → Result EndId Why
 way_to pipes peer_closed things None = Err NoName
 way_to pipes peer_closed things (Some x) = way_at pipes peer_closed things x

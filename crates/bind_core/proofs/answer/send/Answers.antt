@@ -10,7 +10,7 @@ use Rattle.bind_core.specs.declared.state.State.{State}
 use Rattle.bind_core.specs.steps.Answering.{command_of}
 use Rattle.bind_core.specs.steps.Calls.{AreOf, sealed_bytes}
 use Rattle.bind_core.specs.steps.Doing.{Done}
-use Rattle.bind_core.proofs.Replied.{answer_done, are_ids, spendable, there, wanted}
+use Rattle.bind_core.proofs.Replied.{answer_done, are_ids, room, spendable, there, wanted}
 use Rattle.bind_core.proofs.answer.send.Goals as goal
 
 pub writes_of-requires-clause-wanted : goal.writes_of-requires-clause-wanted
@@ -23,8 +23,11 @@ writes_of-requires-clause-ids c =
     subst (λ (ns : CarriedNames). AreIds (ids_of ns.pendings)) (sym c.requires.same)
     (are_ids c.args.state.now c.args.seq c.args.response c.requires.can c.args.peer c.requires.free)
 
-pub push-requires : goal.push-requires
-push-requires c = there c.args.state.now c.args.seq c.args.response c.requires.can c.args.peer c.requires.free
+pub put_message-requires-clause-there : goal.put_message-requires-clause-there
+put_message-requires-clause-there c = there c.args.state.now c.args.seq c.args.response c.requires.can c.args.peer c.requires.free
+
+pub put_message-requires-clause-room : goal.put_message-requires-clause-room
+put_message-requires-clause-room c = room c.args.state.now c.args.seq c.args.response c.requires.can c.args.peer c.requires.free
 
 pub spend-requires : goal.spend-requires
 spend-requires c = spendable c.args.state.now c.args.seq c.args.response c.requires.can c.args.peer c.requires.free
@@ -43,10 +46,10 @@ returns-clause-done c =
       rights = record { responders = c.spend.new.self; pendings = c.spend_all.new.table };
     } in
     subst (λ (q : ResponderId). Done s new c.args.seq (command_of r) (replies.Sent q.request c.in-Ok.writes.told)) (sym c.id-id.ensures)
-    (answer_done s c.args.seq r c.requires.can c.args.peer c.requires.free new refl refl refl ns c.in-Ok.writes c.push.new.self c.requires.same
+    (answer_done s c.args.seq r c.requires.can c.args.peer c.requires.free new refl refl refl ns c.in-Ok.writes c.put_message.new.pipes c.requires.same
     (subst (λ (q : ResponderId). AreOf r.prepared ns (sealed_bytes q.id q.request (ids_of ns.pendings) r.prepared) c.in-Ok.writes) c.id-id.ensures
     c.in-Ok.ensures)
-    c.in-Ok-push.ensures.ok c.put_all.ensures c.spend_all.ensures c.spend.ensures
+    c.in-Ok-put_message.ensures.ok c.put_all.ensures c.spend_all.ensures c.spend.ensures
     (subst
     (λ (q : ResponderId). c.push_reserved.new.self.events ≡ s.log.events
     ++ record { seq = c.args.seq; asked = asks.Answer q c.in-Ok.writes.outgoing; told = tells.Sent q.request c.in-Ok.writes.noted } ∷ [])

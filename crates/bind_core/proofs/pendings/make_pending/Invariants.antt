@@ -3,7 +3,7 @@ use Rattle.std.specs.Prelude.{◌||◌}
 use Rattle.bind_model.specs.Pendings.{is_out}
 use Rattle.bind_model.specs.Replies.{has_pending, pendings_at}
 use Rattle.bind_model.specs.declared.endpoint.PendingId.{PendingId}
-use Rattle.bind_model.specs.steps.PendingKeys.{has_place}
+use Rattle.bind_model.specs.Pendings.{has_place}
 use Rattle.bind_core.specs.steps.Founds.{pending_ids}
 use Rattle.bind_core.specs.steps.Pending.{halves_from}
 use Rattle.bind_core.proofs.pendings.make_pending.Given as goal

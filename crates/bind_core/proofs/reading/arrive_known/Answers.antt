@@ -16,3 +16,4 @@ returns c = λ wire past y arriving.
     (c.new.ensures ∙ c.requires.value) (checked.asked ∙ ap request_read c.requires.bytes)
     (c.in_ok-named.ensures.named ∙ picked_same (view c.args.value) value c.as_slice.result.now m.handles c.requires.value c.as_slice.ensures)
     (c.in_ok-named.ensures.left ∙ unpicked_same (view c.args.value) value c.as_slice.result.now m.handles c.requires.value c.as_slice.ensures)
+    refl

@@ -11,6 +11,7 @@ use Rattle.bind_model.specs.WireOf.{wire_of}
 use Rattle.bind_core.specs.steps.Founds.{IsRead, header_of}
 use Rattle.bind_core.specs.Agreement.{past_of, schema_of, wire_in}
 use Rattle.bind_core.proofs.Arriving.{delivers, obeys}
+use Rattle.bind_core.proofs.HandlesFew.{handles_fit}
 use Rattle.bind_core.proofs.Steady.{found_is}
 use Rattle.bind_core.proofs.WireReads.{header_fails, header_reads}
 use Rattle.bind_core.proofs.reading.read.Goals as goal
@@ -32,6 +33,9 @@ returns-then-header c =
     let said : header ≡ header_said m.bytes = c.in-Ok.ensures.said ∙ ap (λ (bytes : List ℕ). header_said bytes) same in
     obeys (wire_of schema) past c.args.seq c.args.end m (header_of m header) (header_reads schema m.bytes header fine said) c.if-header.true
     c.control.result (c.control.ensures schema past c.args.end m (sym same) (sym c.len.ensures))
+
+pub deliver-requires-clause-few : goal.deliver-requires-clause-few
+deliver-requires-clause-few c = handles_fit c.args.state.now c.requires.holds c.args.end c.args.message.now c.requires.front
 
 pub deliver-requires-clause-there : goal.deliver-requires-clause-there
 deliver-requires-clause-there c = c.find-endpoint.ensures ∙ found_is c.requires.holds.agrees c.args.end c.in-Ok.header.interface_id
