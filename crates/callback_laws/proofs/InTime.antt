@@ -1,4 +1,5 @@
 -- Jobs run exactly on the responses to their requests, since none comes once an end was shown.
+use Rattle.bind_model.specs.declared.told.Noted.TheVariants as noted
 use Rattle.std.proofs.Common.{◌≡◌, ◌==◌, ℕ, Bool, true, false, List, [], ◌∷◌, refl, sym, ap, ◌∙◌, subst}
 use Rattle.std.specs.Prelude.{Option, Some, None, if◌then◌else◌, map, ◌&&◌, ◌||◌}
 use Rattle.std.proofs.lemmas.Bool.{true≢false, and_parts, and_from, eqb-true, eq-eqb}
@@ -53,7 +54,7 @@ ends_over key (Close (Pending p)) (Closed gone) h =
     and_from (same_end p.end key.end) (p.id == key.id) both.0 both.1
 ends_over key (Take end) (Bad why gone) h = of_end end key h
 ends_over key (Take end) (No PeerClosed) h = of_end end key h
-ends_over key (Take end) (Control id) h =
+ends_over key (Take end) (Control (noted.Closed id)) h =
     let both = of_endpoint end id key h in
     and_from (same_end end key.end) (id == key.id) both.0 both.1
 ends_over key asked told h = absurd (true≢false (sym h))

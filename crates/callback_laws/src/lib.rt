@@ -17,13 +17,13 @@ ghost use Rattle.callback_laws.specs.Callbacks.{callbacks_in};
 ghost use Rattle.callback_laws.specs.Ran.{event_of, AreEvents, RanOnResponses};
 ghost use Rattle.callback_laws.specs.Shown.{shown, GivesJobs};
 
-use remote_receiver::Job;
+use remote_receiver::Promise;
 
 /// Where a desk's steps are events of its sequence, in a legal history with at most as many events as a core
 /// keeps, each job that was given with a call that was sent ran exactly where a later take of the desk got
 /// a response to its request: what shows that an endpoint is over is followed by none. This is a law and
 /// does nothing.
-pub fn runs_on_responses<C: Job>()
+pub fn runs_on_responses<C: Promise>()
     ensures { (schema : Schema) (seqs : ℕ) (me : SeqId) (history : List Event) (steps : List (Step C)) (notes : List Note)
         → AreEvents schema seqs me history steps → AreNotes C.promises steps notes → RanOnResponses C.promises steps notes }
 {}
@@ -32,7 +32,7 @@ pub fn runs_on_responses<C: Job>()
 /// exactly where its method has a response, the desk's notes are the callbacks that these events say: one
 /// for each call that was sent with a response to come, in order, which ran exactly where a later take got
 /// the response to its request. This is a law and does nothing.
-pub fn callbacks_of_a_desk<C: Job>()
+pub fn callbacks_of_a_desk<C: Promise>()
     ensures { (schema : Schema) (seqs : ℕ) (me : SeqId) (history : List Event) (steps : List (Step C)) (notes : List Note)
         → Legal (wire_of schema) seqs history → length history ≤ MAX_EVENTS → own_of me history ≡ map (event_of me) steps
         → GivesJobs (wire_of schema) steps → AreNotes C.promises steps notes → map (shown me) notes ≡ callbacks_in (own_of me history) }

@@ -12,7 +12,7 @@ use bind_model::{Command, PendingList, Received, Reply, Stepper, ToClose, Why};
 use handle_table::Handles;
 use mj_base::{EndId, Items, SeqId, Text};
 use mj_schema::{InterfaceRow, MethodRow, Schema, StructRow, VersionRow};
-use remote_receiver::{Answered, BoxedJob, Callback, Desk, Job, Note};
+use remote_receiver::{Answered, BoxedJob, Callback, Desk, Job, Note, Promise};
 use response_map::Key;
 use std::alloc::{AllocError, Global};
 use std::process::Abort;
@@ -28,10 +28,12 @@ struct Adds {
     more: u32,
 }
 
-impl Job for Adds {
+impl Promise for Adds {
     ghost promises = { λ job got note. Unit {0} };
+}
 
-    fn run(self, got: &Answered) -> u64 {
+impl<P: Stepper> Job<P> for Adds {
+    fn run(self, got: &Answered, _stepper: &P) -> u64 {
         let Adds { more } = self;
         got.request.wrapping_mul(100).wrapping_add(u64::from(more))
     }
@@ -125,7 +127,7 @@ fn no_handles(alloc: Global) -> Handles {
 }
 
 /// Does a command that is neither a call nor a take.
-fn done<C: Job, P: Stepper>(
+fn done<C: Promise, P: Stepper>(
     rt: &impl Abort,
     desk: &mut Desk<C, P>,
     alloc: Global,
@@ -144,7 +146,7 @@ fn done<C: Job, P: Stepper>(
 }
 
 /// The ends of a new pipe, bound as the sides of interface 0.
-fn bound<C: Job, P: Stepper>(
+fn bound<C: Promise, P: Stepper>(
     rt: &impl Abort,
     desk: &mut Desk<C, P>,
     alloc: Global,
@@ -185,7 +187,7 @@ fn bound<C: Job, P: Stepper>(
 }
 
 /// Calls with a job: the number of the request.
-fn called<C: Job, P: Stepper>(
+fn called<C: Promise, P: Stepper>(
     rt: &impl Abort,
     desk: &mut Desk<C, P>,
     alloc: Global,
@@ -214,7 +216,7 @@ fn called<C: Job, P: Stepper>(
 }
 
 /// What a take got.
-fn taken<C: Job, P: Stepper>(
+fn taken<C: Job<P>, P: Stepper>(
     rt: &impl Abort,
     desk: &mut Desk<C, P>,
     alloc: Global,
@@ -231,7 +233,7 @@ fn taken<C: Job, P: Stepper>(
 }
 
 /// Takes a request, and answers it.
-fn answered<C: Job, P: Stepper>(
+fn answered<C: Job<P>, P: Stepper>(
     rt: &impl Abort,
     desk: &mut Desk<C, P>,
     alloc: Global,

@@ -4,7 +4,7 @@ ghost use Rattle.std.specs.Prelude.{◌≡◌, [], ◌∷◌, codes, None, IfOk}
 ghost use Rattle.mj_schema.specs.Layout.{IsLaidOut};
 
 use bind_model::{
-    Asked, BadWhy, Closing, Event, Got, History, Outgoing, Parameters, PendingId, Told, Why,
+    Asked, BadWhy, Closing, Event, Got, History, Noted, Outgoing, Parameters, PendingId, Told, Why,
 };
 use call_script::{Fate, Note, render};
 use handle_table::{Thing, TokenId};
@@ -147,7 +147,7 @@ fn endpoint_events(alloc: Global) -> Result<Vec<Event>, AllocError> {
         event(1, Asked::Take(Y), Told::No(Why::Unbound(Q.id))),
         event(1, Asked::Take(Y), Told::No(Why::Elsewhere(SeqId(2)))),
         event(1, Asked::Take(Y), Told::Dropped(Q.id, token)),
-        event(0, Asked::Take(X), Told::Control(Q.id)),
+        event(0, Asked::Take(X), Told::Control(Noted::Closed(Q.id))),
         event(0, Asked::Take(X), Told::Bad(BadWhy::Unasked(1), end)),
         event(
             2,
@@ -169,6 +169,7 @@ fn carried(alloc: Global) -> Result<Asked, AllocError> {
             parameters: Parameters::new(Value::Struct(Vec::new(alloc))),
             handles,
             pendings,
+            moment: None,
         },
     ))
 }
@@ -186,6 +187,7 @@ fn got_carried(alloc: Global) -> Result<Told, AllocError> {
         handles,
         pendings,
         gone,
+        moment: None,
     }))
 }
 

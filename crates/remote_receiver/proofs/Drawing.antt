@@ -101,7 +101,7 @@ tests_of wire past seq y id s r =
 
 abbrev bytes_of : Wire → List Event → EndId → ℕ → Outgoing → List ℕ
 bytes_of wire past y id s =
-    wire.sealed s.target s.parameters (record { id = id; request = request_of wire past y id s.target; ids = ids_of s.pendings })
+    wire.sealed s.target s.parameters (record { id = id; request = request_of wire past y id s.target; ids = ids_of s.pendings; moment = s.moment })
 
 pub answers_call : (wire : Wire) (past : List Event) (seq : SeqId) (y : EndId) (id : ℕ) (s : Outgoing) (e : Option Endpoint)
     → AnswersCall (called wire past seq y id s e)

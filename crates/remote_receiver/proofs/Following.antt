@@ -1,4 +1,5 @@
 -- What a desk keeps follows each of its steps.
+use Rattle.bind_model.specs.declared.told.Noted.TheVariants as noted
 use Rattle.std.proofs.Common.{◌≡◌, ◌==◌, ℕ, Bool, true, false, List, [], ◌∷◌, ◌++◌, ◌⊎◌, inl, inr, refl, sym, ap, ◌∙◌, subst}
 use Rattle.std.specs.Prelude.{Option, Some, None, IfSome, length, if◌then◌else◌, not, ◌&&◌, cond}
 use Rattle.std.specs.FinMap.{empty, get, insert}
@@ -188,7 +189,8 @@ module _ {C : Type 0} (promises : C → Answered → ℕ → Type 0) where
           subst (Follows promises old (record { asked = asks.Take end; told = tells.Taken g; job = None })) (sym same)
           (follows_same (record { asked = asks.Take end; told = tells.Taken g; job = None }) old refl
           (λ key. ap (λ c. if c && same_key (key_of (answered end g)) key then Some (answered end g) else None) e) (λ key. refl))
-  follows_take end (tells.Control id) old new after = follows_end (record { asked = asks.Take end; told = tells.Control id; job = None }) old new refl
+  follows_take end (tells.Control (noted.Closed id)) old new after = follows_end
+      (record { asked = asks.Take end; told = tells.Control (noted.Closed id); job = None }) old new refl
       (λ key. refl) after
   follows_take end (tells.Bad why gone) old new after = follows_end (record { asked = asks.Take end; told = tells.Bad why gone; job = None }) old new refl
       (λ key. refl) after

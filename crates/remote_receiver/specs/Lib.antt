@@ -1,4 +1,5 @@
 pub mod Calls
+pub mod Due
 pub mod Held
 pub mod Notes
 pub mod Stepped

@@ -1,4 +1,5 @@
 -- What a desk did, step by step, and what it was told.
+use Rattle.bind_model.specs.declared.told.Noted.TheVariants as noted
 use Rattle.std.specs.Prelude.{Bool, false, ◌==◌, ◌&&◌, Option, Some, None, if◌then◌else◌}
 use Rattle.mj_base.specs.declared.ids.EndId.{EndId}
 use Rattle.bind_model.specs.Plain.{asked_of, told_of}
@@ -53,7 +54,7 @@ shows_end key (Close (Endpoint end id)) (Closed gone) = if id == 0 then is_of_en
 shows_end key (Close (Pending p)) (Closed gone) = is_of_endpoint p.end p.id key
 shows_end key (Take end) (Bad why gone) = is_of_end end key
 shows_end key (Take end) (No PeerClosed) = is_of_end end key
-shows_end key (Take end) (Control id) = is_of_endpoint end id key
+shows_end key (Take end) (Control (noted.Closed id)) = is_of_endpoint end id key
 shows_end key asked told = false
 
 -- a command, the reply to it, and the job that came with it

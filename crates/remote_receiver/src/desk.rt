@@ -15,7 +15,7 @@ ghost use Rattle.remote_receiver.specs.Stepped.{step_of};
 ghost use Rattle.remote_receiver.specs.Waits.{AreDrawn};
 
 use crate::call::{CallRefused, Sent};
-use crate::job::Job;
+use crate::job::{Job, Promise};
 use crate::jobs::Jobs;
 use crate::note::Note;
 use crate::rest::Rest;
@@ -35,18 +35,8 @@ pub struct Desk<C, P: Stepper> {
     ghost drawn: { AreDrawn (P.seen stepper) jobs.waiting.callbacks },
 }
 
-impl<C: Job, P: Stepper> Desk<C, P> {
-    /// A desk without jobs. Takes no memory.
-    pub fn new(alloc: Global, stepper: P) -> Desk<C, P>
-        ensures stepper { result.stepper ≡ stepper }
-        ensures kept { HasKept C.promises [] (kept_of result.jobs) }
-    {
-        Desk {
-            stepper,
-            jobs: Jobs::new(alloc),
-        }
-    }
-
+// No job can be run here.
+impl<C: Drop, P: Stepper> Desk<C, P> {
     /// Its stepper.
     pub fn stepper(&self) -> &P
         ensures { result.now ≡ self.now.stepper }
@@ -60,6 +50,7 @@ impl<C: Job, P: Stepper> Desk<C, P> {
         requires prepared { IsOf (P.schema self.old.stepper) command }
         ensures same { (P.schema self.new.stepper ≡ P.schema self.old.stepper) × (P.seqs self.new.stepper ≡ P.seqs self.old.stepper)
             × (P.alone self.new.stepper ≡ P.alone self.old.stepper) × (P.me self.new.stepper ≡ P.me self.old.stepper) }
+        ensures home { P.home self.new.stepper ≡ P.home self.old.stepper }
         ensures event { IfOk result (λ reply. Saw (P.schema self.old.stepper) (P.seqs self.old.stepper) (P.alone self.old.stepper)
             (P.me self.old.stepper) (P.seen self.old.stepper) (P.seen self.new.stepper) command reply) }
         ensures refused { IfErr result (λ refused. Waited (P.schema self.old.stepper) (P.seqs self.old.stepper) (P.alone self.old.stepper)
@@ -67,6 +58,42 @@ impl<C: Job, P: Stepper> Desk<C, P> {
         ensures jobs { self.new.jobs ≡ self.old.jobs }
     {
         self.stepper.step(alloc, command)
+    }
+
+    /// Puts it to rest: its stepper, and its jobs and notes. Takes no memory.
+    pub fn rest(self) -> (P, Rest<C>)
+        ensures stepper { result.0 ≡ self.stepper }
+        ensures kept { kept_of result.1.jobs ≡ kept_of self.jobs }
+        ensures drawn { AreDrawn (P.seen result.0) result.1.jobs.waiting.callbacks }
+    {
+        let Desk { stepper, jobs } = self;
+        (stepper, Rest { jobs })
+    }
+
+    /// Ends it: its stepper, and the note of each job. The jobs that still wait are dropped, and don't run.
+    /// Takes no memory.
+    pub fn finish(self) -> (P, Vec<Note>)
+        ensures stepper { result.0 ≡ self.stepper }
+        ensures notes { result.1.items ≡ (kept_of self.jobs).notes }
+    {
+        let Desk { stepper, jobs } = self;
+        let Jobs { waiting, notes } = jobs;
+        drop(waiting);
+        (stepper, notes)
+    }
+}
+
+// Nor here, where clauses speak of what it promises.
+impl<C: Promise, P: Stepper> Desk<C, P> {
+    /// A desk without jobs. Takes no memory.
+    pub fn new(alloc: Global, stepper: P) -> Desk<C, P>
+        ensures stepper { result.stepper ≡ stepper }
+        ensures kept { HasKept C.promises [] (kept_of result.jobs) }
+    {
+        Desk {
+            stepper,
+            jobs: Jobs::new(alloc),
+        }
     }
 
     /// Calls from the endpoint of this id at an end, with a job exactly where the method has a response.
@@ -86,6 +113,7 @@ impl<C: Job, P: Stepper> Desk<C, P> {
         requires job { is_some job ≡ (wire_of (P.schema self.old.stepper)).responds prepared.target.interface prepared.target.method }
         ensures same { (P.schema self.new.stepper ≡ P.schema self.old.stepper) × (P.seqs self.new.stepper ≡ P.seqs self.old.stepper)
             × (P.alone self.new.stepper ≡ P.alone self.old.stepper) × (P.me self.new.stepper ≡ P.me self.old.stepper) }
+        ensures home { P.home self.new.stepper ≡ P.home self.old.stepper }
         ensures event { IfOk result (λ sent. Saw (P.schema self.old.stepper) (P.seqs self.old.stepper) (P.alone self.old.stepper)
             (P.me self.old.stepper) (P.seen self.old.stepper) (P.seen self.new.stepper)
             (Call end id prepared handles pendings) (replies.Sent sent.request sent.bytes)) }
@@ -114,22 +142,6 @@ impl<C: Job, P: Stepper> Desk<C, P> {
         }
     }
 
-    /// Takes the oldest unread message at an end. The job that waits for it runs on it.
-    pub fn take(&mut self, alloc: Global, end: EndId) -> Result<Reply, Refused>
-        requires { (P.me self.old.stepper).0 < P.seqs self.old.stepper }
-        ensures same { (P.schema self.new.stepper ≡ P.schema self.old.stepper) × (P.seqs self.new.stepper ≡ P.seqs self.old.stepper)
-            × (P.alone self.new.stepper ≡ P.alone self.old.stepper) × (P.me self.new.stepper ≡ P.me self.old.stepper) }
-        ensures event { IfOk result (λ reply. Saw (P.schema self.old.stepper) (P.seqs self.old.stepper) (P.alone self.old.stepper)
-            (P.me self.old.stepper) (P.seen self.old.stepper) (P.seen self.new.stepper) (Take end) reply) }
-        ensures kept { IfOk result (λ reply. Follows C.promises (kept_of self.old.jobs) (step_of (Take end) reply None) (kept_of self.new.jobs)) }
-        ensures refused { IfErr result (λ refused. Waited (P.schema self.old.stepper) (P.seqs self.old.stepper) (P.alone self.old.stepper)
-            (P.me self.old.stepper) (P.seen self.old.stepper) (P.seen self.new.stepper) (Take end) refused) }
-        ensures unmoved { OnErr result (kept_of self.new.jobs ≡ kept_of self.old.jobs) }
-    {
-        let reply = self.advance(alloc, Command::Take(end))?;
-        Ok(tell_taken(&mut self.jobs, end, reply))
-    }
-
     /// Does a command that is neither a call nor a take.
     pub fn step(&mut self, alloc: Global, command: Command) -> Result<Reply, Refused>
         requires seq { (P.me self.old.stepper).0 < P.seqs self.old.stepper }
@@ -137,6 +149,7 @@ impl<C: Job, P: Stepper> Desk<C, P> {
         requires other { IsOther command }
         ensures same { (P.schema self.new.stepper ≡ P.schema self.old.stepper) × (P.seqs self.new.stepper ≡ P.seqs self.old.stepper)
             × (P.alone self.new.stepper ≡ P.alone self.old.stepper) × (P.me self.new.stepper ≡ P.me self.old.stepper) }
+        ensures home { P.home self.new.stepper ≡ P.home self.old.stepper }
         ensures event { IfOk result (λ reply. Saw (P.schema self.old.stepper) (P.seqs self.old.stepper) (P.alone self.old.stepper)
             (P.me self.old.stepper) (P.seen self.old.stepper) (P.seen self.new.stepper) command reply) }
         ensures kept { IfOk result (λ reply. Follows C.promises (kept_of self.old.jobs) (step_of command reply None) (kept_of self.new.jobs)) }
@@ -163,6 +176,7 @@ impl<C: Job, P: Stepper> Desk<C, P> {
         requires prepared { IsPrepared (P.schema self.old.stepper) prepared }
         ensures same { (P.schema self.new.stepper ≡ P.schema self.old.stepper) × (P.seqs self.new.stepper ≡ P.seqs self.old.stepper)
             × (P.alone self.new.stepper ≡ P.alone self.old.stepper) × (P.me self.new.stepper ≡ P.me self.old.stepper) }
+        ensures home { P.home self.new.stepper ≡ P.home self.old.stepper }
         ensures event { IfOk result (λ reply. Saw (P.schema self.old.stepper) (P.seqs self.old.stepper) (P.alone self.old.stepper)
             (P.me self.old.stepper) (P.seen self.old.stepper) (P.seen self.new.stepper) (Answer responder prepared handles pendings) reply) }
         ensures kept { IfOk result (λ reply. Follows C.promises (kept_of self.old.jobs)
@@ -176,26 +190,23 @@ impl<C: Job, P: Stepper> Desk<C, P> {
             Command::Answer(responder, prepared, handles, pendings),
         )
     }
+}
 
-    /// Puts it to rest: its stepper, and its jobs and notes. Takes no memory.
-    pub fn rest(self) -> (P, Rest<C>)
-        ensures stepper { result.0 ≡ self.stepper }
-        ensures kept { kept_of result.1.jobs ≡ kept_of self.jobs }
-        ensures drawn { AreDrawn (P.seen result.0) result.1.jobs.waiting.callbacks }
+impl<C: Job<P>, P: Stepper> Desk<C, P> {
+    /// Takes the oldest unread message at an end. The job that waits for it runs on it.
+    pub fn take(&mut self, alloc: Global, end: EndId) -> Result<Reply, Refused>
+        requires { (P.me self.old.stepper).0 < P.seqs self.old.stepper }
+        ensures same { (P.schema self.new.stepper ≡ P.schema self.old.stepper) × (P.seqs self.new.stepper ≡ P.seqs self.old.stepper)
+            × (P.alone self.new.stepper ≡ P.alone self.old.stepper) × (P.me self.new.stepper ≡ P.me self.old.stepper) }
+        ensures home { P.home self.new.stepper ≡ P.home self.old.stepper }
+        ensures event { IfOk result (λ reply. Saw (P.schema self.old.stepper) (P.seqs self.old.stepper) (P.alone self.old.stepper)
+            (P.me self.old.stepper) (P.seen self.old.stepper) (P.seen self.new.stepper) (Take end) reply) }
+        ensures kept { IfOk result (λ reply. Follows C.promises (kept_of self.old.jobs) (step_of (Take end) reply None) (kept_of self.new.jobs)) }
+        ensures refused { IfErr result (λ refused. Waited (P.schema self.old.stepper) (P.seqs self.old.stepper) (P.alone self.old.stepper)
+            (P.me self.old.stepper) (P.seen self.old.stepper) (P.seen self.new.stepper) (Take end) refused) }
+        ensures unmoved { OnErr result (kept_of self.new.jobs ≡ kept_of self.old.jobs) }
     {
-        let Desk { stepper, jobs } = self;
-        (stepper, Rest { jobs })
-    }
-
-    /// Ends it: its stepper, and the note of each job. The jobs that still wait are dropped, and don't run.
-    /// Takes no memory.
-    pub fn finish(self) -> (P, Vec<Note>)
-        ensures stepper { result.0 ≡ self.stepper }
-        ensures notes { result.1.items ≡ (kept_of self.jobs).notes }
-    {
-        let Desk { stepper, jobs } = self;
-        let Jobs { waiting, notes } = jobs;
-        drop(waiting);
-        (stepper, notes)
+        let reply = self.advance(alloc, Command::Take(end))?;
+        Ok(tell_taken(&mut self.jobs, &self.stepper, end, reply))
     }
 }

@@ -9,6 +9,7 @@ ghost use Rattle.remote_receiver.specs.Waits.{AreNoted, IsPartOf};
 
 use crate::job::{Answered, Job};
 use crate::note::Note;
+use bind_model::Stepper;
 use mj_base::EndId;
 use response_map::{Key, ResponseMap};
 use std::alloc::{AllocError, Global};
@@ -42,9 +43,9 @@ impl<C> Jobs<C> {
     }
 }
 
-impl<C: Job> Jobs<C> {
+impl<C: Drop> Jobs<C> {
     ghost use Rattle.remote_receiver.specs.Held.{kept_of};
-    ghost use Rattle.remote_receiver.specs.steps.Doing.{Heard, Keeps};
+    ghost use Rattle.remote_receiver.specs.steps.Doing.{Keeps};
 
     /// Makes room for one job more and its note.
     pub(crate) fn reserve(&mut self) -> Result<(), AllocError>
@@ -86,26 +87,6 @@ impl<C: Job> Jobs<C> {
         }
     }
 
-    /// Runs the job that waits for a response, if there is one.
-    pub(crate) fn hear(&mut self, got: &Answered)
-        ensures heard { Heard C.promises got.now (kept_of self.old) (kept_of self.new) }
-        ensures part { IsPartOf self.old.waiting.callbacks self.new.waiting.callbacks }
-    {
-        let key = Key {
-            end: got.end,
-            id: got.id,
-            request: got.request,
-        };
-        if let Some(Waiting { job, at }) = self.waiting.take(key) {
-            let note = job.run(got);
-            self.notes[at] = Note {
-                key,
-                ran: true,
-                note,
-            };
-        }
-    }
-
     /// Drops the jobs of an endpoint, and runs none.
     pub(crate) fn drop_endpoint(&mut self, end: EndId, id: u32)
         ensures waiting { self.new.waiting.callbacks
@@ -124,5 +105,34 @@ impl<C: Job> Jobs<C> {
         ensures part { IsPartOf self.old.waiting.callbacks self.new.waiting.callbacks }
     {
         self.waiting.drop_end(end);
+    }
+}
+
+impl<C> Jobs<C> {
+    ghost use Rattle.remote_receiver.specs.Due.{IsDue};
+    ghost use Rattle.remote_receiver.specs.Held.{kept_of};
+    ghost use Rattle.remote_receiver.specs.steps.Doing.{Heard};
+
+    /// Runs the job that waits for a response, which the last take got, if there is one.
+    pub(crate) fn hear<P: Stepper>(&mut self, got: &Answered, stepper: &P)
+    where
+        C: Job<P>,
+        requires due { IsDue (P.me stepper.now) (P.seen stepper.now) got.now }
+        ensures heard { Heard C.promises got.now (kept_of self.old) (kept_of self.new) }
+        ensures part { IsPartOf self.old.waiting.callbacks self.new.waiting.callbacks }
+    {
+        let key = Key {
+            end: got.end,
+            id: got.id,
+            request: got.request,
+        };
+        if let Some(Waiting { job, at }) = self.waiting.take(key) {
+            let note = job.run(got, stepper);
+            self.notes[at] = Note {
+                key,
+                ran: true,
+                note,
+            };
+        }
     }
 }

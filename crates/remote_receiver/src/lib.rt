@@ -14,6 +14,6 @@ mod told;
 pub use boxed::{BoxedJob, Callback};
 pub use call::{CallRefused, Sent};
 pub use desk::Desk;
-pub use job::{Answered, Job};
+pub use job::{Answered, Job, Promise};
 pub use note::Note;
 pub use rest::Rest;

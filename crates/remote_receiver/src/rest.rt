@@ -6,7 +6,7 @@ ghost use Rattle.remote_receiver.specs.Notes.{HasKept};
 ghost use Rattle.remote_receiver.specs.Waits.{AreDrawn};
 
 use crate::desk::Desk;
-use crate::job::Job;
+use crate::job::Promise;
 use crate::jobs::Jobs;
 use bind_model::Stepper;
 use std::alloc::Global;
@@ -17,7 +17,7 @@ pub struct Rest<C> {
     pub(crate) jobs: Jobs<C>,
 }
 
-impl<C: Job> Rest<C> {
+impl<C: Promise> Rest<C> {
     /// A desk without jobs, at rest. Takes no memory.
     pub fn new(alloc: Global) -> Rest<C>
         ensures kept { HasKept C.promises [] (kept_of result.jobs) }
@@ -26,7 +26,9 @@ impl<C: Job> Rest<C> {
             jobs: Jobs::new(alloc),
         }
     }
+}
 
+impl<C: Drop> Rest<C> {
     /// A desk with these jobs and notes. Its stepper has seen the calls that they were given with. Takes
     /// no memory.
     pub fn wake<P: Stepper>(self, stepper: P) -> Desk<C, P>

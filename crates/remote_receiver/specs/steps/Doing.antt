@@ -1,4 +1,5 @@
 -- What a reply does to what a desk keeps.
+use Rattle.bind_model.specs.declared.told.Noted.TheVariants as noted
 use Rattle.std.specs.Prelude.{ℕ, Bool, true, false, ◌≡◌, ◌==◌, ◌++◌, not, List, [], ◌∷◌, length, slice_set, Option, Some, None, if◌then◌else◌}
 use Rattle.std.specs.FinMap.{get, insert, remove, retain_keys}
 use Rattle.mj_base.specs.declared.ids.EndId.{EndId}
@@ -51,7 +52,7 @@ module _ {C : Type 0} where
 
   -- a take that shows the end of an endpoint, or of all of an end
   abbrev pub AfterEnd : EndId → Told → Kept C → Kept C → Type 0
-  AfterEnd end (Control id) old new = Dropped (is_of_endpoint end id) old new
+  AfterEnd end (Control (noted.Closed id)) old new = Dropped (is_of_endpoint end id) old new
   AfterEnd end (Bad why gone) old new = Dropped (is_of_end end) old new
   AfterEnd end (No PeerClosed) old new = Dropped (is_of_end end) old new
   AfterEnd end told old new = new ≡ old

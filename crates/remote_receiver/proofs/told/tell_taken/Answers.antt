@@ -18,5 +18,8 @@ after_other promises end reply old new never after = after
 
 pub returns-in_default-clause-kept : goal.returns-in_default-clause-kept
 returns-in_default-clause-kept g c =
-    after_other g.C.Job.promises c.args.end c.args.reply (kept_of c.args.jobs.now) (kept_of c.drop_over.new.jobs) c.in_default.not-Got
+    after_other g.C.Promise.promises c.args.end c.args.reply (kept_of c.args.jobs.now) (kept_of c.drop_over.new.jobs) c.in_default.not-Got
     c.drop_over.ensures.kept
+
+pub hear_got-requires : goal.hear_got-requires
+hear_got-requires g c = record { newest = rw c.in-Got.is at c.requires.newest }

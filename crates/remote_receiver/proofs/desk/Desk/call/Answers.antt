@@ -45,5 +45,5 @@ returns-in-Sent-clause-kept g c =
     let absent = absent_yet (g.P.Stepper.schema s) (g.P.Stepper.seqs s) (g.P.Stepper.alone s) (g.P.Stepper.me s) (g.P.Stepper.seen s)
     (g.P.Stepper.seen c.advance.new.self.stepper) c.args.end c.args.id c.args.prepared c.args.handles c.args.pendings c.advance.new.self.jobs.waiting.callbacks
     c.in-Sent.request c.in-Sent.bytes c.args.job saw c.requires.job drawn in
-    called g.C.Job.promises c.args.end c.args.id c.args.prepared c.args.handles c.args.pendings c.in-Sent.request c.in-Sent.bytes c.args.job
+    called g.C.Promise.promises c.args.end c.args.id c.args.prepared c.args.handles c.args.pendings c.in-Sent.request c.in-Sent.bytes c.args.job
     (kept_of c.args.self.now.jobs) (kept_of c.advance.new.self.jobs) (kept_of c.keep.new.self) same absent c.keep.ensures

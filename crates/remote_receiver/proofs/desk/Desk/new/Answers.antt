@@ -6,4 +6,4 @@ pub invariant_of-result : goal.invariant_of-result
 invariant_of-result g c = record { drawn = λ key w there. absurd (none_there c.new.result.waiting.callbacks key w c.new.ensures.waiting there) }
 
 pub returns-clause-kept : goal.returns-clause-kept
-returns-clause-kept g c = none_kept g.C.Job.promises _ c.new.ensures.waiting c.new.ensures.notes
+returns-clause-kept g c = none_kept g.C.Promise.promises _ c.new.ensures.waiting c.new.ensures.notes

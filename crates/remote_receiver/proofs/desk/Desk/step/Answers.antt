@@ -8,5 +8,5 @@ invariant_of-self g c = record { drawn = λ key w there. c.advance.new.self.draw
 
 pub returns-clause-kept : goal.returns-clause-kept
 returns-clause-kept g c =
-    did g.C.Job.promises c.args.command c.ended_by-ends.result c.in_ok-reply.reply _ _ _ c.requires.other c.ended_by-ends.ensures
+    did g.C.Promise.promises c.args.command c.ended_by-ends.result c.in_ok-reply.reply _ _ _ c.requires.other c.ended_by-ends.ensures
     (ap kept_of c.in_ok-reply.ensures.jobs) c.tell_closed.ensures.kept
