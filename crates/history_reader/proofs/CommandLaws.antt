@@ -1,5 +1,5 @@
 -- The laws of how commands stand in a line.
-use Rattle.std.proofs.Common.{ℕ, ◌==◌, [], ◌∷◌, Bool, refl, arith}
+use Rattle.std.proofs.Common.{ℕ, ℤ, ◌==◌, [], ◌∷◌, Bool, true, false, Option, Some, None, refl, arith}
 use Rattle.std.specs.Prelude.{codes}
 use Rattle.std.proofs.lemmas.Bool.Decides.{nat_tests}
 use Rattle.mj_base.specs.declared.ids.EndId.{EndId}
@@ -9,21 +9,29 @@ use Rattle.wire_encoder.specs.declared.endpoint.EndpointSide.TheVariants.{Remote
 use Rattle.wire_model.specs.declared.target.MessageSide.TheVariants.{Request, Response}
 use Rattle.bind_model.specs.declared.asked.Asked.{Asked}
 use Rattle.bind_model.specs.declared.asked.Asked.TheVariants as askeds
+use Rattle.bind_model.specs.declared.flow.Flow.TheVariants as flows
 use Rattle.byte_rules.specs.Lang.{Lang}
 use Rattle.byte_rules.proofs.Good.{Good, Apart, nothing, with_starts, good_value, good_closed, good_then, good_before, good_choice}
 use Rattle.value_text.specs.Numbers.{is_digit}
 use Rattle.value_text.proofs.ListedNumbers.{good_index}
-use Rattle.history_reader.specs.Signs.{blank, dash, hash, letter_e, letter_p, letter_r, letter_t}
-use Rattle.history_reader.specs.Commands.{command_words, sort, side, arrow, asks, join, mint, role, bind, associate, attach, call, answer, raw, take, skip}
+use Rattle.line_parts.specs.Signs.{blank, dash, hash, letter_e, letter_p, letter_r, letter_t}
+use Rattle.line_parts.specs.declared.names.Names.{Names}
+use Rattle.line_parts.proofs.KeywordLaws.{is_letter, good_keyword, good_table, apart_blank}
+use Rattle.line_parts.proofs.IdLaws.{good_moment, good_sequence, blank_no_digit, good_end, good_token, good_thing, good_endpoint, good_pending, good_responder}
+use Rattle.line_parts.proofs.ListLaws.{good_things, good_hex_blank}
+use Rattle.line_parts.proofs.NameLaws.{AreWords, is_not_blank, blank_apart, good_interface}
+use Rattle.line_parts.proofs.MessageLaws.{good_outgoing}
+use Rattle.history_reader.specs.Arrows.{arrow, asks, arrow_behind, asks_behind}
+use Rattle.history_reader.specs.Notices.{query, require, flush, notice_after, wait, pause}
+use Rattle.history_reader.specs.Flows.{data_pipe, put, get, begin_put, end_put, begin_get, end_get, flow_after}
+use Rattle.history_reader.specs.Commands.{command_words, sort, side, join, mint, role, bind, associate, attach, call, call_at, answer, answer_at, raw, take, skip}
 use Rattle.history_reader.specs.Commands.{closing_at, close, asked_after, asked}
 use Rattle.history_reader.specs.declared.commands.CommandWord.{CommandWord}
 use Rattle.history_reader.specs.declared.commands.CommandWord.TheVariants as commands
-use Rattle.history_reader.specs.declared.names.Names.{Names}
-use Rattle.history_reader.proofs.KeywordLaws.{is_letter, good_keyword, good_table, apart_blank}
-use Rattle.history_reader.proofs.IdLaws.{good_sequence, blank_no_digit, good_end, good_token, good_thing, good_endpoint, good_pending, good_responder}
-use Rattle.history_reader.proofs.ListLaws.{good_things, good_hex_blank}
-use Rattle.history_reader.proofs.NameLaws.{AreWords, is_not_blank, blank_apart, good_interface}
-use Rattle.history_reader.proofs.MessageLaws.{good_outgoing}
+use Rattle.history_reader.specs.declared.flows.FlowWord.{FlowWord}
+use Rattle.history_reader.specs.declared.flows.FlowWord.TheVariants as moves
+use Rattle.history_reader.specs.declared.notices.NoticeWord.{NoticeWord}
+use Rattle.history_reader.specs.declared.notices.NoticeWord.TheVariants as words
 
 good_sort : Good is_letter is_letter sort
 unfolding sort
@@ -43,6 +51,11 @@ IsGood one = Good (λ b. b == blank) nothing one
 
 good_asks : (what : Asked) → IsGood (asks what)
 good_asks what = good_value (λ (u : Unit {0}). what) good_arrow
+
+-- without its first blank
+good_asks_behind : (what : Asked) → Good (λ b. b == dash) nothing (asks_behind what)
+unfolding arrow_behind
+good_asks_behind what = good_value (λ (u : Unit {0}). what) (good_before dash (good_before 62 (good_closed blank tt)))
 
 good_join : IsGood join
 unfolding join
@@ -71,15 +84,23 @@ unfolding attach
 good_attach = good_before blank (good_then _ good_pending
     (λ p. good_before blank (good_then _ good_sequence (λ t. good_asks (askeds.Attach p t)) blank_no_digit)) blank_no_digit)
 
-good_call : (schema : Schema) (names : Names) → AreWords names → IsGood (call schema names)
+good_call : (schema : Schema) (names : Names) (at : Option ℤ) → AreWords names → IsGood (call schema names at)
 unfolding call
-good_call schema names w = good_before blank (good_then _ good_endpoint (λ p. good_before blank
-    (good_then _ (good_outgoing schema names Request w) (λ o. good_asks (askeds.Call p.0 p.1 o)) (λ b e. refl))) blank_no_digit)
+good_call schema names at w = good_before blank (good_then _ good_endpoint (λ p. good_before blank
+    (good_then _ (good_outgoing schema names Request at w) (λ o. good_asks (askeds.Call p.0 p.1 o)) (λ b e. refl))) blank_no_digit)
 
-good_answer : (schema : Schema) (names : Names) → AreWords names → IsGood (answer schema names)
+good_call_at : (schema : Schema) (names : Names) → AreWords names → IsGood (call_at schema names)
+unfolding call_at
+good_call_at schema names w = good_before blank (good_then _ good_moment (λ at. good_call schema names (Some at) w) blank_no_digit)
+
+good_answer : (schema : Schema) (names : Names) (at : Option ℤ) → AreWords names → IsGood (answer schema names at)
 unfolding answer
-good_answer schema names w = good_before blank (good_then _ good_responder (λ r. good_before blank
-    (good_then _ (good_outgoing schema names Response w) (λ o. good_asks (askeds.Answer r o)) (λ b e. refl))) blank_no_digit)
+good_answer schema names at w = good_before blank (good_then _ good_responder (λ r. good_before blank
+    (good_then _ (good_outgoing schema names Response at w) (λ o. good_asks (askeds.Answer r o)) (λ b e. refl))) blank_no_digit)
+
+good_answer_at : (schema : Schema) (names : Names) → AreWords names → IsGood (answer_at schema names)
+unfolding answer_at
+good_answer_at schema names w = good_before blank (good_then _ good_moment (λ at. good_answer schema names (Some at) w) blank_no_digit)
 
 good_raw : IsGood raw
 unfolding raw
@@ -124,6 +145,75 @@ good_close = good_before blank
     (good_choice (good_then _ good_responder (λ r. good_asks _) blank_no_digit)
     (good_then _ good_end good_closing_at closing_no_digit) e_no_r) r_no_p) p_no_t)
 
+-- controls
+good_query : IsGood query
+unfolding query
+good_query = good_before blank (good_then _ good_endpoint (λ p. good_asks _) blank_no_digit)
+
+good_require : IsGood require
+unfolding require
+good_require = good_before blank (good_then _ good_endpoint
+    (λ p. good_before blank (good_then _ good_index (λ v. good_asks _) blank_no_digit)) blank_no_digit)
+
+good_flush : IsGood flush
+unfolding flush
+good_flush = good_before blank (good_then _ good_end (λ x. good_asks _) blank_no_digit)
+
+good_notice_after : (word : NoticeWord) → IsGood (notice_after word)
+good_notice_after words.Query = good_query
+good_notice_after words.Require = good_require
+good_notice_after words.Flush = good_flush
+
+good_wait : Good (λ b. b == letter_e) is_digit wait
+unfolding wait
+good_wait = good_then _ good_end (λ x. good_before blank (good_value (λ (k : ℕ). (x, k)) good_index)) blank_no_digit
+
+good_pause : IsGood pause
+unfolding pause
+good_pause = good_before blank (good_then _ good_end
+    (λ x. good_before blank (good_then _ good_wait (λ w. good_asks _) blank_no_digit)) blank_no_digit)
+
+-- data pipes
+good_data_pipe : IsGood data_pipe
+unfolding data_pipe
+good_data_pipe = good_before blank (good_then _ good_index (λ size. good_asks _) blank_no_digit)
+
+good_put : (all : Bool) → IsGood (put all)
+unfolding put
+good_put all = good_before blank (good_then _ good_thing (λ x. good_before blank (good_then _ good_hex_blank
+    (λ bytes. good_asks_behind (askeds.Flow x (flows.Put bytes all))) (λ b e. refl))) blank_no_digit)
+
+good_get : (all : Bool) → IsGood (get all)
+unfolding get
+good_get all = good_before blank (good_then _ good_thing
+    (λ x. good_before blank (good_then _ good_index (λ n. good_asks _) blank_no_digit)) blank_no_digit)
+
+good_begin_put : IsGood begin_put
+unfolding begin_put
+good_begin_put = good_before blank (good_then _ good_thing (λ x. good_asks _) blank_no_digit)
+
+good_end_put : IsGood end_put
+unfolding end_put
+good_end_put = good_before blank (good_then _ good_thing (λ x. good_before blank (good_then _ good_hex_blank
+    (λ bytes. good_asks_behind (askeds.Flow x (flows.EndPut bytes))) (λ b e. refl))) blank_no_digit)
+
+good_begin_get : IsGood begin_get
+unfolding begin_get
+good_begin_get = good_before blank (good_then _ good_thing (λ x. good_asks _) blank_no_digit)
+
+good_end_get : IsGood end_get
+unfolding end_get
+good_end_get = good_before blank (good_then _ good_thing
+    (λ x. good_before blank (good_then _ good_index (λ n. good_asks _) blank_no_digit)) blank_no_digit)
+
+good_flow_after : (word : FlowWord) → IsGood (flow_after word)
+good_flow_after (moves.Put all) = good_put all
+good_flow_after (moves.Get all) = good_get all
+good_flow_after moves.BeginPut = good_begin_put
+good_flow_after moves.EndPut = good_end_put
+good_flow_after moves.BeginGet = good_begin_get
+good_flow_after moves.EndGet = good_end_get
+
 good_asked_after : (schema : Schema) (names : Names) → AreWords names → (word : CommandWord) → IsGood (asked_after schema names word)
 good_asked_after schema names w commands.Pipe = good_asks askeds.Pipe
 good_asked_after schema names w commands.Join = good_join
@@ -131,11 +221,17 @@ good_asked_after schema names w commands.Mint = good_mint
 good_asked_after schema names w commands.Bind = good_bind names w
 good_asked_after schema names w commands.Associate = good_associate names w
 good_asked_after schema names w commands.Attach = good_attach
-good_asked_after schema names w commands.Call = good_call schema names w
-good_asked_after schema names w commands.Answer = good_answer schema names w
+good_asked_after schema names w (commands.Call false) = good_call schema names None w
+good_asked_after schema names w (commands.Call true) = good_call_at schema names w
+good_asked_after schema names w (commands.Answer false) = good_answer schema names None w
+good_asked_after schema names w (commands.Answer true) = good_answer_at schema names w
 good_asked_after schema names w commands.Raw = good_raw
 good_asked_after schema names w commands.Take = good_take
 good_asked_after schema names w commands.Close = good_close
+good_asked_after schema names w (commands.Notify word) = good_notice_after word
+good_asked_after schema names w commands.Pause = good_pause
+good_asked_after schema names w commands.Data = good_data_pipe
+good_asked_after schema names w (commands.Flow word) = good_flow_after word
 good_asked_after schema names w commands.Skip = good_skip
 
 pub good_asked : (schema : Schema) (names : Names) → AreWords names → Good is_letter nothing (asked schema names)

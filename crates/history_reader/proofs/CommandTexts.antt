@@ -1,6 +1,7 @@
 -- The texts of commands, both ways.
-use Rattle.std.proofs.Common.{◌≡◌, ℕ, ◌++◌, ◌∷◌, [], ◌⊎◌, inl, inr, List, refl, sym, ap, ◌∙◌, subst, append_assoc}
+use Rattle.std.proofs.Common.{◌≡◌, ℕ, ℤ, ◌++◌, ◌∷◌, [], ◌⊎◌, inl, inr, List, Option, Some, None, true, false, refl, sym, ap, ◌∙◌, subst, append_assoc}
 use Rattle.std.specs.Prelude.{codes, decimal}
+use Rattle.std.specs.Fmt.{signed_decimal}
 use Rattle.mj_base.specs.declared.ids.EndId.{EndId}
 use Rattle.mj_schema.specs.declared.schema.Schema.{Schema}
 use Rattle.handle_table.specs.declared.thing.Thing.{Thing}
@@ -14,32 +15,38 @@ use Rattle.bind_model.specs.declared.asked.Asked.{Asked}
 use Rattle.bind_model.specs.declared.asked.Asked.TheVariants as askeds
 use Rattle.bind_model.specs.declared.asked.Closing.{Closing}
 use Rattle.bind_model.specs.declared.asked.Closing.TheVariants as closings
-use Rattle.byte_rules.specs.Lang.{Lang, as_value, ◌then◌, ◌▸◌}
+use Rattle.bind_model.specs.declared.asked.Outgoing.{Outgoing}
+use Rattle.bind_model.specs.declared.endpoint.ResponderId.{ResponderId}
+use Rattle.byte_rules.specs.Lang.{as_value, ◌then◌, ◌▸◌}
 use Rattle.byte_rules.specs.Among.{IsAmong}
 use Rattle.history_text.specs.History.{end_text, thing_text, endpoint_text, pending_text, responder_text, things_text, hex_text, closing_text, outgoing_text}
 use Rattle.history_text.specs.History.{asked_text}
 use Rattle.history_text.specs.Names.{interface_name}
 use Rattle.history_text.specs.Words.{side_word, sort_word}
-use Rattle.history_reader.specs.Signs.{blank, dash, hash}
-use Rattle.history_reader.specs.Names.{names_of}
-use Rattle.history_reader.specs.Lists.{things, hex}
-use Rattle.history_reader.specs.Names.{interface}
-use Rattle.history_reader.specs.Commands.{command_words, sort, side, arrow, asks, join, mint, role, bind, associate, attach, call, answer, raw, take, skip}
+use Rattle.line_parts.specs.Signs.{blank, hash}
+use Rattle.line_parts.specs.Names.{names_of, interface}
+use Rattle.line_parts.specs.Lists.{things, hex}
+use Rattle.line_parts.specs.Printable.{IsSmall, IsLong, IsMoment, IsEnd, IsToken, IsThing, IsPending, IsResponder, AreAll, AreBytes, IsInterface}
+use Rattle.line_parts.proofs.BothWays.{HasTexts, Is, texts_as, texts_before, texts_behind, texts_value, texts_then, texts_chain, texts_follow, texts_either}
+use Rattle.line_parts.proofs.BothWays.{texts_fine}
+use Rattle.line_parts.proofs.KeywordTexts.{texts_keyword}
+use Rattle.line_parts.proofs.IdTexts.{texts_index, texts_moment, texts_sequence, texts_end, texts_token, texts_thing, texts_endpoint, texts_pending}
+use Rattle.line_parts.proofs.IdTexts.{texts_responder}
+use Rattle.line_parts.proofs.ListTexts.{texts_things}
+use Rattle.line_parts.proofs.HexTexts.{texts_hex}
+use Rattle.line_parts.proofs.NameTexts.{texts_interface}
+use Rattle.line_parts.proofs.MessageTexts.{texts_outgoing}
+use Rattle.history_reader.specs.Arrows.{asks}
+use Rattle.history_reader.specs.Commands.{command_words, sort, side, join, mint, role, bind, associate, attach, call, call_at, answer, answer_at, raw, take, skip}
 use Rattle.history_reader.specs.Commands.{closing_at, closing, close, asked_after, asked}
-use Rattle.history_reader.specs.Printable.{IsSmall, IsEnd, IsToken, IsThing, IsPending, IsResponder, AreAll, AreBytes, IsInterface}
-use Rattle.history_reader.specs.Printable.{IsClosing}
-use Rattle.history_reader.specs.Printable.{IsAsked}
+use Rattle.history_reader.specs.Printable.{IsClosing, IsAsked}
 use Rattle.history_reader.specs.declared.commands.CommandWord.{CommandWord}
 use Rattle.history_reader.specs.declared.commands.CommandWord.TheVariants as commands
-use Rattle.history_reader.proofs.BothWays.{HasTexts, Is, texts_as, texts_closed, texts_before, texts_behind, texts_value, texts_then, texts_chain}
-use Rattle.history_reader.proofs.BothWays.{texts_follow, texts_either, texts_fine}
-use Rattle.history_reader.proofs.KeywordTexts.{among_at, texts_keyword}
-use Rattle.history_reader.proofs.IdTexts.{texts_index, texts_sequence, texts_end, texts_token, texts_thing, texts_endpoint, texts_pending}
-use Rattle.history_reader.proofs.IdTexts.{texts_responder}
-use Rattle.history_reader.proofs.ListTexts.{texts_things}
-use Rattle.history_reader.proofs.HexTexts.{texts_hex}
-use Rattle.history_reader.proofs.NameTexts.{texts_interface}
-use Rattle.history_reader.proofs.MessageTexts.{texts_outgoing}
+use Rattle.history_reader.proofs.AtTexts.{has_moment, behind_at, none_of, some_of}
+use Rattle.history_reader.proofs.AskedForms.{arrow_text, Only, texts_asks, Flat1, texts1, regroup, Flat2, texts2, texts_apart}
+use Rattle.history_reader.proofs.AskedWords.{command_text, all_commands, each_command, word_of, after, Of, made, whole}
+use Rattle.history_reader.proofs.NoticeTexts.{texts_notice_after, texts_pause}
+use Rattle.history_reader.proofs.FlowTexts.{texts_data_pipe, texts_flow_after}
 
 -- the words
 abbrev sorts : List (TokenSort × List ℕ)
@@ -64,186 +71,51 @@ texts_side : HasTexts (Is (λ (s : EndpointSide). Unit {0}) side_word) side
 unfolding side
 texts_side = texts_keyword side_word sides (refl, (refl, tt)) all_sides
 
-abbrev command_text : CommandWord → List ℕ
-command_text commands.Pipe = codes "pipe"
-command_text commands.Join = codes "join"
-command_text commands.Mint = codes "mint"
-command_text commands.Bind = codes "bind"
-command_text commands.Associate = codes "associate"
-command_text commands.Attach = codes "attach"
-command_text commands.Call = codes "call"
-command_text commands.Answer = codes "answer"
-command_text commands.Raw = codes "raw"
-command_text commands.Take = codes "take"
-command_text commands.Close = codes "close"
-command_text commands.Skip = codes "skip"
-
-all_commands : (word : CommandWord) → IsAmong (word, command_text word) command_words
-all_commands commands.Pipe = among_at command_words 0 (commands.Pipe, codes "pipe") refl
-all_commands commands.Join = among_at command_words 1 (commands.Join, codes "join") refl
-all_commands commands.Mint = among_at command_words 2 (commands.Mint, codes "mint") refl
-all_commands commands.Bind = among_at command_words 3 (commands.Bind, codes "bind") refl
-all_commands commands.Associate = among_at command_words 4 (commands.Associate, codes "associate") refl
-all_commands commands.Attach = among_at command_words 5 (commands.Attach, codes "attach") refl
-all_commands commands.Call = among_at command_words 6 (commands.Call, codes "call") refl
-all_commands commands.Answer = among_at command_words 7 (commands.Answer, codes "answer") refl
-all_commands commands.Raw = among_at command_words 8 (commands.Raw, codes "raw") refl
-all_commands commands.Take = among_at command_words 9 (commands.Take, codes "take") refl
-all_commands commands.Close = among_at command_words 10 (commands.Close, codes "close") refl
-all_commands commands.Skip = among_at command_words 11 (commands.Skip, codes "skip") refl
-
--- the arrow
-abbrev arrow_text : List ℕ
-arrow_text = codes " -> "
-
-texts_arrow : HasTexts (Is (λ (u : Unit {0}). u ≡ tt) (λ (u : Unit {0}). arrow_text)) arrow
-unfolding arrow
-texts_arrow = texts_before blank (texts_before dash (texts_before 62 (texts_closed blank tt)))
-
-abbrev Only : Asked → Asked → List ℕ → Type 0
-Only what a w = (a ≡ what) × (w ≡ arrow_text)
-
-texts_asks : (what : Asked) → HasTexts (Only what) (asks what)
-texts_asks what = texts_value (λ u. what) (λ (a : Asked). a ≡ what) (λ (a : Asked). arrow_text) (λ u h. refl) (λ u h. refl)
-    (λ a h. (tt, refl, sym h)) texts_arrow
-
--- the word that a command begins with
-abbrev word_of : Asked → CommandWord
-word_of askeds.Pipe = commands.Pipe
-word_of (askeds.Join t) = commands.Join
-word_of (askeds.Mint s) = commands.Mint
-word_of (askeds.Bind x side n) = commands.Bind
-word_of (askeds.Associate x side n) = commands.Associate
-word_of (askeds.Attach p t) = commands.Attach
-word_of (askeds.Call x id o) = commands.Call
-word_of (askeds.Answer r o) = commands.Answer
-word_of (askeds.Raw x bytes handles) = commands.Raw
-word_of (askeds.Take x) = commands.Take
-word_of (askeds.Close what) = commands.Close
-word_of (askeds.Skip line) = commands.Skip
-
--- of one part, behind a blank
-module _ {X : Type 0} {ok : X → Type 0} {text : X → List ℕ} {one : Lang X} (make : X → Asked) (o : HasTexts (Is ok text) one) where
-  abbrev Flat1 : Asked → List ℕ → Type 0
-  Flat1 a w = (x : X) × ok x × (a ≡ make x) × (w ≡ blank ∷ (text x ++ arrow_text))
-
-  abbrev Deep1 : Asked → List ℕ → Type 0
-  Deep1 a w = (v : List ℕ) × ((x : X) × ok x × (u : List ℕ) × Only (make x) a u × (v ≡ text x ++ u)) × (w ≡ blank ∷ v)
-
-  flat1 : (a : Asked) (w : List ℕ) → Deep1 a w → Flat1 a w
-  flat1 a w h = let k = h.1 in (k.0, k.1, k.3.0, h.2 ∙ ap (λ (l : List ℕ). blank ∷ l) (k.4 ∙ ap (λ (l : List ℕ). text k.0 ++ l) k.3.1))
-
-  deep1 : (a : Asked) (w : List ℕ) → Flat1 a w → Deep1 a w
-  deep1 a w h = (text h.0 ++ arrow_text, (h.0, h.1, arrow_text, (h.2, refl), refl), h.3)
-
-  texts1 : HasTexts Flat1 (blank ▸ one then λ x. asks (make x))
-  texts1 = texts_as flat1 deep1 (texts_behind blank (texts_chain o (λ x k. texts_asks (make x))))
-
--- a byte, one and what comes behind it, grouped otherwise
-regroup : {A B : Type 0} {R : B → List ℕ → Type 0} (c : ℕ) (one : Lang A) (two : A → Lang B) → HasTexts R ((c ▸ one) then two) → HasTexts R (c ▸ one then two)
-regroup c one two t = record { from = t.from; to = t.to }
-
--- of two parts, the first behind a blank
-module _ {X Y : Type 0} {ok : X → Type 0} {text : X → List ℕ} {fine : Y → Type 0} {spelled : Y → List ℕ} {one : Lang X} {two : Lang Y} (make : X → Y → Asked)
-    (o : HasTexts (Is ok text) one) (t : HasTexts (Is fine spelled) two) where
-  abbrev Flat2 : Asked → List ℕ → Type 0
-  Flat2 a w = (x : X) × (y : Y) × ok x × fine y × (a ≡ make x y) × (w ≡ blank ∷ (text x ++ (spelled y ++ arrow_text)))
-
-  abbrev Inner : X → Asked → List ℕ → Type 0
-  Inner x a u = (y : Y) × fine y × (v : List ℕ) × Only (make x y) a v × (u ≡ spelled y ++ v)
-
-  abbrev Deep2 : Asked → List ℕ → Type 0
-  Deep2 a w = (v : List ℕ) × ((x : X) × ok x × (u : List ℕ) × Inner x a u × (v ≡ text x ++ u)) × (w ≡ blank ∷ v)
-
-  flat2 : (a : Asked) (w : List ℕ) → Deep2 a w → Flat2 a w
-  flat2 a w h =
-      let k = h.1 in
-      let l = k.3 in (
-        k.0,
-        l.0,
-        k.1,
-        l.1,
-        l.3.0,
-        h.2
-            ∙ ap (λ (t : List ℕ). blank ∷ t) (k.4 ∙ ap (λ (t : List ℕ). text k.0 ++ t) (l.4 ∙ ap (λ (t : List ℕ). spelled l.0 ++ t) l.3.1)),
-      )
-
-  deep2 : (a : Asked) (w : List ℕ) → Flat2 a w → Deep2 a w
-  deep2 a w h = (
-    text h.0 ++ (spelled h.1 ++ arrow_text),
-    (h.0, h.2, spelled h.1 ++ arrow_text, (h.1, h.3, arrow_text, (h.4, refl), refl), refl),
-    h.5,
-  )
-
-  texts2 : HasTexts Flat2 (blank ▸ one then λ x. two then λ y. asks (make x y))
-  texts2 = texts_as flat2 deep2 (texts_behind blank (texts_chain o (λ x k. texts_chain t (λ y l. texts_asks (make x y)))))
-
--- the same with a blank between the two
-module _ {X Y : Type 0} {ok : X → Type 0} {text : X → List ℕ} {fine : Y → Type 0} {spelled : Y → List ℕ} {one : Lang X} {two : Lang Y} (make : X → Y → Asked)
-    (o : HasTexts (Is ok text) one) (t : HasTexts (Is fine spelled) two) where
-  texts_apart : HasTexts (Flat2 make o (texts_before blank t)) (blank ▸ one then λ x. blank ▸ two then λ y. asks (make x y))
-  texts_apart = texts_as (flat2 make o (texts_before blank t)) (deep2 make o (texts_before blank t)) (texts_behind blank (texts_chain o
-      (λ x k. regroup blank two (λ y. asks (make x y)) (texts_chain (texts_before blank t) (λ y l. texts_asks (make x y))))))
-
--- what is asked, by the word and what stands behind it
+-- by the word and what stands behind it
 module _ (schema : Schema) where
-  abbrev after : Asked → List ℕ
-  after askeds.Pipe = arrow_text
-  after (askeds.Join t) = blank ∷ (decimal t.0 ++ arrow_text)
-  after (askeds.Mint s) = blank ∷ (sort_word s ++ arrow_text)
-  after (askeds.Bind x side n) = blank ∷ (thing_text x ++ ((blank ∷ (side_word side ++ blank ∷ interface_name schema n)) ++ arrow_text))
-  after (askeds.Associate x side n) = blank ∷ (end_text x ++ ((blank ∷ (side_word side ++ blank ∷ interface_name schema n)) ++ arrow_text))
-  after (askeds.Attach p t) = blank ∷ (pending_text p ++ ((blank ∷ decimal t.0) ++ arrow_text))
-  after (askeds.Call x id o) = blank ∷ (endpoint_text x id ++ ((blank ∷ outgoing_text schema o) ++ arrow_text))
-  after (askeds.Answer r o) = blank ∷ (responder_text r ++ ((blank ∷ outgoing_text schema o) ++ arrow_text))
-  after (askeds.Raw x bytes handles) = blank ∷ (thing_text x ++ ((blank ∷ (hex_text bytes ++ blank ∷ [])) ++ (things_text handles ++ arrow_text)))
-  after (askeds.Take x) = blank ∷ (end_text x ++ arrow_text)
-  after (askeds.Close what) = blank ∷ (closing_text what ++ arrow_text)
-  after (askeds.Skip line) = blank ∷ (decimal line ++ arrow_text)
+  -- what stands behind the word and the moment of a call, and of an answer
+  abbrev call_rest : EndId → ℕ → Outgoing → List ℕ
+  call_rest x id o = blank ∷ (endpoint_text x id ++ ((blank ∷ outgoing_text schema o) ++ arrow_text))
 
-  -- a command of this word
-  abbrev Of : CommandWord → Asked → List ℕ → Type 0
-  Of word a w = Is (λ (a : Asked). (word_of a ≡ word) × IsAsked schema a) after a w
+  abbrev answer_rest : ResponderId → Outgoing → List ℕ
+  answer_rest r o = blank ∷ (responder_text r ++ ((blank ∷ outgoing_text schema o) ++ arrow_text))
 
-  made : (word : CommandWord) (a what : Asked) (w : List ℕ) → a ≡ what → Of word what w → Of word a w
-  made word a what w e h = subst (λ (a : Asked). Of word a w) (sym e) h
-
-  texts_pipe : HasTexts (Of commands.Pipe) (asks askeds.Pipe)
-  texts_pipe = texts_as (λ a w h. made commands.Pipe a askeds.Pipe w h.0 ((refl, tt), h.1)) to (texts_asks askeds.Pipe)
+  texts_pipe : HasTexts (Of schema commands.Pipe) (asks askeds.Pipe)
+  texts_pipe = texts_as (λ a w h. made schema commands.Pipe a askeds.Pipe w h.0 ((refl, tt), h.1)) to (texts_asks askeds.Pipe)
     where
-      to : (a : Asked) (w : List ℕ) → Of commands.Pipe a w → Only askeds.Pipe a w
+      to : (a : Asked) (w : List ℕ) → Of schema commands.Pipe a w → Only askeds.Pipe a w
       to askeds.Pipe w h = (refl, h.1)
       to _ w h = absurd (let e = h.0.0 in cc)
 
-  texts_join : HasTexts (Of commands.Join) join
+  texts_join : HasTexts (Of schema commands.Join) join
   unfolding join
-  texts_join = texts_as (λ a w h. made commands.Join a (askeds.Join h.0) w h.2 ((refl, h.1), h.3)) to (texts1 askeds.Join texts_sequence)
+  texts_join = texts_as (λ a w h. made schema commands.Join a (askeds.Join h.0) w h.2 ((refl, h.1), h.3)) to (texts1 askeds.Join texts_sequence)
     where
-      to : (a : Asked) (w : List ℕ) → Of commands.Join a w → Flat1 askeds.Join texts_sequence a w
+      to : (a : Asked) (w : List ℕ) → Of schema commands.Join a w → Flat1 askeds.Join texts_sequence a w
       to (askeds.Join t) w h = (t, h.0.1, refl, h.1)
       to _ w h = absurd (let e = h.0.0 in cc)
 
-  texts_mint : HasTexts (Of commands.Mint) mint
+  texts_mint : HasTexts (Of schema commands.Mint) mint
   unfolding mint
-  texts_mint = texts_as (λ a w h. made commands.Mint a (askeds.Mint h.0) w h.2 ((refl, tt), h.3)) to (texts1 askeds.Mint texts_sort)
+  texts_mint = texts_as (λ a w h. made schema commands.Mint a (askeds.Mint h.0) w h.2 ((refl, tt), h.3)) to (texts1 askeds.Mint texts_sort)
     where
-      to : (a : Asked) (w : List ℕ) → Of commands.Mint a w → Flat1 askeds.Mint texts_sort a w
+      to : (a : Asked) (w : List ℕ) → Of schema commands.Mint a w → Flat1 askeds.Mint texts_sort a w
       to (askeds.Mint s) w h = (s, tt, refl, h.1)
       to _ w h = absurd (let e = h.0.0 in cc)
 
-  texts_take : HasTexts (Of commands.Take) take
+  texts_take : HasTexts (Of schema commands.Take) take
   unfolding take
-  texts_take = texts_as (λ a w h. made commands.Take a (askeds.Take h.0) w h.2 ((refl, h.1), h.3)) to (texts1 askeds.Take texts_end)
+  texts_take = texts_as (λ a w h. made schema commands.Take a (askeds.Take h.0) w h.2 ((refl, h.1), h.3)) to (texts1 askeds.Take texts_end)
     where
-      to : (a : Asked) (w : List ℕ) → Of commands.Take a w → Flat1 askeds.Take texts_end a w
+      to : (a : Asked) (w : List ℕ) → Of schema commands.Take a w → Flat1 askeds.Take texts_end a w
       to (askeds.Take x) w h = (x, h.0.1, refl, h.1)
       to _ w h = absurd (let e = h.0.0 in cc)
 
-  texts_skip : HasTexts (Of commands.Skip) skip
+  texts_skip : HasTexts (Of schema commands.Skip) skip
   unfolding skip
-  texts_skip = texts_as (λ a w h. made commands.Skip a (askeds.Skip h.0) w h.2 ((refl, h.1), h.3)) to (texts1 askeds.Skip texts_index)
+  texts_skip = texts_as (λ a w h. made schema commands.Skip a (askeds.Skip h.0) w h.2 ((refl, h.1), h.3)) to (texts1 askeds.Skip texts_index)
     where
-      to : (a : Asked) (w : List ℕ) → Of commands.Skip a w → Flat1 askeds.Skip texts_index a w
+      to : (a : Asked) (w : List ℕ) → Of schema commands.Skip a w → Flat1 askeds.Skip texts_index a w
       to (askeds.Skip n) w h = (n, h.0.1, refl, h.1)
       to _ w h = absurd (let e = h.0.0 in cc)
 
@@ -263,50 +135,128 @@ module _ (schema : Schema) where
   texts_role = texts_fine (λ r h. h.1.1) (λ r h. (tt, (refl, h))) (λ r h. refl)
       (texts_before blank (texts_then (λ (r : Role). r.0) (λ s r h. h.0) texts_side interface_behind))
 
-  texts_bind : HasTexts (Of commands.Bind) (bind (names_of schema))
+  texts_bind : HasTexts (Of schema commands.Bind) (bind (names_of schema))
   unfolding bind
-  texts_bind = texts_as (λ a w h. made commands.Bind a (askeds.Bind h.0 h.1.0 h.1.1) w h.4 ((refl, (h.2, h.3)), h.5)) to
+  texts_bind = texts_as (λ a w h. made schema commands.Bind a (askeds.Bind h.0 h.1.0 h.1.1) w h.4 ((refl, (h.2, h.3)), h.5)) to
       (texts2 (λ x r. askeds.Bind x r.0 r.1) texts_thing texts_role)
     where
-      to : (a : Asked) (w : List ℕ) → Of commands.Bind a w → Flat2 (λ x r. askeds.Bind x r.0 r.1) texts_thing texts_role a w
+      to : (a : Asked) (w : List ℕ) → Of schema commands.Bind a w → Flat2 (λ x r. askeds.Bind x r.0 r.1) texts_thing texts_role a w
       to (askeds.Bind x side n) w h = (x, (side, n), h.0.1.0, h.0.1.1, refl, h.1)
       to _ w h = absurd (let e = h.0.0 in cc)
 
-  texts_associate : HasTexts (Of commands.Associate) (associate (names_of schema))
+  texts_associate : HasTexts (Of schema commands.Associate) (associate (names_of schema))
   unfolding associate
-  texts_associate = texts_as (λ a w h. made commands.Associate a (askeds.Associate h.0 h.1.0 h.1.1) w h.4 ((refl, (h.2, h.3)), h.5)) to
+  texts_associate = texts_as (λ a w h. made schema commands.Associate a (askeds.Associate h.0 h.1.0 h.1.1) w h.4 ((refl, (h.2, h.3)), h.5)) to
       (texts2 (λ x r. askeds.Associate x r.0 r.1) texts_end texts_role)
     where
-      to : (a : Asked) (w : List ℕ) → Of commands.Associate a w → Flat2 (λ x r. askeds.Associate x r.0 r.1) texts_end texts_role a w
+      to : (a : Asked) (w : List ℕ) → Of schema commands.Associate a w → Flat2 (λ x r. askeds.Associate x r.0 r.1) texts_end texts_role a w
       to (askeds.Associate x side n) w h = (x, (side, n), h.0.1.0, h.0.1.1, refl, h.1)
       to _ w h = absurd (let e = h.0.0 in cc)
 
-  texts_attach : HasTexts (Of commands.Attach) attach
+  texts_attach : HasTexts (Of schema commands.Attach) attach
   unfolding attach
-  texts_attach = texts_as (λ a w h. made commands.Attach a (askeds.Attach h.0 h.1) w h.4 ((refl, (h.2, h.3)), h.5)) to
+  texts_attach = texts_as (λ a w h. made schema commands.Attach a (askeds.Attach h.0 h.1) w h.4 ((refl, (h.2, h.3)), h.5)) to
       (texts_apart askeds.Attach texts_pending texts_sequence)
     where
-      to : (a : Asked) (w : List ℕ) → Of commands.Attach a w → Flat2 askeds.Attach texts_pending (texts_before blank texts_sequence) a w
+      to : (a : Asked) (w : List ℕ) → Of schema commands.Attach a w → Flat2 askeds.Attach texts_pending (texts_before blank texts_sequence) a w
       to (askeds.Attach p t) w h = (p, t, h.0.1.0, h.0.1.1, refl, h.1)
       to _ w h = absurd (let e = h.0.0 in cc)
 
-  texts_call : HasTexts (Of commands.Call) (call schema (names_of schema))
-  unfolding call
-  texts_call = texts_as (λ a w h. made commands.Call a (askeds.Call h.0.0 h.0.1 h.1) w h.4 ((refl, (h.2.0, h.2.1, h.3)), h.5)) to
-      (texts_apart (λ p o. askeds.Call p.0 p.1 o) texts_endpoint (texts_outgoing schema Request))
+  -- a call at a moment
+  module _ (at : Option ℤ) where
+    abbrev Calls : Asked → List ℕ → Type 0
+    Calls a w = Flat2 (λ p o. askeds.Call p.0 p.1 o) texts_endpoint (texts_before blank (texts_outgoing schema Request at)) a w
+
+    texts_calls : HasTexts Calls (call schema (names_of schema) at)
+    unfolding call
+    texts_calls = texts_apart (λ p o. askeds.Call p.0 p.1 o) texts_endpoint (texts_outgoing schema Request at)
+
+    abbrev Answers : Asked → List ℕ → Type 0
+    Answers a w = Flat2 askeds.Answer texts_responder (texts_before blank (texts_outgoing schema Response at)) a w
+
+    texts_answers : HasTexts Answers (answer schema (names_of schema) at)
+    unfolding answer
+    texts_answers = texts_apart askeds.Answer texts_responder (texts_outgoing schema Response at)
+
+    -- behind its moment, it is a call, or an answer
+    call_from : (a : Asked) (w v : List ℕ) → IsMoment at → Calls a v → w ≡ behind_at at v → Of schema (commands.Call (has_moment at)) a w
+    call_from a w v k h e = made schema (commands.Call (has_moment at)) a (askeds.Call h.0.0 h.0.1 h.1) w h.4 (
+      (
+        ap (λ (m : Option ℤ). commands.Call (has_moment m)) h.3.3,
+        (h.2.0, h.2.1, (h.3.0, h.3.1, h.3.2, subst IsMoment (sym h.3.3) k)),
+      ),
+      e ∙ ap (behind_at at) h.5 ∙ ap (λ (m : Option ℤ). behind_at m (call_rest h.0.0 h.0.1 h.1)) (sym h.3.3),
+    )
+
+    answer_from : (a : Asked) (w v : List ℕ) → IsMoment at → Answers a v → w ≡ behind_at at v → Of schema (commands.Answer (has_moment at)) a w
+    answer_from a w v k h e = made schema (commands.Answer (has_moment at)) a (askeds.Answer h.0 h.1) w h.4 (
+      (
+        ap (λ (m : Option ℤ). commands.Answer (has_moment m)) h.3.3,
+        (h.2, (h.3.0, h.3.1, h.3.2, subst IsMoment (sym h.3.3) k)),
+      ),
+      e ∙ ap (behind_at at) h.5 ∙ ap (λ (m : Option ℤ). behind_at m (answer_rest h.0 h.1)) (sym h.3.3),
+    )
+
+    call_to : (x : EndId) (id : ℕ) (o : Outgoing) → o.moment ≡ at → IsAsked schema (askeds.Call x id o) → Calls (askeds.Call x id o) (call_rest x id o)
+    call_to x id o e h = ((x, id), o, (h.0, h.1), (h.2.0, h.2.1, h.2.2, e), refl, refl)
+
+    answer_to : (r : ResponderId) (o : Outgoing) → o.moment ≡ at → IsAsked schema (askeds.Answer r o) → Answers (askeds.Answer r o) (answer_rest r o)
+    answer_to r o e h = (r, o, h.0, (h.1.0, h.1.1, h.1.2, e), refl, refl)
+
+  texts_call : HasTexts (Of schema (commands.Call false)) (call schema (names_of schema) None)
+  texts_call = texts_as (λ a w h. call_from None a w w tt h refl) to (texts_calls None)
     where
-      to : (a : Asked) (w : List ℕ) → Of commands.Call a w
-          → Flat2 (λ p o. askeds.Call p.0 p.1 o) texts_endpoint (texts_before blank (texts_outgoing schema Request)) a w
-      to (askeds.Call x id o) w h = ((x, id), o, (h.0.1.0, h.0.1.1), h.0.1.2, refl, h.1)
+      to : (a : Asked) (w : List ℕ) → Of schema (commands.Call false) a w → Calls None a w
+      to (askeds.Call x id o) w h =
+          let e : o.moment ≡ None = none_of o.moment (let e = h.0.0 in cc) in
+          subst (Calls None (askeds.Call x id o)) (sym (h.1 ∙ ap (λ (m : Option ℤ). behind_at m (call_rest x id o)) e)) (call_to None x id o e h.0.1)
       to _ w h = absurd (let e = h.0.0 in cc)
 
-  texts_answer : HasTexts (Of commands.Answer) (answer schema (names_of schema))
-  unfolding answer
-  texts_answer = texts_as (λ a w h. made commands.Answer a (askeds.Answer h.0 h.1) w h.4 ((refl, (h.2, h.3)), h.5)) to
-      (texts_apart askeds.Answer texts_responder (texts_outgoing schema Response))
+  texts_answer : HasTexts (Of schema (commands.Answer false)) (answer schema (names_of schema) None)
+  texts_answer = texts_as (λ a w h. answer_from None a w w tt h refl) to (texts_answers None)
     where
-      to : (a : Asked) (w : List ℕ) → Of commands.Answer a w → Flat2 askeds.Answer texts_responder (texts_before blank (texts_outgoing schema Response)) a w
-      to (askeds.Answer r o) w h = (r, o, h.0.1.0, h.0.1.1, refl, h.1)
+      to : (a : Asked) (w : List ℕ) → Of schema (commands.Answer false) a w → Answers None a w
+      to (askeds.Answer r o) w h =
+          let e : o.moment ≡ None = none_of o.moment (let e = h.0.0 in cc) in
+          subst (Answers None (askeds.Answer r o)) (sym (h.1 ∙ ap (λ (m : Option ℤ). behind_at m (answer_rest r o)) e)) (answer_to None r o e h.0.1)
+      to _ w h = absurd (let e = h.0.0 in cc)
+
+  -- behind a blank and a moment
+  abbrev At : (Option ℤ → Asked → List ℕ → Type 0) → Asked → List ℕ → Type 0
+  At Commands a w = (v : List ℕ) × ((z : ℤ) × IsLong z × (u : List ℕ) × Commands (Some z) a u × (v ≡ signed_decimal z ++ u)) × (w ≡ blank ∷ v)
+
+  texts_call_at : HasTexts (Of schema (commands.Call true)) (call_at schema (names_of schema))
+  unfolding call_at
+  texts_call_at = texts_as from to (texts_behind blank (texts_chain texts_moment (λ z k. texts_calls (Some z))))
+    where
+      from : (a : Asked) (w : List ℕ) → At Calls a w → Of schema (commands.Call true) a w
+      from a w h = let k = h.1 in call_from (Some k.0) a w k.2 k.1 k.3 (h.2 ∙ ap (λ (v : List ℕ). blank ∷ v) k.4)
+
+      to : (a : Asked) (w : List ℕ) → Of schema (commands.Call true) a w → At Calls a w
+      to (askeds.Call x id o) w h =
+          let s = some_of o.moment (let e = h.0.0 in cc) in
+          let rest = call_rest x id o in (
+            signed_decimal s.0 ++ rest,
+            (s.0, subst IsMoment s.1 h.0.1.2.3, rest, call_to (Some s.0) x id o s.1 h.0.1, refl),
+            h.1 ∙ ap (λ (m : Option ℤ). behind_at m rest) s.1,
+          )
+      to _ w h = absurd (let e = h.0.0 in cc)
+
+  texts_answer_at : HasTexts (Of schema (commands.Answer true)) (answer_at schema (names_of schema))
+  unfolding answer_at
+  texts_answer_at = texts_as from to (texts_behind blank (texts_chain texts_moment (λ z k. texts_answers (Some z))))
+    where
+      from : (a : Asked) (w : List ℕ) → At Answers a w → Of schema (commands.Answer true) a w
+      from a w h = let k = h.1 in answer_from (Some k.0) a w k.2 k.1 k.3 (h.2 ∙ ap (λ (v : List ℕ). blank ∷ v) k.4)
+
+      to : (a : Asked) (w : List ℕ) → Of schema (commands.Answer true) a w → At Answers a w
+      to (askeds.Answer r o) w h =
+          let s = some_of o.moment (let e = h.0.0 in cc) in
+          let rest = answer_rest r o in (
+            signed_decimal s.0 ++ rest,
+            (s.0, subst IsMoment s.1 h.0.1.1.3, rest, answer_to (Some s.0) r o s.1 h.0.1, refl),
+            h.1 ∙ ap (λ (m : Option ℤ). behind_at m rest) s.1,
+          )
       to _ w h = absurd (let e = h.0.0 in cc)
 
   -- raw bytes
@@ -315,12 +265,12 @@ module _ (schema : Schema) where
       × ((handles : List Thing) × AreAll IsThing handles × (r : List ℕ) × Only (askeds.Raw x bytes handles) a r × (t ≡ things_text handles ++ r))
       × (u ≡ (blank ∷ (hex_text bytes ++ blank ∷ [])) ++ t)) × (v ≡ thing_text x ++ u)) × (w ≡ blank ∷ v)
 
-  raw_from : (a : Asked) (w : List ℕ) → Raw3 a w → Of commands.Raw a w
+  raw_from : (a : Asked) (w : List ℕ) → Raw3 a w → Of schema commands.Raw a w
   raw_from a w h =
       let k = h.1 in
       let l = k.3 in
       let n = l.3 in
-      made commands.Raw a (askeds.Raw k.0 l.0 n.0) w n.3.0 (
+      made schema commands.Raw a (askeds.Raw k.0 l.0 n.0) w n.3.0 (
         (refl, (k.1, l.1, n.1)),
         h.2
             ∙ ap (λ (t : List ℕ). blank ∷ t)
@@ -328,7 +278,7 @@ module _ (schema : Schema) where
             (l.4 ∙ ap (λ (t : List ℕ). (blank ∷ (hex_text l.0 ++ blank ∷ [])) ++ t) (n.4 ∙ ap (λ (t : List ℕ). things_text n.0 ++ t) n.3.1))),
       )
 
-  raw_to : (a : Asked) (w : List ℕ) → Of commands.Raw a w → Raw3 a w
+  raw_to : (a : Asked) (w : List ℕ) → Of schema commands.Raw a w → Raw3 a w
   raw_to (askeds.Raw x bytes handles) w h =
       let t = things_text handles ++ arrow_text in
       let u = (blank ∷ (hex_text bytes ++ blank ∷ [])) ++ t in (
@@ -338,7 +288,7 @@ module _ (schema : Schema) where
       )
   raw_to _ w h = absurd (let e = h.0.0 in cc)
 
-  texts_raw : HasTexts (Of commands.Raw) raw
+  texts_raw : HasTexts (Of schema commands.Raw) raw
   unfolding raw
   texts_raw = texts_as raw_from raw_to (texts_behind blank (texts_chain texts_thing (λ x k.
       regroup blank (hex blank) (λ bytes. things then λ handles. asks (askeds.Raw x bytes handles)) (texts_chain (texts_before blank (texts_hex blank))
@@ -351,8 +301,8 @@ module _ (schema : Schema) where
   abbrev Id : EndId → Asked → List ℕ → Type 0
   Id x a w = (v : List ℕ) × One IsSmall decimal (λ id. closings.Endpoint x id) a v × (w ≡ hash ∷ v)
 
-  abbrev At : Asked → List ℕ → Type 0
-  At a w = (x : EndId) × IsEnd x × (u : List ℕ) × (Id x a u ⊎ Only (askeds.Close (closings.Handle (End x))) a u) × (w ≡ end_text x ++ u)
+  abbrev AtEnd : Asked → List ℕ → Type 0
+  AtEnd a w = (x : EndId) × IsEnd x × (u : List ℕ) × (Id x a u ⊎ Only (askeds.Close (closings.Handle (End x))) a u) × (w ≡ end_text x ++ u)
 
   texts_closing_at : (x : EndId) → HasTexts (λ a u. Id x a u ⊎ Only (askeds.Close (closings.Handle (End x))) a u) (closing_at x)
   unfolding closing_at
@@ -369,7 +319,7 @@ module _ (schema : Schema) where
   OfResponder = One IsResponder responder_text closings.Responder
 
   abbrev Any : Asked → List ℕ → Type 0
-  Any a w = OfToken a w ⊎ (OfPending a w ⊎ (OfResponder a w ⊎ At a w))
+  Any a w = OfToken a w ⊎ (OfPending a w ⊎ (OfResponder a w ⊎ AtEnd a w))
 
   texts_closing : HasTexts Any closing
   texts_closing = texts_either _ (texts_chain texts_token (λ t k. texts_asks (askeds.Close (closings.Handle (Token t)))))
@@ -422,7 +372,7 @@ module _ (schema : Schema) where
     f ∙ append_assoc (end_text x) (hash ∷ decimal id) arrow_text,
   )))
 
-  close_to : (a : Asked) (w : List ℕ) → Of commands.Close a w → (v : List ℕ) × Any a v × (w ≡ blank ∷ v)
+  close_to : (a : Asked) (w : List ℕ) → Of schema commands.Close a w → (v : List ℕ) × Any a v × (w ≡ blank ∷ v)
   close_to (askeds.Close what) w h = (
     closing_text what ++ arrow_text,
     closed_to (askeds.Close what)
@@ -431,55 +381,43 @@ module _ (schema : Schema) where
   )
   close_to _ w h = absurd (let e = h.0.0 in cc)
 
-  close_from : (a : Asked) (w : List ℕ) → (v : List ℕ) × Any a v × (w ≡ blank ∷ v) → Of commands.Close a w
+  close_from : (a : Asked) (w : List ℕ) → (v : List ℕ) × Any a v × (w ≡ blank ∷ v) → Of schema commands.Close a w
   close_from a w h =
       let k = closed_from a h.0 h.1 in
-      made commands.Close a (askeds.Close k.0) w k.2 ((refl, k.1), h.2 ∙ ap (λ (l : List ℕ). blank ∷ l) k.3)
+      made schema commands.Close a (askeds.Close k.0) w k.2 ((refl, k.1), h.2 ∙ ap (λ (l : List ℕ). blank ∷ l) k.3)
 
-  texts_close : HasTexts (Of commands.Close) close
+  texts_close : HasTexts (Of schema commands.Close) close
   unfolding close
   texts_close = texts_as close_from close_to (texts_behind blank texts_closing)
 
-  texts_after : (word : CommandWord) → HasTexts (Of word) (asked_after schema (names_of schema) word)
+  texts_after : (word : CommandWord) → HasTexts (Of schema word) (asked_after schema (names_of schema) word)
   texts_after commands.Pipe = texts_pipe
   texts_after commands.Join = texts_join
   texts_after commands.Mint = texts_mint
   texts_after commands.Bind = texts_bind
   texts_after commands.Associate = texts_associate
   texts_after commands.Attach = texts_attach
-  texts_after commands.Call = texts_call
-  texts_after commands.Answer = texts_answer
+  texts_after (commands.Call false) = texts_call
+  texts_after (commands.Call true) = texts_call_at
+  texts_after (commands.Answer false) = texts_answer
+  texts_after (commands.Answer true) = texts_answer_at
   texts_after commands.Raw = texts_raw
   texts_after commands.Take = texts_take
   texts_after commands.Close = texts_close
+  texts_after (commands.Notify word) = texts_notice_after schema word
+  texts_after commands.Pause = texts_pause schema
+  texts_after commands.Data = texts_data_pipe schema
+  texts_after (commands.Flow word) = texts_flow_after schema word
   texts_after commands.Skip = texts_skip
 
-  -- the word and what stands behind it are the command and the arrow
-  whole : (a : Asked) → command_text (word_of a) ++ after a ≡ asked_text schema a ++ arrow_text
-  whole askeds.Pipe = refl
-  whole (askeds.Join t) = refl
-  whole (askeds.Mint s) = refl
-  whole (askeds.Bind x side n) = simp append_assoc refl
-  whole (askeds.Associate x side n) = simp append_assoc refl
-  whole (askeds.Attach p t) = simp append_assoc refl
-  whole (askeds.Call x id o) = simp append_assoc refl
-  whole (askeds.Answer r o) = simp append_assoc refl
-  whole (askeds.Raw x bytes handles) = simp append_assoc refl
-  whole (askeds.Take x) = refl
-  whole (askeds.Close what) = refl
-  whole (askeds.Skip line) = refl
-
-  abbrev each_command : AreAll (λ (entry : CommandWord × List ℕ). entry.1 ≡ command_text entry.0) command_words
-  each_command = (refl, (refl, (refl, (refl, (refl, (refl, (refl, (refl, (refl, (refl, (refl, (refl, tt))))))))))))
-
   abbrev Worded : Asked → List ℕ → Type 0
-  Worded a w = (word : CommandWord) × Unit {0} × ((word_of a ≡ word) × IsAsked schema a) × (w ≡ command_text word ++ after a)
+  Worded a w = (word : CommandWord) × Unit {0} × ((word_of a ≡ word) × IsAsked schema a) × (w ≡ command_text word ++ after schema a)
 
   from_worded : (a : Asked) (w : List ℕ) → Worded a w → Is (IsAsked schema) (λ (a : Asked). asked_text schema a ++ codes " -> ") a w
-  from_worded a w h = (h.2.1, h.3 ∙ ap (λ (word : CommandWord). command_text word ++ after a) (sym h.2.0) ∙ whole a)
+  from_worded a w h = (h.2.1, h.3 ∙ ap (λ (word : CommandWord). command_text word ++ after schema a) (sym h.2.0) ∙ whole schema a)
 
   to_worded : (a : Asked) (w : List ℕ) → Is (IsAsked schema) (λ (a : Asked). asked_text schema a ++ codes " -> ") a w → Worded a w
-  to_worded a w h = (word_of a, tt, (refl, h.0), h.1 ∙ sym (whole a))
+  to_worded a w h = (word_of a, tt, (refl, h.0), h.1 ∙ sym (whole schema a))
 
   pub texts_asked : HasTexts (Is (IsAsked schema) (λ (a : Asked). asked_text schema a ++ codes " -> ")) (asked schema (names_of schema))
   unfolding asked

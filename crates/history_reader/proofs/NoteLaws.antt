@@ -4,10 +4,10 @@ use Rattle.std.specs.Prelude.{codes}
 use Rattle.std.proofs.lemmas.Bool.Decides.{nat_tests}
 use Rattle.history_text.specs.declared.notes.Fate.TheVariants.{Ran, Dropped}
 use Rattle.byte_rules.proofs.Good.{Good, Apart, nothing, good_closed, good_then, good_before}
-use Rattle.history_reader.specs.Signs.{blank, line_end, letter_c}
+use Rattle.line_parts.specs.Signs.{blank, line_end, letter_c}
 use Rattle.history_reader.specs.Notes.{fate, note_of, note_line}
-use Rattle.history_reader.proofs.KeywordLaws.{is_letter, good_keyword, apart_blank}
-use Rattle.history_reader.proofs.IdLaws.{good_wide, good_sequence, good_endpoint, blank_no_digit}
+use Rattle.line_parts.proofs.KeywordLaws.{is_letter, good_keyword, apart_blank}
+use Rattle.line_parts.proofs.IdLaws.{good_wide, good_sequence, good_endpoint, blank_no_digit}
 
 good_fate : Good is_letter is_letter fate
 unfolding fate

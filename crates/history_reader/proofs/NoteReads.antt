@@ -7,7 +7,7 @@ use Rattle.history_text.specs.declared.notes.Note.{Note}
 use Rattle.history_reader.specs.Notes.{note_line}
 use Rattle.history_reader.specs.Whole.{begins_tail, tail, behind}
 use Rattle.history_reader.specs.steps.Reading.{with_notes}
-use Rattle.history_reader.proofs.SeriesReads as series
+use Rattle.line_parts.proofs.SeriesReads as series
 
 abbrev one : Unit {0} → Lang Note
 one u = note_line

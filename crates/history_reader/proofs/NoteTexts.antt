@@ -10,14 +10,14 @@ use Rattle.history_text.specs.declared.notes.Fate.TheVariants.{Ran, Dropped}
 use Rattle.history_text.specs.declared.notes.Note.{Note}
 use Rattle.history_text.specs.History.{endpoint_text, note_line}
 use Rattle.history_text.specs.Words.{fate_word}
-use Rattle.history_reader.specs.Signs.{blank, line_end}
-use Rattle.history_reader.specs.Ids.{wide, sequence, endpoint}
+use Rattle.line_parts.specs.Signs.{blank, line_end}
+use Rattle.line_parts.specs.Ids.{wide, sequence, endpoint}
 use Rattle.history_reader.specs.Notes as notes
 use Rattle.history_reader.specs.Notes.{fate, note_of}
 use Rattle.history_reader.specs.Printable.{IsWide, IsNote}
-use Rattle.history_reader.proofs.BothWays.{HasTexts, Is, texts_closed, texts_before, texts_then, texts_fine}
-use Rattle.history_reader.proofs.KeywordTexts.{texts_keyword, texts_word}
-use Rattle.history_reader.proofs.IdTexts.{IsEndpoint, texts_wide, texts_sequence, texts_endpoint}
+use Rattle.line_parts.proofs.BothWays.{HasTexts, Is, texts_closed, texts_before, texts_then, texts_fine}
+use Rattle.line_parts.proofs.KeywordTexts.{texts_keyword, texts_word}
+use Rattle.line_parts.proofs.IdTexts.{IsEndpoint, texts_wide, texts_sequence, texts_endpoint}
 
 abbrev fates : List (Fate × List ℕ)
 fates = (Ran, codes "ran") ∷ (Dropped, codes "dropped") ∷ []

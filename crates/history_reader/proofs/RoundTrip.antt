@@ -26,14 +26,14 @@ use Rattle.value_text.specs.declared.text_error.TextError.TheVariants as errors
 use Rattle.history_text.specs.declared.notes.Note.{Note}
 use Rattle.history_text.specs.History.{closing_text, asked_text, told_text, event_line, event_lines, note_line, left_line, done_line, history_text}
 use Rattle.history_text.specs.Names.{method_text}
-use Rattle.history_reader.specs.Names.{names_of, messages_of, meaning}
+use Rattle.line_parts.specs.Names.{names_of, messages_of, meaning}
 use Rattle.history_reader.specs.Printable.{IsMessage, IsPrintable, printed_text}
 use Rattle.history_reader.specs.Said.{said_closing, said_asked, said_event, said}
 use Rattle.history_reader.specs.Texts.{Tells, ReadsBack}
 use Rattle.history_reader.specs.Whole.{history}
 use Rattle.history_reader.specs.declared.printed.Printed.{Printed}
-use Rattle.history_reader.specs.declared.names.Message.{Message}
-use Rattle.history_reader.proofs.MessageTexts.{kind_is}
+use Rattle.line_parts.specs.declared.names.Message.{Message}
+use Rattle.line_parts.proofs.MessageTexts.{kind_is}
 use Rattle.history_reader.proofs.WholeLaws.{good_history}
 use Rattle.history_reader.proofs.WholeTexts.{spelled, its_text}
 
@@ -70,6 +70,10 @@ module _ (schema : Schema) where
   asked_said (askeds.Raw x bytes handles) = refl
   asked_said (askeds.Take x) = refl
   asked_said (askeds.Close c) = ap (λ (l : List ℕ). codes "close " ++ l) (closing_said c)
+  asked_said (askeds.Notify x notice) = refl
+  asked_said (askeds.Pause x other flush) = refl
+  asked_said (askeds.Data size) = refl
+  asked_said (askeds.Flow x flow) = refl
   asked_said (askeds.Skip line) = refl
 
   line_said : (k : ℕ) (e : Event) → event_line schema k (said_event e) ≡ event_line schema k e

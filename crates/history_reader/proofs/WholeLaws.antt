@@ -12,17 +12,17 @@ use Rattle.byte_rules.proofs.Good.{Good, Apart, nothing, with_starts, good_value
 use Rattle.value_text.specs.Numbers.{is_digit}
 use Rattle.value_text.proofs.NumberLaws.{numeral}
 use Rattle.history_text.specs.declared.notes.Note.{Note}
-use Rattle.history_reader.specs.Signs.{blank, line_end, letter_c, letter_d, letter_l}
-use Rattle.history_reader.specs.Keywords.{word}
-use Rattle.history_reader.specs.Names.{names_of}
+use Rattle.line_parts.specs.Signs.{blank, line_end, letter_c, letter_d, letter_l}
+use Rattle.line_parts.specs.Keywords.{word}
+use Rattle.line_parts.specs.Names.{names_of}
 use Rattle.history_reader.specs.Whole.{event_of, number_if, event_number, event_line, left_line, done_after, tail, begins_tail, printed_of, history_with}
 use Rattle.history_reader.specs.Whole.{begins_behind, behind, history}
 use Rattle.history_reader.specs.Notes.{note_line}
-use Rattle.history_reader.specs.declared.names.Names.{Names}
-use Rattle.history_reader.proofs.KeywordLaws.{is_letter, good_keyword, apart_blank}
-use Rattle.history_reader.proofs.SeriesLaws.{good_series}
-use Rattle.history_reader.proofs.IdLaws.{good_wide, good_sequence, blank_no_digit, line_no_digit, good_thing}
-use Rattle.history_reader.proofs.NameLaws.{AreWords, words_of}
+use Rattle.line_parts.specs.declared.names.Names.{Names}
+use Rattle.line_parts.proofs.KeywordLaws.{is_letter, good_keyword, apart_blank}
+use Rattle.line_parts.proofs.SeriesLaws.{good_series}
+use Rattle.line_parts.proofs.IdLaws.{good_wide, good_sequence, blank_no_digit, line_no_digit, good_thing}
+use Rattle.line_parts.proofs.NameLaws.{AreWords, words_of}
 use Rattle.history_reader.proofs.CommandLaws.{good_asked}
 use Rattle.history_reader.proofs.ReplyLaws.{good_told}
 use Rattle.history_reader.proofs.NoteLaws.{good_note_line}

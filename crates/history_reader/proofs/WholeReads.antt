@@ -10,12 +10,12 @@ use Rattle.byte_rules.specs.declared.stop.Stop.TheVariants as stops
 use Rattle.byte_rules.specs.Lang.{Read, ◌>>=◌, front_is}
 use Rattle.byte_rules.specs.Reading.{Fails}
 use Rattle.history_text.specs.declared.notes.Note.{Note}
-use Rattle.history_reader.specs.Keywords.{word}
+use Rattle.line_parts.specs.Keywords.{word}
 use Rattle.history_reader.specs.Whole.{begins_behind, event_number, event_line, behind, printed_of, history_with}
 use Rattle.history_reader.specs.steps.Reading.{with_events}
-use Rattle.history_reader.specs.declared.names.Names.{Names}
+use Rattle.line_parts.specs.declared.names.Names.{Names}
 use Rattle.history_reader.specs.declared.printed.Printed.{Printed}
-use Rattle.history_reader.proofs.SeriesReads as series
+use Rattle.line_parts.proofs.SeriesReads as series
 
 abbrev next : ℕ → Event → ℕ
 next k event = k + 1

@@ -16,24 +16,24 @@ use Rattle.byte_rules.specs.Judged.{Spells}
 use Rattle.byte_rules.proofs.Parts.{parts_never}
 use Rattle.history_text.specs.History.{asked_text, told_text, event_line, event_lines, note_line, left_line, done_line}
 use Rattle.history_text.specs.declared.notes.Note.{Note}
-use Rattle.history_reader.specs.Signs.{blank, line_end, letter_d}
-use Rattle.history_reader.specs.Names.{names_of}
+use Rattle.line_parts.specs.Signs.{blank, line_end, letter_d}
+use Rattle.line_parts.specs.Names.{names_of}
 use Rattle.history_reader.specs.Commands.{asked}
 use Rattle.history_reader.specs.Replies.{told}
-use Rattle.history_reader.specs.Ids.{sequence}
+use Rattle.line_parts.specs.Ids.{sequence}
 use Rattle.history_reader.specs.Whole as whole
 use Rattle.history_reader.specs.Whole.{event_of, number_if, event_number, done_after, tail, begins_tail, behind, begins_behind, printed_of, history_with}
 use Rattle.history_reader.specs.Whole.{history}
 use Rattle.history_reader.specs.Notes as notes
 use Rattle.history_reader.specs.Printable.{IsWide, IsThing, IsNote, AreAll, IsAsked, IsTold, IsEvent, AreEvents, IsPrintable, printed_text}
 use Rattle.history_reader.specs.declared.printed.Printed.{Printed}
-use Rattle.history_reader.proofs.BothWays.{HasTexts, Is, texts_closed, texts_before, texts_value, texts_then, texts_fine, texts_many}
-use Rattle.history_reader.proofs.KeywordTexts.{texts_word}
-use Rattle.history_reader.proofs.IdTexts.{texts_wide, texts_sequence, texts_thing}
+use Rattle.line_parts.proofs.BothWays.{HasTexts, Is, texts_closed, texts_before, texts_value, texts_then, texts_fine, texts_many}
+use Rattle.line_parts.proofs.KeywordTexts.{texts_word}
+use Rattle.line_parts.proofs.IdTexts.{texts_wide, texts_sequence, texts_thing}
 use Rattle.history_reader.proofs.CommandTexts.{texts_asked}
 use Rattle.history_reader.proofs.ReplyTexts.{texts_told}
 use Rattle.history_reader.proofs.NoteTexts.{texts_note_line}
-use Rattle.history_reader.proofs.SeriesTexts as series
+use Rattle.line_parts.proofs.SeriesTexts as series
 
 -- the number of an event
 texts_number_if : (v : Bool) (k : ℕ) → nat_lt k (2 ^ 64) ≡ v → HasTexts (Is (λ (u : Unit {0}). IsWide k) (λ (u : Unit {0}). decimal k)) (number_if v k)

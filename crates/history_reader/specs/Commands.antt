@@ -1,5 +1,5 @@
 -- How commands stand in a line, up to the arrow and with it.
-use Rattle.std.specs.Prelude.{ℕ, ◌==◌, List, [], ◌∷◌, codes}
+use Rattle.std.specs.Prelude.{ℕ, ℤ, ◌==◌, false, true, List, [], ◌∷◌, Option, Some, None, codes}
 use Rattle.mj_base.specs.declared.ids.EndId.{EndId}
 use Rattle.mj_schema.specs.declared.schema.Schema.{Schema}
 use Rattle.handle_table.specs.declared.thing.Thing.TheVariants.{End, Token}
@@ -13,23 +13,33 @@ use Rattle.bind_model.specs.declared.asked.Asked.TheVariants as askeds
 use Rattle.bind_model.specs.declared.asked.Closing.TheVariants as closings
 use Rattle.byte_rules.specs.Lang.{Lang, as_value, choice, ◌then◌, ◌▸◌}
 use Rattle.value_text.specs.Numbers.{index}
-use Rattle.value_text.specs.Rules.{letters}
-use Rattle.history_reader.specs.Signs.{blank, hash, letter_p, letter_r, letter_t}
-use Rattle.history_reader.specs.Keywords.{keyword}
-use Rattle.history_reader.specs.Names.{interface}
-use Rattle.history_reader.specs.Ids.{sequence, end, token, thing, endpoint, pending, responder}
-use Rattle.history_reader.specs.Lists.{things, hex}
-use Rattle.history_reader.specs.Messages.{outgoing}
-use Rattle.history_reader.specs.declared.names.Names.{Names}
+use Rattle.line_parts.specs.Signs.{blank, hash, letter_p, letter_r, letter_t}
+use Rattle.line_parts.specs.Keywords.{keyword}
+use Rattle.line_parts.specs.Names.{interface}
+use Rattle.line_parts.specs.Ids.{moment, sequence, end, token, thing, endpoint, pending, responder}
+use Rattle.line_parts.specs.Lists.{things, hex}
+use Rattle.line_parts.specs.Messages.{outgoing}
+use Rattle.line_parts.specs.declared.names.Names.{Names}
+use Rattle.history_reader.specs.Arrows.{asks}
+use Rattle.history_reader.specs.Notices.{notice_after, pause}
+use Rattle.history_reader.specs.Flows.{data_pipe, flow_after}
 use Rattle.history_reader.specs.declared.commands.CommandWord.{CommandWord}
 use Rattle.history_reader.specs.declared.commands.CommandWord.TheVariants as commands
+use Rattle.history_reader.specs.declared.flows.FlowWord.TheVariants as flows
+use Rattle.history_reader.specs.declared.notices.NoticeWord.TheVariants as notices
 
 -- the words of commands
 abbrev pub command_words : List (CommandWord × List ℕ)
 command_words =
     (commands.Pipe, codes "pipe") ∷ (commands.Join, codes "join") ∷ (commands.Mint, codes "mint") ∷ (commands.Bind, codes "bind")
-    ∷ (commands.Associate, codes "associate") ∷ (commands.Attach, codes "attach") ∷ (commands.Call, codes "call") ∷ (commands.Answer, codes "answer")
-    ∷ (commands.Raw, codes "raw") ∷ (commands.Take, codes "take") ∷ (commands.Close, codes "close") ∷ (commands.Skip, codes "skip") ∷ []
+    ∷ (commands.Associate, codes "associate") ∷ (commands.Attach, codes "attach") ∷ (commands.Call false, codes "call")
+    ∷ (commands.Call true, codes "call-at") ∷ (commands.Answer false, codes "answer") ∷ (commands.Answer true, codes "answer-at")
+    ∷ (commands.Raw, codes "raw") ∷ (commands.Take, codes "take") ∷ (commands.Close, codes "close")
+    ∷ (commands.Notify notices.Query, codes "query") ∷ (commands.Notify notices.Require, codes "require") ∷ (commands.Notify notices.Flush, codes "flush")
+    ∷ (commands.Pause, codes "pause") ∷ (commands.Data, codes "data") ∷ (commands.Flow (flows.Put false), codes "put")
+    ∷ (commands.Flow (flows.Put true), codes "put-all") ∷ (commands.Flow (flows.Get false), codes "get") ∷ (commands.Flow (flows.Get true), codes "get-all")
+    ∷ (commands.Flow flows.BeginPut, codes "begin-put") ∷ (commands.Flow flows.EndPut, codes "end-put") ∷ (commands.Flow flows.BeginGet, codes "begin-get")
+    ∷ (commands.Flow flows.EndGet, codes "end-get") ∷ (commands.Skip, codes "skip") ∷ []
 
 -- a sort of token, and a side of an endpoint
 unfoldable pub sort : Lang TokenSort
@@ -37,14 +47,6 @@ sort = keyword ((SharedBuffer, codes "shared_buffer") ∷ (Platform, codes "plat
 
 unfoldable pub side : Lang EndpointSide
 side = keyword ((Remote, codes "remote") ∷ (Receiver, codes "receiver") ∷ [])
-
--- the arrow, behind which the reply stands
-unfoldable pub arrow : Lang (Unit {0})
-arrow = letters (codes " -> ") tt
-
--- what was asked, and the arrow
-abbrev pub asks : Asked → Lang Asked
-asks what = as_value (λ u. what) arrow
 
 -- behind the word of each command
 unfoldable pub join : Lang Asked
@@ -66,11 +68,18 @@ associate names = blank ▸ end then λ x. role names then λ r. asks (askeds.As
 unfoldable pub attach : Lang Asked
 attach = blank ▸ pending then λ p. blank ▸ sequence then λ t. asks (askeds.Attach p t)
 
-unfoldable pub call : Schema → Names → Lang Asked
-call schema names = blank ▸ endpoint then λ p. blank ▸ outgoing schema names Request then λ o. asks (askeds.Call p.0 p.1 o)
+-- a call and an answer at a moment, which stands before them
+unfoldable pub call : Schema → Names → Option ℤ → Lang Asked
+call schema names at = blank ▸ endpoint then λ p. blank ▸ outgoing schema names Request at then λ o. asks (askeds.Call p.0 p.1 o)
 
-unfoldable pub answer : Schema → Names → Lang Asked
-answer schema names = blank ▸ responder then λ r. blank ▸ outgoing schema names Response then λ o. asks (askeds.Answer r o)
+unfoldable pub call_at : Schema → Names → Lang Asked
+call_at schema names = blank ▸ moment then λ at. call schema names (Some at)
+
+unfoldable pub answer : Schema → Names → Option ℤ → Lang Asked
+answer schema names at = blank ▸ responder then λ r. blank ▸ outgoing schema names Response at then λ o. asks (askeds.Answer r o)
+
+unfoldable pub answer_at : Schema → Names → Lang Asked
+answer_at schema names = blank ▸ moment then λ at. answer schema names (Some at)
 
 unfoldable pub raw : Lang Asked
 raw = blank ▸ thing then λ x. blank ▸ hex blank then λ bytes. things then λ handles. asks (askeds.Raw x bytes handles)
@@ -102,11 +111,17 @@ asked_after schema names commands.Mint = mint
 asked_after schema names commands.Bind = bind names
 asked_after schema names commands.Associate = associate names
 asked_after schema names commands.Attach = attach
-asked_after schema names commands.Call = call schema names
-asked_after schema names commands.Answer = answer schema names
+asked_after schema names (commands.Call false) = call schema names None
+asked_after schema names (commands.Call true) = call_at schema names
+asked_after schema names (commands.Answer false) = answer schema names None
+asked_after schema names (commands.Answer true) = answer_at schema names
 asked_after schema names commands.Raw = raw
 asked_after schema names commands.Take = take
 asked_after schema names commands.Close = close
+asked_after schema names (commands.Notify word) = notice_after word
+asked_after schema names commands.Pause = pause
+asked_after schema names commands.Data = data_pipe
+asked_after schema names (commands.Flow word) = flow_after word
 asked_after schema names commands.Skip = skip
 
 -- a command, and the arrow

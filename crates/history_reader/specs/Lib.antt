@@ -1,11 +1,10 @@
-pub mod Signs
-pub mod Keywords
-pub mod Series
-pub mod Names
-pub mod Ids
-pub mod Lists
-pub mod Messages
+pub mod Arrows
+pub mod Notices
+pub mod Flows
 pub mod Commands
+pub mod Reasons
+pub mod Noted
+pub mod Flowed
 pub mod Replies
 pub mod Notes
 pub mod Whole

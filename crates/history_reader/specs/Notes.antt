@@ -6,9 +6,9 @@ use Rattle.byte_rules.specs.Lang.{Lang, closed, ◌then◌, ◌▸◌}
 use Rattle.history_text.specs.declared.notes.Fate.{Fate}
 use Rattle.history_text.specs.declared.notes.Fate.TheVariants.{Ran, Dropped}
 use Rattle.history_text.specs.declared.notes.Note.{Note}
-use Rattle.history_reader.specs.Signs.{line_end, blank}
-use Rattle.history_reader.specs.Keywords.{keyword, word}
-use Rattle.history_reader.specs.Ids.{wide, sequence, endpoint}
+use Rattle.line_parts.specs.Signs.{line_end, blank}
+use Rattle.line_parts.specs.Keywords.{keyword, word}
+use Rattle.line_parts.specs.Ids.{wide, sequence, endpoint}
 
 -- what became of a callback
 unfoldable pub fate : Lang Fate

@@ -1,94 +1,54 @@
 -- What a text of a history can say: numbers of their widths, and names and values that are the schema's.
-use Rattle.std.specs.Prelude.{◌≡◌, ℕ, ◌+◌, ◌<◌, ◌^◌, ◌++◌, false, List, [], ◌∷◌, Some}
+use Rattle.std.specs.Prelude.{ℕ, ◌+◌, ◌++◌, List, [], ◌∷◌, Option, Some, None}
 use Rattle.std.specs.List.{flat_map}
-use Rattle.mj_base.specs.declared.ids.EndId.{EndId}
-use Rattle.mj_base.specs.declared.ids.SeqId.{SeqId}
-use Rattle.mj_schema.specs.KindTrees.{StructKind}
 use Rattle.mj_schema.specs.declared.schema.Schema.{Schema}
-use Rattle.handle_table.specs.declared.thing.Thing.{Thing}
-use Rattle.handle_table.specs.declared.thing.Thing.TheVariants.{End, Token}
-use Rattle.handle_table.specs.declared.thing.TokenId.{TokenId}
-use Rattle.wire_model.specs.Trees.{Tree}
-use Rattle.wire_model.specs.declared.target.MessageSide.{MessageSide}
 use Rattle.wire_model.specs.declared.target.MessageSide.TheVariants.{Request, Response}
-use Rattle.wire_model.specs.declared.target.Target.{Target}
 use Rattle.bind_model.specs.declared.asked.Asked.{Asked}
 use Rattle.bind_model.specs.declared.asked.Asked.TheVariants as askeds
 use Rattle.bind_model.specs.declared.asked.Closing.{Closing}
 use Rattle.bind_model.specs.declared.asked.Closing.TheVariants as closings
-use Rattle.bind_model.specs.declared.asked.Outgoing.{Outgoing}
-use Rattle.bind_model.specs.declared.endpoint.PendingId.{PendingId}
-use Rattle.bind_model.specs.declared.endpoint.ResponderId.{ResponderId}
+use Rattle.bind_model.specs.declared.asked.Notice.{Notice}
+use Rattle.bind_model.specs.declared.asked.Notice.TheVariants as notices
 use Rattle.bind_model.specs.declared.event.Event.{Event}
+use Rattle.bind_model.specs.declared.flow.Flow.{Flow}
+use Rattle.bind_model.specs.declared.flow.Flow.TheVariants as flows
+use Rattle.bind_model.specs.declared.flow.Flowed.{Flowed}
+use Rattle.bind_model.specs.declared.flow.Flowed.TheVariants as floweds
 use Rattle.bind_model.specs.declared.told.BadWhy.{BadWhy}
 use Rattle.bind_model.specs.declared.told.BadWhy.TheVariants as bads
 use Rattle.bind_model.specs.declared.told.Got.{Got}
+use Rattle.bind_model.specs.declared.told.Noted.{Noted}
+use Rattle.bind_model.specs.declared.told.Noted.TheVariants as noteds
+use Rattle.bind_model.specs.declared.told.Notified.{Notified}
+use Rattle.bind_model.specs.declared.told.Notified.TheVariants as notifieds
 use Rattle.bind_model.specs.declared.told.Told.{Told}
 use Rattle.bind_model.specs.declared.told.Told.TheVariants as tells
 use Rattle.bind_model.specs.declared.told.Why.{Why}
 use Rattle.bind_model.specs.declared.told.Why.TheVariants as whys
-use Rattle.byte_rules.specs.Judged.{Spells}
-use Rattle.value_text.specs.Rules.{value}
 use Rattle.history_text.specs.declared.notes.Note.{Note}
-use Rattle.history_text.specs.History.{parameters_text, event_lines, note_line, left_line, done_line}
-use Rattle.history_text.specs.Names.{interface_name, method_text}
-use Rattle.history_reader.specs.Names.{names_of, messages_of, meaning}
+use Rattle.history_text.specs.History.{event_lines, note_line, left_line, done_line}
 use Rattle.history_reader.specs.declared.printed.Printed.{Printed}
-
--- a number of 32 bits, and one of 64
-abbrev pub IsSmall : ℕ → Type 0
-IsSmall n = n < 2 ^ 32
-
-abbrev pub IsWide : ℕ → Type 0
-IsWide n = n < 2 ^ 64
-
-abbrev pub IsSequence : SeqId → Type 0
-IsSequence seq = IsSmall seq.0
-
-abbrev pub IsEnd : EndId → Type 0
-IsEnd x = IsSmall x.seq × IsSmall x.serial
-
-abbrev pub IsToken : TokenId → Type 0
-IsToken t = IsSmall t.seq × IsSmall t.serial
-
-abbrev pub IsThing : Thing → Type 0
-IsThing (End x) = IsEnd x
-IsThing (Token t) = IsToken t
-
-abbrev pub IsPending : PendingId → Type 0
-IsPending p = IsEnd p.end × IsSmall p.id
-
--- the text doesn't say the interface of a responder's endpoint
-abbrev pub IsResponder : ResponderId → Type 0
-IsResponder r = IsEnd r.end × IsSmall r.id × IsWide r.request × IsSmall r.method × (r.interface ≡ 0)
-
--- all of a list
-abbrev pub AreAll : {A : Type 0} → (A → Type 0) → List A → Type 0
-AreAll Is [] = Unit {0}
-AreAll Is (x ∷ xs) = Is x × AreAll Is xs
-
-abbrev pub AreBytes : List ℕ → Type 0
-AreBytes bytes = AreAll (λ (b : ℕ). b < 256) bytes
-
--- an interface whose name means it
-abbrev pub IsInterface : Schema → ℕ → Type 0
-IsInterface schema n = meaning (names_of schema).interfaces (interface_name schema n) ≡ Some n
-
--- a message whose method's word means it, and whose parameters are a value that their text spells
-pub record IsMessage (schema : Schema) (side : MessageSide) (target : Target) (parameters : Tree) : Type 0 where
-  pub number : ℕ
-  pub means : meaning (messages_of (names_of schema) side) (method_text schema target.interface target.method) ≡ Some
-      (record { target = target; parameters = number })
-  pub spells : Spells (value schema 512 (StructKind number false)) parameters (parameters_text schema target parameters)
-
-abbrev pub IsOutgoing : Schema → MessageSide → Outgoing → Type 0
-IsOutgoing schema side o = IsMessage schema side o.target o.parameters × AreAll IsThing o.handles × AreAll IsPending o.pendings
+pub use Rattle.line_parts.specs.Printable.{IsSmall, IsWide, IsLong, IsMoment, IsSequence, IsEnd, IsToken, IsThing, IsPending, IsResponder}
+pub use Rattle.line_parts.specs.Printable.{AreAll, AreBytes, IsInterface, IsMessage, IsOutgoing}
 
 abbrev pub IsClosing : Closing → Type 0
 IsClosing (closings.Handle x) = IsThing x
 IsClosing (closings.Pending p) = IsPending p
 IsClosing (closings.Responder r) = IsResponder r
 IsClosing (closings.Endpoint x id) = IsEnd x × IsSmall id
+
+abbrev pub IsNotice : Notice → Type 0
+IsNotice (notices.Query id) = IsSmall id
+IsNotice (notices.Require id version) = IsSmall id × IsSmall version
+IsNotice notices.Flush = Unit {0}
+
+abbrev pub IsFlow : Flow → Type 0
+IsFlow (flows.Put bytes all) = AreBytes bytes
+IsFlow (flows.Get n all) = IsSmall n
+IsFlow flows.BeginPut = Unit {0}
+IsFlow (flows.EndPut bytes) = AreBytes bytes
+IsFlow flows.BeginGet = Unit {0}
+IsFlow (flows.EndGet n) = IsSmall n
 
 abbrev pub IsAsked : Schema → Asked → Type 0
 IsAsked schema askeds.Pipe = Unit {0}
@@ -102,23 +62,56 @@ IsAsked schema (askeds.Answer r outgoing) = IsResponder r × IsOutgoing schema R
 IsAsked schema (askeds.Raw x bytes handles) = IsThing x × AreBytes bytes × AreAll IsThing handles
 IsAsked schema (askeds.Take x) = IsEnd x
 IsAsked schema (askeds.Close closing) = IsClosing closing
+IsAsked schema (askeds.Notify x notice) = IsEnd x × IsNotice notice
+IsAsked schema (askeds.Pause x other flush) = IsEnd x × (IsEnd other × IsSmall flush)
+IsAsked schema (askeds.Data size) = IsSmall size
+IsAsked schema (askeds.Flow x flow) = IsThing x × IsFlow flow
 IsAsked schema (askeds.Skip line) = IsSmall line
 
 abbrev pub IsBadWhy : BadWhy → Type 0
 IsBadWhy (bads.Message fault) = IsWide fault.at
 IsBadWhy (bads.Unasked request) = IsWide request
 IsBadWhy (bads.StrangeId id) = IsSmall id
+IsBadWhy (bads.TooOld version) = IsSmall version
 
 abbrev pub IsWhy : Why → Type 0
 IsWhy (whys.Unbound id) = IsSmall id
 IsWhy (whys.Elsewhere t) = IsSequence t
 IsWhy (whys.WrongPipe id) = IsSmall id
+IsWhy (whys.Paused x) = IsEnd x
+IsWhy (whys.BadSize size) = IsSmall size
+IsWhy (whys.Busy t) = IsToken t
+IsWhy (whys.Short n) = IsSmall n
 IsWhy _ = Unit {0}
 
 abbrev pub IsGot : Schema → Got → Type 0
 IsGot schema g =
     IsSmall g.id × IsMessage schema g.target.side g.target g.parameters × IsWide g.request
-    × AreAll IsThing g.handles × AreAll IsPending g.pendings × AreAll IsThing g.gone
+    × AreAll IsThing g.handles × AreAll IsPending g.pendings × AreAll IsThing g.gone × IsMoment g.moment
+
+-- a version, where there is one
+abbrev pub IsVersion : Option ℕ → Type 0
+IsVersion None = Unit {0}
+IsVersion (Some version) = IsSmall version
+
+abbrev pub IsNoted : Noted → Type 0
+IsNoted (noteds.Closed id) = IsSmall id
+IsNoted (noteds.Queried id version) = IsSmall id × IsVersion version
+IsNoted (noteds.Version id version) = IsSmall id × IsSmall version
+IsNoted (noteds.Required id version) = IsSmall id × IsSmall version
+IsNoted (noteds.Flushed flush) = IsSmall flush
+
+abbrev pub IsNotified : Notified → Type 0
+IsNotified notifieds.Asking = Unit {0}
+IsNotified notifieds.Requiring = Unit {0}
+IsNotified (notifieds.Flushing flush) = IsSmall flush
+
+abbrev pub IsFlowed : Flowed → Type 0
+IsFlowed (floweds.Put n) = IsSmall n
+IsFlowed (floweds.Bytes bytes) = AreBytes bytes
+IsFlowed (floweds.Space n) = IsSmall n
+IsFlowed (floweds.View bytes) = AreBytes bytes
+IsFlowed floweds.Ended = Unit {0}
 
 abbrev pub IsTold : Schema → Told → Type 0
 IsTold schema (tells.Made things) = AreAll IsThing things
@@ -129,9 +122,12 @@ IsTold schema (tells.Sent request bytes) = IsWide request × AreBytes bytes
 IsTold schema (tells.Wrote x) = IsEnd x
 IsTold schema (tells.Taken g) = IsGot schema g
 IsTold schema (tells.Dropped id gone) = IsSmall id × AreAll IsThing gone
-IsTold schema (tells.Control id) = IsSmall id
+IsTold schema (tells.Control noted) = IsNoted noted
 IsTold schema (tells.Bad why gone) = IsBadWhy why × AreAll IsThing gone
 IsTold schema (tells.Closed gone) = AreAll IsThing gone
+IsTold schema (tells.Notified notified) = IsNotified notified
+IsTold schema tells.Pausing = Unit {0}
+IsTold schema (tells.Flowed t flowed) = IsToken t × IsFlowed flowed
 IsTold schema tells.Skipped = Unit {0}
 IsTold schema (tells.No why) = IsWhy why
 

@@ -8,15 +8,15 @@ use Rattle.bind_model.specs.declared.event.Event.{Event}
 use Rattle.bind_model.specs.declared.told.Told.{Told}
 use Rattle.byte_rules.specs.Lang.{Lang, as_value, closed, many, never, ◌then◌, ◌▸◌}
 use Rattle.history_text.specs.declared.notes.Note.{Note}
-use Rattle.history_reader.specs.Signs.{line_end, blank, letter_c, letter_d, letter_l}
-use Rattle.history_reader.specs.Keywords.{word}
-use Rattle.history_reader.specs.Series.{series}
-use Rattle.history_reader.specs.Names.{names_of}
-use Rattle.history_reader.specs.Ids.{wide, sequence, thing}
+use Rattle.line_parts.specs.Signs.{line_end, blank, letter_c, letter_d, letter_l}
+use Rattle.line_parts.specs.Keywords.{word}
+use Rattle.line_parts.specs.Series.{series}
+use Rattle.line_parts.specs.Names.{names_of}
+use Rattle.line_parts.specs.Ids.{wide, sequence, thing}
 use Rattle.history_reader.specs.Commands.{asked}
 use Rattle.history_reader.specs.Replies.{told}
 use Rattle.history_reader.specs.Notes.{note_line}
-use Rattle.history_reader.specs.declared.names.Names.{Names}
+use Rattle.line_parts.specs.declared.names.Names.{Names}
 use Rattle.history_reader.specs.declared.printed.Printed.{Printed}
 
 abbrev pub event_of : SeqId → Asked → Told → Event

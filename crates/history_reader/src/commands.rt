@@ -1,27 +1,30 @@
 //! Commands, up to the arrow.
 
 ghost use Rattle.byte_rules.specs.Reading.{Gives};
-ghost use Rattle.history_reader.specs.Keywords.{keyword};
-ghost use Rattle.history_reader.specs.Commands.{command_words, sort, side, arrow, asks, join, mint, role, bind, associate, attach, call, answer};
-ghost use Rattle.history_reader.specs.Commands.{raw, take, skip, closing_at, closing, close, asked_after, asked};
+ghost use Rattle.line_parts.specs.Keywords.{keyword};
+ghost use Rattle.history_reader.specs.Commands.{command_words, sort, side, join, mint, role, bind, associate, attach, call, call_at, answer};
+ghost use Rattle.history_reader.specs.Commands.{answer_at, raw, take, skip, closing_at, closing, close, asked_after, asked};
 
-use crate::hexadecimal::hexadecimal;
-use crate::ids::{end, endpoint, pending, responder, sequence, thing, token};
-use crate::keywords::keyword;
-use crate::lists::things;
-use crate::messages::outgoing;
-use crate::names::Names;
-use crate::numbers::index;
+use crate::arrows::asks;
+use crate::flows::{FlowWord, data_pipe, flow_after};
+use crate::notices::{NoticeWord, notice_after, pause};
 use bind_model::{Asked, Closing};
 use byte_rules::{Stop, expect, is_next};
 use handle_table::{Thing, TokenSort};
+use line_parts::hexadecimal::hexadecimal;
+use line_parts::ids::{end, endpoint, pending, responder, sequence, thing, token};
+use line_parts::keywords::keyword;
+use line_parts::lists::things;
+use line_parts::messages::outgoing;
+use line_parts::names::Names;
+use line_parts::numbers::{index, moment};
 use mj_base::EndId;
 use mj_schema::Schema;
 use std::alloc::Global;
 use wire_encoder::EndpointSide;
 use wire_model::MessageSide;
 
-/// The word that a command begins with.
+/// The word that a command begins with; of a call and an answer, true where a moment follows.
 #[derive(Clone, Copy)]
 pub(crate) enum CommandWord {
     Pipe,
@@ -30,11 +33,15 @@ pub(crate) enum CommandWord {
     Bind,
     Associate,
     Attach,
-    Call,
-    Answer,
+    Call(bool),
+    Answer(bool),
     Raw,
     Take,
     Close,
+    Notify(NoticeWord),
+    Pause,
+    Data,
+    Flow(FlowWord),
     Skip,
 }
 
@@ -60,26 +67,6 @@ fn side(bytes: &[u8]) -> Result<(EndpointSide, &[u8]), Stop>
         (EndpointSide::Receiver, "receiver"),
     ];
     keyword(&sides, bytes)
-}
-
-/// The bytes after the arrow.
-#[tactic(auto, unfolding(crate::specs::Commands::arrow))]
-fn arrow(bytes: &[u8]) -> Result<&[u8], Stop>
-    ensures { Gives (λ rest. (tt, rest.now)) result (arrow.read bytes.now) }
-{
-    let rest = expect(bytes, b' ')?;
-    let rest = expect(rest, b'-')?;
-    let rest = expect(rest, b'>')?;
-    let rest = expect(rest, b' ')?;
-    Ok(rest)
-}
-
-/// The bytes after the arrow, with what was asked.
-fn asks(asked: Asked, bytes: &[u8]) -> Result<(Asked, &[u8]), Stop>
-    ensures { Gives (λ x. (x.0, x.1.now)) result ((asks asked).read bytes.now) }
-{
-    let rest = arrow(bytes)?;
-    Ok((asked, rest))
 }
 
 /// A sequence that a pipe is shared with.
@@ -148,38 +135,70 @@ fn attach(bytes: &[u8]) -> Result<(Asked, &[u8]), Stop>
     asks(Asked::Attach(pending, seq), rest)
 }
 
-/// The endpoint of a request, and what is sent.
+/// The endpoint of a request, and what is sent at this moment, which stands before it.
 #[tactic(auto, unfolding(crate::specs::Commands::call))]
 fn call<'a>(
     alloc: Global,
     schema: &Schema,
     names: &Names,
+    moment: Option<i64>,
     bytes: &'a [u8],
 ) -> Result<(Asked, &'a [u8]), Stop>
-    ensures { Gives (λ x. (x.0, x.1.now)) result ((call schema.now names.now).read bytes.now) }
+    ensures { Gives (λ x. (x.0, x.1.now)) result ((call schema.now names.now moment).read bytes.now) }
 {
     let rest = expect(bytes, b' ')?;
     let ((end, id), rest) = endpoint(rest)?;
     let rest = expect(rest, b' ')?;
-    let (outgoing, rest) = outgoing(alloc, schema, names, MessageSide::Request, rest)?;
+    let (outgoing, rest) = outgoing(alloc, schema, names, MessageSide::Request, moment, rest)?;
     asks(Asked::Call(end, id, outgoing), rest)
 }
 
-/// The responder of a response, and what is sent.
-#[tactic(auto, unfolding(crate::specs::Commands::answer))]
-fn answer<'a>(
+/// The moment of a request, its endpoint, and what is sent.
+#[tactic(auto, unfolding(crate::specs::Commands::call_at))]
+fn call_at<'a>(
     alloc: Global,
     schema: &Schema,
     names: &Names,
     bytes: &'a [u8],
 ) -> Result<(Asked, &'a [u8]), Stop>
-    ensures { Gives (λ x. (x.0, x.1.now)) result ((answer schema.now names.now).read bytes.now) }
+    ensures { Gives (λ x. (x.0, x.1.now)) result ((call_at schema.now names.now).read bytes.now) }
+{
+    let rest = expect(bytes, b' ')?;
+    let (moment, rest) = moment(rest)?;
+    call(alloc, schema, names, Some(moment), rest)
+}
+
+/// The responder of a response, and what is sent at this moment, which stands before it.
+#[tactic(auto, unfolding(crate::specs::Commands::answer))]
+fn answer<'a>(
+    alloc: Global,
+    schema: &Schema,
+    names: &Names,
+    moment: Option<i64>,
+    bytes: &'a [u8],
+) -> Result<(Asked, &'a [u8]), Stop>
+    ensures { Gives (λ x. (x.0, x.1.now)) result ((answer schema.now names.now moment).read bytes.now) }
 {
     let rest = expect(bytes, b' ')?;
     let (responder, rest) = responder(rest)?;
     let rest = expect(rest, b' ')?;
-    let (outgoing, rest) = outgoing(alloc, schema, names, MessageSide::Response, rest)?;
+    let (outgoing, rest) = outgoing(alloc, schema, names, MessageSide::Response, moment, rest)?;
     asks(Asked::Answer(responder, outgoing), rest)
+}
+
+/// The moment of a response, its responder, and what is sent.
+#[tactic(auto, unfolding(crate::specs::Commands::answer_at))]
+fn answer_at<'a>(
+    alloc: Global,
+    schema: &Schema,
+    names: &Names,
+    bytes: &'a [u8],
+) -> Result<(Asked, &'a [u8]), Stop>
+    ensures { Gives (λ x. (x.0, x.1.now)) result ((answer_at schema.now names.now).read bytes.now) }
+{
+    let rest = expect(bytes, b' ')?;
+    let (moment, rest) = moment(rest)?;
+    answer(alloc, schema, names, Some(moment), rest)
 }
 
 /// An end, and the bytes and handles that are written to it.
@@ -274,11 +293,17 @@ fn asked_after<'a>(
         CommandWord::Bind => bind(names, bytes),
         CommandWord::Associate => associate(names, bytes),
         CommandWord::Attach => attach(bytes),
-        CommandWord::Call => call(alloc, schema, names, bytes),
-        CommandWord::Answer => answer(alloc, schema, names, bytes),
+        CommandWord::Call(false) => call(alloc, schema, names, None, bytes),
+        CommandWord::Call(true) => call_at(alloc, schema, names, bytes),
+        CommandWord::Answer(false) => answer(alloc, schema, names, None, bytes),
+        CommandWord::Answer(true) => answer_at(alloc, schema, names, bytes),
         CommandWord::Raw => raw(alloc, bytes),
         CommandWord::Take => take(bytes),
         CommandWord::Close => close(bytes),
+        CommandWord::Notify(word) => notice_after(word, bytes),
+        CommandWord::Pause => pause(bytes),
+        CommandWord::Data => data_pipe(bytes),
+        CommandWord::Flow(word) => flow_after(alloc, word, bytes),
         CommandWord::Skip => skip(bytes),
     }
 }
@@ -294,11 +319,26 @@ fn command_word(bytes: &[u8]) -> Result<(CommandWord, &[u8]), Stop>
         (CommandWord::Bind, "bind"),
         (CommandWord::Associate, "associate"),
         (CommandWord::Attach, "attach"),
-        (CommandWord::Call, "call"),
-        (CommandWord::Answer, "answer"),
+        (CommandWord::Call(false), "call"),
+        (CommandWord::Call(true), "call-at"),
+        (CommandWord::Answer(false), "answer"),
+        (CommandWord::Answer(true), "answer-at"),
         (CommandWord::Raw, "raw"),
         (CommandWord::Take, "take"),
         (CommandWord::Close, "close"),
+        (CommandWord::Notify(NoticeWord::Query), "query"),
+        (CommandWord::Notify(NoticeWord::Require), "require"),
+        (CommandWord::Notify(NoticeWord::Flush), "flush"),
+        (CommandWord::Pause, "pause"),
+        (CommandWord::Data, "data"),
+        (CommandWord::Flow(FlowWord::Put(false)), "put"),
+        (CommandWord::Flow(FlowWord::Put(true)), "put-all"),
+        (CommandWord::Flow(FlowWord::Get(false)), "get"),
+        (CommandWord::Flow(FlowWord::Get(true)), "get-all"),
+        (CommandWord::Flow(FlowWord::BeginPut), "begin-put"),
+        (CommandWord::Flow(FlowWord::EndPut), "end-put"),
+        (CommandWord::Flow(FlowWord::BeginGet), "begin-get"),
+        (CommandWord::Flow(FlowWord::EndGet), "end-get"),
         (CommandWord::Skip, "skip"),
     ];
     keyword(&words, bytes)

@@ -9,11 +9,11 @@ ghost use Rattle.history_reader.specs.Texts.{Tells};
 ghost use Rattle.history_reader.specs.steps.Reading.{with_events, Agrees};
 
 use crate::lines::event_line;
-use crate::names::{Names, names_of};
 use crate::notes::behind;
 use crate::printed::Printed;
 use bind_model::Event;
 use byte_rules::Stop;
+use line_parts::names::{Names, names_of};
 use mj_base::Items;
 use mj_schema::Schema;
 use std::alloc::Global;

@@ -15,7 +15,7 @@ ghost use Rattle.value_text.specs.declared.text_error.TextError.{TextError};
 ghost use Rattle.history_text.specs.declared.notes.Note.{Note};
 ghost use Rattle.history_text.specs.History.{history_text};
 ghost use Rattle.history_text.specs.Names.{method_text};
-ghost use Rattle.history_reader.specs.Names.{names_of, messages_of, meaning};
+ghost use Rattle.line_parts.specs.Names.{names_of, messages_of, meaning};
 ghost use Rattle.history_reader.specs.Printable.{IsMessage, IsPrintable, printed_text};
 ghost use Rattle.history_reader.specs.Said.{said};
 ghost use Rattle.history_reader.specs.Texts.{Tells, ReadsBack};

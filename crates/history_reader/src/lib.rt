@@ -1,19 +1,16 @@
 //! Histories from their texts.
 #![tactic(auto)]
 
+mod arrows;
 mod commands;
-mod hexadecimal;
+mod flowed;
+mod flows;
 mod history;
-mod ids;
-mod items;
-mod keywords;
 mod laws;
 mod lines;
-mod lists;
-mod messages;
-mod names;
+mod noted;
 mod notes;
-mod numbers;
+mod notices;
 mod printed;
 mod reasons;
 mod replies;

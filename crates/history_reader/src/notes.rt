@@ -5,13 +5,13 @@ ghost use Rattle.history_reader.specs.Notes.{fate, note_line};
 ghost use Rattle.history_reader.specs.Whole.{tail, behind};
 ghost use Rattle.history_reader.specs.steps.Reading.{with_notes};
 
-use crate::ids::{endpoint, sequence};
-use crate::keywords::{keyword, word};
 use crate::lines::{begins_tail, tail};
-use crate::numbers::wide;
 use byte_rules::{Stop, expect};
 use handle_table::Thing;
 use history_text::{Fate, Note};
+use line_parts::ids::{endpoint, sequence};
+use line_parts::keywords::{keyword, word};
+use line_parts::numbers::wide;
 use mj_base::Items;
 use std::alloc::Global;
 

@@ -2,24 +2,34 @@
 
 ghost use Rattle.byte_rules.specs.Lang.{closed};
 ghost use Rattle.byte_rules.specs.Reading.{Gives};
-ghost use Rattle.history_reader.specs.Signs.{line_end};
-ghost use Rattle.history_reader.specs.Keywords.{keyword};
-ghost use Rattle.history_reader.specs.Replies.{why_words, bad_words, why_after, refusal, bad_after, bad};
+ghost use Rattle.line_parts.specs.Signs.{line_end};
+ghost use Rattle.line_parts.specs.Keywords.{keyword};
+ghost use Rattle.history_reader.specs.Reasons.{why_words, bad_words, part_after, why_after, refusal, bad_after, bad};
 
-use crate::ids::sequence;
-use crate::keywords::keyword;
-use crate::numbers::{index, wide};
 use bind_model::{BadWhy, Told, Why};
 use byte_rules::{Stop, expect};
+use line_parts::ids::{end, sequence, token};
+use line_parts::keywords::keyword;
+use line_parts::numbers::{index, wide};
 use mj_base::{Fault, FaultKind};
 
-/// The word that a refusal begins with: all of it, or what a number follows.
+/// What a refusal says behind its word.
 #[derive(Clone, Copy)]
-pub(crate) enum WhyWord {
-    Plain(Why),
+pub(crate) enum WhyPart {
     Unbound,
     Elsewhere,
     WrongPipe,
+    Paused,
+    BadSize,
+    Busy,
+    Short,
+}
+
+/// The word that a refusal begins with: all of it, or what something follows.
+#[derive(Clone, Copy)]
+pub(crate) enum WhyWord {
+    Plain(Why),
+    Of(WhyPart),
 }
 
 /// The word that the reason of a bad message begins with.
@@ -28,6 +38,7 @@ pub(crate) enum BadWord {
     Fault(FaultKind),
     Unasked,
     StrangeId,
+    TooOld,
 }
 
 /// The bytes after the line's end, with what was told.
@@ -46,49 +57,82 @@ fn why_word(bytes: &[u8]) -> Result<(WhyWord, &[u8]), Stop>
         (WhyWord::Plain(Why::NoName), "no-name"),
         (WhyWord::Plain(Why::NotPipe), "not-pipe"),
         (WhyWord::Plain(Why::Disconnected), "disconnected"),
-        (WhyWord::Unbound, "unbound"),
-        (WhyWord::Elsewhere, "elsewhere"),
+        (WhyWord::Of(WhyPart::Unbound), "unbound"),
+        (WhyWord::Of(WhyPart::Elsewhere), "elsewhere"),
         (WhyWord::Plain(Why::WrongSide), "wrong-side"),
         (WhyWord::Plain(Why::WrongMethod), "wrong-method"),
         (WhyWord::Plain(Why::WrongTokens), "wrong-tokens"),
-        (WhyWord::WrongPipe, "wrong-pipe"),
+        (WhyWord::Of(WhyPart::WrongPipe), "wrong-pipe"),
         (WhyWord::Plain(Why::SelfSend), "self-send"),
         (WhyWord::Plain(Why::TooLong), "too-long"),
         (WhyWord::Plain(Why::TooManyHandles), "too-many-handles"),
         (WhyWord::Plain(Why::Full), "full"),
         (WhyWord::Plain(Why::Empty), "empty"),
         (WhyWord::Plain(Why::PeerClosed), "peer-closed"),
+        (WhyWord::Of(WhyPart::Paused), "paused"),
+        (WhyWord::Plain(Why::SelfPause), "self-pause"),
+        (WhyWord::Of(WhyPart::BadSize), "bad-size"),
+        (WhyWord::Plain(Why::NotData), "not-data"),
+        (WhyWord::Of(WhyPart::Busy), "busy"),
+        (WhyWord::Plain(Why::Idle), "idle"),
+        (WhyWord::Of(WhyPart::Short), "short"),
     ];
     keyword(&words, bytes)
 }
 
+/// What a refusal says behind its word and a blank.
+#[tactic(auto, unfolding(crate::specs::Reasons::part_after))]
+fn part_after(part: WhyPart, bytes: &[u8]) -> Result<(Told, &[u8]), Stop>
+    ensures { Gives (λ x. (x.0, x.1.now)) result ((part_after part).read bytes.now) }
+{
+    match part {
+        WhyPart::Unbound => {
+            let (id, rest) = index(bytes)?;
+            ends(Told::No(Why::Unbound(id)), rest)
+        }
+        WhyPart::Elsewhere => {
+            let (seq, rest) = sequence(bytes)?;
+            ends(Told::No(Why::Elsewhere(seq)), rest)
+        }
+        WhyPart::WrongPipe => {
+            let (id, rest) = index(bytes)?;
+            ends(Told::No(Why::WrongPipe(id)), rest)
+        }
+        WhyPart::Paused => {
+            let (end, rest) = end(bytes)?;
+            ends(Told::No(Why::Paused(end)), rest)
+        }
+        WhyPart::BadSize => {
+            let (size, rest) = index(bytes)?;
+            ends(Told::No(Why::BadSize(size)), rest)
+        }
+        WhyPart::Busy => {
+            let (token, rest) = token(bytes)?;
+            ends(Told::No(Why::Busy(token)), rest)
+        }
+        WhyPart::Short => {
+            let (count, rest) = index(bytes)?;
+            ends(Told::No(Why::Short(count)), rest)
+        }
+    }
+}
+
 /// What stands behind the word of a refusal.
-#[tactic(auto, unfolding(crate::specs::Replies::why_after))]
+#[tactic(auto, unfolding(crate::specs::Reasons::why_after))]
 fn why_after(word: WhyWord, bytes: &[u8]) -> Result<(Told, &[u8]), Stop>
     ensures { Gives (λ x. (x.0, x.1.now)) result ((why_after word).read bytes.now) }
 {
     match word {
         WhyWord::Plain(why) => ends(Told::No(why), bytes),
-        WhyWord::Unbound => {
+        WhyWord::Of(part) => {
             let rest = expect(bytes, b' ')?;
-            let (id, rest) = index(rest)?;
-            ends(Told::No(Why::Unbound(id)), rest)
-        }
-        WhyWord::Elsewhere => {
-            let rest = expect(bytes, b' ')?;
-            let (seq, rest) = sequence(rest)?;
-            ends(Told::No(Why::Elsewhere(seq)), rest)
-        }
-        WhyWord::WrongPipe => {
-            let rest = expect(bytes, b' ')?;
-            let (id, rest) = index(rest)?;
-            ends(Told::No(Why::WrongPipe(id)), rest)
+            part_after(part, rest)
         }
     }
 }
 
 /// Why a command is refused, and the bytes after the line's end.
-#[tactic(auto, unfolding(crate::specs::Replies::refusal))]
+#[tactic(auto, unfolding(crate::specs::Reasons::refusal))]
 pub(crate) fn refusal(bytes: &[u8]) -> Result<(Told, &[u8]), Stop>
     ensures { Gives (λ x. (x.0, x.1.now)) result (refusal.read bytes.now) }
 {
@@ -104,6 +148,7 @@ fn bad_word(bytes: &[u8]) -> Result<(BadWord, &[u8]), Stop>
     let words = [
         (BadWord::Unasked, "unasked"),
         (BadWord::StrangeId, "strange-id"),
+        (BadWord::TooOld, "too-old"),
         (
             BadWord::Fault(FaultKind::MisalignedObject),
             "MISALIGNED_OBJECT",
@@ -176,7 +221,7 @@ fn bad_word(bytes: &[u8]) -> Result<(BadWord, &[u8]), Stop>
 }
 
 /// What stands behind the word of what is bad in a message.
-#[tactic(auto, unfolding(crate::specs::Replies::bad_after))]
+#[tactic(auto, unfolding(crate::specs::Reasons::bad_after))]
 fn bad_after(word: BadWord, bytes: &[u8]) -> Result<(BadWhy, &[u8]), Stop>
     ensures { Gives (λ x. (x.0, x.1.now)) result ((bad_after word).read bytes.now) }
 {
@@ -194,11 +239,15 @@ fn bad_after(word: BadWord, bytes: &[u8]) -> Result<(BadWhy, &[u8]), Stop>
             let (id, rest) = index(rest)?;
             Ok((BadWhy::StrangeId(id), rest))
         }
+        BadWord::TooOld => {
+            let (version, rest) = index(rest)?;
+            Ok((BadWhy::TooOld(version), rest))
+        }
     }
 }
 
 /// Why a message is bad, and the bytes after it.
-#[tactic(auto, unfolding(crate::specs::Replies::bad))]
+#[tactic(auto, unfolding(crate::specs::Reasons::bad))]
 pub(crate) fn bad(bytes: &[u8]) -> Result<(BadWhy, &[u8]), Stop>
     ensures { Gives (λ x. (x.0, x.1.now)) result (bad.read bytes.now) }
 {

@@ -1,25 +1,27 @@
 //! Replies, up to the line's end.
 
 ghost use Rattle.byte_rules.specs.Reading.{Gives};
-ghost use Rattle.history_reader.specs.Keywords.{keyword};
-ghost use Rattle.history_reader.specs.Replies.{reply_words, message_side, got_lists, got, made, bound, associated, attached, sent, wrote, dropped};
-ghost use Rattle.history_reader.specs.Replies.{control, bad_reply, gone_reply, told_after, told};
+ghost use Rattle.line_parts.specs.Keywords.{keyword};
+ghost use Rattle.history_reader.specs.Replies.{reply_words, message_side, got_lists, got, got_at, made, bound, associated, attached, sent, wrote};
+ghost use Rattle.history_reader.specs.Replies.{dropped, bad_reply, gone_reply, told_after, told};
 
-use crate::hexadecimal::hexadecimal;
-use crate::ids::{end, pending};
-use crate::keywords::keyword;
-use crate::lists::{pendings, things};
-use crate::messages::message;
-use crate::names::Names;
-use crate::numbers::{index, wide};
+use crate::flowed::{FlowedWord, flowed_after};
+use crate::noted::{NotedWord, NotifiedWord, noted_after, notified_after};
 use crate::reasons::{bad, ends, refusal};
 use bind_model::{Got, Parameters, Told};
 use byte_rules::{Stop, expect};
+use line_parts::hexadecimal::hexadecimal;
+use line_parts::ids::{end, pending};
+use line_parts::keywords::keyword;
+use line_parts::lists::{pendings, things};
+use line_parts::messages::message;
+use line_parts::names::Names;
+use line_parts::numbers::{index, moment, wide};
 use mj_schema::Schema;
 use std::alloc::Global;
 use wire_model::{MessageSide, Target};
 
-/// The word that a reply begins with.
+/// The word that a reply begins with; of what a take got, true where a moment follows.
 #[derive(Clone, Copy)]
 pub(crate) enum ReplyWord {
     Made,
@@ -28,11 +30,14 @@ pub(crate) enum ReplyWord {
     Attached,
     Sent,
     Wrote,
-    Got,
+    Got(bool),
     Dropped,
-    Control,
+    Control(NotedWord),
     Bad,
     Closed,
+    Notified(NotifiedWord),
+    Pausing,
+    Flowed(FlowedWord),
     Skipped,
     No,
 }
@@ -111,16 +116,6 @@ fn dropped(alloc: Global, bytes: &[u8]) -> Result<(Told, &[u8]), Stop>
     ends(Told::Dropped(id, gone), rest)
 }
 
-/// The endpoint whose peer is closed.
-#[tactic(auto, unfolding(crate::specs::Replies::control))]
-fn control(bytes: &[u8]) -> Result<(Told, &[u8]), Stop>
-    ensures { Gives (λ x. (x.0, x.1.now)) result (control.read bytes.now) }
-{
-    let rest = expect(bytes, b' ')?;
-    let (id, rest) = index(rest)?;
-    ends(Told::Control(id), rest)
-}
-
 /// Why a message is bad, and what went.
 #[tactic(auto, unfolding(crate::specs::Replies::bad_reply))]
 fn bad_reply(alloc: Global, bytes: &[u8]) -> Result<(Told, &[u8]), Stop>
@@ -159,13 +154,14 @@ fn message_side(bytes: &[u8]) -> Result<(MessageSide, &[u8]), Stop>
 #[tactic(auto, unfolding(crate::specs::Replies::got_lists))]
 fn got_lists<'a>(
     alloc: Global,
+    moment: Option<i64>,
     id: u32,
     target: Target,
     parameters: Parameters,
     request: u64,
     bytes: &'a [u8],
 ) -> Result<(Told, &'a [u8]), Stop>
-    ensures { Gives (λ x. (x.0, x.1.now)) result ((got_lists id (target, parameters) request).read bytes.now) }
+    ensures { Gives (λ x. (x.0, x.1.now)) result ((got_lists moment id (target, parameters) request).read bytes.now) }
 {
     let (handles, rest) = things(alloc, bytes)?;
     let rest = expect(rest, b' ')?;
@@ -180,19 +176,21 @@ fn got_lists<'a>(
         handles,
         pendings,
         gone,
+        moment,
     };
     ends(Told::Taken(got), rest)
 }
 
-/// What a take got, and the bytes after the line's end.
+/// What a take got at this moment, which stands before it, and the bytes after the line's end.
 #[tactic(auto, unfolding(crate::specs::Replies::got))]
 fn got<'a>(
     alloc: Global,
     schema: &Schema,
     names: &Names,
+    moment: Option<i64>,
     bytes: &'a [u8],
 ) -> Result<(Told, &'a [u8]), Stop>
-    ensures { Gives (λ x. (x.0, x.1.now)) result ((got schema.now names.now).read bytes.now) }
+    ensures { Gives (λ x. (x.0, x.1.now)) result ((got schema.now names.now moment).read bytes.now) }
 {
     let rest = expect(bytes, b' ')?;
     let (side, rest) = message_side(rest)?;
@@ -202,7 +200,22 @@ fn got<'a>(
     let (target, parameters, rest) = message(alloc, schema, names, side, rest)?;
     let (request, rest) = wide(rest)?;
     let rest = expect(rest, b' ')?;
-    got_lists(alloc, id, target, parameters, request, rest)
+    got_lists(alloc, moment, id, target, parameters, request, rest)
+}
+
+/// A moment, what a take got then, and the bytes after the line's end.
+#[tactic(auto, unfolding(crate::specs::Replies::got_at))]
+fn got_at<'a>(
+    alloc: Global,
+    schema: &Schema,
+    names: &Names,
+    bytes: &'a [u8],
+) -> Result<(Told, &'a [u8]), Stop>
+    ensures { Gives (λ x. (x.0, x.1.now)) result ((got_at schema.now names.now).read bytes.now) }
+{
+    let rest = expect(bytes, b' ')?;
+    let (moment, rest) = moment(rest)?;
+    got(alloc, schema, names, Some(moment), rest)
 }
 
 /// What stands behind the word of a reply, and the bytes after the line's end.
@@ -222,11 +235,15 @@ fn told_after<'a>(
         ReplyWord::Attached => attached(bytes),
         ReplyWord::Sent => sent(alloc, bytes),
         ReplyWord::Wrote => wrote(bytes),
-        ReplyWord::Got => got(alloc, schema, names, bytes),
+        ReplyWord::Got(false) => got(alloc, schema, names, None, bytes),
+        ReplyWord::Got(true) => got_at(alloc, schema, names, bytes),
         ReplyWord::Dropped => dropped(alloc, bytes),
-        ReplyWord::Control => control(bytes),
+        ReplyWord::Control(word) => noted_after(word, bytes),
         ReplyWord::Bad => bad_reply(alloc, bytes),
         ReplyWord::Closed => gone_reply(alloc, bytes),
+        ReplyWord::Notified(word) => notified_after(word, bytes),
+        ReplyWord::Pausing => ends(Told::Pausing, bytes),
+        ReplyWord::Flowed(word) => flowed_after(alloc, word, bytes),
         ReplyWord::Skipped => ends(Told::Skipped, bytes),
         ReplyWord::No => refusal(bytes),
     }
@@ -243,11 +260,25 @@ fn reply_word(bytes: &[u8]) -> Result<(ReplyWord, &[u8]), Stop>
         (ReplyWord::Attached, "attached"),
         (ReplyWord::Sent, "sent"),
         (ReplyWord::Wrote, "wrote"),
-        (ReplyWord::Got, "got"),
+        (ReplyWord::Got(false), "got"),
+        (ReplyWord::Got(true), "got-at"),
         (ReplyWord::Dropped, "dropped"),
-        (ReplyWord::Control, "control"),
+        (ReplyWord::Control(NotedWord::Closed), "control"),
+        (ReplyWord::Control(NotedWord::Queried), "queried"),
+        (ReplyWord::Control(NotedWord::Version), "version"),
+        (ReplyWord::Control(NotedWord::Required), "required"),
+        (ReplyWord::Control(NotedWord::Flushed), "flushed"),
         (ReplyWord::Bad, "bad"),
         (ReplyWord::Closed, "closed"),
+        (ReplyWord::Notified(NotifiedWord::Asking), "asking"),
+        (ReplyWord::Notified(NotifiedWord::Requiring), "requiring"),
+        (ReplyWord::Notified(NotifiedWord::Flushing), "flushing"),
+        (ReplyWord::Pausing, "pausing"),
+        (ReplyWord::Flowed(FlowedWord::Put), "put"),
+        (ReplyWord::Flowed(FlowedWord::Bytes), "got-bytes"),
+        (ReplyWord::Flowed(FlowedWord::Space), "space"),
+        (ReplyWord::Flowed(FlowedWord::View), "view"),
+        (ReplyWord::Flowed(FlowedWord::Ended), "ended"),
         (ReplyWord::Skipped, "skipped"),
         (ReplyWord::No, "no"),
     ];

@@ -2,16 +2,16 @@
 
 ghost use Rattle.std.specs.Prelude.{◌≡◌, ◌++◌, OnOk, codes};
 ghost use Rattle.bind_model.specs.declared.asked.Asked.TheVariants.{Associate};
-ghost use Rattle.history_text.specs.History.{asked_text, hex_text, thing_text, things_text};
+ghost use Rattle.history_text.specs.History.{all_text, asked_text, flow_text, hex_text, notice_text, thing_text, things_text};
 
 use crate::message_text::{push_hex, push_outgoing, push_text};
 use crate::names::name_of_interface;
 use crate::shown::{
-    ShownClosing, ShownEnd, ShownEndpoint, ShownPending, ShownResponder, ShownThing,
+    ShownAt, ShownClosing, ShownEnd, ShownEndpoint, ShownPending, ShownResponder, ShownThing,
 };
 use crate::shown_lists::ShownThings;
 use crate::words::{side_word, sort_word};
-use bind_model::Asked;
+use bind_model::{Asked, Flow, Notice};
 use handle_table::Thing;
 use mj_base::EndId;
 use mj_schema::Schema;
@@ -58,6 +58,73 @@ fn push_raw(
     )
 }
 
+/// Adds what asks for a control.
+fn push_notice(
+    alloc: Global,
+    out: &mut Vec<u8>,
+    end: EndId,
+    notice: Notice,
+) -> Result<(), AllocError>
+    ensures { OnOk result (out.new.items ≡ out.old.items ++ notice_text end notice) }
+{
+    match notice {
+        Notice::Query(id) => push_text(
+            out,
+            format!(in alloc; "query {}", ShownEndpoint(end, id))?.as_str(),
+        ),
+        Notice::Require(id, version) => push_text(
+            out,
+            format!(in alloc; "require {} {version}", ShownEndpoint(end, id))?.as_str(),
+        ),
+        Notice::Flush => push_text(out, format!(in alloc; "flush {}", ShownEnd(end))?.as_str()),
+    }
+}
+
+/// What stands behind a word where all is asked for.
+fn all_word(all: bool) -> &'static str
+    ensures { result.now ≡ all_text all }
+{
+    if all { "-all" } else { "" }
+}
+
+/// Adds what is asked of a data pipe.
+fn push_flow(alloc: Global, out: &mut Vec<u8>, token: Thing, flow: &Flow) -> Result<(), AllocError>
+    ensures { OnOk result (out.new.items ≡ out.old.items ++ flow_text token flow.now) }
+{
+    match flow {
+        Flow::Put(bytes, all) => {
+            push_text(
+                out,
+                format!(in alloc; "put{} {} ", all_word(*all), ShownThing(token))?.as_str(),
+            )?;
+            push_hex(alloc, out, bytes.as_slice())
+        }
+        Flow::Get(n, all) => push_text(
+            out,
+            format!(in alloc; "get{} {} {n}", all_word(*all), ShownThing(token))?.as_str(),
+        ),
+        Flow::BeginPut => push_text(
+            out,
+            format!(in alloc; "begin-put {}", ShownThing(token))?.as_str(),
+        ),
+        Flow::EndPut(bytes) => {
+            push_text(
+                out,
+                format!(in alloc; "end-put {} ", ShownThing(token))?.as_str(),
+            )?;
+            push_hex(alloc, out, bytes.as_slice())
+        }
+        Flow::BeginGet => push_text(
+            out,
+            format!(in alloc; "begin-get {}", ShownThing(token))?.as_str(),
+        ),
+        Flow::EndGet(n) => push_text(
+            out,
+            format!(in alloc; "end-get {} {n}", ShownThing(token))?.as_str(),
+        ),
+    }
+}
+
 /// Adds a command.
 pub(crate) fn push_asked(
     alloc: Global,
@@ -94,14 +161,24 @@ pub(crate) fn push_asked(
         Asked::Call(x, id, outgoing) => {
             push_text(
                 out,
-                format!(in alloc; "call {} ", ShownEndpoint(*x, *id))?.as_str(),
+                format!(in alloc;
+                    "call{} {} ",
+                    ShownAt(outgoing.moment),
+                    ShownEndpoint(*x, *id)
+                )?
+                .as_str(),
             )?;
             push_outgoing(alloc, out, schema, outgoing)
         }
         Asked::Answer(r, outgoing) => {
             push_text(
                 out,
-                format!(in alloc; "answer {} ", ShownResponder(*r))?.as_str(),
+                format!(in alloc;
+                    "answer{} {} ",
+                    ShownAt(outgoing.moment),
+                    ShownResponder(*r)
+                )?
+                .as_str(),
             )?;
             push_outgoing(alloc, out, schema, outgoing)
         }
@@ -113,6 +190,13 @@ pub(crate) fn push_asked(
             out,
             format!(in alloc; "close {}", ShownClosing(*thing))?.as_str(),
         ),
+        Asked::Notify(x, notice) => push_notice(alloc, out, *x, *notice),
+        Asked::Pause(b, a, flush) => push_text(
+            out,
+            format!(in alloc; "pause {} {} {flush}", ShownEnd(*b), ShownEnd(*a))?.as_str(),
+        ),
+        Asked::Data(size) => push_text(out, format!(in alloc; "data {size}")?.as_str()),
+        Asked::Flow(x, flow) => push_flow(alloc, out, *x, flow),
         Asked::Skip(line) => push_text(out, format!(in alloc; "skip {line}")?.as_str()),
     }
 }

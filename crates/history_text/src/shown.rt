@@ -1,7 +1,7 @@
 //! How ends, tokens and endpoints stand in a line.
 
 use bind_model::{Closing, PendingId, ResponderId};
-use handle_table::Thing;
+use handle_table::{Thing, TokenId};
 use mj_base::EndId;
 use std::fmt;
 
@@ -20,6 +20,39 @@ impl fmt::Display for ShownEnd {
     }
 }
 
+/// A token, as `t0.1`.
+#[derive(Clone, Copy)]
+pub(crate) struct ShownToken(pub(crate) TokenId);
+
+impl fmt::Display for ShownToken {
+    ghost use Rattle.std.specs.Prelude.{Some};
+    ghost use Rattle.history_text.specs.History.{token_text};
+
+    ghost output = { λ x. Some (token_text x.0) };
+
+    fn fmt<W: fmt::Write>(&self, f: &mut fmt::Formatter<W>) -> fmt::Result {
+        write!(f, "t{}.{}", self.0.seq, self.0.serial)
+    }
+}
+
+/// A moment behind a word, where there is one.
+#[derive(Clone, Copy)]
+pub(crate) struct ShownAt(pub(crate) Option<i64>);
+
+impl fmt::Display for ShownAt {
+    ghost use Rattle.std.specs.Prelude.{Some};
+    ghost use Rattle.history_text.specs.History.{at_text};
+
+    ghost output = { λ x. Some (at_text x.0) };
+
+    fn fmt<W: fmt::Write>(&self, f: &mut fmt::Formatter<W>) -> fmt::Result {
+        match self.0 {
+            Some(moment) => write!(f, "-at {moment}"),
+            None => f.write_str(""),
+        }
+    }
+}
+
 /// An end as `e0.1`, or a token as `t0.1`.
 #[derive(Clone, Copy)]
 pub(crate) struct ShownThing(pub(crate) Thing);
@@ -33,7 +66,7 @@ impl fmt::Display for ShownThing {
     fn fmt<W: fmt::Write>(&self, f: &mut fmt::Formatter<W>) -> fmt::Result {
         match self.0 {
             Thing::End(x) => write!(f, "{}", ShownEnd(x)),
-            Thing::Token(t) => write!(f, "t{}.{}", t.seq, t.serial),
+            Thing::Token(t) => write!(f, "{}", ShownToken(t)),
         }
     }
 }

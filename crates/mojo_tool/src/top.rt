@@ -174,8 +174,8 @@ pub fn mojo_main<R: Wait + Threads + Sync, F: Files, O: Sink, E: Sink, G: Gate +
 {
     match mojo_alone(alloc, words, files, out, err) {
         Some(code) => code,
-        // Not reached: no words are read as a run with threads.
-        None => Status::NoMemory.code(),
+        // No words are read as a run with threads.
+        None => unreachable!(),
     }
 }
 

@@ -121,6 +121,10 @@ module _ (schema : Schema) (small : AllByRecursion AreSmall schema.interfaces) w
   asked_fits (asks.Raw x bytes handles) is = tt
   asked_fits (asks.Take x) is = tt
   asked_fits (asks.Close closing) is = tt
+  asked_fits (asks.Notify y notice) is = tt
+  asked_fits (asks.Pause b a flush) is = tt
+  asked_fits (asks.Data size) is = tt
+  asked_fits (asks.Flow x flow) is = tt
   asked_fits (asks.Skip line) is = tt
 
   all_fit : (past : List Event) → AllAskSaid schema past → AllFit schema past

@@ -63,11 +63,15 @@ module _ (schema : Schema) where
   asked_said (asks.Bind x side interface) i m = (i, m)
   asked_said (asks.Associate y side interface) i m = (i, m)
   asked_said (asks.Attach p t) i m = i
-  asked_said (asks.Call y id o) i m = (i.0, i.1, (m, i.2.0, i.2.1))
-  asked_said (asks.Answer r o) i m = (responder_said r i.0, (m, i.1.0, i.1.1))
+  asked_said (asks.Call y id o) i m = (i.0, i.1, (m, i.2.0, i.2.1, i.2.3))
+  asked_said (asks.Answer r o) i m = (responder_said r i.0, (m, i.1.0, i.1.1, i.1.3))
   asked_said (asks.Raw x bytes handles) i m = i
   asked_said (asks.Take y) i m = i
   asked_said (asks.Close closing) i m = closing_said closing i
+  asked_said (asks.Notify y notice) i m = absurd i
+  asked_said (asks.Pause b a flush) i m = absurd i
+  asked_said (asks.Data size) i m = absurd i
+  asked_said (asks.Flow x flow) i m = absurd i
   asked_said (asks.Skip line) i m = i
 
   abbrev IsSaid : Event → Type 0

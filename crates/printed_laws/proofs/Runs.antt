@@ -50,6 +50,10 @@ module _ (schema : Schema) (plain : HasPlainNames schema) where
   asked_says (asks.Raw x bytes handles) is m = tt
   asked_says (asks.Take x) is m = tt
   asked_says (asks.Close closing) is m = tt
+  asked_says (asks.Notify y notice) is m = tt
+  asked_says (asks.Pause b a flush) is m = tt
+  asked_says (asks.Data size) is m = tt
+  asked_says (asks.Flow x flow) is m = tt
   asked_says (asks.Skip line) is m = tt
 
   told_says : (told : Told) → TellsMessage schema told → IsGotMessage schema told
@@ -61,9 +65,12 @@ module _ (schema : Schema) (plain : HasPlainNames schema) where
   told_says (tells.Wrote x) m = tt
   told_says (tells.Taken g) m = m
   told_says (tells.Dropped id gone) m = tt
-  told_says (tells.Control id) m = tt
+  told_says (tells.Control noted) m = tt
   told_says (tells.Bad why gone) m = tt
   told_says (tells.Closed gone) m = tt
+  told_says (tells.Notified notified) m = tt
+  told_says tells.Pausing m = tt
+  told_says (tells.Flowed t flowed) m = tt
   told_says tells.Skipped m = tt
   told_says (tells.No why) m = tt
 

@@ -7,6 +7,8 @@ use Rattle.std.proofs.lemmas.List.Sums.{count_by-le-length}
 use Rattle.mj_base.specs.declared.ids.EndId.{EndId}
 use Rattle.mj_base.specs.declared.ids.SeqId.{SeqId}
 use Rattle.handle_table.specs.declared.thing.Thing.{Thing}
+use Rattle.handle_table.specs.declared.thing.Thing.TheVariants.{End, Token}
+use Rattle.handle_table.specs.declared.thing.TokenId.{TokenId}
 use Rattle.handle_table.specs.Things.{same_end, is_end, seq_of}
 use Rattle.message_pipe.specs.declared.message.Message.{Message}
 use Rattle.wire_encoder.specs.declared.endpoint.EndpointSide.{EndpointSide}
@@ -16,14 +18,19 @@ use Rattle.wire_model.specs.declared.target.Target.{Target}
 use Rattle.bind_model.specs.declared.asked.Asked.{Asked}
 use Rattle.bind_model.specs.declared.asked.Asked.TheVariants.{Bind, Associate, Attach, Call, Answer, Raw, Take, Close}
 use Rattle.bind_model.specs.declared.asked.Closing.TheVariants as closings
+use Rattle.bind_model.specs.declared.control.Control.{Control as ControlType}
+use Rattle.bind_model.specs.declared.control.Control.TheVariants as controls
 use Rattle.bind_model.specs.declared.endpoint.Endpoint.{Endpoint}
 use Rattle.bind_model.specs.declared.endpoint.State.TheVariants as states
 use Rattle.bind_model.specs.declared.event.Event.{Event}
 use Rattle.bind_model.specs.declared.limits.TheConstants.{REMOTE_IDS}
 use Rattle.bind_model.specs.declared.told.Told.{Told}
-use Rattle.bind_model.specs.declared.told.Told.TheVariants.{Made, Bound, Associated, Attached, Sent, Wrote, Taken, Dropped, Control, Closed}
+use Rattle.bind_model.specs.declared.told.Noted.TheVariants as noted
+use Rattle.bind_model.specs.declared.told.Told.TheVariants.{Made, Bound, Associated, Attached, Sent, Wrote, Taken, Dropped, Control, Closed, Notified as Informed, Pausing, Flowed}
+use Rattle.bind_model.specs.Data.{Begun, Nothing, begun, begun_by}
+use Rattle.bind_model.specs.Notices.{Wait, first_unmet, waits, waits_by}
 use Rattle.bind_model.specs.Machine.{Endpoints, Entry, associated, made, made_by, peer, is_gone, is_local, is_peer_closed, is_remote, is_strange, written, endpoint_at, unread, consumed, puts, lands, emits, changes, enters, enters_from, entries_of, entry_in, endpoint_named, closed_endpoint, pending_as, named_in, content_at, ids_in, closed_ids, bound_on, with_state, with_peer_closed, front_of}
-use Rattle.bind_model.specs.Replies.{Drawn, drawn, draws, next_id}
+use Rattle.bind_model.specs.Replies.{Drawn, busy, drawn, draws, next_id, pause_of, paused}
 use Rattle.bind_model.specs.Wire.{Wire, Named}
 use Rattle.bind_model.proofs.TurnOf.{associated_few}
 use Rattle.history_reader.specs.Printable.{IsSmall, IsSequence, IsThing, AreAll}
@@ -65,15 +72,17 @@ module _ (F : Target → Tree → Type 0) (wire : Wire) (w : IsSmallWire F wire)
       go true = (fine, tt)
       go false = tt
 
-  emits_fine : (past : List Event) (y : EndId) (endpoints : Endpoints) (ids : List ℕ) (x : EndId) → AreAll IsFineMessage (emits wire past y endpoints ids x)
-  emits_fine past y endpoints ids x = go (same_end (peer past y) x && not (is_gone past x))
+  emits_fine : (past : List Event) (y : EndId) (endpoints : Endpoints) (control : ℕ → ControlType) (ids : List ℕ) (x : EndId)
+      → AreAll IsFineMessage (emits wire past y endpoints control ids x)
+  emits_fine past y endpoints control ids x = go (same_end (peer past y) x && not (is_gone past x))
     where
-      each : (ns : List ℕ) → AreAll IsFineMessage (map (λ (id : ℕ). record { bytes = wire.control id; handles = []; emitted = true }) ns)
+      each : (ns : List ℕ) → AreAll IsFineMessage (map (λ (id : ℕ). record { bytes = wire.control (control id); handles = []; emitted = true }) ns)
       each [] = tt
-      each (n ∷ ns) = (w.control n, each ns)
+      each (n ∷ ns) = (w.control (control n), each ns)
 
       go : (b : Bool) → AreAll IsFineMessage (if b
-          then map (λ (id : ℕ). record { bytes = wire.control id; handles = []; emitted = true }) (filter (λ id. not (is_peer_closed (endpoints id))) ids)
+          then map (λ (id : ℕ). record { bytes = wire.control (control id); handles = []; emitted = true })
+          (filter (λ id. not (is_peer_closed (endpoints id))) ids)
           else [])
       go true = each (filter (λ id. not (is_peer_closed (endpoints id))) ids)
       go false = tt
@@ -87,15 +96,24 @@ module _ (F : Target → Tree → Type 0) (wire : Wire) (w : IsSmallWire F wire)
   puts_fine past (Sent request bytes) (Call y id o) i t s x = lands_fine past y bytes o.handles x t.1
   puts_fine past (Sent request bytes) (Answer r o) i t s x = lands_fine past r.end bytes o.handles x t.1
   puts_fine past (Wrote z) (Raw y bytes handles) i t s x = lands_fine past z bytes handles x (i.1, s)
-  puts_fine past (Taken g) (Take y) i t s x = emits_fine past y (endpoint_at wire past y)
+  puts_fine past (Taken g) (Take y) i t s x = emits_fine past y (endpoint_at wire past y) controls.Closed
       (closed_ids (enters wire past y (written wire past y) (endpoint_at wire past y) (Taken g))) x
-  puts_fine past (Dropped id gone) (Take y) i t s x = emits_fine past y (endpoint_at wire past y)
+  puts_fine past (Dropped id gone) (Take y) i t s x = emits_fine past y (endpoint_at wire past y) controls.Closed
       (closed_ids (enters wire past y (written wire past y) (endpoint_at wire past y) (Dropped id gone))) x
   puts_fine past (Closed gone) (Close (closings.Endpoint y id)) i t s x =
-      unless_fine (id == 0) (emits wire past y (endpoint_at wire past y) (id ∷ []) x) (emits_fine past y (endpoint_at wire past y) (id ∷ []) x)
+      unless_fine (id == 0) (emits wire past y (endpoint_at wire past y) controls.Closed (id ∷ []) x)
+      (emits_fine past y (endpoint_at wire past y) controls.Closed (id ∷ []) x)
   puts_fine past (Closed gone) (Close (closings.Pending p)) i t s x =
-      unless_fine (is_gone past p.end || is_local past p) (emits wire past p.end (endpoint_at wire past p.end) (p.id ∷ []) x)
-      (emits_fine past p.end (endpoint_at wire past p.end) (p.id ∷ []) x)
+      unless_fine (is_gone past p.end || is_local past p) (emits wire past p.end (endpoint_at wire past p.end) controls.Closed (p.id ∷ []) x)
+      (emits_fine past p.end (endpoint_at wire past p.end) controls.Closed (p.id ∷ []) x)
+  puts_fine past (Control (noted.Queried id (Some v))) (Take y) i t s x =
+      emits_fine past y (endpoint_at wire past y) (λ (n : ℕ). controls.Version n v) (id ∷ []) x
+  puts_fine past (Control (noted.Queried id None)) (Take y) i t s x = tt
+  puts_fine past (Control (noted.Closed id)) (Take y) i t s x = tt
+  puts_fine past (Control (noted.Version id v)) (Take y) i t s x = tt
+  puts_fine past (Control (noted.Required id v)) (Take y) i t s x = tt
+  puts_fine past (Control (noted.Flushed k)) (Take y) i t s x = tt
+  puts_fine past (Informed told) asked i t s x = absurd t
   puts_fine past told asked i t s x = tt
 
   written_fine : (past : List Event) → AreAll (IsSmallEvent F) past → (x : EndId) → AreAll IsFineMessage (written wire past x)
@@ -217,9 +235,13 @@ module _ (F : Target → Tree → Type 0) (wire : Wire) where
       (attached_within t (endpoint_at wire past x id) i.1) v
   step_within past seq s (Taken g) (Take y) i x id v = take_within past (Taken g) y x id v
   step_within past seq s (Dropped n gone) (Take y) i x id v = take_within past (Dropped n gone) y x id v
-  step_within past seq s (Control n) (Take y) i x id v =
+  step_within past seq s (Control (noted.Closed n)) (Take y) i x id v =
       either_within (same_end y x && (n == id)) (option_map with_peer_closed (endpoint_at wire past x id)) (endpoint_at wire past x id)
       (marked_within (endpoint_at wire past x id) v) v
+  step_within past seq s (Control (noted.Queried n w)) (Take y) i x id v = v
+  step_within past seq s (Control (noted.Version n w)) (Take y) i x id v = v
+  step_within past seq s (Control (noted.Required n w)) (Take y) i x id v = v
+  step_within past seq s (Control (noted.Flushed n)) (Take y) i x id v = v
   step_within past seq s (Closed gone) (Close (closings.Endpoint y n)) i x id v =
       either_within (same_end y x && (n == id)) (option_map (with_state states.Closed) (endpoint_at wire past x id)) (endpoint_at wire past x id)
       (closed_within (endpoint_at wire past x id)) v
@@ -255,6 +277,32 @@ module _ (F : Target → Tree → Type 0) (wire : Wire) where
       go true = omega (arith, few, associated_few past y)
       go false = omega (arith, few, associated_few past y)
 
+  -- no end waits
+  none_wait : (told : Told) (asked : Asked) → IsSmallTold told → (x : EndId) → waits_by told asked x ≡ []
+  none_wait Pausing asked i x = absurd i
+  none_wait told asked i x = refl
+
+  no_waits : (past : List Event) → AreAll (IsSmallEvent F) past → (x : EndId) → waits past x ≡ []
+  no_waits [] a x = refl
+  no_waits (event ∷ past) a x = rw (no_waits past a.1 x) (none_wait event.told event.asked a.0.2 x)
+
+  all_open : (past : List Event) → AreAll (IsSmallEvent F) past → (x : EndId) → paused past x ≡ None
+  all_open past a x = ap (λ (ws : List Wait). pause_of (first_unmet past ws)) (no_waits past a x)
+
+  -- nothing was begun at a token
+  none_begun : (told : Told) (asked : Asked) → IsSmallTold told → (t : TokenId) (b : Begun) → begun_by told asked t b ≡ b
+  none_begun (Flowed u flowed) asked i t b = absurd i
+  none_begun told asked i t b = refl
+
+  nothing_begun : (past : List Event) → AreAll (IsSmallEvent F) past → (t : TokenId) → begun past t ≡ Nothing
+  nothing_begun [] a t = refl
+  nothing_begun (event ∷ past) a t = none_begun event.told event.asked a.0.2 t (begun past t) ∙ nothing_begun past a.1 t
+
+  all_idle : (past : List Event) → AreAll (IsSmallEvent F) past → (things : List Thing) → busy past things ≡ None
+  all_idle past a [] = refl
+  all_idle past a (End x ∷ things) = all_idle past a things
+  all_idle past a (Token t ∷ things) = rw (nothing_begun past a t) (all_idle past a things)
+
   pub small_past : IsSmallWire F wire → (past : List Event) → length past < 2 ^ 30 → AreAll (IsSmallEvent F) past → IsSmallPast wire past
   small_past w past few a =
       let m = (all_made past a).1 in
@@ -265,4 +313,6 @@ module _ (F : Target → Tree → Type 0) (wire : Wire) where
         tokens = λ seq. omega (arith, few, m, count_by-le-length (λ x. not (is_end x) && (seq_of x == seq)) (made past));
         drawn = λ y id. omega (arith, few, few_drawn past y id);
         next = next_small past few;
+        unpaused = all_open past a;
+        idle = all_idle past a;
       }

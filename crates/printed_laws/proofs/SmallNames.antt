@@ -183,7 +183,7 @@ module _ (F : Target → Tree → Type 0) (wire : Wire) where
 
     module _ (prepares : (prepared : Prepared) → G prepared → F prepared.target (view prepared.value)) where
       replied_small : (d : Due) → IsSmallDue d → IsSmallAsked F (replied d)
-      replied_small (r, reply) i = (i.0, (tt, tt, prepares reply.prepared i.1))
+      replied_small (r, reply) i = (i.0, (tt, tt, prepares reply.prepared i.1, tt))
 
       first_small : (d : Option Due) (other : Option Asked) → If IsSmallDue d → If (IsSmallAsked F) other → If (IsSmallAsked F) (reply_first d other)
       first_small (Some d) other i o = replied_small d i
@@ -213,7 +213,7 @@ module _ (F : Target → Tree → Type 0) (wire : Wire) where
             (λ (xs : List Thing). option_map (λ (ps : List PendingId). outgoing prepared xs ps)
             (all_held names.pending (pendings_named names.stands list)))
             (λ xs a. if_map (AreAll IsPending) (IsSmallOut F) (λ (ps : List PendingId). outgoing prepared xs ps)
-            (λ ps b. (a, b, prepares prepared g)) (all_held names.pending (pendings_named names.stands list))
+            (λ ps b. (a, b, prepares prepared g, tt)) (all_held names.pending (pendings_named names.stands list))
             (all_held_small IsPending names.pending s.pending (pendings_named names.stands list)))
             (all_held names.handle (things_named names.stands list))
             (all_held_small IsThing names.handle s.handle (things_named names.stands list))

@@ -25,8 +25,9 @@ use Rattle.wire_model.specs.Stands.{IsFine}
 use Rattle.wire_model.specs.Tight.{MAX_DEPTH}
 use Rattle.wire_model.specs.declared.target.Expected.{Expected}
 use Rattle.wire_model.specs.declared.target.MessageSide.{MessageSide}
+use Rattle.bind_model.specs.declared.control.Control.{Control}
 use Rattle.bind_model.specs.Wire.{Header}
-use Rattle.bind_model.specs.WireOf.{closed_id_in, content_in, header_in, stands_in, struct_named, unless_fault}
+use Rattle.bind_model.specs.WireOf.{closed_id_in, closing_said, content_in, header_in, stands_in, struct_named, unless_fault}
 use Rattle.history_reader.specs.Printable.{IsWide, AreBytes}
 use Rattle.printed_laws.proofs.SmallFaults.{HasLowSlots, visit_near}
 use Rattle.printed_laws.proofs.SmallRuns.{IsEnded, IsNear, near_none, near_both, near_test}
@@ -157,8 +158,15 @@ module _ (bytes : List ℕ) (are : AreBytes bytes) where
         (λ e. placed_test _ _ (p + 8) _ (omega (arith, low))
         (λ f. placed_test _ _ (p + 12) _ (omega (arith, low)) (λ g. placed_none)))))))
 
-    pub closed_placed : (f : Fault) → closed_id_in bytes ≡ Err f → IsWide f.at
+    closed_placed : (f : Fault) → closed_id_in bytes ≡ Err f → IsWide f.at
     closed_placed f e = control_placed.placed f (fault_is (first_failed (control_marks bytes)) (control_id bytes) f e)
+
+    pub says_placed : (f : Fault) → closing_said (closed_id_in bytes) ≡ Err f → IsWide f.at
+    says_placed f e = go (closed_id_in bytes) refl e
+      where
+        go : (o : Result ℕ Fault) → closed_id_in bytes ≡ o → ◌≡◌ {A = Result Control Fault} (closing_said o) (Err f) → IsWide f.at
+        go (Ok id) g h = absurd cc
+        go (Err fault) g h = let same : fault ≡ f = cc in subst (λ (at : Fault). IsWide at.at) same (closed_placed fault g)
 
     module _ (schema : Schema) (low : HasLowSlots schema) where
       parameter_near : (side : MessageSide) (method : MethodRow) (o : Option ℕ) → IsNear (payload_end bytes) (parameter_marks schema side bytes method o)

@@ -1,5 +1,5 @@
 -- The reply to what a script asks has numbers of their widths, where all before has.
-use Rattle.std.proofs.Common.{◌≡◌, ◌<◌, ◌≤◌, ℕ, suc, ◌+◌, ◌^◌, Bool, true, false, List, [], ◌∷◌, length, refl, ap, arith}
+use Rattle.std.proofs.Common.{◌≡◌, ◌<◌, ◌≤◌, ℕ, suc, ◌+◌, ◌^◌, Bool, true, false, List, [], ◌∷◌, length, refl, sym, ap, subst, arith}
 use Rattle.std.specs.Prelude.{Option, Some, None, Result, Ok, Err, if◌then◌else◌, map, not, ◌&&◌, ◌||◌, ◌==◌, nat_le, nat_lt, is_some}
 use Rattle.std.specs.List.{list_any}
 use Rattle.std.proofs.lemmas.Bool.{leb-true}
@@ -18,10 +18,12 @@ use Rattle.wire_model.specs.Trees.{Tree}
 use Rattle.wire_model.specs.declared.target.MessageSide.TheVariants.{Response}
 use Rattle.wire_model.specs.declared.target.Target.{Target}
 use Rattle.bind_model.specs.declared.asked.Asked.{Asked}
-use Rattle.bind_model.specs.declared.asked.Asked.TheVariants.{Pipe, Join, Mint, Bind, Associate, Attach, Call, Answer, Raw, Take, Close, Skip}
+use Rattle.bind_model.specs.declared.asked.Asked.TheVariants.{Pipe, Join, Mint, Bind, Associate, Attach, Call, Answer, Raw, Take, Close, Notify, Pause, Data, Flow as Move, Skip}
 use Rattle.bind_model.specs.declared.asked.Closing.{Closing}
 use Rattle.bind_model.specs.declared.asked.Closing.TheVariants as closings
 use Rattle.bind_model.specs.declared.asked.Outgoing.{Outgoing}
+use Rattle.bind_model.specs.declared.control.Control.{Control as ControlType}
+use Rattle.bind_model.specs.declared.control.Control.TheVariants as controls
 use Rattle.bind_model.specs.declared.endpoint.Endpoint.{Endpoint}
 use Rattle.bind_model.specs.declared.endpoint.PendingId.{PendingId}
 use Rattle.bind_model.specs.declared.endpoint.ResponderId.{ResponderId}
@@ -30,17 +32,19 @@ use Rattle.bind_model.specs.declared.endpoint.State.TheVariants as states
 use Rattle.bind_model.specs.declared.event.Event.{Event}
 use Rattle.bind_model.specs.declared.limits.TheConstants.{MAX_RAW_BYTES, MAX_RAW_HANDLES}
 use Rattle.bind_model.specs.declared.told.BadWhy.TheVariants as bads
+use Rattle.bind_model.specs.declared.told.Noted.TheVariants as noted
 use Rattle.bind_model.specs.declared.told.Told.{Told}
 use Rattle.bind_model.specs.declared.told.Told.TheVariants.{Associated, Attached, Closed, Control, No, Wrote}
 use Rattle.bind_model.specs.declared.told.Why.{Why}
 use Rattle.bind_model.specs.declared.told.Why.TheVariants.{NoName, Disconnected, Unbound, Elsewhere, WrongSide, WrongMethod, WrongTokens, WrongPipe, SelfSend, TooLong, TooManyHandles, Full, Empty, PeerClosed}
 use Rattle.bind_model.specs.Machine.{Endpoints, peer, is_gone, is_local, is_strange, out, endpoint_at, unread, is_closed, first_strange, goes_with}
-use Rattle.bind_model.specs.Replies.{is_response, is_asked, drawn, serials, tokens, same_responder, responders_out, has_pending, pendings_out, first_of, unless, all_out, all_pending, unbound, elsewhere, is_receiver, suits, all_suit, tokens_right, wrong_tokens, wrong_pipe, cannot_write, is_full, same_target, joined, bound_as, next_id, request_of, ids_of, picked, pendings_at, half_closed, sent, called, answered_with, wrote_at, bad, got_known, got_asked, judged, at_state, at_endpoint, is_none, controlled, headed, took_front, closed_at, closed, answer}
+use Rattle.bind_model.specs.Notices.{query_pends}
+use Rattle.bind_model.specs.Replies.{is_response, is_asked, drawn, serials, tokens, same_responder, responders_out, has_pending, pendings_out, first_of, unless, all_out, all_pending, unbound, elsewhere, is_receiver, suits, all_suit, tokens_right, wrong_tokens, wrong_pipe, cannot_write, is_full, same_target, busy, joined, bound_as, next_id, request_of, ids_of, picked, pendings_at, half_closed, sent, called, answered_with, wrote_at, bad, got_known, got_asked, judged, at_state, at_endpoint, is_none, version_of, is_older, heard, controlled, headed, took_front, paused, closed_at, closed, answer}
 use Rattle.bind_model.specs.Wire.{Wire, Header, Named, Content}
 use Rattle.bind_model.proofs.Outcomes.{Passes, held}
-use Rattle.history_reader.specs.Printable.{IsSmall, IsSequence, IsEnd, IsThing, IsPending, IsWide, AreAll, IsWhy}
+use Rattle.history_reader.specs.Printable.{IsSmall, IsSequence, IsEnd, IsThing, IsPending, IsWide, IsMoment, IsVersion, AreAll, IsWhy}
 use Rattle.printed_laws.proofs.SmallLists.{If}
-use Rattle.printed_laws.proofs.SmallSaid.{IsSmallAsked, IsSmallClosing, IsSmallOut, IsSmallTold, IsSmallResponder, IsShort, IsFineMessage, IsSmallWire}
+use Rattle.printed_laws.proofs.SmallSaid.{IsSmallAsked, IsSmallClosing, IsSmallOut, IsSmallTold, IsSmallResponder, IsShort, IsFineMessage, IsSmallControl, IsSmallWire}
 
 -- the reason of a test that fails
 abbrev pub IsSmallTest : Option Why → Type 0
@@ -120,6 +124,9 @@ pub record IsSmallPast (wire : Wire) (past : List Event) : Type 0 where
   pub tokens : (seq : ℕ) → tokens past seq < 2 ^ 32
   pub drawn : (y : EndId) (id : ℕ) → length (drawn past y id) + 1 < 2 ^ 64
   pub next : (y : EndId) → IsSmall (next_id wire past y)
+  -- no end waits, and nothing was begun at a token
+  pub unpaused : (y : EndId) → paused past y ≡ None
+  pub idle : (things : List Thing) → busy past things ≡ None
 
 module _ (F : Target → Tree → Type 0) (wire : Wire) (w : IsSmallWire F wire) (past : List Event) (k : IsSmallPast wire past) (seq : SeqId) where
   joined_small : (s t : ℕ) → IsSmall s → IsSmall t → IsSmallTold (joined past s t)
@@ -139,8 +146,11 @@ module _ (F : Target → Tree → Type 0) (wire : Wire) (w : IsSmallWire F wire)
   write_small y peer_closed handles = (
     unless_small (not (has handles (End (peer past y)))) SelfSend tt,
     (
-      unless_small (not (is_gone past (peer past y) || peer_closed)) Disconnected tt,
-      (unless_small (not (is_full wire past (peer past y))) Full tt, tt),
+      subst IsSmallTest (sym (k.idle handles)) tt,
+      (
+        unless_small (not (is_gone past (peer past y) || peer_closed)) Disconnected tt,
+        (unless_small (not (is_full wire past (peer past y))) Full tt, tt),
+      ),
     ),
   )
 
@@ -153,7 +163,7 @@ module _ (F : Target → Tree → Type 0) (wire : Wire) (w : IsSmallWire F wire)
       (held (tokens_right wire past s) WrongTokens right)) in
       let few = w.wants s.target s.parameters o.2 in
       let some : length (ids_of s.pendings) ≤ 64 = omega (arith, same, few) in
-      (i, w.sealed s.target s.parameters (record { id = id; request = request; ids = ids_of s.pendings }) o.2 some)
+      (i, w.sealed s.target s.parameters (record { id = id; request = request; ids = ids_of s.pendings; moment = s.moment }) o.2 some)
 
   request_wide : (y : EndId) (id : ℕ) (target : Target) → IsWide (request_of wire past y id target)
   request_wide y id target = go (wire.responds target.interface target.method)
@@ -237,29 +247,29 @@ module _ (F : Target → Tree → Type 0) (wire : Wire) (w : IsSmallWire F wire)
   -- ## Takes
 
   module _ (y : EndId) (there : IsEnd y) (m : Message) (fine : IsFineMessage m) where
-    known_small : (h : Header) (c : Content) → IsSmall h.id → AreAll IsSmall h.ids → IsSmall c.target.method → IsWide c.request
+    known_small : (h : Header) (c : Content) → IsSmall h.id → AreAll IsSmall h.ids → IsSmall c.target.method → IsWide c.request → IsMoment c.moment
         → IsSmallTold (got_known wire past y m h c (first_strange (endpoint_at wire past y) [] h.ids))
-    known_small h c i ids method request = go (first_strange (endpoint_at wire past y) [] h.ids) (strange_small (endpoint_at wire past y) [] h.ids ids)
+    known_small h c i ids method request moment = go (first_strange (endpoint_at wire past y) [] h.ids) (strange_small (endpoint_at wire past y) [] h.ids ids)
       where
         go : (o : Option ℕ) → If IsSmall o → IsSmallTold (got_known wire past y m h c o)
-        go None j = (i, method, request, picked_small y there (map (λ (n : Named). n.index) c.ids) 0 h.ids ids)
+        go None j = (i, method, request, picked_small y there (map (λ (n : Named). n.index) c.ids) 0 h.ids ids, moment)
         go (Some id) j = j
 
     asked_small : (h : Header) (r : Endpoint) (c : Content) → IsSmall h.id → AreAll IsSmall h.ids → IsSmall c.target.method → IsWide c.request
-        → IsSmallTold (got_asked wire past y m h r c)
-    asked_small h r c i ids method request = go (is_response c.target.side && (r.peer_closed || not (is_asked past y h.id c.request c.target.method)))
+        → IsMoment c.moment → IsSmallTold (got_asked wire past y m h r c)
+    asked_small h r c i ids method request moment = go (is_response c.target.side && (r.peer_closed || not (is_asked past y h.id c.request c.target.method)))
       where
         go : (b : Bool) → IsSmallTold (if b then bad wire past y (bads.Unasked c.request)
             else got_known wire past y m h c (first_strange (endpoint_at wire past y) [] h.ids))
         go true = request
-        go false = known_small h c i ids method request
+        go false = known_small h c i ids method request moment
 
     judged_small : (h : Header) (r : Endpoint) → wire.header m.bytes ≡ Ok h → IsSmall h.id → AreAll IsSmall h.ids → (o : Result Content Fault)
         → wire.stands r.side r.interface m.bytes (length m.handles) ≡ o → IsSmallTold (judged wire past y m h r o)
     judged_small h r headed i ids (Err fault) e = w.stands_fault r.side r.interface m.bytes h (length m.handles) fault fine headed e
     judged_small h r headed i ids (Ok c) e =
         let read = w.stands r.side r.interface m.bytes (length m.handles) c fine e in
-        asked_small h r c i ids read.0 read.1
+        asked_small h r c i ids read.0 read.1 read.2
 
     state_small : (h : Header) (r : Endpoint) → IsWithin (Some r) → wire.header m.bytes ≡ Ok h → IsSmall h.id → AreAll IsSmall h.ids → (s : State)
         → r.state ≡ s → IsSmallTold (at_state wire past seq y m h r s)
@@ -277,22 +287,45 @@ module _ (F : Target → Tree → Type 0) (wire : Wire) (w : IsSmallWire F wire)
     endpoint_small h None v headed i ids = i
     endpoint_small h (Some r) v headed i ids = state_small h r v headed i ids r.state refl
 
-    controlled_small : (h : Header) → wire.header m.bytes ≡ Ok h → (o : Result ℕ Fault) → wire.closed_id m.bytes ≡ o
-        → IsSmallTold (controlled wire past y m o)
-    controlled_small h headed (Err fault) e = w.closed_fault m.bytes h fault fine headed e
-    controlled_small h headed (Ok id) e = go (is_none m.handles)
+    version_small : (o : Option Endpoint) → IsVersion (version_of wire o)
+    version_small None = tt
+    version_small (Some r) = go (is_receiver r.side && not (is_closed r))
       where
-        go : (b : Bool) → IsSmallTold (if b then Control id else bad wire past y (bads.Message (record { kind = IllegalHandle; at = 0 })))
-        go true = w.closed_id m.bytes id fine e
+        go : (b : Bool) → IsVersion (if b then Some (wire.version r.interface) else None)
+        go true = w.version r.interface
+        go false = tt
+
+    heard_small : (c : ControlType) → IsSmallControl c → IsSmallTold (heard wire past y c)
+    heard_small (controls.Closed id) i = i
+    heard_small (controls.Query id) i = (i, version_small (endpoint_at wire past y id))
+    heard_small (controls.Version id v) i = go (query_pends past y id (endpoint_at wire past y id))
+      where
+        go : (b : Bool) → IsSmallTold (if b then Control (noted.Version id v) else bad wire past y (bads.Unasked 0))
+        go true = i
+        go false = omega arith
+    heard_small (controls.Require id v) i = go (is_older (version_of wire (endpoint_at wire past y id)) v)
+      where
+        go : (b : Bool) → IsSmallTold (if b then bad wire past y (bads.TooOld v) else Control (noted.Required id v))
+        go true = i.1
+        go false = i
+    heard_small (controls.Flush k) i = i
+
+    controlled_small : (h : Header) → wire.header m.bytes ≡ Ok h → (o : Result ControlType Fault) → wire.says m.bytes ≡ o
+        → IsSmallTold (controlled wire past y m o)
+    controlled_small h headed (Err fault) e = w.says_fault m.bytes h fault fine headed e
+    controlled_small h headed (Ok c) e = go (is_none m.handles)
+      where
+        go : (b : Bool) → IsSmallTold (if b then heard wire past y c else bad wire past y (bads.Message (record { kind = IllegalHandle; at = 0 })))
+        go true = heard_small c (w.says m.bytes c fine e)
         go false = omega arith
 
     headed_small : (o : Result Header Fault) → wire.header m.bytes ≡ o → IsSmallTold (headed wire past seq y m o)
     headed_small (Err fault) e = w.header_fault m.bytes fault fine e
     headed_small (Ok h) e = go (h.id == CONTROL_ID)
       where
-        go : (b : Bool) → IsSmallTold (if b then controlled wire past y m (wire.closed_id m.bytes)
+        go : (b : Bool) → IsSmallTold (if b then controlled wire past y m (wire.says m.bytes)
             else at_endpoint wire past seq y m h (endpoint_at wire past y h.id))
-        go true = controlled_small h e (wire.closed_id m.bytes) refl
+        go true = controlled_small h e (wire.says m.bytes) refl
         go false =
             let read = w.header m.bytes h fine e in
             endpoint_small h (endpoint_at wire past y h.id) (k.within y h.id) e read.0 read.1
@@ -349,6 +382,10 @@ module _ (F : Target → Tree → Type 0) (wire : Wire) (w : IsSmallWire F wire)
       (λ p. wrote_short x x bytes handles)
   short_answer seqs (Take y) = tt
   short_answer seqs (Close closing) = tt
+  short_answer seqs (Notify y notice) = tt
+  short_answer seqs (Pause b a flush) = tt
+  short_answer seqs (Data size) = tt
+  short_answer seqs (Move x flow) = tt
   short_answer seqs (Skip line) = tt
 
   -- ## Closings, and all replies
@@ -403,9 +440,15 @@ module _ (F : Target → Tree → Type 0) (wire : Wire) (w : IsSmallWire F wire)
   small_answer seqs (Raw x bytes handles) s i = first_small (unless (all_out past (x ∷ handles)) NoName ∷ []) (wrote_at wire past x bytes handles)
       (unless_small (all_out past (x ∷ handles)) NoName tt, tt) (λ p. wrote_small x bytes handles i.0)
   small_answer seqs (Take y) s i = first_small
-      (unless (is_some (endpoint_at wire past y 0)) NoName ∷ unless (not (is_gone past y)) Disconnected ∷ [])
-      (took_front wire past seq y (unread wire past y))
-      (unless_small (is_some (endpoint_at wire past y 0)) NoName tt, (unless_small (not (is_gone past y)) Disconnected tt, tt))
+      (unless (is_some (endpoint_at wire past y 0)) NoName ∷ unless (not (is_gone past y)) Disconnected ∷ paused past y ∷ [])
+      (took_front wire past seq y (unread wire past y)) (
+        unless_small (is_some (endpoint_at wire past y 0)) NoName tt,
+        (unless_small (not (is_gone past y)) Disconnected tt, (subst IsSmallTest (sym (k.unpaused y)) tt, tt)),
+      )
       (λ p. front_small y i (unread wire past y) (k.mail y))
   small_answer seqs (Close closing) s i = closed_small closing i
+  small_answer seqs (Notify y notice) s i = absurd i
+  small_answer seqs (Pause b a flush) s i = absurd i
+  small_answer seqs (Data size) s i = absurd i
+  small_answer seqs (Move x flow) s i = absurd i
   small_answer seqs (Skip line) s i = tt

@@ -11,19 +11,21 @@ use Rattle.bind_model.specs.declared.asked.Asked.TheVariants as asks
 use Rattle.bind_model.specs.declared.asked.Closing.{Closing}
 use Rattle.bind_model.specs.declared.asked.Closing.TheVariants as closings
 use Rattle.bind_model.specs.declared.asked.Outgoing.{Outgoing}
+use Rattle.bind_model.specs.declared.control.Control.{Control}
+use Rattle.bind_model.specs.declared.control.Control.TheVariants as says
 use Rattle.bind_model.specs.declared.endpoint.ResponderId.{ResponderId}
 use Rattle.bind_model.specs.declared.event.Event.{Event}
 use Rattle.bind_model.specs.declared.told.Told.{Told}
 use Rattle.bind_model.specs.declared.told.Told.TheVariants as tells
-use Rattle.history_reader.specs.Printable.{IsSmall, IsWide, IsSequence, IsEnd, IsThing, IsPending, AreAll, AreBytes, IsBadWhy, IsWhy}
+use Rattle.history_reader.specs.Printable.{IsSmall, IsWide, IsMoment, IsSequence, IsEnd, IsThing, IsPending, AreAll, AreBytes, IsBadWhy, IsNoted, IsWhy}
 
 -- a responder, but for its interface, which no text says
 abbrev pub IsSmallResponder : ResponderId → Type 0
 IsSmallResponder r = IsEnd r.end × IsSmall r.id × IsWide r.request × IsSmall r.method
 
--- handles, endpoints, and parameters of which this holds
+-- handles, endpoints, parameters of which this holds, and a moment
 abbrev pub IsSmallOut : (Target → Tree → Type 0) → Outgoing → Type 0
-IsSmallOut F o = AreAll IsThing o.handles × AreAll IsPending o.pendings × F o.target o.parameters
+IsSmallOut F o = AreAll IsThing o.handles × AreAll IsPending o.pendings × F o.target o.parameters × IsMoment o.moment
 
 abbrev pub IsSmallClosing : Closing → Type 0
 IsSmallClosing (closings.Handle x) = IsThing x
@@ -31,7 +33,7 @@ IsSmallClosing (closings.Pending p) = IsPending p
 IsSmallClosing (closings.Responder r) = IsSmallResponder r
 IsSmallClosing (closings.Endpoint y id) = IsEnd y × IsSmall id
 
--- what scripts ask has numbers of their widths, bytes, and parameters of which this holds
+-- what scripts ask has numbers of their widths, bytes, and parameters of which this holds; no line asks for a control, a pause or a data pipe
 abbrev pub IsSmallAsked : (Target → Tree → Type 0) → Asked → Type 0
 IsSmallAsked F asks.Pipe = Unit {0}
 IsSmallAsked F (asks.Join t) = IsSequence t
@@ -44,6 +46,10 @@ IsSmallAsked F (asks.Answer r o) = IsSmallResponder r × IsSmallOut F o
 IsSmallAsked F (asks.Raw x bytes handles) = IsThing x × AreBytes bytes × AreAll IsThing handles
 IsSmallAsked F (asks.Take y) = IsEnd y
 IsSmallAsked F (asks.Close closing) = IsSmallClosing closing
+IsSmallAsked F (asks.Notify y notice) = ⊥
+IsSmallAsked F (asks.Pause b a k) = ⊥
+IsSmallAsked F (asks.Data size) = ⊥
+IsSmallAsked F (asks.Flow x flow) = ⊥
 IsSmallAsked F (asks.Skip line) = IsSmall line
 
 -- bytes of a message that isn't too long
@@ -53,7 +59,7 @@ IsFine bytes = AreBytes bytes × (length bytes < 2 ^ 62)
 abbrev pub IsFineMessage : Message → Type 0
 IsFineMessage m = IsFine m.bytes
 
--- what they are told, but for the things that come and go
+-- what they are told, but for the things that come and go; nothing is told of what no line asks for
 abbrev pub IsSmallTold : Told → Type 0
 IsSmallTold (tells.Made things) = AreAll IsThing things × (length things ≤ 2)
 IsSmallTold (tells.Bound x) = IsEnd x
@@ -61,11 +67,14 @@ IsSmallTold (tells.Associated p) = IsPending p
 IsSmallTold (tells.Attached id) = IsSmall id
 IsSmallTold (tells.Sent request bytes) = IsWide request × IsFine bytes
 IsSmallTold (tells.Wrote x) = IsEnd x
-IsSmallTold (tells.Taken g) = IsSmall g.id × IsSmall g.target.method × IsWide g.request × AreAll IsPending g.pendings
+IsSmallTold (tells.Taken g) = IsSmall g.id × IsSmall g.target.method × IsWide g.request × AreAll IsPending g.pendings × IsMoment g.moment
 IsSmallTold (tells.Dropped id gone) = IsSmall id
-IsSmallTold (tells.Control id) = IsSmall id
+IsSmallTold (tells.Control noted) = IsNoted noted
 IsSmallTold (tells.Bad why gone) = IsBadWhy why
 IsSmallTold (tells.Closed gone) = Unit {0}
+IsSmallTold (tells.Notified notified) = ⊥
+IsSmallTold tells.Pausing = ⊥
+IsSmallTold (tells.Flowed t flowed) = ⊥
 IsSmallTold tells.Skipped = Unit {0}
 IsSmallTold (tells.No why) = IsWhy why
 
@@ -77,18 +86,27 @@ IsShort asked told = Unit {0}
 abbrev pub IsSmallEvent : (Target → Tree → Type 0) → Event → Type 0
 IsSmallEvent F event = IsSequence event.seq × IsSmallAsked F event.asked × IsSmallTold event.told × IsShort event.asked event.told
 
+-- a control whose numbers have 32 bits
+abbrev pub IsSmallControl : Control → Type 0
+IsSmallControl (says.Closed id) = IsSmall id
+IsSmallControl (says.Query id) = IsSmall id
+IsSmallControl (says.Version id version) = IsSmall id × IsSmall version
+IsSmallControl (says.Require id version) = IsSmall id × IsSmall version
+IsSmallControl (says.Flush flush) = IsSmall flush
+
 -- a wire whose messages are bytes, where this holds of parameters, and which reads numbers of their widths off bytes
 pub record IsSmallWire (F : Target → Tree → Type 0) (wire : Wire) : Type 0 where
   pub wants : (target : Target) (parameters : Tree) → F target parameters → length (wire.wants target parameters) ≤ 64
   pub sealed : (target : Target) (parameters : Tree) (head : Head) → F target parameters → length head.ids ≤ 64
       → IsFine (wire.sealed target parameters head)
-  pub control : (id : ℕ) → IsFine (wire.control id)
+  pub control : (c : Control) → IsFine (wire.control c)
   pub header : (bytes : List ℕ) (h : Header) → IsFine bytes → wire.header bytes ≡ Ok h → IsSmall h.id × AreAll IsSmall h.ids
-  pub closed_id : (bytes : List ℕ) (id : ℕ) → IsFine bytes → wire.closed_id bytes ≡ Ok id → IsSmall id
+  pub says : (bytes : List ℕ) (c : Control) → IsFine bytes → wire.says bytes ≡ Ok c → IsSmallControl c
   pub stands : (side : EndpointSide) (interface : ℕ) (bytes : List ℕ) (n : ℕ) (c : Content) → IsFine bytes → wire.stands side interface bytes n ≡ Ok c
-      → IsSmall c.target.method × IsWide c.request
+      → IsSmall c.target.method × IsWide c.request × IsMoment c.moment
+  pub version : (interface : ℕ) → IsSmall (wire.version interface)
   -- its faults are at places of 64 bits
   pub header_fault : (bytes : List ℕ) (f : Fault) → IsFine bytes → wire.header bytes ≡ Err f → IsWide f.at
-  pub closed_fault : (bytes : List ℕ) (h : Header) (f : Fault) → IsFine bytes → wire.header bytes ≡ Ok h → wire.closed_id bytes ≡ Err f → IsWide f.at
+  pub says_fault : (bytes : List ℕ) (h : Header) (f : Fault) → IsFine bytes → wire.header bytes ≡ Ok h → wire.says bytes ≡ Err f → IsWide f.at
   pub stands_fault : (side : EndpointSide) (interface : ℕ) (bytes : List ℕ) (h : Header) (n : ℕ) (f : Fault) → IsFine bytes → wire.header bytes ≡ Ok h
       → wire.stands side interface bytes n ≡ Err f → IsWide f.at

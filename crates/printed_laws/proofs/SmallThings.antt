@@ -5,7 +5,7 @@ use Rattle.handle_table.proofs.ThingsLemmas.{has-back}
 use Rattle.mj_schema.specs.declared.schema.Schema.{Schema}
 use Rattle.bind_model.specs.declared.event.Event.{Event}
 use Rattle.bind_model.specs.declared.told.Told.{Told}
-use Rattle.bind_model.specs.declared.told.Told.TheVariants.{Made, Bound, Associated, Attached, Sent, Wrote, Taken, Dropped, Control, Bad, Closed, Skipped, No}
+use Rattle.bind_model.specs.declared.told.Told.TheVariants.{Made, Bound, Associated, Attached, Sent, Wrote, Taken, Dropped, Control, Bad, Closed, Notified as Informed, Pausing, Flowed, Skipped, No}
 use Rattle.bind_model.specs.Machine.{made, out, gone, given, handed, gone_by}
 use Rattle.bind_model.specs.Replies.{legal}
 use Rattle.bind_model.specs.Wire.{Wire}
@@ -43,10 +43,13 @@ told_said schema (Associated q) i m h g = i
 told_said schema (Attached id) i m h g = i
 told_said schema (Sent request bytes) i m h g = (i.0, i.1.0)
 told_said schema (Wrote x) i m h g = i
-told_said schema (Taken got) i m h g = (i.0, m, i.2, h, i.3, g)
+told_said schema (Taken got) i m h g = (i.0, m, i.2, h, i.3, g, i.4)
 told_said schema (Dropped id things) i m h g = (i, g)
-told_said schema (Control id) i m h g = i
+told_said schema (Control noted) i m h g = i
 told_said schema (Bad why things) i m h g = (i, g)
 told_said schema (Closed things) i m h g = g
+told_said schema (Informed notified) i m h g = absurd i
+told_said schema Pausing i m h g = absurd i
+told_said schema (Flowed t flowed) i m h g = absurd i
 told_said schema Skipped i m h g = tt
 told_said schema (No why) i m h g = i

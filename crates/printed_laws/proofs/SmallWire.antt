@@ -2,7 +2,7 @@
 use Rattle.std.proofs.lemmas.List.{length-append}
 use Rattle.std.proofs.Common.{◌≡◌, ◌<◌, ◌≤◌, ℕ, zero, suc, ◌+◌, ◌-◌, ◌*◌, ◌/◌, ◌^◌, Bool, true, false, List, [], ◌∷◌, ◌++◌, length, refl, ap, subst, arith}
 use Rattle.std.specs.Int.{cast_unsigned, w64}
-use Rattle.std.specs.Prelude.{ℤ, ◌==◌, nat_lt, Option, Some, None, Ok, slice_index, if◌then◌else◌}
+use Rattle.std.specs.Prelude.{ℤ, ◌==◌, nat_lt, Option, Some, None, Result, Ok, Err, slice_index, if◌then◌else◌}
 use Rattle.mj_base.specs.Bytes.{rounded8}
 use Rattle.mj_base.specs.declared.fault.Fault.{Fault}
 use Rattle.mj_schema.specs.declared.schema.Schema.{Schema}
@@ -20,11 +20,13 @@ use Rattle.wire_model.specs.Message.{Head, basic, front_of, back_of, id_bytes, i
 use Rattle.wire_model.specs.Trees.{Tree}
 use Rattle.wire_model.specs.declared.target.Expected.{Expected}
 use Rattle.wire_model.specs.declared.target.Target.{Target}
+use Rattle.bind_model.specs.declared.control.Control.{Control}
+use Rattle.bind_model.specs.declared.control.Control.TheVariants.{Closed}
 use Rattle.bind_model.specs.Wire.{Header, Content}
-use Rattle.bind_model.specs.WireOf.{header_in, closed_id_in, content_in, endpoints_met, stands_in, struct_named, unless_fault}
-use Rattle.history_reader.specs.Printable.{IsSmall, IsWide, AreAll, AreBytes}
+use Rattle.bind_model.specs.WireOf.{header_in, closed_id_in, closing_said, content_in, endpoints_met, stands_in, struct_named, unless_fault}
+use Rattle.history_reader.specs.Printable.{IsSmall, IsWide, IsMoment, AreAll, AreBytes}
 use Rattle.printed_laws.proofs.SmallLists.{all_both}
-use Rattle.printed_laws.proofs.SmallSaid.{IsFine}
+use Rattle.printed_laws.proofs.SmallSaid.{IsFine, IsSmallControl}
 
 -- ## What is written
 
@@ -225,17 +227,26 @@ header_small bytes h fine e =
       subst (λ (g : Header). AreAll IsSmall g.ids) same (read_small bytes fine.0),
     )
 
-pub closed_small : (bytes : List ℕ) (id : ℕ) → IsFine bytes → closed_id_in bytes ≡ Ok id → IsSmall id
+closed_small : (bytes : List ℕ) (id : ℕ) → IsFine bytes → closed_id_in bytes ≡ Ok id → IsSmall id
 closed_small bytes id fine e = subst IsSmall (answer_is (first_failed (control_marks bytes)) (control_id bytes) id e)
     (number32_small bytes fine.0 (payload_start bytes + 12))
 
+-- what is said is that an endpoint is closed
+pub says_small : (bytes : List ℕ) (c : Control) → IsFine bytes → closing_said (closed_id_in bytes) ≡ Ok c → IsSmallControl c
+says_small bytes c fine e = go (closed_id_in bytes) refl e
+  where
+    go : (o : Result ℕ Fault) → closed_id_in bytes ≡ o → closing_said o ≡ Ok c → IsSmallControl c
+    go (Ok id) f h = let same : Closed id ≡ c = cc in subst IsSmallControl same (closed_small bytes id fine f)
+    go (Err fault) f h = absurd cc
+
 pub stands_small : (schema : Schema) (expected : Expected) (bytes : List ℕ) (n : ℕ) (c : Content) → IsFine bytes → stands_in schema expected bytes n ≡ Ok c
-    → IsSmall c.target.method × IsWide c.request
+    → IsSmall c.target.method × IsWide c.request × IsMoment c.moment
 stands_small schema expected bytes n c fine e =
     let same = answer_is (first_fault (before_payload bytes n) (message_marks schema expected bytes))
     (content_in schema expected bytes (struct_named schema expected bytes)) c e in (
       subst (λ (d : Content). IsSmall d.target.method) same (number32_small bytes fine.0 12),
       subst (λ (d : Content). IsWide d.request) same (request_wide bytes fine.0),
+      subst (λ (d : Content). IsMoment d.moment) same tt,
     )
 
 -- parameters that become bytes, not too many, and that name no more endpoints than a message carries

@@ -17,25 +17,29 @@ use Rattle.wire_model.specs.declared.target.Expected.{Expected}
 use Rattle.wire_model.specs.declared.target.MessageSide.{MessageSide}
 use Rattle.handle_table.specs.declared.thing.Thing.{Thing}
 use Rattle.handle_table.specs.Things.{same_end}
-use Rattle.message_header.specs.Controls.{CLOSED, CONTROL_BYTES, CONTROL_HEAD, control_bytes}
+use Rattle.message_header.specs.Controls.{CONTROL_HEAD}
 use Rattle.message_validator.proofs.WholeMessage.{message_run, stand}
 use Rattle.message_pipe.specs.declared.message.Message.{Message}
 use Rattle.same_messages.proofs.Fine.{fine_right}
 use Rattle.message_laws.proofs.OfItsKind.{of_its_kind}
 use Rattle.message_laws.specs.Filled.{AreBytes, IsFilledSchema}
-use Rattle.bind_model.specs.Machine.{Endpoints, peer, is_gone, is_local, is_peer_closed, consumed, enters, closed_ids, emits, lands, puts, written}
+use Rattle.bind_model.specs.Machine.{Endpoints, peer, is_gone, is_local, is_peer_closed, consumed, control_of, enters, closed_ids, emits, lands, puts, written}
 use Rattle.bind_model.specs.Machine.{endpoint_at, unread}
 use Rattle.bind_model.specs.Replies.{legal}
 use Rattle.bind_model.specs.Wire.{Wire, Content}
-use Rattle.bind_model.specs.WireOf.{comes_to, content_in, stands_in, struct_named, unless_fault, wire_of}
+use Rattle.bind_model.specs.WireOf.{comes_to, content_in, stands_in, struct_named, unless_fault, wire_of, written_control}
 use Rattle.bind_model.specs.declared.asked.Asked.{Asked}
 use Rattle.bind_model.specs.declared.asked.Asked.TheVariants.{Raw}
+use Rattle.bind_model.specs.ControlBytes.{long_control, short_control}
+use Rattle.bind_model.specs.declared.control.Control.{Control}
+use Rattle.bind_model.specs.declared.control.Control.TheVariants as says
 use Rattle.bind_model.specs.declared.event.Event.{Event}
+use Rattle.bind_model.specs.declared.told.Noted.TheVariants as noted
 use Rattle.bind_model.specs.declared.told.Got.{Got}
 use Rattle.bind_model.specs.declared.told.Told.{Told}
 use Rattle.bind_model.specs.declared.told.Told.TheVariants.{Sent, Wrote, Taken, Dropped}
 use Rattle.bind_model.proofs.Outcomes.{Outcome, outcome, joins, mints, binds, associates, attaches, calls, answers, writes, gets, drops, controls, spoils}
-use Rattle.bind_model.proofs.Outcomes.{closes, closes_pending, closes_responder, closes_end, closes_endpoint, skips, refuses}
+use Rattle.bind_model.proofs.Outcomes.{closes, closes_pending, closes_responder, closes_end, closes_endpoint, notifies, pauses, pipes, flows, skips, refuses}
 use Rattle.printed_laws.proofs.ValueBytes.{of32, joined, of_message}
 use Rattle.printed_laws.proofs.ValueSent.{HasStruct, IsSaid, said_of}
 
@@ -54,23 +58,36 @@ AllSendBytes past = AllByRecursion (λ (event : Event). SendsBytes event.told ev
 abbrev HasBytes : Message → Type 0
 HasBytes m = AreBytes m.bytes
 
--- a control is bytes
-control_is : (id : ℕ) → AreBytes (control_bytes id)
-control_is id = of_message CONTROL_HEAD (bytes32 CONTROL_BYTES ++ (bytes32 0 ++ (bytes32 CLOSED ++ bytes32 id)))
-    (joined (bytes32 CONTROL_BYTES) _ (of32 CONTROL_BYTES) (joined (bytes32 0) _ (of32 0) (joined (bytes32 CLOSED) (bytes32 id) (of32 CLOSED) (of32 id))))
+-- a control of one number is bytes, and so is one of two
+short_is : (kind n : ℕ) → AreBytes (short_control kind n)
+short_is kind n = of_message CONTROL_HEAD (bytes32 16 ++ (bytes32 0 ++ (bytes32 kind ++ bytes32 n)))
+    (joined (bytes32 16) _ (of32 16) (joined (bytes32 0) _ (of32 0) (joined (bytes32 kind) (bytes32 n) (of32 kind) (of32 n))))
 
-module _ (wire : Wire) (closes_are : (id : ℕ) → AreBytes (wire.control id)) where
+long_is : (kind n v : ℕ) → AreBytes (long_control kind n v)
+long_is kind n v = of_message CONTROL_HEAD (bytes32 24 ++ (bytes32 0 ++ (bytes32 kind ++ (bytes32 n ++ (bytes32 v ++ bytes32 0)))))
+    (joined (bytes32 24) _ (of32 24) (joined (bytes32 0) _ (of32 0) (joined (bytes32 kind) _ (of32 kind)
+    (joined (bytes32 n) _ (of32 n) (joined (bytes32 v) (bytes32 0) (of32 v) (of32 0))))))
+
+control_is : (c : Control) → AreBytes (written_control c)
+control_is (says.Closed id) = short_is 1 id
+control_is (says.Query id) = short_is 2 id
+control_is (says.Version id v) = long_is 3 id v
+control_is (says.Require id v) = long_is 4 id v
+control_is (says.Flush k) = short_is 5 k
+
+module _ (wire : Wire) (controls_are : (c : Control) → AreBytes (wire.control c)) where
   abbrev AllHave : List Message → Type 0
   AllHave ms = All HasBytes ms
 
-  emitted : (past : List Event) (y : EndId) (endpoints : Endpoints) (ids : List ℕ) (x : EndId) → AllHave (emits wire past y endpoints ids x)
-  emitted past y endpoints ids x = of (same_end (peer past y) x && not (is_gone past x))
+  emitted : (past : List Event) (y : EndId) (endpoints : Endpoints) (control : ℕ → Control) (ids : List ℕ) (x : EndId)
+      → AllHave (emits wire past y endpoints control ids x)
+  emitted past y endpoints control ids x = of (same_end (peer past y) x && not (is_gone past x))
     where
       left : List ℕ
       left = filter (λ id. not (is_peer_closed (endpoints id))) ids
 
-      of : (b : Bool) → AllHave (if b then map (λ id. record { bytes = wire.control id; handles = []; emitted = true }) left else [])
-      of true = All-map HasBytes (λ id. record { bytes = wire.control id; handles = []; emitted = true }) left (λ k d lt. closes_are _)
+      of : (b : Bool) → AllHave (if b then map (λ id. record { bytes = wire.control (control id); handles = []; emitted = true }) left else [])
+      of true = All-map HasBytes (λ id. record { bytes = wire.control (control id); handles = []; emitted = true }) left (λ k d lt. controls_are _)
       of false = All-nil HasBytes
 
   landed : (past : List Event) (y : EndId) (bytes : List ℕ) (handles : List Thing) (x : EndId) → AreBytes bytes → AllHave (lands past y bytes handles x)
@@ -81,9 +98,10 @@ module _ (wire : Wire) (closes_are : (id : ℕ) → AreBytes (wire.control id)) 
       of false = All-nil HasBytes
 
   module _ (seqs : ℕ) (past : List Event) (seq : SeqId) where
-    unless_shut : (b : Bool) (y : EndId) (ids : List ℕ) (x : EndId) → AllHave (if b then [] else emits wire past y (endpoint_at wire past y) ids x)
+    unless_shut : (b : Bool) (y : EndId) (ids : List ℕ) (x : EndId)
+        → AllHave (if b then [] else emits wire past y (endpoint_at wire past y) says.Closed ids x)
     unless_shut true y ids x = All-nil HasBytes
-    unless_shut false y ids x = emitted past y (endpoint_at wire past y) ids x
+    unless_shut false y ids x = emitted past y (endpoint_at wire past y) says.Closed ids x
 
     -- what an event puts at an end
     put_step : {asked : Asked} {told : Told} → Outcome wire seqs past seq asked told → SendsBytes told asked → (x : EndId)
@@ -97,16 +115,29 @@ module _ (wire : Wire) (closes_are : (id : ℕ) → AreBytes (wire.control id)) 
     put_step (answers {q = q} {s = s} {bytes = bytes} r o rs ps e w b) h x = landed past q.end bytes s.handles x h
     put_step (writes {x = z} {bytes = bytes} {handles = handles} o w) h x = landed past z bytes handles x h
     put_step (gets {y = y} m hd r c f {g = g} e) h x =
-        emitted past y (endpoint_at wire past y) (closed_ids (enters wire past y (written wire past y) (endpoint_at wire past y) (Taken g))) x
+        emitted past y (endpoint_at wire past y) says.Closed
+        (closed_ids (enters wire past y (written wire past y) (endpoint_at wire past y) (Taken g))) x
     put_step (drops {y = y} {id = n} {goes = goes} m f e d) h x =
-        emitted past y (endpoint_at wire past y) (closed_ids (enters wire past y (written wire past y) (endpoint_at wire past y) (Dropped n goes))) x
-    put_step (controls m f e d) h x = All-nil HasBytes
+        emitted past y (endpoint_at wire past y) says.Closed
+        (closed_ids (enters wire past y (written wire past y) (endpoint_at wire past y) (Dropped n goes))) x
+    put_step (controls {c = noted.Closed n} m f e d) h x = All-nil HasBytes
+    put_step (controls {y = y} {c = noted.Queried n (Some v)} m f e d) h x =
+        emitted past y (endpoint_at wire past y) (λ (k : ℕ). says.Version k v) (n ∷ []) x
+    put_step (controls {c = noted.Queried n None} m f e d) h x = All-nil HasBytes
+    put_step (controls {c = noted.Version n v} m f e d) h x = All-nil HasBytes
+    put_step (controls {c = noted.Required n v} m f e d) h x = All-nil HasBytes
+    put_step (controls {c = noted.Flushed n} m f e d) h x = All-nil HasBytes
     put_step (spoils m f e) h x = All-nil HasBytes
     put_step (closes o e) h x = All-nil HasBytes
     put_step (closes_pending {p = p} o e) h x = unless_shut (is_gone past p.end || is_local past p) p.end (p.id ∷ []) x
     put_step (closes_responder e) h x = All-nil HasBytes
     put_step (closes_end {y = y} {id = n} r i o e) h x = unless_shut (n == 0) y (n ∷ []) x
     put_step (closes_endpoint {y = y} {id = n} r i o e) h x = unless_shut (n == 0) y (n ∷ []) x
+    put_step (notifies {y = y} {notice = notice} {told = told} r o e w s f p) h x =
+        landed past y (wire.control (control_of notice told)) [] x (controls_are (control_of notice told))
+    put_step (pauses rb ra e f g s) h x = All-nil HasBytes
+    put_step (pipes z e f) h x = All-nil HasBytes
+    put_step (flows d o e f) h x = All-nil HasBytes
     put_step skips h x = All-nil HasBytes
     put_step refuses h x = All-nil HasBytes
 
@@ -211,6 +242,10 @@ module _ (schema : Schema) (filled : IsFilledSchema schema) (seqs : ℕ) where
   got_step past seq (closes_responder e) have = tt
   got_step past seq (closes_end r i o e) have = tt
   got_step past seq (closes_endpoint r i o e) have = tt
+  got_step past seq (notifies r o e w s f p) have = tt
+  got_step past seq (pauses rb ra e f g s) have = tt
+  got_step past seq (pipes z e f) have = tt
+  got_step past seq (flows d o e f) have = tt
   got_step past seq skips have = tt
   got_step past seq refuses have = tt
 

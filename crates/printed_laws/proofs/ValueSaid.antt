@@ -19,7 +19,7 @@ use Rattle.bind_model.specs.declared.event.Event.{Event}
 use Rattle.bind_model.specs.declared.told.Told.{Told}
 use Rattle.bind_model.specs.declared.told.Told.TheVariants as tells
 use Rattle.history_text.specs.Names.{method_text}
-use Rattle.history_reader.specs.Names.{names_of, messages_of, meaning}
+use Rattle.line_parts.specs.Names.{names_of, messages_of, meaning}
 use Rattle.history_reader.specs.Printable.{IsMessage, AreBytes}
 use Rattle.history_reader.proofs.RoundTrip.{message_fits}
 use Rattle.call_script.specs.Script.{IsScriptOf}
@@ -80,6 +80,10 @@ module _ (schema : Schema) (means : Means schema) where
   asked_said (asks.Raw x bytes handles) is = tt
   asked_said (asks.Take x) is = tt
   asked_said (asks.Close closing) is = tt
+  asked_said (asks.Notify y notice) is = tt
+  asked_said (asks.Pause b a flush) is = tt
+  asked_said (asks.Data size) is = tt
+  asked_said (asks.Flow x flow) is = tt
   asked_said (asks.Skip line) is = tt
 
   told_said : (told : Told) (asked : Asked) → TellsSaid schema told → SendsBytes told asked → TellsMessage schema told
@@ -91,9 +95,12 @@ module _ (schema : Schema) (means : Means schema) where
   told_said (tells.Wrote x) asked is small = tt
   told_said (tells.Taken g) asked is small = message_said g.target is.number g.parameters is.has is.said
   told_said (tells.Dropped id gone) asked is small = tt
-  told_said (tells.Control id) asked is small = tt
+  told_said (tells.Control noted) asked is small = tt
   told_said (tells.Bad why gone) asked is small = tt
   told_said (tells.Closed gone) asked is small = tt
+  told_said (tells.Notified notified) asked is small = tt
+  told_said tells.Pausing asked is small = tt
+  told_said (tells.Flowed t flowed) asked is small = tt
   told_said tells.Skipped asked is small = tt
   told_said (tells.No why) asked is small = tt
 

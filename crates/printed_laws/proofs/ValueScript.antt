@@ -36,7 +36,7 @@ use Rattle.bind_model.specs.declared.endpoint.ResponderId.{ResponderId}
 use Rattle.bind_model.specs.declared.event.Event.{Event}
 use Rattle.bind_model.specs.declared.told.Told.{Told}
 use Rattle.bind_model.proofs.Outcomes.{Outcome, outcome, joins, mints, binds, associates, attaches, calls, answers, writes, gets, drops, controls, spoils}
-use Rattle.bind_model.proofs.Outcomes.{closes, closes_pending, closes_responder, closes_end, closes_endpoint, skips, refuses}
+use Rattle.bind_model.proofs.Outcomes.{closes, closes_pending, closes_responder, closes_end, closes_endpoint, notifies, pauses, pipes, flows, skips, refuses}
 use Rattle.call_script.specs.Forms.{Form, Join, Auto, Of, Pipe, Mint, Bind, Associate, Attach, Call, Take, Answer, Raw, CloseToken, CloseEndpoint, AreThere, sequences}
 use Rattle.call_script.specs.Script.{names_set, Asks, IsValueOf, IsPart, Part, OfLine, OfReply, lines_in, replies_in, AreTaken, IsScriptOf}
 use Rattle.call_script.specs.Targets.{message_named}
@@ -366,9 +366,10 @@ module _ (schema : Schema) where
   bytes_step : (seqs : ℕ) (past : List Event) (seq : SeqId) {asked : Asked} {told : Told} → Outcome (wire_of schema) seqs past seq asked told
       → AsksSaid schema asked → SendsBytes told asked
   bytes_step seqs past seq (calls {id = id} {s = s} {request = request} r o ps mk e w b) is =
-      subst AreBytes (sym b) (sealed_bytes Request s.target s.parameters (record { id = id; request = request; ids = ids_of s.pendings }) is)
+      subst AreBytes (sym b) (sealed_bytes Request s.target s.parameters (record { id = id; request = request; ids = ids_of s.pendings; moment = s.moment }) is)
   bytes_step seqs past seq (answers {q = q} {s = s} {request = request} r o rs ps e w b) is =
-      subst AreBytes (sym b) (sealed_bytes Response s.target s.parameters (record { id = q.id; request = request; ids = ids_of s.pendings }) is)
+      subst AreBytes (sym b)
+      (sealed_bytes Response s.target s.parameters (record { id = q.id; request = request; ids = ids_of s.pendings; moment = s.moment }) is)
   bytes_step seqs past seq (writes o w) is = is
   bytes_step seqs past seq (joins t j p q) is = tt
   bytes_step seqs past seq mints is = tt
@@ -384,6 +385,10 @@ module _ (schema : Schema) where
   bytes_step seqs past seq (closes_responder e) is = tt
   bytes_step seqs past seq (closes_end r i o e) is = tt
   bytes_step seqs past seq (closes_endpoint r i o e) is = tt
+  bytes_step seqs past seq (notifies r o e w s f p) is = tt
+  bytes_step seqs past seq (pauses rb ra e f g s) is = tt
+  bytes_step seqs past seq (pipes z e f) is = tt
+  bytes_step seqs past seq (flows d o e f) is = tt
   bytes_step seqs past seq skips is = tt
   bytes_step seqs past seq refuses is = tt
 

@@ -16,7 +16,7 @@ use Rattle.wire_model.specs.declared.target.MessageSide.{MessageSide}
 use Rattle.wire_model.specs.declared.target.MessageSide.TheVariants.{Request, Response}
 use Rattle.value_text.proofs.NumberLaws.{both_left, both_right}
 use Rattle.history_text.specs.Names.{interface_name, method_text}
-use Rattle.history_reader.specs.Names.{is_word, that_are_words, interfaces_from, message_in, messages_from, names_of, messages_of, meaning}
+use Rattle.line_parts.specs.Names.{is_word, that_are_words, interfaces_from, message_in, messages_from, names_of, messages_of, meaning}
 use Rattle.history_reader.specs.Printable.{IsInterface}
 use Rattle.schema_laws.proofs.Among.{IsAmong, among_at, among_map, all_at, each_at}
 use Rattle.schema_laws.proofs.Each.{all_flat}

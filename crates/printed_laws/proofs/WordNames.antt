@@ -6,8 +6,8 @@ use Rattle.mj_schema.specs.WellFormed.{has_distinct_ordinals}
 use Rattle.mj_schema.specs.declared.rows.InterfaceRow.{InterfaceRow}
 use Rattle.mj_schema.specs.declared.rows.MethodRow.{MethodRow}
 use Rattle.mj_schema.specs.declared.schema.Schema.{Schema}
-use Rattle.history_reader.specs.Names.{is_word}
-use Rattle.history_reader.specs.Signs.{blank}
+use Rattle.line_parts.specs.Names.{is_word}
+use Rattle.line_parts.specs.Signs.{blank}
 use Rattle.call_script.specs.Targets.{dot}
 
 abbrev pub is_not_blank : ℕ → Bool

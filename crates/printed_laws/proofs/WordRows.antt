@@ -41,7 +41,7 @@ use Rattle.schema_laws.proofs.Quiet.{both_empty, each_empty, map_empty, quiet_na
 use Rattle.printed_laws.proofs.WordNames.{is_plain, method_names}
 use Rattle.printed_laws.proofs.WordTexts.{same_text}
 use Rattle.printed_laws.proofs.WordTrees.{IsPlainMethod, IsPlainItem, IsPlainDefined}
-use Rattle.history_reader.specs.Names.{is_word}
+use Rattle.line_parts.specs.Names.{is_word}
 
 -- what none of a list repeats
 

@@ -13,7 +13,7 @@ use Rattle.wire_model.specs.declared.target.MessageSide.{MessageSide}
 use Rattle.wire_model.specs.declared.target.Target.{Target}
 use Rattle.wire_encoder.specs.Prepared.{parameters_of}
 use Rattle.history_text.specs.Names.{method_text}
-use Rattle.history_reader.specs.Names.{names_of, messages_of, meaning}
+use Rattle.line_parts.specs.Names.{names_of, messages_of, meaning}
 use Rattle.history_reader.specs.Printable.{IsInterface}
 use Rattle.call_script.specs.Targets.{split_word, methods_of, method_named, target_for, target_in, target_between, target_named, with_parameters, message_named}
 use Rattle.printed_laws.proofs.WordNames.{HasPlainNames}

@@ -5,7 +5,7 @@ use Rattle.std.specs.Str.{bytes_eq}
 use Rattle.std.proofs.lemmas.Bool.{and_from}
 use Rattle.std.proofs.lemmas.Slice.Eq.{bytes_eq-Decides}
 use Rattle.value_text.proofs.NumberLaws.{both_left, both_right}
-use Rattle.history_reader.specs.Names.{is_word}
+use Rattle.line_parts.specs.Names.{is_word}
 use Rattle.call_script.specs.Targets.{dot}
 use Rattle.schema_laws.proofs.Among.{IsAmong}
 use Rattle.printed_laws.proofs.WordNames.{is_not_blank, is_plain_byte, is_plain}

@@ -33,8 +33,8 @@ use Rattle.mojom_files.specs.Names.{named_in, dotted}
 use Rattle.mojom_files.specs.Definitions.{Defined, identifier_of, module_of, struct_item, interface_item, in_struct, in_interface, nested_in, with_nested, definitions_of}
 use Rattle.draft_rows.specs.RowCounts.{method_among, methods_in}
 use Rattle.mojom_compile.specs.Compiled.{IsParsed}
-use Rattle.history_reader.specs.Names as words
-use Rattle.history_reader.specs.Signs.{blank}
+use Rattle.line_parts.specs.Names as words
+use Rattle.line_parts.specs.Signs.{blank}
 use Rattle.call_script.specs.Targets.{dot}
 use Rattle.schema_laws.proofs.Each.{all_flat, all_so}
 use Rattle.printed_laws.proofs.WordNames.{is_not_blank, is_plain_byte, is_plain}

@@ -14,7 +14,7 @@ use Rattle.mojom_files.specs.declared.named_file.NamedFile.{NamedFile}
 use Rattle.mojom_compile.specs.declared.source.Source.{Source}
 use Rattle.mojom_compile.specs.Schemas.{AreTreesOf, IsSchemaOfFiles}
 use Rattle.value_text.proofs.NumberLaws.{both_left, both_right}
-use Rattle.history_reader.specs.Names.{is_word}
+use Rattle.line_parts.specs.Names.{is_word}
 use Rattle.printed_laws.proofs.WordNames.{interface_names, HasPlainMethods, HasPlainNames}
 use Rattle.printed_laws.proofs.WordTrees.{tree_plain}
 use Rattle.printed_laws.proofs.WordRows.{IsPlainRow, ArePlain, plain_rows}

@@ -78,7 +78,7 @@ module _ (schema : Schema) (script : Script) (is : IsScript schema script) where
 
   -- that of a line
   line_brings : (names : Named) (line : Line) → IsLine schema script.seqs script.names line → (event : Event) → IsStep wire script.seqs event
-      → asked_by names line ≡ event.asked → brings wire event.told event.asked ≤ 1 + most_ids line.command
+      → asked_by names line ≡ event.asked → brings wire event.told event.asked ≤ 2 + most_ids line.command
   line_brings names line sound event step e =
       let fits : Fits schema (most_ids line.command) event.asked = subst (Fits schema (most_ids line.command)) e (line_fits schema names line sound.read) in
       omega (arith, fits.0, brings_few schema script.seqs step.1.0 event.seq event.asked event.told step.1.1 fits.1)
@@ -91,8 +91,8 @@ module _ (schema : Schema) (script : Script) (is : IsScript schema script) where
     told : event.told ≡ answer wire script.seqs step.1.0 event.seq (replied d)
     told = step.1.1 ∙ ap (answer wire script.seqs step.1.0 event.seq) (sym e)
 
-    reply_brings : brings wire event.told event.asked ≤ 1
-    reply_brings = subst (λ (asked : Asked). brings wire event.told asked ≤ 1) e
+    reply_brings : brings wire event.told event.asked ≤ 2
+    reply_brings = subst (λ (asked : Asked). brings wire event.told asked ≤ 2) e
         (omega (arith, brings_few schema script.seqs step.1.0 event.seq (replied d) event.told told short))
 
     reply_quiet : asks_by event.told event.asked ≡ 0
@@ -106,14 +106,15 @@ module _ (schema : Schema) (script : Script) (is : IsScript schema script) where
   -- ## The joins
 
   pub joins_few : (own : List Event) → AllByRecursion (IsStep wire script.seqs) own → GoesOn (next_join script) own
-      → (length own ≤ length (joins_of script)) × (brought wire own ≤ ids_before (joins_of script) (length own) + length own)
+      → (length own ≤ length (joins_of script)) × (brought wire own ≤ ids_before (joins_of script) (length own) + (length own + length own))
   joins_few [] steps asks = (omega arith, omega arith)
   joins_few (event ∷ own) steps asks = go (slice_get (joins_of script) (length own)) refl asks.0 (joins_few own steps.1 asks.1)
     where
       go : (o : Option Line) → slice_get (joins_of script) (length own) ≡ o → option_map joins_by o ≡ Some (event.seq, event.asked)
-          → (length own ≤ length (joins_of script)) × (brought wire own ≤ ids_before (joins_of script) (length own) + length own)
+          → (length own ≤ length (joins_of script)) × (brought wire own ≤ ids_before (joins_of script) (length own) + (length own + length own))
           → (suc (length own) ≤ length (joins_of script))
-          × (brings wire event.told event.asked + brought wire own ≤ ids_before (joins_of script) (suc (length own)) + suc (length own))
+          × (brings wire event.told event.asked + brought wire own
+          ≤ ids_before (joins_of script) (suc (length own)) + (suc (length own) + suc (length own)))
       go None f g few = absurd cc
       go (Some line) f g few =
           let pair : joins_by line ≡ (event.seq, event.asked) = cc in
@@ -134,7 +135,10 @@ module _ (schema : Schema) (script : Script) (is : IsScript schema script) where
 
     -- how many lines are done, what their events bring, and what they ask
     abbrev pub AreFew : List Event → Type 0
-    AreFew own = (done own ≤ length lines) × (brought wire own ≤ ids_before lines (done own) + length own) × (requested own ≤ done own)
+    AreFew own =
+        (done own ≤ length lines)
+        × (brought wire own ≤ ids_before lines (done own) + (length own + length own))
+        × (requested own ≤ done own)
 
     more : (event : Event) (own : List Event) → IsStep wire script.seqs event
         → next_of wire script after_joins s own ≡ Some event.asked → AreFew own → AreFew (event ∷ own)
@@ -146,7 +150,7 @@ module _ (schema : Schema) (script : Script) (is : IsScript schema script) where
         -- the rest where a line is next
         of_line : (o : Option Line) → slice_get lines (done own) ≡ o → option_map (asked_by names) o ≡ Some event.asked
             → (done own + 1 ≤ length lines)
-            × (brings wire event.told event.asked + brought wire own ≤ ids_before lines (done own + 1) + suc (length own))
+            × (brings wire event.told event.asked + brought wire own ≤ ids_before lines (done own + 1) + (suc (length own) + suc (length own)))
             × (asks_by event.told event.asked + requested own ≤ done own + 1)
         of_line None f g = absurd cc
         of_line (Some line) f g =
@@ -163,7 +167,8 @@ module _ (schema : Schema) (script : Script) (is : IsScript schema script) where
         go : (o : Option Due) → due wire script.autos own ≡ o
             → reply_first o (option_map (asked_by names) (if is_some o then None else slice_get lines (done own))) ≡ Some event.asked
             → ((if is_some o then done own else done own + 1) ≤ length lines)
-            × (brings wire event.told event.asked + brought wire own ≤ ids_before lines (if is_some o then done own else done own + 1) + suc (length own))
+            × (brings wire event.told event.asked + brought wire own
+            ≤ ids_before lines (if is_some o then done own else done own + 1) + (suc (length own) + suc (length own)))
             × (asks_by event.told event.asked + requested own ≤ (if is_some o then done own else done own + 1))
         go (Some d) f g =
             let asked : replied d ≡ event.asked = cc in
@@ -184,9 +189,9 @@ module _ (schema : Schema) (script : Script) (is : IsScript schema script) where
     abbrev replies : List Event → ℕ
     replies own = replies_behind wire script.autos before own
 
-    -- each event is a take that settles a message, or an automatic reply, which brings one
+    -- each event is a take that settles a message, or an automatic reply, which brings two at most
     abbrev pub AreTaken : List Event → Type 0
-    AreTaken own = (length own ≤ settled own + replies own) × (brought wire own ≤ replies own) × (requested own ≡ 0)
+    AreTaken own = (length own ≤ settled own + replies own) × (brought wire own ≤ replies own + replies own) × (requested own ≡ 0)
 
     drained : (event : Event) (own : List Event) → legal wire script.seqs (event ∷ (own ++ before))
         → next_take wire script.autos before own ≡ Some (event.seq, event.asked) → AreTaken own → AreTaken (event ∷ own)
@@ -201,7 +206,7 @@ module _ (schema : Schema) (script : Script) (is : IsScript schema script) where
         of_take : (o : Option (SeqId × EndId)) → ready wire past ≡ o
             → option_map {U = Next} (λ (turn : SeqId × EndId). (turn.0, asks.Take turn.1)) o ≡ Some (event.seq, event.asked)
             → (suc (length own) ≤ (settles event.told event.asked + settled own) + (0 + replies own))
-            × (brings wire event.told event.asked + brought wire own ≤ 0 + replies own)
+            × (brings wire event.told event.asked + brought wire own ≤ (0 + replies own) + (0 + replies own))
             × (asks_by event.told event.asked + requested own ≡ 0)
         of_take None f g = absurd cc
         of_take (Some turn) f g =
@@ -222,7 +227,8 @@ module _ (schema : Schema) (script : Script) (is : IsScript schema script) where
         go : (o : Option Due) → due wire script.autos past ≡ o
             → reply_or o (option_map {U = Next} (λ (turn : SeqId × EndId). (turn.0, asks.Take turn.1)) (ready wire past)) ≡ Some (event.seq, event.asked)
             → (suc (length own) ≤ (settles event.told event.asked + settled own) + ((if is_some o then 1 else 0) + replies own))
-            × (brings wire event.told event.asked + brought wire own ≤ (if is_some o then 1 else 0) + replies own)
+            × (brings wire event.told event.asked + brought wire own
+            ≤ ((if is_some o then 1 else 0) + replies own) + ((if is_some o then 1 else 0) + replies own))
             × (asks_by event.told event.asked + requested own ≡ 0)
         go (Some d) f g =
             let pair : ◌≡◌ {A = Next} (d.1.seq, replied d) (event.seq, event.asked) = cc in

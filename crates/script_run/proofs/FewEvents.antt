@@ -123,14 +123,15 @@ module _ (schema : Schema) (script : Script) (is : IsScript schema script) (afte
       events_most (hands wire) script.seqs middle,
     )
 
-    -- they bring as much
-    middle_brings : brought wire middle ≤ most_ids_of script.lines + length middle
+    -- they bring twice as much at most
+    middle_brings : brought wire middle ≤ most_ids_of script.lines + (length middle + length middle)
     middle_brings = omega (
       arith,
       events_least (brings wire) script.seqs middle (all_within wire script.seqs middle steps),
-      sum_few script.seqs (λ k. brought wire (own k)) (λ k. most_ids_of (lines_of script (seq_at k)) + counted one (own k))
+      sum_few script.seqs (λ k. brought wire (own k)) (λ k. most_ids_of (lines_of script (seq_at k)) + (counted one (own k) + counted one (own k)))
           (λ k lt. omega (arith, (few k lt).1, ids_few (lines_of script (seq_at k)) (done k), counts (own k))),
-      sum_plus script.seqs (λ k. most_ids_of (lines_of script (seq_at k))) (λ k. counted one (own k)),
+      sum_plus script.seqs (λ k. most_ids_of (lines_of script (seq_at k))) (λ k. counted one (own k) + counted one (own k)),
+      sum_plus script.seqs (λ k. counted one (own k)) (λ k. counted one (own k)),
       lines_most most_ids_of (λ (l : Line). most_ids l.command) refl (λ l ls. refl) script.seqs script.lines,
       events_most one script.seqs middle,
       counts middle,
@@ -200,5 +201,6 @@ pub ran_few : (schema : Schema) (script : Script) → IsScript schema script →
 ran_few schema script is short order history h of =
     let past : legal (wire_of schema) script.seqs (of.drain.own ++ (of.middle ++ of.after_joins)) =
     subst (λ (es : List Event). legal (wire_of schema) script.seqs es) of.drain.whole h in
-    let few = few_events schema script is of.after_joins of.middle short of.drain.own past (part_goes script of.after_joins of.joins) (λ s w. (of.lines s w).asks) of.drain.asks in
+    let few = few_events schema script is of.after_joins of.middle short of.drain.own past (part_goes script of.after_joins of.joins)
+    (λ s w. (of.lines s w).asks) of.drain.asks in
     omega (arith, few, length-reverse history, ap length of.drain.whole)

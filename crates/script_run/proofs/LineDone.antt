@@ -318,7 +318,7 @@ takes_done autos end before after old new reply saw went rooms (Err cut) is last
 -- ## Automatic replies
 
 abbrev with_sent : Target → Tree → List Thing → Outgoing
-with_sent t v hs = record { target = t; parameters = v; handles = hs; pendings = [] }
+with_sent t v hs = record { target = t; parameters = v; handles = hs; pendings = []; moment = None }
 
 same_sent : (p q : Prepared) (handles : List Thing) (pendings : List Half) → p.target ≡ q.target → view p.value ≡ view q.value → handles ≡ []
     → pendings ≡ [] → outgoing_of p handles pendings ≡ outgoing q [] []

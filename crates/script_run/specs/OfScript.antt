@@ -60,7 +60,13 @@ pub record IsPart (next : List Event → Option Next) (before after : List Event
 
 -- what is sent: the prepared parameters, and these handles and pendings
 abbrev pub outgoing : Prepared → List Thing → List PendingId → Outgoing
-outgoing prepared things pendings = record { target = prepared.target; parameters = view prepared.value; handles = things; pendings = pendings }
+outgoing prepared things pendings = record {
+  target = prepared.target;
+  parameters = view prepared.value;
+  handles = things;
+  pendings = pendings;
+  moment = None;
+}
 
 -- the automatic reply that is due
 abbrev pub replied : Due → Asked

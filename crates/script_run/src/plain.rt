@@ -4,18 +4,21 @@ ghost use Rattle.std.specs.Prelude.{◌≡◌};
 ghost use Rattle.bind_model.specs.WireOf.{wire_of};
 ghost use Rattle.script_run.specs.AtDesk.{job_of_method};
 
+use bind_model::Stepper;
 use mj_schema::Schema;
-use remote_receiver::{Answered, Job};
+use remote_receiver::{Answered, Job, Promise};
 use wire_encoder::Prepared;
 
 /// The callback of a script's call: it answers 0.
 #[derive(Drop)]
 pub struct Plain;
 
-impl Job for Plain {
+impl Promise for Plain {
     ghost promises = { λ job got note. note ≡ 0 };
+}
 
-    fn run(self, _got: &Answered) -> u64 {
+impl<P: Stepper> Job<P> for Plain {
+    fn run(self, _got: &Answered, _stepper: &P) -> u64 {
         0
     }
 }

@@ -14,6 +14,10 @@ pub struct Seat {
 }
 
 impl Stepper for Seat {
+    type Home = ();
+
+    ghost home = { λ seat. tt };
+
     ghost schema = { λ seat. seat.core.schema };
 
     ghost seqs = { λ seat. seat.core.seqs };

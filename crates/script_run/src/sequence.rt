@@ -56,6 +56,7 @@ fn do_own<P: Stepper, G: Gate>(
     requires autos { AllByRecursion (IsReply (P.schema desk.old.stepper) (P.seqs desk.old.stepper)) autos.now }
     requires names { HaveNames (length rooms.old.stands.things.items) rooms.old }
     requires number { number < MAX_SCRIPT_LINES }
+    ensures home { P.home desk.new.stepper ≡ P.home desk.old.stepper }
     ensures same { OnOk result (SameDesk (seen_by P.schema P.seqs P.alone P.me P.seen desk.old.stepper)
         (seen_by P.schema P.seqs P.alone P.me P.seen desk.new.stepper)) }
     ensures did { OnOk result (DidOwn (is_own (P.me desk.old.stepper) line.now) autos.now line.now
@@ -89,6 +90,7 @@ fn do_lines<P: Stepper, G: Gate>(
     requires script { IsScript (P.schema desk.old.stepper) script.now }
     requires seqs { P.seqs desk.old.stepper ≡ script.now.seqs }
     requires names { HaveNames script.now.names rooms.old }
+    ensures home { P.home desk.new.stepper ≡ P.home desk.old.stepper }
     ensures works { OnOk result (Works script.now (seen_by P.schema P.seqs P.alone P.me P.seen desk.old.stepper)
         (seen_by P.schema P.seqs P.alone P.me P.seen desk.new.stepper) (kept_of desk.old.jobs) (kept_of desk.new.jobs) rooms.old rooms.new) }
     ensures spent { result ≡ Err Cut.Spent → MAX_EVENTS ≤ length (P.seen desk.new.stepper) }
@@ -116,6 +118,7 @@ pub fn work<P: Stepper, G: Gate>(
     requires script { IsScript (P.schema desk.stepper) script.now }
     requires seqs { P.seqs desk.stepper ≡ script.now.seqs }
     requires names { HaveNames script.now.names held }
+    ensures home { P.home result.desk.stepper ≡ P.home desk.stepper }
     ensures works { IfNone result.cut (Works script.now (seen_by P.schema P.seqs P.alone P.me P.seen desk.stepper)
         (seen_by P.schema P.seqs P.alone P.me P.seen result.desk.stepper) (kept_of desk.jobs) (kept_of result.desk.jobs) held result.held) }
     ensures spent { result.cut ≡ Some Cut.Spent → MAX_EVENTS ≤ length (P.seen result.desk.stepper) }

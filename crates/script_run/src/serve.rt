@@ -34,8 +34,9 @@ pub fn serve<P: Stepper>(
     requires seq { (P.me desk.old.stepper).0 < P.seqs desk.old.stepper }
     requires schema { P.schema desk.old.stepper ≡ schema.now }
     requires prepared { IsOf (P.schema desk.old.stepper) command }
-    ensures { Served (seen_by P.schema P.seqs P.alone P.me P.seen desk.old.stepper) (seen_by P.schema P.seqs P.alone P.me P.seen desk.new.stepper)
+    ensures served { Served (seen_by P.schema P.seqs P.alone P.me P.seen desk.old.stepper) (seen_by P.schema P.seqs P.alone P.me P.seen desk.new.stepper)
         command (kept_of desk.old.jobs) (kept_of desk.new.jobs) result }
+    ensures home { P.home desk.new.stepper ≡ P.home desk.old.stepper }
 {
     match command {
         Command::Call(end, id, prepared, handles, pendings) => {

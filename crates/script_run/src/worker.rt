@@ -44,6 +44,7 @@ pub fn ask<P: Stepper>(
     requires schema { P.schema desk.old.stepper ≡ schema.now }
     requires prepared { IsOf (P.schema desk.old.stepper) command }
     requires places { HasPlaces 3 rooms.old }
+    ensures home { P.home desk.new.stepper ≡ P.home desk.old.stepper }
     ensures held { SameHeld rooms.old rooms.new }
     ensures saw { IfOk result (SawAt (seen_by P.schema P.seqs P.alone P.me P.seen desk.old.stepper)
         (seen_by P.schema P.seqs P.alone P.me P.seen desk.new.stepper) command) }
@@ -107,6 +108,7 @@ fn answer<P: Stepper>(
     requires schema { P.schema desk.old.stepper ≡ schema.now }
     requires reply { IsReply (P.schema desk.old.stepper) (P.seqs desk.old.stepper) reply.now }
     requires last { (r : responder_id) × EndsWith r rooms.old.responders.others.items }
+    ensures home { P.home desk.new.stepper ≡ P.home desk.old.stepper }
     ensures names { OnOk result (names_in rooms.new ≡ names_in rooms.old) }
     ensures went { OnOk result ((r : responder_id) → EndsWith r rooms.old.responders.others.items
         → Replied (Some (r, reply.now)) (seen_by P.schema P.seqs P.alone P.me P.seen desk.old.stepper)
@@ -148,6 +150,7 @@ fn do_command<'s, P: Stepper>(
     requires schema { P.schema desk.old.stepper ≡ schema.now }
     requires line { IsLine (P.schema desk.old.stepper) (P.seqs desk.old.stepper) (length rooms.old.stands.things.items) line.now }
     requires names { HaveNames (length rooms.old.stands.things.items) rooms.old }
+    ensures home { P.home desk.new.stepper ≡ P.home desk.old.stepper }
     ensures did { IfOk result (λ found. DidCommand autos.now line.now (option_copied found)
         (seen_by P.schema P.seqs P.alone P.me P.seen desk.old.stepper)
         (seen_by P.schema P.seqs P.alone P.me P.seen desk.new.stepper)
@@ -180,6 +183,7 @@ fn do_take<'s, P: Stepper>(
 ) -> Result<Option<&'s AutoReply>, Cut>
     requires seq { (P.me desk.old.stepper).0 < P.seqs desk.old.stepper }
     requires schema { P.schema desk.old.stepper ≡ schema.now }
+    ensures home { P.home desk.new.stepper ≡ P.home desk.old.stepper }
     ensures did { IfOk result (λ found. DidTake autos.now end (option_copied found) (seen_by P.schema P.seqs P.alone P.me P.seen desk.old.stepper)
         (seen_by P.schema P.seqs P.alone P.me P.seen desk.new.stepper)
         (kept_of desk.old.jobs) (kept_of desk.new.jobs) rooms.new.responders.others.items) }
@@ -208,6 +212,7 @@ pub fn do_line<P: Stepper>(
     requires line { IsLine (P.schema desk.old.stepper) (P.seqs desk.old.stepper) (length rooms.old.stands.things.items) line.now }
     requires autos { AllByRecursion (IsReply (P.schema desk.old.stepper) (P.seqs desk.old.stepper)) autos.now }
     requires names { HaveNames (length rooms.old.stands.things.items) rooms.old }
+    ensures home { P.home desk.new.stepper ≡ P.home desk.old.stepper }
     ensures did { OnOk result (DidLine autos.now line.now (seen_by P.schema P.seqs P.alone P.me P.seen desk.old.stepper)
         (seen_by P.schema P.seqs P.alone P.me P.seen desk.new.stepper)
         (kept_of desk.old.jobs) (kept_of desk.new.jobs) (names_in rooms.old) (names_in rooms.new)) }
@@ -234,6 +239,7 @@ pub fn take<P: Stepper>(
     requires seq { (P.me desk.old.stepper).0 < P.seqs desk.old.stepper }
     requires schema { P.schema desk.old.stepper ≡ schema.now }
     requires autos { AllByRecursion (IsReply (P.schema desk.old.stepper) (P.seqs desk.old.stepper)) autos.now }
+    ensures home { P.home desk.new.stepper ≡ P.home desk.old.stepper }
     ensures took { OnOk result (TookAt autos.now end (seen_by P.schema P.seqs P.alone P.me P.seen desk.old.stepper)
         (seen_by P.schema P.seqs P.alone P.me P.seen desk.new.stepper) (kept_of desk.old.jobs) (kept_of desk.new.jobs)) }
     ensures cut { IfErr result (λ cut. IfSpent cut (CutIn autos.now (asks.Take end)

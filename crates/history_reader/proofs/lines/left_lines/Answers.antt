@@ -4,9 +4,9 @@ use Rattle.byte_rules.specs.Lang.{many}
 use Rattle.byte_rules.specs.steps.Reading.{with_front}
 use Rattle.byte_rules.proofs.Loops.{halts_ok, done_ok, done_err, goes_on, ends}
 use Rattle.handle_table.specs.declared.thing.Thing.{Thing}
-use Rattle.history_reader.specs.Signs.{letter_d}
+use Rattle.line_parts.specs.Signs.{letter_d}
 use Rattle.history_reader.specs.Whole.{left_line}
-use Rattle.history_reader.proofs.ListReads.{no_front, no_front_err}
+use Rattle.line_parts.proofs.ListReads.{no_front, no_front_err}
 use Rattle.history_reader.proofs.lines.left_lines.Goals as goal
 
 pub returns-then-is_next : goal.returns-then-is_next

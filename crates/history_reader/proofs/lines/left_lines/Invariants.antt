@@ -2,7 +2,7 @@ use Rattle.std.proofs.Common.{◌≡◌, ◌∷◌, [], ◌-◌, length}
 use Rattle.byte_rules.specs.Lang.{until, many}
 use Rattle.byte_rules.specs.steps.Reading.{with_front}
 use Rattle.handle_table.specs.declared.thing.Thing.{Thing}
-use Rattle.history_reader.specs.Signs.{letter_d}
+use Rattle.line_parts.specs.Signs.{letter_d}
 use Rattle.history_reader.specs.Whole.{left_line}
 use Rattle.history_reader.proofs.lines.left_lines.Given as goal
 

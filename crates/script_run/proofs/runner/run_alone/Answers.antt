@@ -18,7 +18,8 @@ play-drained-requires-clause-lines c =
     let schema : c.new-core.result.schema ≡ arc_value c.args.schema = ap (λ (p : Play). p.schema) c.new-core.ensures ∙ c.in-Ok.ensures in
     subst (λ (s : Schema). AreLines s script (map (λ (l : Bor Line). l.now) c.as_slice.result.now)) (sym schema)
     (subst (λ (ls : List (Bor Line)). AreLines (arc_value c.args.schema) script (map (λ (l : Bor Line). l.now) ls)) (sym c.as_slice.ensures.value)
-    (are_lines (arc_value c.args.schema) script c.args.order (map (λ (l : Bor Line). l.now) c.in_ok-lines.lines.items) c.in_ok-lines.ensures c.requires.script.lines))
+    (are_lines (arc_value c.args.schema) script c.args.order (map (λ (l : Bor Line). l.now) c.in_ok-lines.lines.items) c.in_ok-lines.ensures
+    c.requires.script.lines))
 
 pub play-drained-requires-clause-rested : goal.play-drained-requires-clause-rested
 play-drained-requires-clause-rested c =

@@ -33,6 +33,7 @@ loop-line-preserved g c =
         alone = c.in_ok-number.ensures.same.alone ∙ i.same.alone;
         me = c.in_ok-number.ensures.same.me ∙ i.same.me;
       };
+      home = c.do_own.ensures.home ∙ i.home;
       have = subst (λ k. HaveNames k c.do_own.new.rooms) i.have.stands c.in_ok-number.ensures.names;
       few = omega (arith, i.few, c.in_ok-number.ensures.number);
       did = λ after_joins named.

@@ -13,6 +13,7 @@ abbrev pub invariant-loop-line : goal.invariant-loop-line
 invariant-loop-line g l = record {
   same : SameDesk (seen_by g.P.Stepper.schema g.P.Stepper.seqs g.P.Stepper.alone g.P.Stepper.me g.P.Stepper.seen l.fn.desk.stepper)
       (seen_by g.P.Stepper.schema g.P.Stepper.seqs g.P.Stepper.alone g.P.Stepper.me g.P.Stepper.seen l.desk.stepper);
+  home : g.P.Stepper.home l.desk.stepper ≡ g.P.Stepper.home l.fn.desk.stepper;
   have : HaveNames l.script.names l.rooms;
   few : l.number ≤ l.line-index;
   did : (after_joins : List Event) → names_in l.fn.rooms ≡ joined (g.P.Stepper.me l.fn.desk.stepper) (joins_of l.script) after_joins

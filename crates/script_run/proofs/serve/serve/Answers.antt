@@ -6,8 +6,8 @@ use Rattle.script_run.specs.AtDesk.{job_of_method, seen_by}
 use Rattle.script_run.proofs.Serving.{call_served, is_other, other_served}
 use Rattle.script_run.proofs.serve.serve.Goals as goal
 
-pub returns-in-Call : goal.returns-in-Call
-returns-in-Call g c =
+pub returns-in-Call-clause-served : goal.returns-in-Call-clause-served
+returns-in-Call-clause-served g c =
     let s = g.P.Stepper in
     let same = c.call.ensures.same in
     rw c.answered_as.ensures
@@ -18,8 +18,8 @@ returns-in-Call g c =
     (c.job_for-job.ensures ∙ ap (λ (known : Schema). job_of_method (wire_of known) c.in-Call.prepared.target) (sym c.requires.schema))
     c.call.result c.in-Call.is c.call.ensures.event c.call.ensures.kept c.call.ensures.refused c.call.ensures.unsent)
 
-pub returns-in_default : goal.returns-in_default
-returns-in_default g c =
+pub returns-in_default-clause-served : goal.returns-in_default-clause-served
+returns-in_default-clause-served g c =
     let s = g.P.Stepper in
     let same = c.step.ensures.same in
     other_served (seen_by s.schema s.seqs s.alone s.me s.seen c.args.desk.now.stepper) (seen_by s.schema s.seqs s.alone s.me s.seen c.step.new.self.stepper)

@@ -1,7 +1,0 @@
-use Rattle.std.proofs.Common.{◌≡◌, ◌++◌, drop}
-use Rattle.history_reader.specs.Names.{that_are_words, messages_from}
-use Rattle.history_reader.proofs.names.message_words.Given as goal
-
-abbrev pub invariant-loop-number : goal.invariant-loop-number
-invariant-loop-number l =
-    l.words.items ++ that_are_words (messages_from l.side l.number (drop l.number l.rows)) ≡ that_are_words (messages_from l.side 0 l.rows)

@@ -1,0 +1,9 @@
+pub mod Signs
+pub mod Keywords
+pub mod Series
+pub mod Names
+pub mod Ids
+pub mod Lists
+pub mod Messages
+pub mod Printable
+pub mod steps
