@@ -29,3 +29,17 @@ def option(words, name, otherwise=None):
         if word.startswith(f'{name}='):
             return word[len(name) + 1:]
     return otherwise
+
+
+def mojom_files(words):
+    """The Mojom files among the words behind a command: what is no option and no option's value."""
+    names, is_value, is_behind = [], False, False
+    for word in words:
+        if is_value or is_behind or not word.startswith('--'):
+            names += [word] * (not is_value)
+            is_value = False
+        elif word == '--':
+            is_behind = True
+        else:
+            is_value = '=' not in word and word != '--response'
+    return names

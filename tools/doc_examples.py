@@ -5,6 +5,7 @@ that `-- NAME` names, and `check` is asked; a block without an error has the lis
 and then a message in hexadecimal, with options of `decode` before it, or a value; an example without a Mojom file has that of the one
 before. In scripts.md they are a script over examples/printer.mojom. Other blocks have no examples.
 """
+import os
 import re
 from dataclasses import dataclass
 
@@ -106,3 +107,14 @@ def examples(name, text, printer):
     if name == 'docs/scripts.md':
         return [one for block in blocks for one in of_scripts(block, printer)]
     return []
+
+
+def of_documents(top):
+    """The examples of all documents: the page, the number of the example on it, and the example."""
+    with open(os.path.join(top, 'examples', 'printer.mojom'), encoding='utf-8') as opened:
+        printer = opened.read()
+    for page in ('docs/language.md', 'docs/wire.md', 'docs/scripts.md'):
+        with open(os.path.join(top, page), encoding='utf-8') as opened:
+            text = opened.read()
+        for number, one in enumerate(examples(page, text, printer), 1):
+            yield page, f'example {number}', one

@@ -5,6 +5,8 @@ from dataclasses import dataclass, field
 WIDTHS = {'bool': 0, 'int8': 1, 'uint8': 1, 'int16': 2, 'uint16': 2, 'int32': 4, 'uint32': 4, 'int64': 8, 'uint64': 8}
 NONE = 0xffffffff
 ANY = '\0'
+# how many numbers of a message are read at most: pointers that meet again could lead to any number of them
+MOST_NUMBERS = 5_000_000
 
 
 class BadMessage(Exception):
@@ -84,7 +86,7 @@ class Tables:
     """The tables of `check`."""
 
     def __init__(self, text):
-        self.structs, self.versions, self.unions, self.enums, self.interfaces = {}, {}, {}, {}, {}
+        self.structs, self.versions, self.unions, self.enums, self.interfaces, self.extensible = {}, {}, {}, {}, {}, set()
         last = None
         for line in text.splitlines():
             word, *rest = line.split()
@@ -95,6 +97,8 @@ class Tables:
             {'struct': self.structs, 'union': self.unions, 'enum': self.enums, 'interface': self.interfaces}.get(word, {})[rest[0]] = {}
             if word == 'struct':
                 self.versions[rest[0]] = []
+            if rest[1:] == ['extensible']:
+                self.extensible.add(rest[0])
 
     def add(self, last, word, rest):
         """A line of the table at hand."""
@@ -115,18 +119,26 @@ class Tables:
             self.interfaces[name][int(rest[0])] = rest[1]
 
 
+def parameters_of(method, is_response):
+    """The name of the struct of a method's parameters, or of its response's."""
+    return f'{method}.{"response" if is_response else "request"}'
+
+
 class Reader:
     """Walks over a message in its own order: its objects with their spans, and the text of its value."""
 
-    def __init__(self, tables, data, interface, is_response):
+    def __init__(self, tables, data):
         self.tables, self.data, self.items = tables, data, []
-        self.ids = ()
+        self.ids, self.value, self.method, self.left = (), None, None, MOST_NUMBERS
+
+    def read(self, interface, is_response):
+        """Reads the whole message."""
         payload = self.header()
-        method = tables.interfaces.get(interface, {}).get(self.number(12, 4))
+        method = self.tables.interfaces.get(interface, {}).get(self.number(12, 4))
         if method is None:
             raise BadMessage(12, f'{interface} has no method of this ordinal')
-        name = f'{interface}.{method}.{"response" if is_response else "request"}'
-        if name not in tables.structs:
+        name = parameters_of(f'{interface}.{method}', is_response)
+        if name not in self.tables.structs:
             raise BadMessage(12, f'{interface}.{method} has no response')
         self.method = f'{interface}.{method}'
         self.items[0].spans[3].value += f', {method}'
@@ -135,6 +147,9 @@ class Reader:
     def number(self, at, size, is_signed=False):
         if at < 0 or at + size > len(self.data):
             raise BadMessage(at, 'the message ends before')
+        self.left -= 1
+        if not self.left:
+            raise BadMessage(at, 'its pointers lead to more than can be shown')
         return int.from_bytes(self.data[at:at + size], 'little', signed=is_signed)
 
     def header(self):
@@ -310,3 +325,15 @@ class Reader:
             self.heads(listed, target, 'num_elements')
             texts.append(self.elements(listed, target, part, count, f'{path}, {name}'))
         return '{' + ','.join(f'{key}:{value}' for key, value in zip(*texts)) + '}'
+
+
+def read(tables, data, interface, is_response):
+    """A reader with all that could be read, and the fault that ended it or None."""
+    reader = Reader(tables, data)
+    try:
+        reader.read(interface, is_response)
+    except BadMessage as fault:
+        return reader, fault
+    except RecursionError:
+        return reader, BadMessage(0, 'its objects stand too deep')
+    return reader, None

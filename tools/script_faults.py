@@ -1,7 +1,13 @@
 """What is wrong with a refused line of a script, and at which of its words (docs/scripts.md has the forms of lines)."""
+import difflib
 import re
 
+import message_reader
+import value_faults
+
 MOST_SEQUENCES = 16
+# So many interfaces are named where none is like the one that is sought.
+FEW = 6
 
 # A command's words: what stands at each place; a star says that any number of such words may follow.
 FORMS = {
@@ -36,7 +42,10 @@ SORTS = {
 }
 
 # What is lacking where a line ends too early.
-LACKING = {'new': 'a name', 'name': 'a name', 'target': 'an endpoint, as `x#0`', 'name or target': 'a name, or an endpoint as `x#0`'}
+LACKING = {'new': 'a name', 'name': 'a name', 'target': 'an endpoint, as `x#0`', 'name or target': 'a name, or an endpoint as `x#0`',
+           'value': 'a value, as `(7)`, or `()` for no parameters', 'bytes': 'bytes in hexadecimal, or `-` for none',
+           'method': 'the full name of a method', 'interface': 'the full name of an interface', 'side': '`remote` or `receiver`',
+           'sort': '`shared_buffer` or `platform`', 'sequence': 'the number of a sequence'}
 
 
 def words_of(line):
@@ -100,25 +109,50 @@ def odd_word(words, form, seqs):
     return None
 
 
-def bad_line(lines, number):
+# What a line has that no script has: each with what is wrong there.
+LETTERS = (('\r$', 'the line ends in a carriage return: lines end in a line feed alone'), ('\ufffd', 'a script is UTF-8'),
+           ('^\ufeff', 'the file begins with a byte order mark, which has to go'), ('\t', 'words are parted by one blank, and not by a tab'),
+           ('[\xa0\u2000-\u200b\u3000]', 'words are parted by the blank of ASCII, and this one is another'))
+COMMENT = 'there are no comments in scripts'
+
+
+def bad_line(lines, number, tables):
     """The place, and why the line has no form that may stand there."""
     line = lines[number - 1] if number <= len(lines) else ''
-    if line.endswith('\r'):
-        return len(line) - 1, 'the line ends in a carriage return: lines end in a line feed alone'
-    if '�' in line:
-        return line.index('�'), 'a script is UTF-8'
-    if '\t' in line:
-        return line.index('\t'), 'words are parted by one blank, and not by a tab'
+    for letters, why in LETTERS:
+        found = re.search(letters, line)
+        if found:
+            return found.start(), why
     if number == 1:
         return 0, f'the first line is `seqs K` with a K from 1 to {MOST_SEQUENCES}, and nothing else'
     if not line:
         return 0, 'each line says something: there are no empty lines'
     if line.startswith(('#', '//')):
-        return 0, 'there are no comments in scripts'
+        return 0, COMMENT
     blank = next((at for at, word in words_of(line) if not word), None)
     if blank is not None:
         return max(0, blank - 1) if blank == len(line) else blank, 'words have one blank between them, and none stands before the first or behind the last'
     return odd_form(lines, number, line)
+
+
+def odd_command(line, command, at, sequence):
+    """Why a line's command is none, where that is known."""
+    if not command:
+        return len(line), 'behind the number of the sequence and `:` a command is lacking'
+    if command.endswith(':'):
+        return at, 'behind the number of the sequence and `:` stands a command' if sequence else 'a sequence is a number, as in `0:`'
+    if command in FORMS and not sequence:
+        return 0, f'`{command}` stands behind the number of its sequence, as `0: {command}`'
+    if command in SETUP and sequence:
+        return 0, f'`{command}` is a line of the setup, without a sequence and `:` before it'
+    if not sequence and re.match('[0-9]+:', command):
+        return command.index(':') + 1, 'behind the number of the sequence and `:` stands a blank'
+    if not sequence and re.fullmatch('[0-9]+', command):
+        return len(command), f'behind the number of the sequence stands `:`, as `{command}:`'
+    if command in (FORMS if sequence else SETUP):
+        return None
+    near = difflib.get_close_matches(command.lower(), [*SETUP, *FORMS], 1, 0.6)
+    return at, 'no command has this name' + (f'; `{near[0]}` may be meant' if near else ': ' + ', '.join([*SETUP, *FORMS]))
 
 
 def odd_form(lines, number, line):
@@ -128,22 +162,20 @@ def odd_form(lines, number, line):
     forms = FORMS if sequence else SETUP
     if sequence and (not re.fullmatch(NUMBER, sequence) or int(sequence) >= seqs):
         return 0, f'a line begins with the number of its sequence and `:`; {numbered(seqs)}'
-    if command.endswith(':'):
-        return at, 'behind the number of the sequence and `:` stands a command' if sequence else 'a sequence is a number, as in `0:`'
-    if command in FORMS and not sequence:
-        return 0, f'`{command}` stands behind the number of its sequence, as `0: {command}`'
-    if command in SETUP and sequence:
-        return 0, f'`{command}` is a line of the setup, without a sequence and `:` before it'
-    if command not in forms:
-        return at, 'no command has this name: ' + ', '.join([*SETUP, *FORMS])
+    odd = odd_command(line, command, at, sequence)
+    if odd:
+        return odd
     form = sorts(command, len(words), forms)
+    comment = next((at for at, word in words if word.startswith(('#', '//'))), None)
+    if comment is not None:
+        return comment, COMMENT
     odd = odd_word(words, form, seqs)
     if odd:
         return odd
     if len(words) > len(form):
         return words[len(form)][0], f'behind `{command}` {"stands one word" if len(form) == 1 else f"stand {len(form)} words"}, and no more'
     if len(words) < len(form):
-        return len(line), f'behind `{command}` a word is lacking: {LACKING.get(form[len(words)], form[len(words)])}'
+        return len(line), f'behind `{command}` a word is lacking: {LACKING[form[len(words)]]}'
     if command in SETUP:
         return 0, 'the lines of the setup, `join` and `auto`, stand before those of the sequences'
     return 0, 'the line has none of the forms'
@@ -162,56 +194,92 @@ def names(line):
     return sequence, used, new
 
 
-def known(lines, sequence):
-    """The names that joins and a sequence's own lines set."""
-    return {name for line in lines for own, _, new in [names(line)] if own in ('', sequence) for _, name in new}
+def setters(lines, sequence):
+    """The names that joins and a sequence's own lines set, each with the number of the first line that does."""
+    found = {}
+    for number, line in enumerate(lines, 1):
+        own, _, new = names(line)
+        for _, name in new if own in ('', sequence) else ():
+            found.setdefault(name, number)
+    return found
 
 
-def unknown_name(lines, number):
+def nearest(name, tables, is_response=False):
+    """Which full names may be meant in place of one that the files lack, or that has no response."""
+    methods = [f'{interface}.{method}' for interface, own in tables.interfaces.items() for method in own.values()]
+    if name in methods:
+        return '; this method has no response' if is_response else ''
+    known = [*tables.interfaces, *methods]
+    found = [one for one in known if one.endswith(f'.{name}')] or difflib.get_close_matches(name, known, 1, 0.6)
+    few = ', '.join(tables.interfaces) if len(tables.interfaces) <= FEW else None
+    return f'; `{found[0]}` may be meant' if found else f'; they have the interfaces {few}' if few else ''
+
+
+def unknown_name(lines, number, tables):
     line = lines[number - 1]
     sequence, used, _ = names(line)
-    before = known(lines[1:number - 1], sequence)
+    set_by = setters(lines, sequence)
     for at, name in used:
-        if name not in before:
-            return at, f'no join, and no line of sequence {sequence} before this one, sets `{name}`'
+        if set_by.get(name, number) >= number:
+            others = [own for own in sorted({names(line)[0] for line in lines[1:]} - {'', sequence}) if name in setters(lines, own)]
+            later = f'; line {set_by[name]} does' if set_by.get(name, number) > number else f'; sequence {others[0]} has one of its own' if others else ''
+            return at, f'no join, and no line of sequence {sequence} before this one, sets `{name}`{later}'
     _, (_, command), words = parts(line)
     form = sorts(command, len(words), FORMS if sequence else SETUP)
-    at, sort = next(((at, sort) for (at, _), sort in zip(words, form) if sort in ('interface', 'method')), (0, 'name'))
-    more = ' whose request has a response' if command in ('auto', 'answer') else ''
-    return at, f'the files have no {sort} of this full name{more}; the full name begins with the module, as `t.P` or `t.P.Ping`'
+    (at, word), sort = next((word, sort) for word, sort in zip(words, form) if sort in ('interface', 'method'))
+    is_answer = command in ('auto', 'answer')
+    more = ' whose request has a response' if is_answer else ''
+    near = nearest(word, tables(), is_answer) if tables() else ''
+    return at, f'the files have no {sort} of this full name{more}; the full name begins with the module, as `t.P` or `t.P.Ping`{near}'
 
 
-def double_name(lines, number):
+def double_name(lines, number, tables):
     line = lines[number - 1]
     sequence, _, new = names(line)
-    before = known(lines[1:number - 1], sequence)
+    set_by = setters(lines[:number - 1], sequence)
     for at, name in new:
-        if name in before:
-            return at, f'`{name}` is set already, by a join or by a line of this sequence: a name is set once'
-        before.add(name)
+        if name in set_by:
+            return at, f'`{name}` is set already, by line {set_by[name]}: a name is set once'
+        set_by[name] = number
     _, _, words = parts(line)
     return words[1][0] if len(words) > 1 else 0, 'this sequence has an `auto` line for this method already'
 
 
-def bad_value(lines, number):
+def odd_value(method, value, is_response, tables):
+    """The place in a value, in characters, and what is wrong there, by the tables; None where they aren't known."""
+    struct = message_reader.parameters_of(method, is_response)
+    if not tables or struct not in tables.structs:
+        return None
+    found = value_faults.fault(tables, struct, value.encode()) or value_faults.misfit(tables, struct, value.encode())
+    return found and (len(value.encode()[:found[0]].decode('utf-8', 'replace')), found[1])
+
+
+def bad_value(lines, number, tables):
     sequence, (_, command), words = parts(lines[number - 1])
     form = sorts(command, len(words), FORMS if sequence else SETUP)
     at, value = next((word for word, sort in zip(words, form) if sort == 'value'), (0, ''))
+    method = next((word for (_, word), sort in zip(words, form) if sort == 'method'), '')
     if is_cut(value):
         return at + len(value), CUT
+    odd = odd_value(method, value, command in ('auto', 'answer'), tables())
+    if odd:
+        return at + odd[0], odd[1]
+    index = re.search('[%^]', re.sub(r'"(?:\\.|[^"\\])*"', lambda found: '.' * len(found[0]), value))
+    if command == 'auto' and index:
+        return at + index.start(), 'the value of an `auto` line carries no handles and endpoints'
     of = 'parameters of the method\'s response' if command in ('auto', 'answer') else 'parameters of the method'
-    return at, f'this is no value of the {of}, or it names handles or endpoints that do not stand behind it (an `auto` line has none)'
+    return at, f'this is no value of the {of}, or more of it is to be sent than goes into one message'
 
 
-def too_many_lines(lines, number):
+def too_many_lines(lines, number, tables):
     return 0, 'a script has at most 65,536 lines'
 
 
 REFUSALS = {'BadLine': bad_line, 'DoubleName': double_name, 'UnknownName': unknown_name, 'BadValue': bad_value, 'TooManyLines': too_many_lines}
 
 
-def fault(data, number, why):
-    """The line of a script that is refused, the place in it in characters, and what is wrong there."""
+def fault(data, number, why, tables):
+    """The line of a script that is refused, the place in it in characters, and what is wrong there. `tables` gives the tables or None."""
     lines = data.decode('utf-8', 'replace').split('\n')
-    at, told = REFUSALS[why](lines, number)
+    at, told = REFUSALS[why](lines, number, tables)
     return lines[number - 1] if number <= len(lines) else '', at, told

@@ -6,7 +6,7 @@ import os
 LAYERS = ('The program', 'The outside', 'Words', 'Language', 'Wire', 'Machine', 'Scripts', 'Texts')
 OF_CRATES = {'mojo_tool': 'The program', 'mojo': 'The program', 'command_line': 'Words', 'call_script': 'Scripts', 'script_run': 'Scripts',
              'printed_laws': 'Scripts', 'callback_laws': 'Scripts', 'mojom_print': 'Texts', 'schema_text': 'Texts', 'history_text': 'Texts',
-             'history_reader': 'Texts'}
+             'line_parts': 'Texts', 'history_reader': 'Texts'}
 OF_PARTS = {'base': 'The outside', 'language': 'Language', 'layout': 'Language', 'names': 'Language', 'schemas': 'Language', 'wire': 'Wire',
             'texts': 'Texts', 'machine': 'Machine', 'program': 'The program'}
 
