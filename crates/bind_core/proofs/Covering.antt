@@ -29,18 +29,18 @@ use Rattle.bind_core.specs.steps.Watching.{HasNear, IsWithin, KeepsTaken, end_na
 use Rattle.bind_core.specs.EndSets.{has_end}
 use Rattle.bind_core.specs.steps.FirstTaken.{Ascends, first_taken}
 use Rattle.bind_model.specs.Plain.{asked_of}
-use Rattle.bind_core.specs.Agreement.{Holds, end_with, past_of, schema_of, wire_in}
-use Rattle.bind_core.specs.steps.Doing.{Done, Undone, told_in}
+use Rattle.core_state.specs.Agreement.{Holds, end_with, past_of, schema_of, wire_in}
+use Rattle.core_state.specs.Doing.{Done, Undone, told_in}
 use Rattle.bind_core.specs.steps.Takers.{taker_of}
 use Rattle.bind_model.specs.declared.commands.Command.{Command}
 use Rattle.bind_model.specs.declared.commands.Command.TheVariants.{Pipe, Join, Mint, Bind, Associate, Attach, Call, Answer, Raw, Take, Close, Skip}
 use Rattle.bind_model.specs.declared.commands.Refused.{Refused}
 use Rattle.bind_model.specs.declared.commands.Reply.{Reply}
-use Rattle.bind_core.specs.declared.state.State.{State}
+use Rattle.core_state.specs.declared.state.State.{State}
 use Rattle.bind_core.proofs.Untouched.{about, associated_end, bound_end, ready_far}
 use Rattle.bind_core.proofs.FirstReady.{first_is}
 use Rattle.bind_core.proofs.NearAsked.{near_asked}
-use Rattle.bind_core.proofs.Early.{unpaused}
+use Rattle.core_state.proofs.Early.{unpaused}
 use Rattle.bind_core.proofs.WhoTakes.{some_taker, taker_is, taker_of_is, Unpaused}
 
 -- ## The peer of an end that was not made is itself

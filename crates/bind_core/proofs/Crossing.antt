@@ -2,10 +2,10 @@
 use denote.Param.Send.{IsSend, sendable}
 use Rattle.std.proofs.Crossing as vecs
 use Rattle.message_pipe.proofs.pipes.Pipes.TheSendSync as pipes
-use Rattle.bind_core.proofs.routers.Routers.TheSendSync as routers
-use Rattle.bind_core.proofs.state.Rights.TheSendSync as rights
+use Rattle.core_state.proofs.routers.Routers.TheSendSync as routers
+use Rattle.core_state.proofs.state.Rights.TheSendSync as rights
 use Rattle.bind_core.proofs.end_set.EndSet.TheSendSync as end_set
-use Rattle.bind_core.specs.contracts.state.State as state
+use Rattle.core_state.specs.contracts.state.State as state
 use Rattle.bind_core.specs.contracts.machine.Core as core
 use Rattle.bind_model.proofs.Crossing.{history_send, schema_send, schema_sync}
 

@@ -14,12 +14,12 @@ use Rattle.bind_model.specs.Laws.{up_from}
 use Rattle.bind_model.specs.Machine.{made, gone}
 use Rattle.bind_model.specs.Replies.{serials, tokens}
 use Rattle.bind_model.specs.Left.{ends_by, tokens_by, left}
-use Rattle.bind_core.specs.Agreement.{Holds, past_of, wire_in, is_shut}
+use Rattle.core_state.specs.Agreement.{Holds, past_of, wire_in, is_shut}
 use Rattle.bind_core.specs.steps.Numbering.{numbered, count_by, all_by, all_made, open_in}
 use Rattle.bind_core.specs.declared.left.Sort.{Sort}
 use Rattle.bind_core.specs.declared.left.Sort.TheVariants.{Ends, Tokens}
-use Rattle.bind_core.specs.declared.state.State.{State}
-use Rattle.bind_core.proofs.Facts.{made_few, serials_few, tokens_few}
+use Rattle.core_state.specs.declared.state.State.{State}
+use Rattle.core_state.proofs.Facts.{made_few, serials_few, tokens_few}
 
 -- one number more
 pub up_from-more : (first n : ℕ) → up_from first (n + 1) ≡ up_from first n ++ (first + n) ∷ []

@@ -35,12 +35,12 @@ use Rattle.bind_model.specs.Wire.{Content, Header, Wire}
 use Rattle.bind_model.specs.WireOf.{header_in, wire_of}
 use Rattle.bind_model.specs.declared.told.BadWhy.TheVariants as bads
 use Rattle.bind_model.proofs.Fresh.{kept}
-use Rattle.bind_core.specs.Routers.{found_at}
-use Rattle.bind_core.specs.Agreement.{Holds, past_of, schema_of, wire_in}
+use Rattle.core_state.specs.Routers.{found_at}
+use Rattle.core_state.specs.Agreement.{Holds, past_of, schema_of, wire_in}
 use Rattle.bind_core.specs.steps.Takers.{id_in, id_meant, taker_at, taker_for, taker_front, taker_in, taker_meant, taker_of, taker_open}
-use Rattle.bind_core.specs.declared.state.State.{State}
-use Rattle.bind_core.proofs.Facts.{closed_is, unread_is}
-use Rattle.bind_core.proofs.Steady.{found_is}
+use Rattle.core_state.specs.declared.state.State.{State}
+use Rattle.core_state.proofs.Facts.{closed_is, unread_is}
+use Rattle.core_state.proofs.Steady.{found_is}
 
 -- a header that reads, and is no control's
 pub id_read : (bytes : List ℕ) (header : Read) → IsFine (header_marks bytes) → header ≡ header_said bytes → (header.interface_id == CONTROL_ID) ≡ false

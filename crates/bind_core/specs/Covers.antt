@@ -3,8 +3,8 @@ use Rattle.std.specs.Prelude.{◌≡◌, true, List}
 use Rattle.mj_base.specs.declared.ids.EndId.{EndId}
 use Rattle.bind_model.specs.Ready.{is_ready}
 use Rattle.bind_core.specs.EndSets.{has_end}
-use Rattle.bind_core.specs.Agreement.{Holds, past_of, wire_in}
-use Rattle.bind_core.specs.declared.state.State.{State}
+use Rattle.core_state.specs.Agreement.{Holds, past_of, wire_in}
+use Rattle.core_state.specs.declared.state.State.{State}
 
 -- each end where a take is ready is in the set
 abbrev pub Covers : State → List EndId → Type 0

@@ -1,27 +1,5 @@
 -- Definitions that serve proofs alone: no public clause cites them.
-pub mod Admits
-pub mod Answering
-pub mod Associating
-pub mod Attaching
-pub mod Calls
-pub mod Carrying
-pub mod Doing
-pub mod Emitting
-pub mod Entries
 pub mod FirstTaken
-pub mod Fitting
-pub mod Founds
-pub mod Marks
 pub mod Numbering
-pub mod Opens
-pub mod Pending
-pub mod Placing
-pub mod Raw
-pub mod Slots
 pub mod Takers
-pub mod Taking
-pub mod Tokens
-pub mod Turns
-pub mod Unsent
 pub mod Watching
-pub mod Ways

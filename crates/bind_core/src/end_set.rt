@@ -8,8 +8,8 @@ ghost use Rattle.bind_core.specs.EndSets.{has_end};
 ghost use Rattle.bind_core.specs.steps.FirstTaken.{Ascends, first_taken};
 ghost use Rattle.bind_core.specs.steps.Takers.{taker_of};
 
-use crate::state::State;
 use crate::takers::taker;
+use core_state::State;
 use handle_table::Thing;
 use mj_base::{EndId, SeqId};
 use std::alloc::{AllocError, Global};

@@ -2,10 +2,10 @@
 
 ghost use Rattle.std.specs.Prelude.{ℕ, ◌≡◌, ◌<◌, ◌^◌, ◌++◌, IfOk, OnOk, Some};
 ghost use Rattle.bind_model.specs.Left.{left};
-ghost use Rattle.bind_core.specs.Agreement.{Holds, is_shut, past_of};
+ghost use Rattle.core_state.specs.Agreement.{Holds, is_shut, past_of};
 ghost use Rattle.bind_core.specs.steps.Numbering.{numbered, count_by, all_by, all_made, open_in};
 
-use crate::state::State;
+use core_state::State;
 use handle_table::{Place, Thing, TokenId};
 use message_pipe::Pipes;
 use mj_base::EndId;

@@ -17,11 +17,10 @@ ghost use Rattle.reply_laws.specs.Own.{AllOwn};
 ghost use Rattle.bind_core.specs.Play.{told_at};
 
 use crate::end_set::EndSet;
-use crate::routers::Routers;
-use crate::state::{Rights, State};
 use crate::watch::{end_named, unwatch, watch};
-use crate::{left, state};
+use crate::{commands, left};
 use bind_model::{Command, History, Pendings, Refused, Reply, Responders};
+use core_state::{Rights, Routers, State};
 use handle_table::{Ended, Thing};
 use message_pipe::Pipes;
 use mj_base::limits::MAX_EVENTS;
@@ -45,7 +44,7 @@ impl Model for Core {
     ghost use Rattle.mj_schema.specs.contracts.schema.Schema as schema;
     ghost use Rattle.bind_core.specs.Play.{Play};
     ghost use Rattle.bind_core.specs.Covers.{Stands};
-    ghost use Rattle.bind_core.specs.Agreement.{schema_of};
+    ghost use Rattle.core_state.specs.Agreement.{schema_of};
     ghost use Rattle.bind_model.specs.steps.TreeCodes.{tree_code};
 
     ghost Value = { Play };
@@ -114,7 +113,7 @@ impl Core {
         if watch(&mut self.watched, &self.state, end).is_err() {
             return Err(hand_back(&self.state, command));
         }
-        let outcome = state::step(&mut self.state, alloc, seq, command);
+        let outcome = commands::step(&mut self.state, alloc, seq, command);
         unwatch(&mut self.watched, &self.state, end, &outcome);
         outcome
     }

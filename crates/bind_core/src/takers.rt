@@ -4,8 +4,8 @@ ghost use Rattle.std.specs.Prelude.{◌≡◌, Some};
 ghost use Rattle.bind_model.specs.Ready.{on_of};
 ghost use Rattle.bind_core.specs.steps.Takers.{id_meant, taker_for, taker_of};
 
-use crate::state::State;
 use bind_model::{Endpoint, State as EndpointState};
+use core_state::State;
 use message_header::{CONTROL_ID, read_header};
 use mj_base::{EndId, SeqId};
 

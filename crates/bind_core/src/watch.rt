@@ -3,11 +3,11 @@
 ghost use Rattle.std.specs.Prelude.{◌≡◌, OnOk};
 ghost use Rattle.bind_model.specs.Machine.{peer};
 ghost use Rattle.bind_core.specs.steps.Watching.{HasNear, IsWithin, KeepsTaken, end_named};
-ghost use Rattle.bind_core.specs.Agreement.{Holds, past_of};
+ghost use Rattle.core_state.specs.Agreement.{Holds, past_of};
 
 use crate::end_set::EndSet;
-use crate::state::State;
 use bind_model::{Command, Refused, Reply, ToClose};
+use core_state::State;
 use handle_table::Thing;
 use mj_base::EndId;
 use std::alloc::AllocError;

@@ -5,7 +5,7 @@ use Rattle.handle_table.specs.Places.{Store, place_of, ends_made, tokens_made}
 use Rattle.handle_table.specs.declared.thing.Thing.{Thing}
 use Rattle.handle_table.specs.declared.thing.Thing.TheVariants.{End, Token}
 use Rattle.bind_model.specs.Laws.{up_from}
-use Rattle.bind_core.specs.Agreement.{is_shut}
+use Rattle.core_state.specs.Agreement.{is_shut}
 use Rattle.bind_core.specs.declared.left.Sort.{Sort}
 use Rattle.bind_core.specs.declared.left.Sort.TheVariants.{Ends, Tokens}
 

@@ -13,8 +13,8 @@ use Rattle.bind_model.specs.WireOf.{header_in}
 use Rattle.bind_model.specs.declared.endpoint.Endpoint.{Endpoint}
 use Rattle.bind_model.specs.declared.endpoint.State.{State as EndpointState}
 use Rattle.bind_model.specs.declared.endpoint.State.TheVariants as states
-use Rattle.bind_core.specs.Routers.{found_at}
-use Rattle.bind_core.specs.declared.state.State.{State}
+use Rattle.core_state.specs.Routers.{found_at}
+use Rattle.core_state.specs.declared.state.State.{State}
 
 -- the endpoint that a message of these bytes is for, where its header says one
 abbrev pub id_in : Result Header Fault → Option ℕ

@@ -7,11 +7,11 @@ use Rattle.handle_table.specs.declared.thing.Thing.TheVariants.{End}
 use Rattle.bind_model.specs.Machine.{peer}
 use Rattle.bind_model.specs.declared.event.Event.{Event}
 use Rattle.bind_core.specs.EndSets.{has_end}
-use Rattle.bind_core.specs.Agreement.{past_of}
+use Rattle.core_state.specs.Agreement.{past_of}
 use Rattle.bind_core.specs.steps.Takers.{taker_of}
 use Rattle.bind_model.specs.declared.commands.Command.{Command}
 use Rattle.bind_model.specs.declared.commands.Command.TheVariants.{Associate, Attach, Bind, Call, Answer, Raw, Take, Close}
-use Rattle.bind_core.specs.declared.state.State.{State}
+use Rattle.core_state.specs.declared.state.State.{State}
 
 -- the end that a command is about
 abbrev pub end_named : Command → Option EndId

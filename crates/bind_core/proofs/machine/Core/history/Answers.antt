@@ -13,8 +13,8 @@ use Rattle.ending_laws.proofs.InTime.{all_in_time}
 use Rattle.reply_laws.proofs.Behind.{all_behind}
 use Rattle.reply_laws.proofs.Once.{all_first}
 use Rattle.reply_laws.proofs.Own.{all_own}
-use Rattle.bind_core.specs.Agreement.{Holds, past_of, schema_of, wire_in}
-use Rattle.bind_core.specs.declared.state.State.{State}
+use Rattle.core_state.specs.Agreement.{Holds, past_of, schema_of, wire_in}
+use Rattle.core_state.specs.declared.state.State.{State}
 use Rattle.bind_core.proofs.machine.Core.history.Goals as goal
 
 -- a core keeps no more events than there may be

@@ -3,7 +3,7 @@ use Rattle.std.specs.Prelude.{Option}
 use Rattle.mj_base.specs.declared.ids.EndId.{EndId}
 use Rattle.bind_core.specs.steps.Watching.{HasNear}
 use Rattle.bind_core.proofs.Covering.{stands_after}
-use Rattle.bind_core.proofs.Staying.{ok_of}
+use Rattle.core_ends.proofs.Staying.{ok_of}
 use Rattle.bind_core.proofs.machine.Core.step.Goals as goal
 
 pub invariant_of-self-2 : goal.invariant_of-self-2

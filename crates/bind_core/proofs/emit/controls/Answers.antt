@@ -1,7 +1,0 @@
-use Rattle.std.proofs.Common.{arith, slice_index_or}
-use Rattle.bind_core.proofs.Emitted.{number_there}
-use Rattle.bind_core.proofs.emit.controls.Goals as goal
-
-pub control-requires : goal.control-requires
-control-requires c =
-    c.requires (slice_index_or c.args.ids.now c.loop-id.id-index 0) (number_there c.args.ids.now c.loop-id.id-index 0 (omega arith))

@@ -1,6 +1,0 @@
-use Rattle.std.proofs.Common.{take}
-use Rattle.bind_core.proofs.Entered.{EnteredSoFar}
-use Rattle.bind_core.proofs.entries.enter_all.Given as goal
-
-abbrev pub invariant-loop-entry : goal.invariant-loop-entry
-invariant-loop-entry l = EnteredSoFar (take l.entry-index l.entries) l.initial.router l.router

@@ -1,7 +1,0 @@
-use Rattle.std.proofs.Common.{◌≡◌, drop}
-use Rattle.bind_core.specs.steps.Carrying.{all_fit}
-use Rattle.bind_core.proofs.fitting.all_fit.Given as goal
-
--- what is left decides
-abbrev pub invariant-loop-at : goal.invariant-loop-at
-invariant-loop-at l = all_fit l.endpoints (drop l.at l.pendings) (drop l.at l.wants) ≡ all_fit l.endpoints l.pendings l.wants

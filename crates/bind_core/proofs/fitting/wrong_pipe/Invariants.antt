@@ -1,7 +1,0 @@
-use Rattle.std.proofs.Common.{◌≡◌, drop}
-use Rattle.bind_core.specs.steps.Carrying.{wrong_pipe}
-use Rattle.bind_core.proofs.fitting.wrong_pipe.Given as goal
-
--- what is left decides
-abbrev pub invariant-loop-pending : goal.invariant-loop-pending
-invariant-loop-pending l = wrong_pipe l.endpoints l.end (drop l.pending-index l.pendings) ≡ wrong_pipe l.endpoints l.end l.pendings

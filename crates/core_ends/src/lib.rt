@@ -1,0 +1,13 @@
+//! Pipes, tokens and endpoints: they are made, bound and closed.
+#![tactic(auto)]
+
+pub mod associate;
+pub mod attach;
+pub mod bind;
+mod close;
+pub mod join;
+pub mod mint;
+mod unsent;
+
+pub use close::{close_endpoint, close_handle};
+pub use unsent::close_pending;

@@ -1,0 +1,10 @@
+pub mod Agreement
+pub mod Doing
+pub mod Early
+pub mod Emitting
+pub mod Entries
+pub mod Opens
+pub mod Placing
+pub mod Routers
+pub mod Turns
+pub mod steps

@@ -1,0 +1,8 @@
+-- Definitions that serve proofs alone: no public clause cites them.
+pub mod Dues
+pub mod Listed
+pub mod Posted
+pub mod Requests
+pub mod Spends
+pub mod Tokens
+pub mod Unsent

@@ -1,0 +1,96 @@
+//! Controls: what the machine writes by itself where endpoints are closed.
+
+ghost use Rattle.std.specs.Prelude.{◌≡◌, [], ◌∷◌, IfOk, OnOk, OnErr};
+ghost use Rattle.message_pipe.specs.Ends.{end_of, peer_of};
+ghost use Rattle.bind_model.specs.Machine.{is_peer_closed};
+ghost use Rattle.core_state.specs.Routers.{found_at};
+ghost use Rattle.core_state.specs.Emitting.{AreNamed, EmitsTo, HasPeer, IsNamed, control_for, controls_at};
+
+use crate::routers::Routers;
+use message_header::write_control;
+use message_pipe::{Message, Pipes};
+use mj_base::{EndId, Items};
+use std::alloc::{AllocError, Global};
+
+/// The control that tells that the endpoint of an id is closed.
+fn control(alloc: Global, id: u32) -> Result<Message, AllocError>
+    requires { IsNamed id }
+    ensures { IfOk result (λ message. message ≡ control_for id) }
+{
+    let bytes = Items::from_vec(write_control(alloc, id)?);
+    Ok(Message {
+        bytes,
+        handles: Items::new(alloc),
+        emitted: true,
+    })
+}
+
+/// Whether the peer of the endpoint of an id at an end is known to be closed.
+fn is_peer_closed(endpoints: &Routers, end: EndId, id: u32) -> bool
+    ensures { result ≡ is_peer_closed (found_at endpoints.now end id) }
+{
+    match endpoints.find(end, id) {
+        Some(endpoint) => endpoint.peer_closed,
+        None => false,
+    }
+}
+
+/// The controls of the endpoints of these ids at an end, but of those whose peer is known to be closed.
+fn controls(
+    endpoints: &Routers,
+    alloc: Global,
+    end: EndId,
+    ids: &[u32],
+) -> Result<Vec<Message>, AllocError>
+    requires { AreNamed ids.now }
+    ensures { IfOk result (λ messages. messages.items ≡ controls_at endpoints.now end ids.now) }
+{
+    let mut messages = Vec::new(alloc);
+    for id in ids {
+        if !is_peer_closed(endpoints, end, *id) {
+            messages.push(control(alloc, *id)?)?;
+        }
+    }
+    Ok(messages)
+}
+
+/// Emits controls of the endpoints of these ids at an end, but of those whose peer is known to be closed:
+/// they are written for reading at the other end of the pipe, unless that is closed. Without memory
+/// nothing changes.
+pub fn emit(
+    pipes: &mut Pipes,
+    endpoints: &Routers,
+    alloc: Global,
+    end: EndId,
+    ids: &[u32],
+) -> Result<(), AllocError>
+    requires named { AreNamed ids.now }
+    requires peer { HasPeer pipes.old end }
+    ensures ok { OnOk result (EmitsTo (peer_of (end_of pipes.old.ends end)) (controls_at endpoints.now end ids.now) pipes.old pipes.new) }
+    ensures err { OnErr result (pipes.new ≡ pipes.old) }
+{
+    let Some(peer) = pipes.peer(end) else {
+        return Ok(());
+    };
+    if pipes.is_closed(peer) {
+        return Ok(());
+    }
+    let messages = controls(endpoints, alloc, end, ids)?;
+    pipes.push_emitted(peer, messages)
+}
+
+/// Emits the control of the endpoint of one id.
+pub fn emit_one(
+    pipes: &mut Pipes,
+    endpoints: &Routers,
+    alloc: Global,
+    end: EndId,
+    id: u32,
+) -> Result<(), AllocError>
+    requires named { IsNamed id }
+    requires peer { HasPeer pipes.old end }
+    ensures ok { OnOk result (EmitsTo (peer_of (end_of pipes.old.ends end)) (controls_at endpoints.now end (id ∷ [])) pipes.old pipes.new) }
+    ensures err { OnErr result (pipes.new ≡ pipes.old) }
+{
+    emit(pipes, endpoints, alloc, end, &[id])
+}

@@ -1,0 +1,28 @@
+//! What a core keeps, and what that is of its history: pipes with the places of all handles, the routers of all ends,
+//! and the rights that are with callers; what each step does to it, and the controls that the machine writes.
+#![tactic(auto)]
+
+mod copy;
+mod distinct;
+pub mod emit;
+mod entries;
+mod goes;
+mod open_endpoint;
+mod router_list;
+mod routers;
+mod sides;
+mod state;
+mod things;
+mod turns;
+
+pub use copy::copy_value;
+pub use distinct::all_differ;
+pub use entries::Entering;
+pub use goes::{Goes, goes_with};
+pub use open_endpoint::open_at;
+pub use router_list::enter_one;
+pub use routers::Routers;
+pub use sides::other_side;
+pub use state::{Rights, State, refuse};
+pub use things::{all_out, contains, is_out, put_all};
+pub use turns::Turn;

@@ -1,0 +1,12 @@
+//! Takes: what the oldest unread message at an end says there, and the handles, the pendings and the right to
+//! answer that come out of it.
+#![tactic(auto)]
+
+mod admit;
+mod dropping;
+mod indexes;
+mod pendings;
+mod reading;
+mod receive;
+mod slots;
+pub mod take;
