@@ -15,7 +15,7 @@ fn is_digit(byte: u8) -> bool
 }
 
 /// The value of the digits behind those of `first`, as long as it is at most `high`, and the bytes after them.
-#[tactic(auto, using(value_text::proofs::NumberLaws::goes_at, value_text::proofs::NumberLaws::stops_at, value_text::proofs::NumberLaws::full_at, value_text::proofs::NumberLaws::done_at))]
+#[tactic(auto, using(value_text::proofs::NumberLaws::digits_at))]
 fn digits(high: u64, first: u64, bytes: &[u8]) -> (u64, &[u8])
     requires { first ≤ high }
     ensures read { scan_on high first bytes.now ≡ Ok (result.0, result.1.now) }

@@ -11,6 +11,7 @@ pub mod TextShows
 pub mod KindShows
 pub mod Shows
 pub mod TextParts
+pub mod KnownNumbers
 pub mod OneText
 pub mod Printed
 pub mod RoundTrip

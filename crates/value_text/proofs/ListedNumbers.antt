@@ -78,7 +78,7 @@ good_integer low high some l h =
 pub good_index : Good is_digit is_digit index
 good_index = good_number 0 (2 ^ 32 - 1) (omega arith) (omega arith) (omega arith)
 
-good_enum : (extensible : Bool) (zs : List ℤ) → Good number_starts is_digit (enum_number extensible (filter is_int32 zs))
+pub good_enum : (extensible : Bool) (zs : List ℤ) → Good number_starts is_digit (enum_number extensible (filter is_int32 zs))
 good_enum true zs = good_integer (2 ^ 31) (2 ^ 31 - 1) (omega arith) (omega arith) (omega arith)
 good_enum false zs = good_among number_starts is_digit (pos 0) signed_decimal (filter is_int32 zs) (apart_integers zs)
 

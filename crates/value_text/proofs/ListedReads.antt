@@ -1,5 +1,5 @@
 -- How a number of a list is read, row by row.
-use Rattle.std.proofs.Common.{◌≡◌, ℕ, ℤ, zero, suc, ◌+◌, ◌<◌, ◌≤◌, List, [], ◌∷◌, length, map, drop, get_or, None, Bool, true}
+use Rattle.std.proofs.Common.{◌≡◌, ℕ, ℤ, suc, ◌+◌, ◌<◌, ◌≤◌, List, ◌∷◌, length, map, drop, get_or, Bool, true}
 use Rattle.std.proofs.Common.{cond, refl, sym, ap, ◌∙◌, arith, add-one, drop-cons}
 use Rattle.std.specs.Prelude.{pos, negsuc, filter}
 use Rattle.std.proofs.Common.{SFits, w32, ◌^◌}
@@ -7,8 +7,7 @@ use Rattle.std.proofs.lemmas.Int.{ints}
 use lib.Signed.{mag}
 use Rattle.std.proofs.lemmas.Bool.Decides.{nat_tests}
 use Rattle.value_text.specs.Numbers.{is_int32, is_uint32}
-use Rattle.byte_rules.specs.Among.{Near, nearer, nearest, found, among}
-use Rattle.byte_rules.proofs.Fronts.{among_read}
+use Rattle.byte_rules.specs.Among.{Near, nearer, nearest}
 
 -- what an int32 and a uint32 are
 pub is_small : (z : ℤ) → SFits w32 z → is_int32 z ≡ true
@@ -41,16 +40,3 @@ module _ {R A : Type 0} (of : R → A) (test : A → Bool) (spelled : A → List
       ap (λ (near : Near A). nearest spelled bs near (numbers_in (drop (i + 1) rows)))
       (is ∙ ap (λ (w : List ℕ). nearer w bs number near) w ∙ ap (λ (a : A). nearer (spelled a) bs a near) n)
       ∙ sym (ap (nearest spelled bs near) cut) ∙ so_far
-
-  rows_end : (rows : List R) (i : ℕ) → length rows ≤ i → numbers_in (drop i rows) ≡ []
-  rows_end [] zero le = refl
-  rows_end [] (suc i) le = refl
-  rows_end (r ∷ rs) zero le = absurd (omega (arith, le))
-  rows_end (r ∷ rs) (suc i) le = rows_end rs i (omega (arith, le))
-
-  -- no row more
-  pub last_row : (rows : List R) (i : ℕ) (bs : List ℕ) (near : Near A) → length rows ≤ i
-      → nearest spelled bs near (numbers_in (drop i rows)) ≡ nearest spelled bs (0, None) (numbers_in rows)
-      → (among other spelled (numbers_in rows)).read bs ≡ found bs near
-  last_row rows i bs near le so_far = among_read other spelled (numbers_in rows) bs
-      ∙ ap (found bs) (sym so_far ∙ ap (nearest spelled bs near) (rows_end rows i le))

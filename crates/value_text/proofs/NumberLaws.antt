@@ -176,6 +176,9 @@ full_at high v bs i total lt le e =
 pub done_at : (high v : ℕ) (bs : List ℕ) (total : Read ℕ) → scan_on high v (drop (length bs) bs) ≡ total → total ≡ Ok (v, [])
 done_at high v bs total e = sym e ∙ ap (scan_on high v) (drop-length bs)
 
+-- how digits are read on, and where they end
+pub ruleset digits_at = (goes_at, stops_at, full_at, done_at)
+
 module _ (low high : ℕ) (small : low ≤ 1) (some : low ≤ high) (top : high < 2 ^ 64) where
   at_zero : (bs : List ℕ) → low ≡ 0 → scan_number low high (48 ∷ bs) ≡ Ok (0, bs)
   at_zero bs z = rw z refl

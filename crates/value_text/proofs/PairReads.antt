@@ -1,10 +1,10 @@
 -- How the pairs of a map are read.
-use Rattle.std.proofs.Common.{◌≡◌, ℕ, List, [], ◌∷◌, ◌++◌, Ok, Err, false, ◌==◌, refl, sym, ap, ◌∙◌, append_assoc}
+use Rattle.std.proofs.Common.{◌≡◌, ℕ, List, [], ◌∷◌, ◌++◌, Ok, Err, sym, ap, ◌∙◌, append_assoc}
 use Rattle.std.proofs.lemmas.List.{append-nil}
 use Rattle.wire_model.specs.Trees.{Tree}
 use Rattle.byte_rules.specs.declared.stop.Stop.{Stop}
 use Rattle.byte_rules.specs.declared.stop.Stop.TheVariants as stops
-use Rattle.byte_rules.specs.Lang.{Lang, Read, ◌>>=◌, front_is, byte, as_value, many, listed, ◌▸◌}
+use Rattle.byte_rules.specs.Lang.{Lang, Read, ◌>>=◌, byte, as_value, listed, ◌▸◌}
 use Rattle.byte_rules.specs.Reading.{Fails}
 use Rattle.byte_rules.specs.steps.Reading.{gathered}
 use Rattle.value_text.specs.Rules.{keys_of, values_of, map_of, pairs_of}
@@ -47,23 +47,6 @@ fails_at (stops.Left n) (Err m) h = let k : m ≡ n = cc in ap (λ (k : ℕ). Er
 pub map_fails : (e : Stop) (one : Lang (Tree × Tree)) (bs : List ℕ) → Fails e (gathered add_pairs ([], []) ((listed 125 one).read bs))
     → Fails e ((as_value pairs_of (listed 125 one)).read bs)
 map_fails e one bs h = fails_at e ((listed 125 one).read bs) h
-
--- the first pair, and those behind it
-behind_first : (p : Tree × Tree) (r : Read (List (Tree × Tree)))
-    → gathered add_pairs ([], []) (r >>= λ y. Ok (p ∷ y.0, y.1)) ≡ gathered add_pairs (p.0 ∷ [], p.1 ∷ []) r
-behind_first p (Ok y) = refl
-behind_first p (Err n) = refl
-
-pub first_pair : (one : Lang (Tree × Tree)) (bs rest : List ℕ) (k v : Tree) (ks vs : List Tree) → front_is (λ b. b == 125) bs ≡ false
-    → one.read bs ≡ Ok ((k, v), rest)
-    → ks ≡ k ∷ [] → vs ≡ v ∷ []
-    → gathered add_pairs ([], []) ((listed 125 one).read bs) ≡ gathered add_pairs (ks, vs) ((many 125 (44 ▸ one)).read rest)
-first_pair one bs rest k v ks vs e r f g = rw (e, r, f, g) (behind_first (k, v) ((many 125 (44 ▸ one)).read rest))
-
-pub no_pair : (stop : Stop) (one : Lang (Tree × Tree)) (bs : List ℕ) → front_is (λ b. b == 125) bs ≡ false → Fails stop (one.read bs)
-    → Fails stop (gathered add_pairs ([], []) ((listed 125 one).read bs))
-no_pair stops.Memory one bs e r = tt
-no_pair (stops.Left n) one bs e r = rw (e, r) refl
 
 pub map_ok : (one : Lang (Tree × Tree)) (bs rest after : List ℕ) (ks vs : List Tree) (t : Tree) → (byte 123).read bs ≡ Ok (123, rest)
     → gathered add_pairs ([], []) ((listed 125 one).read rest) ≡ Ok ((ks, vs), after) → t ≡ map_of ks vs

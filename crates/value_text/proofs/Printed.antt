@@ -1,17 +1,13 @@
 -- What is still to be written of lists of values, and how deep they are.
-use Rattle.std.proofs.Common.{◌≡◌, ℕ, zero, suc, ◌+◌, ◌<◌, ◌≤◌, ◌⊎◌, inl, inr, List, [], ◌∷◌, ◌++◌, length, map, drop, get_or, Option, Some}
+use Rattle.std.proofs.Common.{◌≡◌, ℕ, zero, suc, ◌+◌, ◌<◌, ◌≤◌, ◌⊎◌, inl, inr, List, [], ◌∷◌, ◌++◌, length, map, drop, get_or}
 use Rattle.std.proofs.Common.{refl, sym, ap, ◌∙◌, append_assoc, arith, add-one, drop-cons}
-use Rattle.std.specs.Prelude.{slice_get, unwrap_or}
-use Rattle.mj_schema.specs.KindTrees as kinds
 use Rattle.mj_schema.specs.KindTrees.{KindTree}
 use Rattle.mj_schema.specs.declared.rows.FieldRow.{FieldRow}
-use Rattle.mj_schema.specs.declared.rows.UnionRow.{UnionRow}
 use Rattle.mj_schema.specs.declared.schema.Schema.{Schema}
-use Rattle.wire_model.specs.Rows.{kind_in, kind_of_tag}
 use Rattle.wire_model.specs.Trees.{Trees, trees, view, none, more}
 use Rattle.wire_model.specs.declared.value.Value.{Value}
 use Rattle.value_text.specs.Brackets.{brackets, brackets_in}
-use Rattle.value_text.specs.Spelling.{fields_kinds, spell, first_item, next_items, each_text, first_pair, next_pairs, first_field, next_fields, held}
+use Rattle.value_text.specs.Spelling.{fields_kinds, spell, first_item, next_items, each_text, first_pair, next_pairs, first_field, next_fields}
 
 abbrev pub trees_in : List Value → Trees
 trees_in vs = trees (map view vs)
@@ -32,14 +28,6 @@ pub brackets_at : (vs : List Value) (i : ℕ) (v : Value) → i < length vs → 
 brackets_at [] i v lt e = absurd (omega (arith, lt))
 brackets_at (w ∷ vs) zero v lt e = let s : brackets (view v) ≡ brackets (view w) = ap (λ (x : Value). brackets (view x)) e in omega (arith, s)
 brackets_at (w ∷ vs) (suc i) v lt e = let k = brackets_at vs i v (omega (arith, lt)) e in omega (arith, k)
-
--- what a union holds
-pub held_in : (schema : Schema) (number : ℕ) (nullable : _) (row : UnionRow) (tag : ℕ) (found : Option KindTree)
-    → Some row ≡ slice_get schema.unions number → kind_of_tag row.fields tag ≡ found
-    → held schema (kinds.UnionKind number nullable) tag ≡ unwrap_or found (kinds.UnionKind number nullable)
-held_in schema number nullable row tag found e f =
-    ap (λ (o : Option UnionRow). unwrap_or (kind_in o tag) (kinds.UnionKind number nullable)) (sym e)
-    ∙ ap (λ (o : Option KindTree). unwrap_or o (kinds.UnionKind number nullable)) f
 
 -- elements
 abbrev pub items_from : Schema → KindTree → ℕ → Trees → List ℕ

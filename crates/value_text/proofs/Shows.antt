@@ -1,11 +1,10 @@
 -- The text of a value of its kind is spelled by the rule of its kind, where not too many brackets are open at once.
-use Rattle.std.proofs.Common.{◌≡◌, ℕ, zero, suc, ◌+◌, ◌≤◌, ◌<◌, ◌^◌, List, [], ◌∷◌, ◌++◌, Option, Some, None, Ok, Bool, true, false, cond, map, ◌==◌}
-use Rattle.std.proofs.Common.{inl, inr, refl, sym, ap, ◌∙◌, subst, append_assoc, arith}
+use Rattle.std.proofs.Common.{◌≡◌, ℕ, zero, suc, ◌+◌, ◌≤◌, ◌<◌, ◌^◌, List, [], ◌∷◌, ◌++◌, Option, Some, None, Ok, Bool, true, false, map}
+use Rattle.std.proofs.Common.{refl, sym, ap, subst, append_assoc, arith}
 use Rattle.std.specs.Fmt.{signed_decimal}
 use Rattle.std.specs.Prelude.{decimal, unwrap_or, slice_get, is_some, IsTrue}
 use Rattle.std.proofs.lemmas.Bool.{eqb-true}
 use Rattle.std.proofs.lemmas.List.{append-nil}
-use Rattle.std.proofs.lemmas.Bool.Decides.{nat_tests}
 use Rattle.mj_schema.specs.KindTrees as kinds
 use Rattle.mj_schema.specs.KindTrees.{KindTree}
 use Rattle.mj_schema.specs.Parts.{has_flag, flag_place}
@@ -24,7 +23,6 @@ use Rattle.wire_model.specs.Slots.{field_slot, element_slots, found_fields}
 use Rattle.wire_model.specs.Trees.{Tree, Trees, trees, none, more, count}
 use Rattle.wire_model.specs.Trees as values
 use Rattle.byte_rules.specs.Lang.{Whole, as_value, closed, ◌then◌, ◌▸◌, until, listed, rest_of, exactly}
-use Rattle.byte_rules.specs.Among.{IsAmong}
 use Rattle.byte_rules.specs.Judged.{Spells}
 use Rattle.byte_rules.proofs.Judging.{reads}
 use Rattle.byte_rules.proofs.Shown.{Shown, shown_closed, shown_value, shown_then, shown_before, shown_among, shown_none, shown_more, shown_many}
@@ -32,12 +30,13 @@ use Rattle.byte_rules.proofs.Shown.{shown_no_list, shown_listed}
 use Rattle.byte_rules.proofs.Shown.{shown_no_rest, shown_rest, shown_none_exactly, shown_exactly}
 use Rattle.value_text.specs.Brackets.{brackets, brackets_in}
 use Rattle.value_text.specs.Escapes.{quoted}
-use Rattle.value_text.specs.Numbers.{is_uint32, fields_tags, tag_of}
+use Rattle.value_text.specs.Numbers.{fields_tags, tag_of}
 use Rattle.value_text.specs.Rules.{slot_value, value, items_of, fields_of, elements, array, fields, fields_after, structure, union, member, pair}
 use Rattle.value_text.specs.steps.Reading.{inner, base_at}
 use Rattle.value_text.specs.Rules.{keys_of, values_of, pairs_of}
 use Rattle.value_text.specs.Spelling.{flag_text, fields_kinds, element_of, held, row_kinds, field_kinds, spell, first_item, next_items, both_lists, each_text, first_pair}
 use Rattle.value_text.specs.Spelling.{next_pairs, first_field, next_fields}
+use Rattle.value_text.proofs.KnownNumbers.{tag_listed}
 use Rattle.value_text.proofs.KindLaws.{good_kind}
 use Rattle.value_text.proofs.KindShows.{lift, null_shown, null_alone, flag_shown, index_shown, whole_shown, one_shown, two_shown, handle_shown}
 use Rattle.value_text.proofs.TextShows.{text_to}
@@ -221,23 +220,6 @@ module _ (schema : Schema) (left : ℕ) where
   struct_shown _ row ts e s = absurd (cc)
 
   -- tags
-  tag_listed : (fields : List UnionFieldRow) (tag : ℕ) (k : KindTree) → tag < 2 ^ 32 → kind_of_tag fields tag ≡ Some k → IsAmong tag (fields_tags fields)
-  tag_listed [] tag k h e = absurd (cc)
-  tag_listed (f ∷ fs) tag k h e = of (λ rest. tag_listed fs tag k h rest) (f.tag == tag) refl e
-    where
-      here : f.tag ≡ tag → IsAmong tag (cond (is_uint32 f.tag) (f.tag ∷ fields_tags fs) (fields_tags fs))
-      here same = let t : is_uint32 f.tag ≡ true = ap is_uint32 same ∙ grind (arith, nat_tests) in rw t (inl (sym same))
-
-      there : (v : Bool) → IsAmong tag (fields_tags fs) → IsAmong tag (cond v (f.tag ∷ fields_tags fs) (fields_tags fs))
-      there true i = inr i
-      there false i = i
-
-      of : (kind_of_tag fs tag ≡ Some k → IsAmong tag (fields_tags fs)) → (v : Bool) → (f.tag == tag) ≡ v
-          → cond v (Some f.kind) (kind_of_tag fs tag) ≡ Some k
-          → IsAmong tag (cond (is_uint32 f.tag) (f.tag ∷ fields_tags fs) (fields_tags fs))
-      of later true same e = here (eqb-true f.tag tag same)
-      of later false same e = there (is_uint32 f.tag) (later e)
-
   tag_shown : (extensible : Bool) (fields : List UnionFieldRow) (tag : ℕ) (k : KindTree) → tag < 2 ^ 32 → kind_of_tag fields tag ≡ Some k
       → Shown (tag_of extensible (fields_tags fields)) tag (decimal tag)
   tag_shown true fields tag k h e = index_shown tag h

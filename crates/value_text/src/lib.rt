@@ -4,6 +4,7 @@
 mod characters;
 mod entries;
 mod laws;
+mod members;
 mod numbers;
 mod printing;
 mod reading;

@@ -1,15 +1,12 @@
 //! Numbers.
 
-ghost use Rattle.std.specs.Prelude.{◌≡◌, ◌≤◌, ◌<◌, ◌^◌, ◌-◌, Ok, pos, IfOk, decimal};
-ghost use Rattle.std.specs.Fmt.{signed_decimal};
-ghost use Rattle.byte_rules.specs.Lang.{as_value};
-ghost use Rattle.byte_rules.specs.Among.{among};
+ghost use Rattle.std.specs.Prelude.{◌≡◌, ◌≤◌, ◌<◌, ◌^◌, ◌-◌, Ok, pos, IfOk};
+ghost use Rattle.byte_rules.specs.Lang.{as_value, front_is};
 ghost use Rattle.byte_rules.specs.Reading.{Gives};
-ghost use Rattle.value_text.specs.Numbers.{is_digit, scan_on, number, integer, whole, index, members_numbers, fields_tags};
+ghost use Rattle.value_text.specs.Numbers.{is_digit, scan_on, number, integer, whole, index};
 
-use byte_rules::{Stop, expect, is_next, nearer};
-use mj_schema::{EnumRow, MemberRow, UnionFieldRow, Width};
-use std::alloc::Global;
+use byte_rules::{Stop, expect, is_next};
+use mj_schema::Width;
 
 /// Whether the byte is a decimal digit.
 pub fn is_digit(byte: u8) -> bool
@@ -18,8 +15,18 @@ pub fn is_digit(byte: u8) -> bool
     48 <= byte && byte <= 57
 }
 
+/// Whether a decimal digit is next.
+pub fn is_digit_next(bytes: &[u8]) -> bool
+    ensures { result ≡ front_is is_digit bytes.now }
+{
+    match bytes {
+        [first, ..] => is_digit(*first),
+        [] => false,
+    }
+}
+
 /// The value of the digits behind those of `first`, as long as it is at most `high`, and the bytes after them.
-#[tactic(auto, using(crate::proofs::NumberLaws::goes_at, crate::proofs::NumberLaws::stops_at, crate::proofs::NumberLaws::full_at, crate::proofs::NumberLaws::done_at))]
+#[tactic(auto, using(crate::proofs::NumberLaws::digits_at))]
 fn digits(high: u64, first: u64, bytes: &[u8]) -> (u64, &[u8])
     requires { first ≤ high }
     ensures read { scan_on high first bytes.now ≡ Ok (result.0, result.1.now) }
@@ -112,58 +119,4 @@ pub fn index(bytes: &[u8]) -> Result<(u32, &[u8]), Stop>
 {
     let (number, rest) = number(0, u64::from(u32::MAX), bytes)?;
     Ok((number as u32, rest))
-}
-
-/// The number of a member.
-fn number_in(member: &MemberRow) -> i32
-    ensures { result ≡ member.now.number }
-{
-    member.number
-}
-
-/// The tag of a field.
-fn tag_in(field: &UnionFieldRow) -> u32
-    ensures { result ≡ field.now.tag }
-{
-    field.tag
-}
-
-/// The number of a member, and the bytes after it.
-pub fn member_number<'a>(
-    alloc: Global,
-    members: &[MemberRow],
-    bytes: &'a [u8],
-) -> Result<(i128, &'a [u8]), Stop>
-    ensures { Gives (λ x. (x.0, x.1.now)) result ((among (pos 0) signed_decimal (members_numbers members.now)).read bytes.now) }
-{
-    let mut near = (0, None);
-    for member in members {
-        let number = number_in(member);
-        let word = number.to_string(alloc)?;
-        near = nearer(near, number, word.as_bytes(), bytes);
-    }
-    match near.1 {
-        Some(number) => Ok((i128::from(number), &bytes[near.0..])),
-        None => Err(Stop::Left(bytes.len() - near.0)),
-    }
-}
-
-/// The tag of a field, and the bytes after it.
-pub fn field_tag<'a>(
-    alloc: Global,
-    fields: &[UnionFieldRow],
-    bytes: &'a [u8],
-) -> Result<(u32, &'a [u8]), Stop>
-    ensures { Gives (λ x. (x.0, x.1.now)) result ((among 0 decimal (fields_tags fields.now)).read bytes.now) }
-{
-    let mut near = (0, None);
-    for field in fields {
-        let tag = tag_in(field);
-        let word = tag.to_string(alloc)?;
-        near = nearer(near, tag, word.as_bytes(), bytes);
-    }
-    match near.1 {
-        Some(tag) => Ok((tag, &bytes[near.0..])),
-        None => Err(Stop::Left(bytes.len() - near.0)),
-    }
 }

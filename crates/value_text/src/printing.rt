@@ -9,9 +9,9 @@ ghost use Rattle.value_text.specs.Brackets.{brackets};
 ghost use Rattle.value_text.specs.Rules as rules;
 ghost use Rattle.value_text.specs.Spelling.{fields_kinds, spell, first_item, each_text, first_pair, first_field, element_of, key_of, value_of, field_kinds, held};
 
-use crate::rows::{find_struct, find_union, kind_of_tag};
 use crate::writing::{push_index, push_text, push_versioned, push_whole};
 use mj_schema::{FieldRow, Kind, KindNode, Schema};
+use schema_rows::{find_struct, kind_in};
 use std::alloc::{AllocError, Global};
 use wire_model::Value;
 
@@ -59,17 +59,13 @@ fn fields_of<'a>(schema: &'a Schema, kind: &KindNode) -> &'a [FieldRow]
 }
 
 /// What a union holds under a tag; the kind itself where it holds nothing there.
-#[tactic(auto, using(crate::proofs::Printed::held_in))]
 fn held<'a>(schema: &'a Schema, kind: &'a KindNode, tag: u32) -> &'a KindNode
     ensures { kind_view result.now ≡ held schema.now (kind_view kind.now) tag }
 {
     let KindNode::Union { number, .. } = kind else {
         return kind;
     };
-    let Some(row) = find_union(schema, *number) else {
-        return kind;
-    };
-    match kind_of_tag(row.fields.as_slice(), tag) {
+    match kind_in(schema, *number, tag) {
         Some(held) => held.node(),
         None => kind,
     }

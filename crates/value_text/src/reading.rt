@@ -47,8 +47,8 @@ fn judge(alloc: Global, schema: &Schema, kind: &Kind, bytes: &[u8]) -> Result<Va
 
 /// The value of the kind that the bytes spell, and they spell no other. `BadText` is at the first
 /// byte with which no text of the kind goes on, at the end the length. A text has at most 512
-/// brackets open at once. Takes time in proportion to the bytes; each number of an enum, or tag of a
-/// union, that isn't extensible is compared with all of the schema's there.
+/// brackets open at once. Takes time in proportion to the bytes, where an enum's numbers and a union's tags
+/// go up; else each of them may be compared with all of the schema's there.
 #[tactic(auto, using(crate::proofs::Whole::tells_by))]
 pub fn read_value(
     alloc: Global,

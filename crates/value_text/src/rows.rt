@@ -1,45 +1,10 @@
-//! Rows of a schema by their numbers, and kinds by their tags.
+//! Which slots may be null.
 
-ghost use Rattle.std.specs.Prelude.{◌≡◌, ◌||◌, slice_get, is_some};
-ghost use Rattle.std.specs.Option.{option_copied};
+ghost use Rattle.std.specs.Prelude.{◌≡◌, ◌||◌, is_some};
 ghost use Rattle.mj_schema.specs.KindTrees.{kind_view};
 ghost use Rattle.wire_model.specs.Kinded.{is_nullable};
-ghost use Rattle.wire_model.specs.Rows.{kind_of_tag};
 
-use mj_schema::{EnumRow, FieldRow, Kind, KindNode, Schema, StructRow, UnionFieldRow, UnionRow};
-
-/// The row of the struct of this number; none exactly where there is none.
-pub fn find_struct(schema: &Schema, number: u32) -> Option<&StructRow>
-    ensures { option_copied result ≡ slice_get schema.now.structs number }
-{
-    schema.structs.as_slice().get(number as usize)
-}
-
-/// The row of the union of this number; none exactly where there is none.
-pub fn find_union(schema: &Schema, number: u32) -> Option<&UnionRow>
-    ensures { option_copied result ≡ slice_get schema.now.unions number }
-{
-    schema.unions.as_slice().get(number as usize)
-}
-
-/// The row of the enum of this number; none exactly where there is none.
-pub fn find_enum(schema: &Schema, number: u32) -> Option<&EnumRow>
-    ensures { option_copied result ≡ slice_get schema.now.enums number }
-{
-    schema.enums.as_slice().get(number as usize)
-}
-
-/// What the fields of a union hold under a tag; none exactly where no field has it.
-pub fn kind_of_tag(fields: &[UnionFieldRow], tag: u32) -> Option<&Kind>
-    ensures { option_copied result ≡ kind_of_tag fields.now tag }
-{
-    for field in fields {
-        if field.tag == tag {
-            return Some(&field.kind);
-        }
-    }
-    None
-}
+use mj_schema::{FieldRow, KindNode};
 
 /// Whether a value of the kind may be null by itself.
 fn is_nullable(kind: &KindNode) -> bool

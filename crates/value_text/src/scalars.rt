@@ -3,17 +3,18 @@
 ghost use Rattle.std.specs.Prelude.{◌≡◌, Ok, Some, None, true, false, ◌^◌, ◌-◌, slice_get};
 ghost use Rattle.wire_model.specs.Trees.{view};
 ghost use Rattle.wire_model.specs.Trees as values;
-ghost use Rattle.byte_rules.specs.Lang.{as_value, ◌then◌, ◌▸◌};
+ghost use Rattle.byte_rules.specs.Lang.{as_value, closed, ◌then◌, ◌▸◌};
 ghost use Rattle.byte_rules.specs.Reading.{Gives};
 ghost use Rattle.value_text.specs.Characters.{text};
 ghost use Rattle.value_text.specs.Numbers.{whole, index, number_of, fields_tags, tag_of};
 ghost use Rattle.value_text.specs.Rules.{boolean, null_word};
 
 use crate::characters::text;
-use crate::numbers::{field_tag, index, integer, member_number, whole};
-use crate::rows::find_enum;
+use crate::members::{known_member, known_tag, nearest_member, nearest_tag};
+use crate::numbers::{index, integer, whole};
 use byte_rules::{Stop, expect, is_next};
 use mj_schema::{Schema, UnionRow, Width};
+use schema_rows::find_enum;
 use std::alloc::Global;
 use wire_model::Value;
 
@@ -57,7 +58,8 @@ pub fn int(width: Width, signed: bool, bytes: &[u8]) -> Result<(Value, &[u8]), S
     Ok((Value::Whole(number), rest))
 }
 
-/// The number of a value of an enum, and the bytes after it.
+/// The number of a value of an enum, and the bytes after it. Where no member has the number that stands
+/// there, no text goes on, so the members' words are made at most once a text.
 fn enum_number<'a>(
     alloc: Global,
     schema: &Schema,
@@ -69,9 +71,11 @@ fn enum_number<'a>(
     match find_enum(schema, number) {
         Some(row) => {
             if row.extensible {
-                integer(1 << 31, (1 << 31) - 1, bytes)
-            } else {
-                member_number(alloc, row.members.as_slice(), bytes)
+                return integer(1 << 31, (1 << 31) - 1, bytes);
+            }
+            match known_member(row.members.as_slice(), bytes) {
+                Some(known) => Ok(known),
+                None => nearest_member(alloc, row.members.as_slice(), bytes),
             }
         }
         None => integer(1 << 31, (1 << 31) - 1, bytes),
@@ -147,13 +151,31 @@ pub fn endpoint_remote(bytes: &[u8]) -> Result<(Value, &[u8]), Stop>
     Ok((value, rest))
 }
 
-/// A tag of a union, and the bytes after it.
-pub fn tag<'a>(alloc: Global, row: &UnionRow, bytes: &'a [u8]) -> Result<(u32, &'a [u8]), Stop>
+/// A tag of the union of this number, whose row this is, and the bytes after it. Where no field has the
+/// tag that stands there, no text goes on, so the tags' words are made at most once a text.
+pub fn tag<'a>(
+    alloc: Global,
+    schema: &Schema,
+    number: u32,
+    row: &UnionRow,
+    bytes: &'a [u8],
+) -> Result<(u32, &'a [u8]), Stop>
+    requires { slice_get schema.now.unions number ≡ Some row.now }
     ensures { Gives (λ x. (x.0, x.1.now)) result ((tag_of row.now.extensible (fields_tags row.now.fields)).read bytes.now) }
 {
     if row.extensible {
-        index(bytes)
-    } else {
-        field_tag(alloc, row.fields.as_slice(), bytes)
+        return index(bytes);
     }
+    match known_tag(schema, number, bytes) {
+        Some(known) => Ok(known),
+        None => nearest_tag(alloc, row.fields.as_slice(), bytes),
+    }
+}
+
+/// The bracket behind a tag that the union lacks, and the bytes after it.
+pub fn unknown(tag: u32, bytes: &[u8]) -> Result<(Value, &[u8]), Stop>
+    ensures { Gives (λ x. (view x.0, x.1.now)) result ((closed 62 (values.Unknown tag)).read bytes.now) }
+{
+    let rest = expect(bytes, 62)?;
+    Ok((Value::Unknown(tag), rest))
 }

@@ -3,23 +3,20 @@
 ghost use Rattle.std.specs.Prelude.{◌≡◌, ◌∷◌, [], ◌<◌, ◌-◌, List, map, slice_get, Some, None, true, false};
 ghost use Rattle.mj_schema.specs.KindTrees.{kind_view};
 ghost use Rattle.wire_model.specs.Trees.{view};
-ghost use Rattle.wire_model.specs.Trees as values;
-ghost use Rattle.byte_rules.specs.Lang.{as_value, closed, listed, exactly, rest_of, ◌▸◌};
+ghost use Rattle.byte_rules.specs.Lang.{as_value, listed, exactly, rest_of, ◌▸◌};
 ghost use Rattle.byte_rules.specs.Reading.{Gives};
 ghost use Rattle.byte_rules.specs.steps.Reading.{gathered, with_front};
-ghost use Rattle.value_text.specs.Rules.{slot_value, opened, elements, array};
-ghost use Rattle.value_text.specs.steps.Reading.{inside, inner, has_room, base_at, more_of};
-ghost use Rattle.value_text.specs.Rules.{fields, fields_after, structure, union, member};
-ghost use Rattle.value_text.specs.Rules.{pair, pairs_of};
-ghost use Rattle.value_text.specs.steps.Reading.{pair_of, more_pairs_of, add_pairs};
+ghost use Rattle.value_text.specs.Rules.{slot_value, opened, elements, array, pair, pairs_of, fields, fields_after, structure, union, member};
+ghost use Rattle.value_text.specs.steps.Reading.{inside, inner, has_room, base_at, more_of, pair_of, more_pairs_of, add_pairs};
 
 use crate::entries::{Entries, map_of, struct_of};
-use crate::rows::{find_struct, find_union, has_flag, kind_of_tag, may_be_null};
+use crate::rows::{has_flag, may_be_null};
 use crate::scalars::{
-    boolean, endpoint, endpoint_remote, enum_value, handle, int, null, remote, string, tag,
+    boolean, endpoint, endpoint_remote, enum_value, handle, int, null, remote, string, tag, unknown,
 };
 use byte_rules::{Stop, expect, is_next};
 use mj_schema::{FieldRow, KindNode, Schema};
+use schema_rows::{find_struct, find_union, kind_in};
 use std::alloc::Global;
 use wire_model::Value;
 
@@ -476,8 +473,8 @@ fn tagged<'a>(
     let Some(row) = find_union(schema, number) else {
         return Err(Stop::Left(bytes.len()));
     };
-    let (tag, rest) = tag(alloc, row, bytes)?;
-    match kind_of_tag(row.fields.as_slice(), tag) {
+    let (tag, rest) = tag(alloc, schema, number, row, bytes)?;
+    match kind_in(schema, number, tag) {
         Some(kind) => member(alloc, schema, left, tag, kind.node(), rest),
         None => unknown(tag, rest),
     }
@@ -500,12 +497,4 @@ fn member<'a>(
     let rest = expect(rest, 62)?;
     let value = Box::new(alloc, held)?;
     Ok((Value::Union { tag, value }, rest))
-}
-
-/// The bracket behind a tag that the union lacks, and the bytes after it.
-fn unknown(tag: u32, bytes: &[u8]) -> Result<(Value, &[u8]), Stop>
-    ensures { Gives (λ x. (view x.0, x.1.now)) result ((closed 62 (values.Unknown tag)).read bytes.now) }
-{
-    let rest = expect(bytes, 62)?;
-    Ok((Value::Unknown(tag), rest))
 }

@@ -7,14 +7,6 @@ ghost use Rattle.value_text.specs.Escapes.{escaped, quoted, hex_digit};
 
 use std::alloc::{AllocError, Global};
 
-/// Adds a number in decimal.
-pub fn push_decimal(alloc: Global, out: &mut Vec<u8>, number: u32) -> Result<(), AllocError>
-    ensures { OnOk result (out.new.items ≡ out.old.items ++ decimal number) }
-{
-    let text = number.to_string(alloc)?;
-    out.extend_from_slice(text.as_bytes())
-}
-
 /// Adds a whole number in decimal.
 pub fn push_whole(alloc: Global, out: &mut Vec<u8>, number: i128) -> Result<(), AllocError>
     ensures { OnOk result (out.new.items ≡ out.old.items ++ signed_decimal number) }
@@ -28,7 +20,8 @@ pub fn push_index(alloc: Global, out: &mut Vec<u8>, sign: u8, index: u32) -> Res
     ensures { OnOk result (out.new.items ≡ out.old.items ++ sign ∷ decimal index) }
 {
     out.push(sign)?;
-    push_decimal(alloc, out, index)
+    let text = index.to_string(alloc)?;
+    out.extend_from_slice(text.as_bytes())
 }
 
 /// Adds a sign, an index and a version.

@@ -69,14 +69,14 @@ pub all_fields-returns-in_err-values : goal.all_fields-returns-in_err-values
 all_fields-returns-in_err-values t c =
     let p = err_from_is_err_and c.from_residual.result c.from_residual.ensures.1 in
     rw (p.1, p.2) (structure_err (slot_value c.args.schema.now c.args.left)
-    (slice_get c.args.schema.now.structs c.args.number) c.in-Some.row.now c.args.bytes.now c.in_err-values.field-0.0 c.in-Some.ensures
+    (slice_get c.args.schema.now.structs c.args.number) c.in-Some.row.now c.args.bytes.now c.in_err-values.field-0.0 c.in-Some.ensures.found
     (subst (λ (fs : List FieldRow). Fails c.in_err-values.field-0.0
     ((fields (slot_value c.args.schema.now c.args.left) fs).read c.args.bytes.now)) c.as_slice.ensures c.in_err-values.ensures))
 
 pub all_fields-returns : goal.all_fields-returns
 all_fields-returns t c = structure_ok (slot_value c.args.schema.now c.args.left)
     (slice_get c.args.schema.now.structs c.args.number) c.in-Some.row.now c.args.bytes.now
-    (map view c.in_ok-values.values.items) c.in_ok-values.rest.now c.in-Some.ensures
+    (map view c.in_ok-values.values.items) c.in_ok-values.rest.now c.in-Some.ensures.found
     (subst (λ (fs : List FieldRow). (fields (slot_value c.args.schema.now c.args.left) fs).read c.args.bytes.now ≡ Ok
     (map view c.in_ok-values.values.items, c.in_ok-values.rest.now)) c.as_slice.ensures c.in_ok-values.ensures)
     ∙ ap (λ (t : Tree). Ok (t, c.in_ok-values.rest.now)) (sym c.struct_of.ensures)

@@ -2,7 +2,7 @@ use Rattle.std.proofs.Common.{◌≡◌, ◌≤◌, None, length, drop}
 use Rattle.std.specs.Fmt.{signed_decimal}
 use Rattle.byte_rules.specs.Among.{nearest}
 use Rattle.value_text.specs.Numbers.{members_numbers}
-use Rattle.value_text.proofs.numbers.member_number.Given as goal
+use Rattle.value_text.proofs.members.nearest_member.Given as goal
 
 abbrev pub invariant-loop-member : goal.invariant-loop-member
 invariant-loop-member l = record {

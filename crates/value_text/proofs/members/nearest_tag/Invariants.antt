@@ -2,7 +2,7 @@ use Rattle.std.proofs.Common.{◌≡◌, ◌≤◌, None, length, drop}
 use Rattle.std.specs.Prelude.{decimal}
 use Rattle.byte_rules.specs.Among.{nearest}
 use Rattle.value_text.specs.Numbers.{fields_tags}
-use Rattle.value_text.proofs.numbers.field_tag.Given as goal
+use Rattle.value_text.proofs.members.nearest_tag.Given as goal
 
 abbrev pub invariant-loop-field : goal.invariant-loop-field
 invariant-loop-field l = record {

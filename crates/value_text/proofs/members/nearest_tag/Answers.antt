@@ -5,7 +5,7 @@ use Rattle.mj_schema.specs.declared.rows.UnionFieldRow.{UnionFieldRow}
 use Rattle.byte_rules.proofs.Fronts.{nearer_within}
 use Rattle.value_text.specs.Numbers.{is_uint32, fields_tags}
 use Rattle.value_text.proofs.ListedReads.{is_small_tag, row_on}
-use Rattle.value_text.proofs.numbers.field_tag.Goals as goal
+use Rattle.value_text.proofs.members.nearest_tag.Goals as goal
 
 pub loop-field-preserved : goal.loop-field-preserved
 loop-field-preserved c =

@@ -7,7 +7,7 @@ use Rattle.mj_schema.specs.declared.rows.MemberRow.{MemberRow}
 use Rattle.byte_rules.proofs.Fronts.{nearer_within}
 use Rattle.value_text.specs.Numbers.{is_int32, members_numbers}
 use Rattle.value_text.proofs.ListedReads.{is_small, fits_int32, row_on}
-use Rattle.value_text.proofs.numbers.member_number.Goals as goal
+use Rattle.value_text.proofs.members.nearest_member.Goals as goal
 
 pub loop-member-preserved : goal.loop-member-preserved
 loop-member-preserved c =
