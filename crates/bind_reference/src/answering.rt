@@ -1,15 +1,15 @@
 //! The reply to an answer.
 
-use crate::mail::Mail;
-use crate::past::is_gone;
 use crate::replies::{elsewhere, first_of, unless};
-use crate::responders::is_responder_out;
 use crate::sending::{cannot_write, has_tokens, is_owned, wrong_pipe};
-use crate::wire::sealed;
 use bind_model::{Endpoint, Outgoing, ResponderId, State, Told, Why};
 use handle_table::Thing;
 use mj_base::{Items, SeqId};
 use mj_schema::Schema;
+use past_reference::mail::Mail;
+use past_reference::past::is_gone;
+use past_reference::responders::is_responder_out;
+use past_reference::wire::sealed;
 use std::alloc::{AllocError, Global};
 use wire_model::MessageSide;
 

@@ -1,14 +1,14 @@
 //! The reply to a call.
 
-use crate::mail::Mail;
-use crate::past::{drawn, is_gone};
 use crate::replies::{elsewhere, first_of, unbound, unless};
 use crate::sending::{cannot_write, has_tokens, is_owned, wrong_pipe};
-use crate::wire::{responds, sealed};
 use bind_model::{Endpoint, Outgoing, State, Told, Why};
 use handle_table::Thing;
 use mj_base::{EndId, Items, SeqId};
 use mj_schema::Schema;
+use past_reference::mail::Mail;
+use past_reference::past::{drawn, is_gone};
+use past_reference::wire::{responds, sealed};
 use std::alloc::{AllocError, Global};
 use wire_encoder::EndpointSide;
 use wire_model::MessageSide;

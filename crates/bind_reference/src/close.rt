@@ -1,15 +1,15 @@
 //! The reply to a closing.
 
-use crate::goes::goes;
-use crate::mail::Mail;
-use crate::past::{is_gone, is_out};
-use crate::pendings::is_pending_out;
 use crate::replies::{elsewhere, first_of, unbound, unless};
-use crate::responders::is_responder_out;
 use bind_model::{Closing, State, Told, Why};
 use handle_table::Thing;
 use mj_base::{EndId, Items, SeqId};
 use mj_schema::Schema;
+use past_reference::goes::goes;
+use past_reference::mail::Mail;
+use past_reference::past::{is_gone, is_out};
+use past_reference::pendings::is_pending_out;
+use past_reference::responders::is_responder_out;
 use std::alloc::{AllocError, Global};
 
 /// What is told where a thing is closed: all that goes with it.

@@ -1,33 +1,24 @@
-//! The machine on small inputs, computed literally: what was made, where it is, what lies unread, the one
-//! reply to a command, which end is ready, the events of a script and what they leave are read off the list of
-//! the events before, anew each time. Plain, slow, and apart from the code that is proved of the definitions.
-//! The programs `check_runs` and `check_cores` compare the two.
+//! The machine on small inputs, computed literally: the one reply to a command, which end is ready, the events of
+//! a script and what they leave are read off the list of the events before, anew each time; what was made, where it
+//! is and what lies unread, by past_reference. Plain, slow, and apart from the code that is proved of the
+//! definitions. The programs `check_runs` and `check_cores` compare the two.
 #![tactic(auto)]
 
 mod answering;
 mod call;
 mod close;
 mod endpoints;
-mod entering;
-mod goes;
-mod kinds;
-mod mail;
 mod names;
 mod needs;
-mod past;
-mod pendings;
 mod raw;
 mod remaining;
 mod replies;
 mod replying;
-mod responders;
 mod same;
 mod script;
 mod sending;
 mod take;
 mod turns;
-mod values;
-mod wire;
 
 pub use remaining::left;
 pub use replies::answer;

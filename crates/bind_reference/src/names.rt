@@ -1,14 +1,14 @@
 //! What the names of a script stand for, and what is held under them.
 
-use crate::past::{handed, is_out};
-use crate::pendings::is_pending_out;
 use crate::replying::reply_to;
-use crate::responders::{handed as handed_responder, is_responder_out};
 use bind_model::{Event, PendingId, ResponderId, Told};
 use call_script::{AutoReply, Command, Line, NameId, Script};
 use handle_table::Thing;
 use mj_base::{EndId, SeqId};
 use mj_schema::Schema;
+use past_reference::past::{handed, is_out};
+use past_reference::pendings::is_pending_out;
+use past_reference::responders::{handed as handed_responder, is_responder_out};
 use std::alloc::{AllocError, Global};
 
 /// What is held under a name: the handle of a thing, a pending, or a responder.

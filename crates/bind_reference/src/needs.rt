@@ -1,11 +1,11 @@
 //! What the lines of a script ask, where all that they need is there.
 
 use crate::names::{Held, Names};
-use crate::values::copied;
 use bind_model::{Asked, Closing, Outgoing, Parameters, PendingId};
 use call_script::{Command, NameId};
 use handle_table::Thing;
 use mj_base::{Items, SeqId};
+use past_reference::values::copied;
 use std::alloc::{AllocError, Global};
 use wire_encoder::Prepared;
 

@@ -1,11 +1,11 @@
 //! The reply to a raw writing.
 
-use crate::mail::Mail;
 use crate::replies::{first_of, unless};
 use crate::sending::{are_out, cannot_write};
 use bind_model::limits::{MAX_RAW_BYTES, MAX_RAW_HANDLES};
 use bind_model::{Told, Why};
 use handle_table::Thing;
+use past_reference::mail::Mail;
 use std::alloc::{AllocError, Global};
 
 /// Whether all handles are with callers, and none stands twice. The one that is written from is among them.

@@ -1,9 +1,9 @@
 //! What isn't gone.
 
-use crate::past::{ends_made, is_gone, tokens_made};
 use bind_model::Event;
 use handle_table::{Thing, TokenId};
 use mj_base::EndId;
+use past_reference::past::{ends_made, is_gone, tokens_made};
 use std::alloc::{AllocError, Global};
 
 /// Adds the ends that a sequence made.

@@ -4,14 +4,14 @@ use crate::answering::answered;
 use crate::call::called;
 use crate::close::closed;
 use crate::endpoints::{associated, attached};
-use crate::mail::Mail;
-use crate::past::{ends_made, is_out, tokens_made};
 use crate::raw::wrote;
 use crate::take::took;
 use bind_model::{Asked, Endpoint, Event, State, Told, Why};
 use handle_table::{Thing, TokenId};
 use mj_base::{EndId, Items, SeqId};
 use mj_schema::Schema;
+use past_reference::mail::Mail;
+use past_reference::past::{ends_made, is_out, tokens_made};
 use std::alloc::{AllocError, Global};
 
 /// A test: why it fails, where it doesn't hold.

@@ -6,13 +6,13 @@ use crate::names::{Names, is_join};
 use crate::needs::{asks, outgoing};
 use crate::replies::answer;
 use crate::replying::reply_to;
-use crate::responders::handed;
 use crate::turns::ready;
 use bind_model::{Asked, Event};
 use call_script::{Line, Script};
 use mj_base::limits::MAX_EVENTS;
 use mj_base::{Items, SeqId};
 use mj_schema::Schema;
+use past_reference::responders::handed;
 use std::alloc::{AllocError, Global};
 
 /// What a line asks behind these events: to skip its number where something that it needs isn't there.

@@ -1,16 +1,16 @@
 //! The tests that all that writes has in common.
 
-use crate::kinds::{Named, endpoints_named};
-use crate::mail::{Mail, Text};
-use crate::past::{is_gone, is_out, peer};
-use crate::pendings::{is_local, is_pending_out};
 use crate::replies::unless;
-use crate::values::handles_named;
 use bind_model::{Outgoing, PendingId, Why};
 use handle_table::Thing;
 use mj_base::EndId;
 use mj_base::limits::MAX_UNREAD_MESSAGES;
 use mj_schema::Schema;
+use past_reference::kinds::{Named, endpoints_named};
+use past_reference::mail::{Mail, Text};
+use past_reference::past::{is_gone, is_out, peer};
+use past_reference::pendings::{is_local, is_pending_out};
+use past_reference::values::handles_named;
 use std::alloc::{AllocError, Global};
 use wire_encoder::EndpointSide;
 

@@ -1,16 +1,16 @@
 //! The reply to a take.
 
-use crate::entering::{ids_in, is_strange};
-use crate::goes::goes;
-use crate::kinds::endpoints_named;
-use crate::mail::{Letter, Mail, Text};
-use crate::past::{is_asked, is_gone, peer};
-use crate::values::handles_named;
-use crate::wire::{Content, Whom, meant_for, stands};
 use bind_model::{BadWhy, Endpoint, Got, Noted, Parameters, PendingId, State, Told, Why};
 use handle_table::Thing;
 use mj_base::{EndId, Items, SeqId};
 use mj_schema::Schema;
+use past_reference::entering::{ids_in, is_strange};
+use past_reference::goes::goes;
+use past_reference::kinds::endpoints_named;
+use past_reference::mail::{Letter, Mail, Text};
+use past_reference::past::{is_asked, is_gone, peer};
+use past_reference::values::handles_named;
+use past_reference::wire::{Content, Whom, meant_for, stands};
 use std::alloc::{AllocError, Global};
 use wire_model::MessageSide;
 

@@ -1,13 +1,13 @@
 //! Which end is taken from next when nobody asks, and by whom.
 
-use crate::mail::{Mail, Text};
-use crate::past::made;
 use crate::take::took;
-use crate::wire::{Whom, meant_for};
 use bind_model::{Endpoint, Event, State, Told};
 use handle_table::Thing;
 use mj_base::{EndId, SeqId};
 use mj_schema::Schema;
+use past_reference::mail::{Mail, Text};
+use past_reference::past::made;
+use past_reference::wire::{Whom, meant_for};
 use std::alloc::{AllocError, Global};
 
 /// The sequence that an endpoint is bound on.

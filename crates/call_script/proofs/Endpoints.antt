@@ -6,10 +6,10 @@ use Rattle.std.specs.Char.{digit_value}
 use Rattle.std.specs.Str.Parse.{AllDigits}
 use Rattle.std.proofs.lemmas.Bool.Decides.{nat_tests}
 use Rattle.std.proofs.lemmas.Fmt.{decimal_is_IsNumeral}
-use Rattle.call_script.specs.Pieces.{pieces}
-use Rattle.call_script.specs.Letters.{is_name, is_name_byte, endpoint_word, is_small_letter}
+use Rattle.script_words.specs.Pieces.{pieces}
+use Rattle.script_words.specs.Letters.{is_name, is_name_byte, endpoint_word, is_small_letter}
 use Rattle.call_script.specs.steps.Numbers.{IsEndpoint, NoEndpoint, SpellsNumber}
-use Rattle.call_script.proofs.Splits.{joined, lacks, one_part, pieces_joined, joined_pieces, and_true, both}
+use Rattle.script_words.proofs.Splits.{joined, lacks, one_part, pieces_joined, joined_pieces, and_true, both}
 
 -- no digit is the mark
 no_mark : (x : ℕ) → digit_value x < 10 → not (x == 35) ≡ true

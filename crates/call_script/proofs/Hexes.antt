@@ -8,8 +8,8 @@ use Rattle.hex.specs.Hex.{encode_lower, encode_with, decode_of, IsBytes}
 use Rattle.hex.specs.declared.error.FromHexError.{FromHexError}
 use Rattle.hex.specs.declared.error.FromHexError.TheVariants.{OutOfMemory}
 use Rattle.hex.proofs.HexLemmas.{decode_of-encode_lower, decode_of-ok}
-use Rattle.call_script.specs.Letters.{hex_word, IsHexOf, IsHexWord}
-use Rattle.call_script.proofs.Parts.{never_false}
+use Rattle.script_words.specs.Letters.{hex_word, IsHexOf, IsHexWord}
+use Rattle.script_words.proofs.Parts.{never_false}
 
 -- a word is that of some bytes, in one way
 pub hex_one : (a b : List ℕ) → IsBytes a → IsBytes b → hex_word a ≡ hex_word b → a ≡ b

@@ -1,7 +1,3 @@
-pub mod Slices
-pub mod Splits
-pub mod LineWords
-pub mod Parts
 pub mod Dots
 pub mod Endpoints
 pub mod Hexes

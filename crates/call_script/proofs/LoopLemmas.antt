@@ -15,8 +15,8 @@ use Rattle.call_script.specs.declared.script_error.ScriptError.{ScriptError}
 use Rattle.call_script.specs.declared.reading.Reader.{Reader}
 use Rattle.call_script.specs.Forms.{Form, form_words, header_words, AreSequences}
 use Rattle.call_script.specs.Script.{line_number, AreScript, IsRefusedBehind}
-use Rattle.call_script.specs.declared.split.Words.{Words}
-use Rattle.call_script.specs.steps.Pieces.{words_now}
+use Rattle.script_words.specs.declared.splitting.Words.{Words}
+use Rattle.script_words.specs.Words.{words_now}
 use Rattle.call_script.specs.steps.Lines.{HasRead, ReadsOn, AnswersBehind, error_of}
 
 -- the words of forms, in order, and of one more

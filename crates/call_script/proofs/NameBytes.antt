@@ -4,8 +4,8 @@ use Rattle.std.specs.Prelude.{Bool, ◌&&◌, ◌||◌, ◌==◌, nat_le}
 use Rattle.std.specs.List.{list_all}
 use Rattle.std.specs.Str.{IsAscii}
 use Rattle.std.proofs.lemmas.Bool.Decides.{nat_tests}
-use Rattle.call_script.specs.Letters.{is_name, is_name_byte, is_small_letter}
-use Rattle.call_script.proofs.Splits.{both}
+use Rattle.script_words.specs.Letters.{is_name, is_name_byte, is_small_letter}
+use Rattle.script_words.proofs.Splits.{both}
 
 pub letter_small : (c : ℕ) → is_small_letter c ≡ true → c < 128
 letter_small c e = let t = (both (nat_le 97 c) (nat_le c 122) e).1 in grind (arith, nat_tests)

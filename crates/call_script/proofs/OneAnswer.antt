@@ -9,7 +9,7 @@ use Rattle.mj_schema.specs.declared.schema.Schema.{Schema}
 use Rattle.call_script.specs.declared.script.Script.{Script}
 use Rattle.call_script.specs.declared.script_error.LineRefusal.{LineRefusal}
 use Rattle.call_script.specs.declared.script_error.LineRefusal.TheVariants.{BadLine, DoubleName, UnknownName, BadValue, TooManyLines}
-use Rattle.call_script.specs.Pieces.{text_words}
+use Rattle.script_words.specs.Pieces.{text_words}
 use Rattle.call_script.specs.declared.script.TheConstants.{MAX_SEQUENCES}
 use Rattle.call_script.specs.Forms.{Form, IsForm, form_words, header_words, sequences, AreThere, AreSequences}
 use Rattle.call_script.specs.Script.{names_set, line_number, doubles, knows, IsFormOf, Part, IsTaken, AreTaken, AreScript, IsRefused, IsRefusedBehind}

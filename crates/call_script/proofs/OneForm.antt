@@ -9,7 +9,7 @@ use Rattle.handle_table.specs.declared.thing.TokenSort.{TokenSort}
 use Rattle.handle_table.specs.declared.thing.TokenSort.TheVariants.{SharedBuffer, Platform}
 use Rattle.wire_encoder.specs.declared.endpoint.EndpointSide.{EndpointSide}
 use Rattle.wire_encoder.specs.declared.endpoint.EndpointSide.TheVariants.{Remote, Receiver}
-use Rattle.call_script.specs.Letters.{endpoint_word, is_name}
+use Rattle.script_words.specs.Letters.{endpoint_word, is_name}
 use Rattle.call_script.specs.Forms.{Said, Pipe, Mint, Bind, Associate, Attach, Call, Take, Answer, Raw, CloseToken, CloseEndpoint, IsSaid, said_words}
 use Rattle.call_script.specs.Forms.{Form, Join, Auto, Of, IsForm, form_words, sort_word, side_word, said_sequences, sequences, AreThere}
 use Rattle.call_script.specs.steps.Numbers.{IsEndpoint}

@@ -7,7 +7,7 @@ use Rattle.call_script.specs.declared.script.AutoReply.{AutoReply}
 use Rattle.call_script.specs.declared.script.Command.{Command}
 use Rattle.call_script.specs.declared.script.Command.TheVariants as commands
 use Rattle.call_script.specs.declared.script.Script.{Script}
-use Rattle.call_script.specs.Pieces.{text_words}
+use Rattle.script_words.specs.Pieces.{text_words}
 use Rattle.call_script.specs.Forms.{Form, Join, Auto, Of, Pipe, Mint, Bind, Associate, Attach, Call, Take, Answer, Raw, CloseToken, CloseEndpoint}
 use Rattle.call_script.specs.Same.{SameCommand, SameLine, SameLines, SameReply, SameReplies, SameScript}
 use Rattle.call_script.specs.Script.{names_set, IsValueOf, Asks, IsAuto, Part, OfLine, OfReply, IsPart, lines_in, replies_in, AreTaken, AreScript, IsScriptOf}

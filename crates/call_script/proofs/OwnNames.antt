@@ -6,8 +6,8 @@ use Rattle.std.specs.Char.{digit_value}
 use Rattle.std.specs.Str.Parse.{AllDigits}
 use Rattle.std.proofs.lemmas.Bool.Decides.{nat_tests}
 use Rattle.std.proofs.lemmas.Fmt.{decimal_injective, decimal_is_IsNumeral}
-use Rattle.call_script.specs.Letters.{is_name, is_name_byte, is_small_letter, own_word}
-use Rattle.call_script.proofs.Splits.{lacks, and_true, both}
+use Rattle.script_words.specs.Letters.{is_name, is_name_byte, is_small_letter, own_word}
+use Rattle.script_words.proofs.Splits.{lacks, and_true, both}
 
 -- a colon is no digit
 no_colon : (d : ℕ) → d ≡ 58 → digit_value d < 10 → ⊥

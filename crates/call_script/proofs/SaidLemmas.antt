@@ -11,7 +11,7 @@ use Rattle.call_script.specs.steps.Forms.{SpellsBehind, SpellsSaid}
 use Rattle.call_script.specs.declared.name_table.Scope.{Scope}
 use Rattle.call_script.specs.declared.script.NameId.{NameId}
 use Rattle.call_script.specs.declared.script.Command.TheVariants as commands
-use Rattle.call_script.specs.Letters.{own_word}
+use Rattle.script_words.specs.Letters.{own_word}
 use Rattle.call_script.specs.Forms.{Take}
 use Rattle.call_script.specs.steps.Names.{FindsAt}
 use Rattle.call_script.specs.steps.Commands.{Says}

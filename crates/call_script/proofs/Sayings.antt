@@ -7,7 +7,7 @@ use Rattle.handle_table.specs.declared.thing.TokenSort.{TokenSort}
 use Rattle.wire_encoder.specs.declared.endpoint.EndpointSide.{EndpointSide}
 use Rattle.call_script.specs.Forms.{Said, Pipe, Mint, Bind, Associate, Attach, Call, Take, Answer, Raw, CloseToken, CloseEndpoint}
 use Rattle.call_script.specs.Forms.{IsSaid, said_words, sort_word, side_word}
-use Rattle.call_script.specs.Letters.{is_name, are_names, endpoint_word, is_interface_word, is_method_word, IsHexWord}
+use Rattle.script_words.specs.Letters.{is_name, are_names, endpoint_word, is_interface_word, is_method_word, IsHexWord}
 
 -- what is behind the first of two equal lists
 abbrev rest : {A : Type 0} → List A → List A

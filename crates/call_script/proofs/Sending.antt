@@ -10,8 +10,8 @@ use Rattle.call_script.specs.declared.script.Command.{Command}
 use Rattle.call_script.specs.declared.script.Command.TheVariants as commands
 use Rattle.call_script.specs.declared.script.Line.{Line}
 use Rattle.call_script.specs.declared.script.Script.{Script}
-use Rattle.call_script.specs.Pieces.{Place, Outside, behind, line_words, onto, parts_words, pieces, text_lines, text_words, without_empty_last, words_at}
-use Rattle.call_script.specs.Letters.{are_names, hex_word, is_name}
+use Rattle.script_words.specs.Pieces.{Place, Outside, behind, line_words, onto, parts_words, pieces, text_lines, text_words, without_empty_last, words_at}
+use Rattle.script_words.specs.Letters.{are_names, hex_word, is_name}
 use Rattle.call_script.specs.Forms.{Form, Join, Of, Pipe, Mint, Bind, Associate, Attach, Call, Take, Answer, Raw, CloseToken, CloseEndpoint}
 use Rattle.call_script.specs.Forms.{IsForm, form_words}
 use Rattle.call_script.specs.Script.{AreNamed, AreScript, AreTaken, Asks, IsTaken, Part, OfLine, OfReply, lines_in}

@@ -9,7 +9,7 @@ use Rattle.indexmap.specs.IndexMap.{get_by_text, index_map_len}
 use Rattle.call_script.specs.declared.name_table.NameTable.{NameTable}
 use Rattle.call_script.specs.declared.name_table.Scope.{Scope}
 use Rattle.call_script.specs.declared.script.NameId.{NameId}
-use Rattle.call_script.specs.Letters.{own_word}
+use Rattle.script_words.specs.Letters.{own_word}
 use Rattle.call_script.specs.Script.{has_name, doubled, meant, IsNamed, AreNamed}
 use Rattle.call_script.specs.steps.Names.{IsTable, AddsOwn, Spares, HasAt, HasNone, FindsAt, FindsNone}
 use Rattle.std.proofs.lemmas.List.{map-append}

@@ -5,11 +5,11 @@ use Rattle.std.specs.List.{list_all, flat_map}
 use Rattle.std.specs.Option.{option_map_or}
 use Rattle.std.specs.Str.{IsAscii}
 use Rattle.std.proofs.lemmas.Bool.Decides.{nat_tests}
-use Rattle.call_script.specs.Letters.{is_identifier, is_interface_word, is_method_word, is_letter, is_first_letter, is_digit, is_small_letter}
-use Rattle.call_script.specs.Pieces.{pieces}
+use Rattle.script_words.specs.Letters.{is_identifier, is_interface_word, is_method_word, is_letter, is_first_letter, is_digit, is_small_letter}
+use Rattle.script_words.specs.Pieces.{pieces}
 use Rattle.call_script.specs.Targets.{last_dot, split_word}
 use Rattle.call_script.proofs.NameBytes.{letter_small}
-use Rattle.call_script.proofs.Splits.{both, joined, joined_pieces}
+use Rattle.script_words.proofs.Splits.{both, joined, joined_pieces}
 
 -- a byte below 128
 abbrev is_small : ℕ → Bool

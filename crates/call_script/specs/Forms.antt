@@ -6,7 +6,7 @@ use Rattle.handle_table.specs.declared.thing.TokenSort.TheVariants.{SharedBuffer
 use Rattle.wire_encoder.specs.declared.endpoint.EndpointSide.{EndpointSide}
 use Rattle.wire_encoder.specs.declared.endpoint.EndpointSide.TheVariants.{Remote, Receiver}
 use Rattle.call_script.specs.declared.script.TheConstants.{MAX_SEQUENCES}
-use Rattle.call_script.specs.Letters.{endpoint_word, own_word, is_name, are_names, is_interface_word, is_method_word, IsHexWord}
+use Rattle.script_words.specs.Letters.{endpoint_word, own_word, is_name, are_names, is_interface_word, is_method_word, IsHexWord}
 
 -- what a sequence is told to do
 pub data Said : Type 0 where

@@ -1,5 +1,3 @@
-pub mod Pieces
-pub mod Letters
 pub mod Targets
 pub mod Forms
 pub mod Script

@@ -27,9 +27,9 @@ use Rattle.call_script.specs.declared.script.Line.{Line}
 use Rattle.call_script.specs.declared.script.Script.{Script}
 use Rattle.call_script.specs.declared.script_error.LineRefusal.{LineRefusal}
 use Rattle.call_script.specs.declared.script_error.LineRefusal.TheVariants.{BadLine, DoubleName, UnknownName, BadValue, TooManyLines}
-use Rattle.call_script.specs.Pieces.{text_words}
+use Rattle.script_words.specs.Pieces.{text_words}
 use Rattle.call_script.specs.Targets.{message_named}
-use Rattle.call_script.specs.Letters.{own_word, IsHexOf}
+use Rattle.script_words.specs.Letters.{own_word, IsHexOf}
 use Rattle.call_script.specs.Forms.{Form, Join, Auto, Of, Pipe, Mint, Bind, Associate, Attach, Call, Take, Answer, Raw, CloseToken, CloseEndpoint}
 use Rattle.call_script.specs.Forms.{form_words, header_words, AreSequences, IsForm, sequences, AreThere, is_setup, sets, sets_own, answers, needs}
 

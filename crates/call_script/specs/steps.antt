@@ -1,5 +1,4 @@
 -- Definitions that serve proofs alone: no public clause cites them.
-pub mod Pieces
 pub mod Numbers
 pub mod Forms
 pub mod Names

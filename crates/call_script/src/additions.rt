@@ -2,7 +2,7 @@
 
 ghost use Rattle.std.specs.Prelude.{◌≡◌, ◌<◌, ◌^◌, true};
 ghost use Rattle.call_script.specs.Forms.{Auto, IsForm};
-ghost use Rattle.call_script.specs.Letters.{is_method_word};
+ghost use Rattle.script_words.specs.Letters.{is_method_word};
 ghost use Rattle.call_script.specs.steps.Forms.{form_view};
 ghost use Rattle.call_script.specs.steps.Interfaces.{IsIndexed};
 ghost use Rattle.call_script.specs.steps.Commands.{Replies, Parts};

@@ -5,7 +5,7 @@ ghost use Rattle.std.specs.List.{range_with_len};
 ghost use Rattle.wire_encoder.specs.Prepared.{parameters_of};
 ghost use Rattle.call_script.specs.declared.script.NameId.{NameId};
 ghost use Rattle.call_script.specs.Forms.{Bind, Associate, Attach, Call, Take, Answer, Raw, CloseToken, CloseEndpoint, IsSaid};
-ghost use Rattle.call_script.specs.Letters.{is_name, are_names, is_interface_word, is_method_word, IsHexWord};
+ghost use Rattle.script_words.specs.Letters.{is_name, are_names, is_interface_word, is_method_word, IsHexWord};
 ghost use Rattle.call_script.specs.steps.Forms.{said_view};
 ghost use Rattle.call_script.specs.steps.Interfaces.{IsIndexed};
 ghost use Rattle.call_script.specs.steps.Commands.{FindsAll, Named, AllNamed, StopsFor, Values, Says};

@@ -1,14 +1,16 @@
 //! The forms of a script's lines, with names, interfaces, methods and values as words.
 
 ghost use Rattle.std.specs.Prelude.{◌≡◌, ◌&&◌, ◌∷◌, ◌++◌, IfOk, map, codes, decimal};
-ghost use Rattle.call_script.specs.Letters.{is_name, are_names};
+ghost use Rattle.script_words.specs.Letters.{is_name, are_names};
 ghost use Rattle.call_script.specs.steps.Forms.{SpellsForm, SpellsBehind, SpellsSaid, SpellsOf, SpellsSequence, SpellsSort};
 ghost use Rattle.call_script.specs.steps.Forms.{SpellsSide};
 
-use crate::few_words::{first_word, four_words, one_word, three_words, two_words};
-use crate::letters::{are_names, is_interface_word, is_method_word, is_name};
 use crate::numbers::{endpoint, hex_bytes, number};
 use handle_table::TokenSort;
+use script_words::{
+    are_names, first_word, four_words, is_interface_word, is_method_word, is_name, one_word,
+    three_words, two_words,
+};
 use std::alloc::{AllocError, Global};
 use wire_encoder::EndpointSide;
 

@@ -4,7 +4,7 @@ ghost use Rattle.std.specs.Prelude.{◌≡◌, ◌<◌, ◌^◌, ℕ, List, true
 ghost use Rattle.mj_schema.specs.declared.schema.Schema.{Schema};
 ghost use Rattle.call_script.specs.declared.script.Script.{Script};
 ghost use Rattle.call_script.specs.declared.script_error.LineRefusal.{LineRefusal};
-ghost use Rattle.call_script.specs.Letters.{is_name, own_word};
+ghost use Rattle.script_words.specs.Letters.{is_name, own_word};
 ghost use Rattle.call_script.specs.Same.{SameScript};
 ghost use Rattle.call_script.specs.Script.{IsScriptOf, IsFirstRefusal};
 

@@ -3,17 +3,14 @@
 
 mod additions;
 mod commands;
-mod few_words;
 mod form;
 mod indexed_schema;
 pub mod laws;
-mod letters;
 mod name_table;
 mod numbers;
 mod reading;
 mod script;
 mod script_error;
-mod split;
 mod targets;
 
 pub use history_reader::{Printed, read_history};

@@ -2,7 +2,7 @@
 
 ghost use Rattle.std.specs.Prelude.{◌≡◌, IfOk, IfSome, IfNone, MatchOption, ◌∷◌, [], map, true};
 ghost use Rattle.std.specs.String.{string_bytes};
-ghost use Rattle.call_script.specs.Letters.{own_word, is_name, are_names, is_method_word};
+ghost use Rattle.script_words.specs.Letters.{own_word, is_name, are_names, is_method_word};
 ghost use Rattle.call_script.specs.steps.Names.{IsTable, Adds, AddsOwn, Spares, HasAt, HasNone, FindsAt, FindsNone};
 
 use crate::script::NameId;

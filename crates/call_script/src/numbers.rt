@@ -5,12 +5,10 @@ ghost use Rattle.hex.specs.declared.error.FromHexError.TheVariants.{OutOfMemory}
 ghost use Rattle.call_script.specs.Forms.{AreSequences};
 ghost use Rattle.call_script.specs.steps.Numbers.{SpellsNumber, SpellsBytes, SpellsCount, SpellsHeader, IsEndpoint, NoEndpoint};
 
-use crate::few_words::two_words;
-use crate::letters::is_name;
 use crate::script::MAX_SEQUENCES;
-use crate::split::split;
 use hex::FromHexError;
 use mj_base::Items;
+use script_words::{is_name, split, two_words};
 use std::alloc::{AllocError, Global};
 
 /// The number that the word spells in decimal, with no sign and no leading zero; none where it spells

@@ -9,7 +9,7 @@ ghost use Rattle.call_script.specs.declared.script_error.ScriptError.TheVariants
 ghost use Rattle.call_script.specs.steps.Commands.{part_view};
 ghost use Rattle.call_script.specs.steps.Forms.{form_view};
 ghost use Rattle.call_script.specs.steps.Interfaces.{IsIndexed};
-ghost use Rattle.call_script.specs.steps.Pieces.{words_now};
+ghost use Rattle.script_words.specs.Words.{words_now};
 ghost use Rattle.call_script.specs.steps.Names.{Adds, Sets};
 ghost use Rattle.call_script.specs.steps.Lines.{Pushes, TakesForm, ReadsOn, AnswersBehind, AnswersAll, error_of};
 
@@ -21,10 +21,10 @@ use crate::name_table::{NameTable, add_all, add_method, add_own, no_names};
 use crate::numbers::sequences_of;
 use crate::script::{AutoReply, Line, Script};
 use crate::script_error::{LineRefusal, ScriptError};
-use crate::split::{Words, text_words};
 use mj_base::Items;
 use mj_base::limits::MAX_SCRIPT_LINES;
 use mj_schema::Schema;
+use script_words::{Words, text_words};
 use std::alloc::{AllocError, Global};
 
 /// What has been read: the names that are set, the methods that are answered by themselves and how, the

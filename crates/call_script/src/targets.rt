@@ -6,7 +6,7 @@ ghost use Rattle.std.specs.Str.{IsAscii};
 ghost use Rattle.wire_encoder.specs.Prepared.{parameters_of};
 ghost use Rattle.call_script.specs.Targets.{methods_of, method_named, target_in, target_named, message_named};
 ghost use Rattle.call_script.specs.Targets.{later_dot, last_dot, split_word, target_between};
-ghost use Rattle.call_script.specs.Letters.{is_method_word};
+ghost use Rattle.script_words.specs.Letters.{is_method_word};
 ghost use Rattle.call_script.specs.steps.Interfaces.{IsIndexed};
 ghost use Rattle.mj_schema.specs.KindTrees.{StructKind};
 

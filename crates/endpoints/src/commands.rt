@@ -5,7 +5,8 @@ ghost use Rattle.bind_model.specs.Plain.{IsOf};
 ghost use Rattle.wire_encoder.specs.Prepared.{HasTarget, IsPrepared};
 
 use crate::held::Held;
-use bind_model::{Asked, Closing, Command, Outgoing, ToClose};
+use bind_model::{Asked, Closing, Command, Outgoing, ResponderId, ToClose};
+use mj_base::EndId;
 use mj_schema::Schema;
 use std::alloc::Global;
 use wire_encoder::{Prepared, prepare};
@@ -46,6 +47,55 @@ fn to_close(held: &mut Held, closing: Closing) -> Option<ToClose> {
     })
 }
 
+/// The call of these parameters with what it needs of what is held; none where they don't fit.
+fn call_of(
+    alloc: Global,
+    schema: &Schema,
+    held: &mut Held,
+    end: EndId,
+    id: u32,
+    outgoing: Outgoing,
+) -> Option<Command>
+    ensures { IfSome result (IsOf schema.now) }
+{
+    let Outgoing {
+        target,
+        parameters,
+        handles,
+        pendings,
+        moment: _,
+    } = outgoing;
+    let sent = prepared(alloc, schema, target, parameters.into_value())?;
+    let handles = held.take_handles(alloc, handles.as_slice());
+    let pendings = held.take_pendings(alloc, pendings.as_slice());
+    Some(Command::Call(end, id, sent, handles, pendings))
+}
+
+/// The answer of these parameters with what it needs of what is held; none where they don't fit or the
+/// responder isn't held.
+fn answer_of(
+    alloc: Global,
+    schema: &Schema,
+    held: &mut Held,
+    id: ResponderId,
+    outgoing: Outgoing,
+) -> Option<Command>
+    ensures { IfSome result (IsOf schema.now) }
+{
+    let Outgoing {
+        target,
+        parameters,
+        handles,
+        pendings,
+        moment: _,
+    } = outgoing;
+    let sent = prepared(alloc, schema, target, parameters.into_value())?;
+    let responder = held.take_responder(id)?;
+    let handles = held.take_handles(alloc, handles.as_slice());
+    let pendings = held.take_pendings(alloc, pendings.as_slice());
+    Some(Command::Answer(responder, sent, handles, pendings))
+}
+
 /// The command that asks this, with what it needs of what is held; none where that isn't held.
 pub fn command_of(alloc: Global, schema: &Schema, held: &mut Held, asked: Asked) -> Option<Command>
     ensures { IfSome result (IsOf schema.now) }
@@ -57,42 +107,8 @@ pub fn command_of(alloc: Global, schema: &Schema, held: &mut Held, asked: Asked)
         Asked::Bind(thing, side, number) => Command::Bind(held.take_handle(thing)?, side, number),
         Asked::Associate(end, side, number) => Command::Associate(end, side, number),
         Asked::Attach(id, on) => Command::Attach(held.take_pending(id)?, on),
-        Asked::Call(end, id, outgoing) => {
-            let Outgoing {
-                target,
-                parameters,
-                handles,
-                pendings,
-                moment: _,
-            } = outgoing;
-            let sent = prepared(alloc, schema, target, parameters.into_value())?;
-            let handles = held.take_handles(alloc, handles.as_slice());
-            Command::Call(
-                end,
-                id,
-                sent,
-                handles,
-                held.take_pendings(alloc, pendings.as_slice()),
-            )
-        }
-        Asked::Answer(id, outgoing) => {
-            let Outgoing {
-                target,
-                parameters,
-                handles,
-                pendings,
-                moment: _,
-            } = outgoing;
-            let sent = prepared(alloc, schema, target, parameters.into_value())?;
-            let responder = held.take_responder(id)?;
-            let handles = held.take_handles(alloc, handles.as_slice());
-            Command::Answer(
-                responder,
-                sent,
-                handles,
-                held.take_pendings(alloc, pendings.as_slice()),
-            )
-        }
+        Asked::Call(end, id, outgoing) => call_of(alloc, schema, held, end, id, outgoing)?,
+        Asked::Answer(id, outgoing) => answer_of(alloc, schema, held, id, outgoing)?,
         Asked::Raw(thing, bytes, handles) => {
             let handle = held.take_handle(thing)?;
             Command::Raw(handle, bytes, held.take_handles(alloc, handles.as_slice()))

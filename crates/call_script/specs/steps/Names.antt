@@ -8,7 +8,7 @@ use Rattle.call_script.specs.declared.name_table.NameTable.{NameTable}
 use Rattle.call_script.specs.declared.name_table.Scope.{Scope}
 use Rattle.call_script.specs.declared.script.NameId.{NameId}
 use Rattle.call_script.specs.Forms.{Form, sets}
-use Rattle.call_script.specs.Letters.{own_word}
+use Rattle.script_words.specs.Letters.{own_word}
 use Rattle.call_script.specs.Script.{doubled, sets_again, has_name, meant, is_set, IsNamed}
 
 -- the number of the first of these that is this name

@@ -1,6 +1,6 @@
 -- What the readers of numbers, bytes and endpoints answer.
 use Rattle.std.specs.Prelude.{ℕ, ◌≡◌, ◌<◌, ◌^◌, true, List, decimal, Option, Some, None}
-use Rattle.call_script.specs.Letters.{endpoint_word, is_name, IsHexOf, IsHexWord}
+use Rattle.script_words.specs.Letters.{endpoint_word, is_name, IsHexOf, IsHexWord}
 use Rattle.call_script.specs.Forms.{AreSequences, header_words}
 
 -- the number of this spelling, where there is one below 2 ^ 32

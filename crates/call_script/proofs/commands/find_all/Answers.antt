@@ -1,7 +1,7 @@
 use Rattle.std.proofs.Common.{[], ◌++◌}
-use Rattle.call_script.specs.Letters.{is_name}
+use Rattle.script_words.specs.Letters.{is_name}
 use Rattle.call_script.specs.Script.{meant, is_set}
-use Rattle.call_script.proofs.Slices.{all_at, words_more, words_around}
+use Rattle.script_words.proofs.Slices.{all_at, words_more, words_around}
 use Rattle.call_script.proofs.TableLemmas.{all_more, not_all, meant_more}
 use Rattle.call_script.proofs.commands.find_all.Goals as goal
 

@@ -1,7 +1,7 @@
 use Rattle.std.proofs.Common.{[], take}
 use Rattle.std.specs.Prelude.{map}
-use Rattle.call_script.specs.Letters.{is_name}
-use Rattle.call_script.proofs.Slices.{all_at, words_more, words_around}
+use Rattle.script_words.specs.Letters.{is_name}
+use Rattle.script_words.proofs.Slices.{all_at, words_more, words_around}
 use Rattle.call_script.proofs.TableLemmas.{add_next, add_fails}
 use Rattle.call_script.proofs.name_table.add_all.Goals as goal
 

@@ -1,7 +1,7 @@
 use Rattle.std.proofs.Common.{[], ◌∙◌, ap, take}
 use Rattle.std.specs.Prelude.{map}
-use Rattle.call_script.specs.Letters.{is_name, own_word}
-use Rattle.call_script.proofs.Slices.{all_at, words_more, words_around}
+use Rattle.script_words.specs.Letters.{is_name, own_word}
+use Rattle.script_words.proofs.Slices.{all_at, words_more, words_around}
 use Rattle.call_script.proofs.TableLemmas.{own_next, own_fails}
 use Rattle.call_script.proofs.name_table.add_with.Goals as goal
 

@@ -1,6 +1,6 @@
 use Rattle.std.proofs.Common.{◌≡◌, ◌++◌, ℕ, List, take, false}
 use Rattle.std.specs.Prelude.{map}
-use Rattle.call_script.specs.Letters.{own_word}
+use Rattle.script_words.specs.Letters.{own_word}
 use Rattle.call_script.specs.Script.{doubled}
 use Rattle.call_script.specs.steps.Names.{IsTable}
 use Rattle.call_script.proofs.name_table.add_with.Given as goal

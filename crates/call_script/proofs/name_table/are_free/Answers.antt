@@ -1,8 +1,8 @@
 use Rattle.std.proofs.Common.{[], sym, ◌∙◌, ap}
 use Rattle.std.specs.Prelude.{not}
-use Rattle.call_script.specs.Letters.{is_name}
+use Rattle.script_words.specs.Letters.{is_name}
 use Rattle.call_script.specs.Script.{has_name}
-use Rattle.call_script.proofs.Slices.{all_at, words_more, words_around}
+use Rattle.script_words.proofs.Slices.{all_at, words_more, words_around}
 use Rattle.call_script.proofs.NameLemmas.{has_none, has_some}
 use Rattle.call_script.proofs.TableLemmas.{any_more, any_at}
 use Rattle.call_script.proofs.name_table.are_free.Goals as goal

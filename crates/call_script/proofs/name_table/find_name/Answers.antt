@@ -1,5 +1,5 @@
 use Rattle.std.proofs.Common.{◌∙◌, ap}
-use Rattle.call_script.specs.Letters.{own_word}
+use Rattle.script_words.specs.Letters.{own_word}
 use Rattle.call_script.proofs.TableLemmas.{finds_join, finds_either}
 use Rattle.call_script.proofs.name_table.find_name.Goals as goal
 

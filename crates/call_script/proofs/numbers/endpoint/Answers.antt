@@ -1,6 +1,6 @@
 use Rattle.std.proofs.Common.{◌∙◌, sym, arith}
 use Rattle.call_script.proofs.Endpoints.{no_parts, no_name, no_number, word_is}
-use Rattle.call_script.proofs.Slices.{parts_are}
+use Rattle.script_words.proofs.Slices.{parts_are}
 use Rattle.call_script.proofs.numbers.endpoint.Goals as goal
 
 pub returns-in_default : goal.returns-in_default

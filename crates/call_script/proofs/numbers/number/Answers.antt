@@ -3,7 +3,7 @@ use Rattle.std.specs.Prelude.{decimal}
 use Rattle.std.proofs.lemmas.Fmt.{parse-decimal, IsAscii-decimal}
 use Rattle.std.proofs.lemmas.Str.{IsUtf8-from_ascii}
 use Rattle.std.specs.Str.{IsAscii}
-use Rattle.call_script.proofs.Parts.{never_false}
+use Rattle.script_words.proofs.Parts.{never_false}
 use Rattle.call_script.proofs.numbers.number.Goals as goal
 
 pub returns-in-Ok-parse : goal.returns-in-Ok-parse

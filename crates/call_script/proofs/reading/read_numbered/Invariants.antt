@@ -1,6 +1,6 @@
 use Rattle.std.proofs.Common.{take}
 use Rattle.std.specs.Prelude.{map}
-use Rattle.call_script.specs.steps.Pieces.{words_now}
+use Rattle.script_words.specs.Words.{words_now}
 use Rattle.call_script.proofs.LoopLemmas.{IsAt}
 use Rattle.call_script.proofs.reading.read_numbered.Given as goal
 

@@ -1,5 +1,5 @@
 use Rattle.std.specs.Prelude.{length, map}
-use Rattle.call_script.specs.steps.Pieces.{words_now}
+use Rattle.script_words.specs.Words.{words_now}
 use Rattle.call_script.proofs.Sending.{text_letters}
 use Rattle.call_script.proofs.SoundLemmas.{read_sound}
 use Rattle.call_script.proofs.reading.read_script.Goals as goal

@@ -1,7 +1,0 @@
-use Rattle.std.proofs.Common.{◌≡◌, ℕ, List, Bor, take, true}
-use Rattle.std.specs.List.{list_all}
-use Rattle.call_script.specs.Letters.{is_identifier}
-use Rattle.call_script.proofs.letters.are_identifiers.Given as goal
-
-abbrev pub invariant-loop-word : goal.invariant-loop-word
-invariant-loop-word l = list_all (λ (word : Bor (List ℕ)). is_identifier word.now) (take l.word-index l.words) ≡ true

@@ -1,8 +1,0 @@
-use Rattle.std.proofs.Common.{◌≡◌, take}
-use Rattle.std.specs.Prelude.{map}
-use Rattle.call_script.specs.Pieces.{line_words}
-use Rattle.call_script.specs.steps.Pieces.{words_now}
-use Rattle.call_script.proofs.split.split_each.Given as goal
-
-abbrev pub invariant-loop-line : goal.invariant-loop-line
-invariant-loop-line l = map words_now l.each.items ≡ map line_words (map (λ line. line.now) (take l.line-index l.lines))

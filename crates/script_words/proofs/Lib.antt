@@ -1,0 +1,4 @@
+pub mod Slices
+pub mod Splits
+pub mod LineWords
+pub mod Parts
