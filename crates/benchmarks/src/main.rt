@@ -1,8 +1,9 @@
-//! Times the packing of structs, the reading and printing of files, their check, messages, and runs, in
-//! processor time.
+//! Times the packing of structs, the reading and printing of files, their check, messages, data pipes, and runs,
+//! in processor time.
 #![tactic(auto)]
 
 mod checking;
+mod data;
 mod packing;
 mod reading;
 mod running;
@@ -20,6 +21,7 @@ fn run<R: Print + Env + AllocGlobal + CpuClock>(rt: &R) -> io::Result<()> {
     for what in env::args(rt)?.skip(1) {
         match what.as_str() {
             "checking" => return checking::time_all(rt),
+            "data" => return data::time_all(rt),
             "packing" => return packing::time_all(rt),
             "reading" => return reading::time_all(rt),
             "wire" => return wire::time_all(rt),
@@ -27,7 +29,7 @@ fn run<R: Print + Env + AllocGlobal + CpuClock>(rt: &R) -> io::Result<()> {
             _ => {}
         }
     }
-    println!(rt; "usage: benchmarks packing | reading | checking | wire | run")
+    println!(rt; "usage: benchmarks packing | reading | checking | wire | data | run")
 }
 
 fn main(rt: HostRuntime) -> io::Result<()> {

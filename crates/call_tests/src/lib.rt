@@ -5,6 +5,8 @@
 #[cfg(test)]
 mod base_tests;
 #[cfg(test)]
+mod data_tests;
+#[cfg(test)]
 mod handle_tests;
 #[cfg(test)]
 mod header_tests;
