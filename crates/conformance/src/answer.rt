@@ -34,7 +34,15 @@ pub fn run<R: Wait + Threads + Sync>(
     let mut files = MemoryFiles::new(files, failing.fetches);
     let mut out = MemorySink::new(alloc, MOST_AT_ONCE, failing.out);
     let mut err = MemorySink::new(alloc, MOST_AT_ONCE, failing.err);
-    let status = mojo_tool::mojo_main(rt, alloc, words, &mut files, &mut out, &mut err, &OpenGate);
+    let status = mojo_tool::mojo_main(
+        rt,
+        alloc,
+        words,
+        &mut files,
+        &mut out,
+        &mut err,
+        &OpenGate::new(),
+    );
     Ok(Answer {
         status,
         out: out.text().to_vec(alloc)?,

@@ -112,7 +112,7 @@ fn standard_output(rt: HostRuntime) {
 
 #[test]
 fn the_open_gate_does_nothing(_rt: HostRuntime) {
-    let gate = OpenGate;
+    let mut gate = OpenGate::new();
     gate.before(SeqId(0), 0);
     gate.after(SeqId(0), 0);
 }

@@ -37,7 +37,7 @@ fn main(rt: HostRuntime) -> ExitCode {
         &mut files,
         &mut out,
         &mut err,
-        &OpenGate,
+        &OpenGate::new(),
     );
     ExitCode::from(status)
 }

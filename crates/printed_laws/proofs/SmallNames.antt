@@ -33,9 +33,10 @@ use Rattle.history_reader.specs.Printable.{IsEnd, IsThing, IsPending, AreAll, Ar
 use Rattle.printed_laws.proofs.SmallLists.{all_dropped, all_filtered, all_taken, If, if_then, if_map, if_found, if_got}
 use Rattle.printed_laws.proofs.SmallSaid.{IsSmallAsked, IsSmallEvent, IsSmallOut, IsSmallResponder, IsSmallTold}
 use Rattle.printed_laws.proofs.SmallScript.{IsSmallCommand, IsSmallLine, IsSmallReply}
-use Rattle.script_run.specs.Autos.{Due, replies_to, due_for, due, lines_done, line_at}
-use Rattle.script_run.specs.Names.{Named, came, came_to, handles_spent, has_name, is_seq, joined, joined_after, joint_end, joins_to, named, named_after, or_before, pendings_handed, pendings_named, pendings_spent, responders_named, responders_spent, set_by, spent_by, then_held, things_named, unnamed}
-use Rattle.script_run.specs.OfScript.{Next, all_held, as_end, asked_by, asked_for, closed_of, joins_by, names_of, next_join, next_of, next_take, or_skip, outgoing, raw_with, replied, reply_first, reply_or, sent_with}
+use Rattle.script_names.specs.Autos.{Due, replies_to, due_for, due, lines_done, line_at}
+use Rattle.script_names.specs.Names.{Named, came, came_to, handles_spent, has_name, is_seq, joined, joined_after, joint_end, joins_to, named, named_after, or_before, pendings_handed, pendings_named, pendings_spent, responders_named, responders_spent, set_by, spent_by, then_held, things_named, unnamed}
+use Rattle.script_run.specs.OfScript.{Next, joins_by, names_of, next_join, next_of, next_take, replied, reply_first, reply_or}
+use Rattle.script_names.specs.Asking.{all_held, as_end, asked_by, asked_for, closed_of, or_skip, outgoing, raw_with, sent_with}
 use Rattle.script_run.specs.Order.{is_join, is_own, joins_of, lines_of}
 
 -- ## What is held under names

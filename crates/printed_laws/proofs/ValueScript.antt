@@ -45,10 +45,12 @@ use Rattle.call_script.specs.declared.script.Command.{Command}
 use Rattle.call_script.specs.declared.script.Command.TheVariants as commands
 use Rattle.call_script.specs.declared.script.Line.{Line}
 use Rattle.call_script.specs.declared.script.Script.{Script}
-use Rattle.script_run.specs.Autos.{Due, due, line_at, lines_done}
-use Rattle.script_run.specs.Names.{Named, has_name, pendings_named, things_named, unnamed}
-use Rattle.script_run.specs.OfScript.{Next, GoesOn, PastOfScript, all_held, as_end, asked_by, asked_for, closed_of, joins_by, names_of, next_join, next_of, next_take}
-use Rattle.script_run.specs.OfScript.{or_skip, outgoing, replied, reply_first, reply_or}
+use Rattle.script_names.specs.Autos.{Due, due, line_at, lines_done}
+use Rattle.script_names.specs.Names.{Named, has_name, pendings_named, things_named, unnamed}
+use Rattle.script_run.specs.OfScript.{Next, GoesOn, PastOfScript, joins_by, names_of, next_join, next_of, next_take}
+use Rattle.script_names.specs.Asking.{all_held, as_end, asked_by, asked_for, closed_of}
+use Rattle.script_run.specs.OfScript.{replied, reply_first, reply_or}
+use Rattle.script_names.specs.Asking.{or_skip, outgoing}
 use Rattle.script_run.specs.Order.{is_join, is_own, joins_of, lines_of}
 use Rattle.printed_laws.proofs.OwnEvents.{MiddleAsks, newest, rest_asks}
 use Rattle.printed_laws.proofs.ValueBytes.{of_message, of_value}

@@ -11,7 +11,7 @@ use Rattle.bind_model.specs.declared.endpoint.ResponderId.{ResponderId}
 use Rattle.bind_model.specs.declared.event.Event.{Event}
 use Rattle.call_script.specs.declared.script.AutoReply.{AutoReply}
 use Rattle.call_script.specs.declared.script.Script.{Script}
-use Rattle.script_run.specs.Autos.{Due, due, due_for, lines_done, replies_to}
+use Rattle.script_names.specs.Autos.{Due, due, due_for, lines_done, replies_to}
 use Rattle.script_run.specs.Order.{InTurns, drawn, due_first, has_left, next_drawn, sequences, turn, with_lines}
 
 -- ## Lists

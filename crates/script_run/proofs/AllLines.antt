@@ -23,26 +23,23 @@ use Rattle.call_script.specs.declared.script.NameId.{NameId}
 use Rattle.call_script.specs.declared.script.Script.{Script}
 use Rattle.remote_receiver.specs.Notes.{Follows, HasKept, Kept}
 use Rattle.remote_receiver.specs.Stepped.{Step}
-use Rattle.script_run.specs.Autos.{Due, due, due_for, line_at, lines_done}
-use Rattle.script_run.specs.Names.{Named, joined, named_after, pendings_handed, responders_named, then_held}
-use Rattle.script_run.specs.OfScript.{asked_by, names_of, next_of, replied, reply_first}
+use Rattle.script_names.specs.Autos.{Due, due, due_for, line_at, lines_done}
+use Rattle.script_names.specs.Names.{Named, joined, named_after, pendings_handed, responders_named, then_held}
+use Rattle.script_run.specs.OfScript.{names_of, next_of, replied, reply_first}
+use Rattle.script_names.specs.Asking.{asked_by}
 use Rattle.script_run.specs.Order.{is_own, joins_of, lines_of}
 use Rattle.script_run.specs.declared.plain.Plain.{Plain}
 use Rattle.script_run.specs.AtDesk.{AnswersZero, SameDesk, Seen, step_by}
-use Rattle.script_run.specs.steps.Desks.{DidLine, Replied, due_by}
-use Rattle.script_run.specs.Working.{DidAll}
-use Rattle.script_run.specs.steps.Working.{DidOwn, HasWorked}
-use Rattle.script_run.proofs.LineNames.{same_named}
+use Rattle.script_run.specs.steps.Desks.{CameTo, DidLine, Replied, answered_it, asked_it, due_by, stood}
+use Rattle.script_run.specs.Working.{DidAll, DidSome}
+use Rattle.script_run.specs.steps.Working.{DidOwn, HasWorked, steps_by}
+use Rattle.script_names.proofs.LineNames.{same_named}
 
 -- ## Of a list what passes
 
-abbrev one_if : Bool → ℕ
-one_if true = 1
-one_if false = 0
-
 module _ {A : Type 0} (p : A → Bool) where
   -- one that passes stands behind those before it that do
-  own_at : (xs : List A) (k : ℕ) (x : A) → slice_get xs k ≡ Some x → p x ≡ true → slice_get (filter p xs) (length (filter p (take k xs))) ≡ Some x
+  pub own_at : (xs : List A) (k : ℕ) (x : A) → slice_get xs k ≡ Some x → p x ≡ true → slice_get (filter p xs) (length (filter p (take k xs))) ≡ Some x
   own_at [] k x e passes = absurd cc
   own_at (y ∷ xs) zero x e passes =
       let same : y ≡ x = cc in
@@ -56,28 +53,28 @@ module _ {A : Type 0} (p : A → Bool) where
       go false h = h
 
   count_suc : (xs : List A) (k : ℕ) (x : A) → slice_get xs k ≡ Some x
-      → length (filter p (take (suc k) xs)) ≡ length (filter p (take k xs)) + one_if (p x)
+      → length (filter p (take (suc k) xs)) ≡ length (filter p (take k xs)) + steps_by (p x)
   count_suc [] k x e = absurd cc
   count_suc (y ∷ xs) zero x e = let same : y ≡ x = cc in ap (λ (z : A). length (cond (p z) (z ∷ []) [])) same ∙ go (p x)
     where
-      go : (b : Bool) → length (cond b (x ∷ []) []) ≡ 0 + one_if b
+      go : (b : Bool) → length (cond b (x ∷ []) []) ≡ 0 + steps_by b
       go true = omega arith
       go false = omega arith
   count_suc (y ∷ xs) (suc k) x e = go (p y) (length (filter p (take (suc k) xs))) (length (filter p (take k xs))) refl refl (count_suc xs k x e)
     where
       go : (b : Bool) (m n : ℕ) → m ≡ length (filter p (take (suc k) xs)) → n ≡ length (filter p (take k xs))
-          → length (filter p (take (suc k) xs)) ≡ length (filter p (take k xs)) + one_if (p x)
+          → length (filter p (take (suc k) xs)) ≡ length (filter p (take k xs)) + steps_by (p x)
           → length (cond b (y ∷ filter p (take (suc k) xs)) (filter p (take (suc k) xs)))
-          ≡ length (cond b (y ∷ filter p (take k xs)) (filter p (take k xs))) + one_if (p x)
+          ≡ length (cond b (y ∷ filter p (take k xs)) (filter p (take k xs))) + steps_by (p x)
       go true m n f g h = omega (arith, h)
       go false m n f g h = h
 
   -- how many pass with one more
-  count_more : (xs : List A) (k : ℕ) (x : A) (b : Bool) → slice_get xs k ≡ Some x → p x ≡ b
-      → length (filter p (take (k + 1) xs)) ≡ length (filter p (take k xs)) + one_if b
+  pub count_more : (xs : List A) (k : ℕ) (x : A) (b : Bool) → slice_get xs k ≡ Some x → p x ≡ b
+      → length (filter p (take (k + 1) xs)) ≡ length (filter p (take k xs)) + steps_by b
   count_more xs k x b e same =
       ap (λ (n : ℕ). length (filter p (take n xs))) (add-one k)
-      ∙ (count_suc xs k x e ∙ ap (λ (c : Bool). length (filter p (take k xs)) + one_if c) same)
+      ∙ (count_suc xs k x e ∙ ap (λ (c : Bool). length (filter p (take k xs)) + steps_by c) same)
 
 -- ## One event more
 
@@ -146,13 +143,7 @@ module _ (script : Script) (after_joins : List Event) (k : ℕ) (line : Line) (h
     kept = subst (λ (q : Kept Plain). StillKept wire old q own) (sym still.1) worked.kept;
   }
 
-  module _ (mine : is_own me line ≡ true) (did : DidLine script.autos line prior after mid new names names') where
-    abbrev event : Event
-    event = record { seq = me; asked = asked_by names line; told = did.told }
-
-    abbrev found : Option Due
-    found = due wire script.autos (event ∷ own)
-
+  module _ (mine : is_own me line ≡ true) where
     line_is : line_at wire script.autos (lines_of script me) own ≡ Some line
     line_is =
         ap (λ (o : Option Due). if is_some o then None else slice_get (lines_of script me) (lines_done wire script.autos own)) worked.none
@@ -165,6 +156,41 @@ module _ (script : Script) (after_joins : List Event) (k : ℕ) (line : Line) (h
         ∙ (ap (λ (l : Option Line). option_map (asked_by (names_of wire script after_joins me own)) l) line_is
         ∙ ap (λ (n : Named). Some (asked_by n line)) (sym worked.named))
 
+    -- the automatic reply that is due behind it comes next
+    reply_is : (event : Event) (d : Due) → due wire script.autos (event ∷ own) ≡ Some d → next (event ∷ own) ≡ Some (replied d)
+    reply_is event d is = ap (λ (o : Option Due). reply_first o (option_map (asked_by (names_of wire script after_joins me (event ∷ own)))
+        (line_at wire script.autos (lines_of script me) (event ∷ own)))) is
+
+    -- where the line was cut off
+    part : CameTo script.autos (asked_by names line) prior after → DidSome script after_joins prior.schema me first after.events
+    part (stood none) = record { own = own; whole = none.own ∙ (append-nil (own_of me prior.events) ∙ worked.whole); asks = worked.asks }
+    part (asked_it told came) =
+        let event : Event = record { seq = me; asked = asked_by names line; told = told } in
+        record {
+          own = event ∷ own;
+          whole = whole_more (own_of me prior.events) (own_of me after.events) (own_of me first) own event came.own worked.whole;
+          asks = (asks_it, worked.asks);
+        }
+    part (answered_it told d answer is came) =
+        let event : Event = record { seq = me; asked = asked_by names line; told = told } in
+        let reply : Event = record { seq = me; asked = replied d; told = answer } in
+        let before = own_of me prior.events in
+        record {
+          own = reply ∷ event ∷ own;
+          whole =
+              whole_more (before ++ event ∷ []) (own_of me after.events) (own_of me first) (event ∷ own) reply
+              (came.own ∙ sym (append_assoc before (event ∷ []) (reply ∷ [])))
+              (whole_more before (before ++ event ∷ []) (own_of me first) own event refl worked.whole);
+          asks = (reply_is event d is, (asks_it, worked.asks));
+        }
+
+  module _ (mine : is_own me line ≡ true) (did : DidLine script.autos line prior after mid new names names') where
+    abbrev event : Event
+    event = record { seq = me; asked = asked_by names line; told = did.told }
+
+    abbrev found : Option Due
+    found = due wire script.autos (event ∷ own)
+
     done_it : lines_done wire script.autos (event ∷ own) ≡ length (filter (is_own me) (take (k + 1) script.lines))
     done_it =
         ap (λ (o : Option Due). if is_some o then lines_done wire script.autos own else lines_done wire script.autos own + 1) worked.none
@@ -174,7 +200,7 @@ module _ (script : Script) (after_joins : List Event) (k : ℕ) (line : Line) (h
     named_it =
         did.named
         ∙ (ap (named_after wire (Some line) found event) worked.named
-        ∙ sym (ap (λ (l : Option Line). named_after wire l found event (names_of wire script after_joins me own)) line_is))
+        ∙ sym (ap (λ (l : Option Line). named_after wire l found event (names_of wire script after_joins me own)) (line_is mine)))
 
     kept_it : StillKept wire old did.kept (event ∷ own)
     kept_it = kept_more wire old mid did.kept own event did.went.kept worked.kept
@@ -188,7 +214,7 @@ module _ (script : Script) (after_joins : List Event) (k : ℕ) (line : Line) (h
     alone none still = record {
       own = event ∷ own;
       whole = ap (λ (s : Seen). own_of me s.events) still.0 ∙ whole_it;
-      asks = (asks_it, worked.asks);
+      asks = (asks_it mine, worked.asks);
       none = none;
       done = done_it;
       named = named_it;
@@ -212,11 +238,7 @@ module _ (script : Script) (after_joins : List Event) (k : ℕ) (line : Line) (h
           own = reply ∷ event ∷ own;
           whole =
               whole_more (own_of me did.between.events) (own_of me after.events) (own_of me first) (event ∷ own) reply own_reply whole_it;
-          asks = (
-            ap (λ (o : Option Due). reply_first o (option_map (asked_by (names_of wire script after_joins me (event ∷ own)))
-                (line_at wire script.autos (lines_of script me) (event ∷ own)))) is,
-            (asks_it, worked.asks),
-          );
+          asks = (reply_is mine event d is, (asks_it mine, worked.asks));
           none = ap (due_for script.autos me) (none_handed wire answered.0 d);
           done =
               ap (λ (o : Option Due). if is_some o then lines_done wire script.autos (event ∷ own) else lines_done wire script.autos (event ∷ own) + 1) is
@@ -256,6 +278,20 @@ worked_more script after_joins k line here before prior after same old mid new n
     subst (λ (s : Schema). HasWorked script after_joins s before.me before.events after.events old new names' (take (k + 1) script.lines)) same.schema
     (subst (λ (m : SeqId). HasWorked script after_joins prior.schema m before.events after.events old new names' (take (k + 1) script.lines)) same.me
     (own_worked script after_joins k line here prior after before.events old mid new names names' at_prior (is_own prior.me line) refl did))
+
+-- a line that was cut off, seen from where all began
+pub part_more : (script : Script) (after_joins : List Event) (k : ℕ) (line : Line) → slice_get script.lines k ≡ Some line
+    → (before prior after : Seen) → SameDesk before prior → (old mid : Kept Plain) (names : Named)
+    → HasWorked script after_joins before.schema before.me before.events prior.events old mid names (take k script.lines)
+    → is_own prior.me line ≡ true → CameTo script.autos (asked_by names line) prior after
+    → DidSome script after_joins before.schema before.me before.events after.events
+part_more script after_joins k line here before prior after same old mid names worked mine came =
+    let at_prior : HasWorked script after_joins prior.schema prior.me before.events prior.events old mid names (take k script.lines) =
+    subst (λ (s : Schema). HasWorked script after_joins s prior.me before.events prior.events old mid names (take k script.lines)) (sym same.schema)
+    (subst (λ (m : SeqId). HasWorked script after_joins before.schema m before.events prior.events old mid names (take k script.lines)) (sym same.me) worked) in
+    subst (λ (s : Schema). DidSome script after_joins s before.me before.events after.events) same.schema
+    (subst (λ (m : SeqId). DidSome script after_joins prior.schema m before.events after.events) same.me
+    (part script after_joins k line here prior after before.events old mid mid names names at_prior mine came))
 
 -- ## None, and all
 

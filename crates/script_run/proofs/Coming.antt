@@ -23,12 +23,12 @@ use Rattle.call_script.specs.declared.script.NameId.{NameId}
 use Rattle.call_script.specs.declared.script.Script.{Script}
 use Rattle.remote_receiver.specs.Notes.{Kept}
 use Rattle.remote_receiver.specs.declared.rest.Rest.{Rest}
-use Rattle.script_run.specs.Autos.{Due, due, line_at, lines_done}
-use Rattle.script_run.specs.Names.{Named, named_after, pendings_handed, then_held}
+use Rattle.script_names.specs.Autos.{Due, due, line_at, lines_done}
+use Rattle.script_names.specs.Names.{Named, named_after, pendings_handed, then_held}
 use Rattle.script_run.specs.OfScript.{names_of, replied}
 use Rattle.script_run.specs.Order.{lines_of}
 use Rattle.script_run.specs.declared.plain.Plain.{Plain}
-use Rattle.script_run.specs.declared.rooms.Rooms.{Rooms}
+use Rattle.script_names.specs.declared.rooms.Rooms.{Rooms}
 use Rattle.script_run.specs.AtDesk.{Seen}
 use Rattle.script_run.specs.steps.Desks.{Replied, Went, due_by}
 use Rattle.script_run.specs.Draining.{HaveRested, IsCoreOf}

@@ -1,8 +1,9 @@
 -- Turns that are cut off by the number of events, as the desks see it that were woken for them.
-use Rattle.std.proofs.Common.{◌≡◌, inl, inr, List, ◌∙◌, subst}
-use Rattle.std.specs.Prelude.{Some, Result, Ok, Err, IfErr, IsOkUnless, slice_get}
+use Rattle.std.proofs.Common.{◌≡◌, ◌≤◌, inl, inr, List, length, ◌∙◌, subst}
+use Rattle.std.specs.Prelude.{Option, Some, Result, Ok, Err, IfErr, IsOkUnless, slice_get}
 use Rattle.mj_base.specs.declared.ids.EndId.{EndId}
 use Rattle.mj_base.specs.declared.ids.SeqId.{SeqId}
+use Rattle.mj_base.specs.declared.limits.TheConstants.{MAX_EVENTS}
 use Rattle.bind_core.specs.Play.{Play}
 use Rattle.bind_model.specs.Replies.{Legal}
 use Rattle.bind_model.specs.WireOf.{wire_of}
@@ -13,17 +14,17 @@ use Rattle.call_script.specs.declared.script.Line.{Line}
 use Rattle.call_script.specs.declared.script.Script.{Script}
 use Rattle.remote_receiver.specs.Notes.{Kept}
 use Rattle.remote_receiver.specs.declared.rest.Rest.{Rest}
-use Rattle.script_run.specs.OfScript.{asked_by}
+use Rattle.script_names.specs.Asking.{asked_by}
 use Rattle.script_run.specs.declared.cut.Cut.{Cut}
 use Rattle.script_run.specs.declared.cut.Cut.TheVariants as cuts
 use Rattle.script_run.specs.declared.plain.Plain.{Plain}
-use Rattle.script_run.specs.declared.rooms.Rooms.{Rooms}
+use Rattle.script_names.specs.declared.rooms.Rooms.{Rooms}
 use Rattle.script_run.specs.Draining.{IsUnspent}
-use Rattle.script_run.specs.steps.Cutting.{CutJoin, CutLine, CutTake}
-use Rattle.script_run.specs.AtDesk.{Seen}
-use Rattle.script_run.specs.steps.Desks.{CutIn, IfSpent, IsFull}
+use Rattle.script_run.specs.steps.Cutting.{CameTaking, CutJoin, CutLine, CutTake, PartTake}
+use Rattle.script_run.specs.AtDesk.{IsLater, Seen}
+use Rattle.script_run.specs.steps.Desks.{CameTo, CutIn, IfSpent, IsFull}
 use Rattle.script_run.specs.steps.Going.{IsWoken}
-use Rattle.script_run.specs.Held.{names_in}
+use Rattle.script_names.specs.Held.{names_in}
 use Rattle.script_run.specs.steps.Running.{seat_of}
 use Rattle.script_run.proofs.Coming.{at_seat}
 
@@ -62,6 +63,15 @@ module _ (script : Script) (autos : List AutoReply) (core at there after : Play)
   cut_take seq end is cuts.Memory full = tt
   cut_take seq end is cuts.Spent full = record { legal = legal; kept = kept; cut = cut_in (asks.Take end) seq is full }
 
+  -- or how far it came
+  pub part_take : (seq : SeqId) (end : EndId) → IsWoken seq core rests woken at of kept → IsLater (seat_of at of) (seat_of there on)
+      → CameTo autos (asks.Take end) (seat_of at of) (seat_of there on) → PartTake script seq end core after
+  part_take seq end is later came = record {
+    legal = legal;
+    came = (at_seat (CameTaking script end) (λ b a c. c.0.same.me) core at there after seq of on is.core is.seq same
+        (later, subst (λ (all : List AutoReply). CameTo all (asks.Take end) (seat_of at of) (seat_of there on)) by came)).1;
+  }
+
 -- a join's
 pub cut_join : (seq : SeqId) (core at there after : Play) (of on : SeqId) (rests woken : List (Rest Plain)) (kept : Kept Plain) → after ≡ there
     → Legal (wire_of after.schema) after.seqs after.events → IsWoken seq core rests woken at of kept → (cut : Cut)
@@ -77,3 +87,19 @@ pub memory_only : (result : Result (Unit {0}) Cut) (P : Type 0) → IsOkUnless r
 memory_only (Ok done) P only = tt
 memory_only (Err cuts.Memory) P only = tt
 memory_only (Err cuts.Spent) P only = absurd (let none : cuts.Spent ≡ cuts.Memory = only in cc)
+
+-- the history is full where a turn is cut off for it
+pub take_full : (script : Script) (seq : SeqId) (end : EndId) (before after : Play) → CutTake script seq end before after → MAX_EVENTS ≤ length after.events
+take_full script seq end before after cut = go cut.cut
+  where
+    go : CutIn script.autos (asks.Take end) (seat_of before seq) (seat_of after seq) cut.kept → MAX_EVENTS ≤ length after.events
+    go (inl full) = full.full
+    go (inr behind) = behind.full.full
+
+pub spent_full : (cut : Cut) (P Q : Type 0) → IfSpent cut P → (P → Q) → ◌≡◌ {A = Result (Unit {0}) Cut} (Err cut) (Err cuts.Spent) → Q
+spent_full cuts.Memory P Q full f e = absurd cc
+spent_full cuts.Spent P Q full f e = f full
+
+-- a cut is which it is
+pub cut_is : (one other : Cut) → ◌≡◌ {A = Option Cut} (Some one) (Some other) → one ≡ other
+cut_is one other e = cc

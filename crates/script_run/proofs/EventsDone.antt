@@ -23,9 +23,10 @@ use Rattle.event_counts.proofs.Events.{asks_few, brings_few, reply_asks, take_br
 use Rattle.call_script.specs.declared.script.Line.{Line}
 use Rattle.call_script.specs.declared.script.Script.{Script}
 use Rattle.call_script.specs.Sound.{IsLine, IsReply, IsScript, most_ids, most_ids_of}
-use Rattle.script_run.specs.Autos.{Due, due, lines_done}
-use Rattle.script_run.specs.Names.{Named, unnamed}
-use Rattle.script_run.specs.OfScript.{AsksNext, GoesOn, Next, asked_by, joins_by, names_of, next_join, next_of, next_take, outgoing, replied, reply_first, reply_or}
+use Rattle.script_names.specs.Autos.{Due, due, lines_done}
+use Rattle.script_names.specs.Names.{Named, unnamed}
+use Rattle.script_run.specs.OfScript.{AsksNext, GoesOn, Next, joins_by, names_of, next_join, next_of, next_take, replied, reply_first, reply_or}
+use Rattle.script_names.specs.Asking.{asked_by, outgoing}
 use Rattle.script_run.specs.Order.{is_join, is_own, joins_of, lines_of}
 use Rattle.script_run.proofs.DueReplies.{due_in, replies_behind}
 use Rattle.script_run.proofs.LineSends.{Fits, line_fits}

@@ -20,7 +20,7 @@ use Rattle.event_counts.proofs.Takes.{few_settled}
 use Rattle.call_script.specs.declared.script.Line.{Line}
 use Rattle.call_script.specs.declared.script.Script.{Script}
 use Rattle.call_script.specs.Sound.{IsScript, most_ids, most_ids_of}
-use Rattle.script_run.specs.Autos.{lines_done}
+use Rattle.script_names.specs.Autos.{lines_done}
 use Rattle.script_run.specs.OfScript.{AsksNext, GoesOn, IsPart, OfScript, next_join, next_of, next_take}
 use Rattle.script_run.specs.Order.{is_join, joins_of, lines_of}
 use Rattle.script_run.proofs.DueReplies.{behind_few, replies_few}

@@ -22,20 +22,20 @@ use Rattle.call_script.specs.declared.script.Line.{Line}
 use Rattle.call_script.specs.declared.script.NameId.{NameId}
 use Rattle.call_script.specs.declared.script.Script.{Script}
 use Rattle.remote_receiver.specs.declared.rest.Rest.{Rest}
-use Rattle.script_run.specs.Names.{Named, came_to, joined, joined_after, or_before}
+use Rattle.script_names.specs.Names.{Named, came_to, joined, joined_after, or_before}
 use Rattle.script_run.specs.OfScript.{GoesOn, joins_by, next_join}
 use Rattle.script_run.specs.Order.{is_join, joins_of}
 use Rattle.script_run.specs.declared.joins.Joint.{Joint}
 use Rattle.script_run.specs.declared.plain.Plain.{Plain}
-use Rattle.script_run.specs.declared.rooms.Rooms.{Rooms}
+use Rattle.script_names.specs.declared.rooms.Rooms.{Rooms}
 use Rattle.script_run.specs.Draining.{IsCoreOf, past_in}
 use Rattle.script_run.specs.steps.Going.{HasJoined, HaveRooms}
 use Rattle.script_run.specs.steps.Joints.{GaveBoth, HasMade, filled_if, joint_event}
-use Rattle.script_run.specs.Held.{HaveNames, name_of, names_in}
-use Rattle.script_run.specs.Held.{held_at}
-use Rattle.script_run.specs.steps.Tables.{filled}
-use Rattle.script_run.proofs.NameLemmas.{held_given}
-use Rattle.script_run.proofs.TableLemmas.{eqb-turned}
+use Rattle.script_names.specs.Held.{HaveNames, name_of, names_in}
+use Rattle.script_names.specs.Held.{held_at}
+use Rattle.script_names.specs.Tables.{filled}
+use Rattle.script_names.proofs.NameLemmas.{held_given}
+use Rattle.script_names.proofs.TableLemmas.{eqb-turned}
 
 -- ## Names
 

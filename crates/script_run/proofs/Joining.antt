@@ -27,14 +27,14 @@ use Rattle.remote_receiver.specs.Notes.{Kept}
 use Rattle.remote_receiver.specs.declared.rest.Rest.{Rest}
 use Rattle.script_run.specs.declared.joins.Joint.{Joint}
 use Rattle.script_run.specs.declared.plain.Plain.{Plain}
-use Rattle.script_run.specs.declared.rooms.Rooms.{Rooms}
+use Rattle.script_names.specs.declared.rooms.Rooms.{Rooms}
 use Rattle.script_run.specs.AtDesk.{Seen}
 use Rattle.script_run.specs.steps.Desks.{SawAt, Went}
 use Rattle.script_run.specs.Draining.{HaveRested}
 use Rattle.script_run.specs.steps.Going.{IsPutBack, IsWoken}
 use Rattle.script_run.specs.steps.Joints.{Come, Gave, GaveBoth, Joined, Knows, KnowsIf, Spared, filled_if}
-use Rattle.script_run.specs.steps.Rooms.{SameHeld}
-use Rattle.script_run.specs.steps.Tables.{filled}
+use Rattle.script_names.specs.Rooms.{SameHeld}
+use Rattle.script_names.specs.Tables.{filled}
 use Rattle.script_run.proofs.Woken.{grew_went, play_of, rested_again}
 
 -- ## What a join is told

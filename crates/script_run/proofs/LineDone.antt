@@ -1,7 +1,7 @@
 -- What a sequence did once a reply is settled: one event more, what is due then, and what it holds.
 use Rattle.std.proofs.Common.{◌≡◌, ◌≤◌, ℕ, Bool, true, false, List, [], ◌∷◌, ◌++◌, length, refl, sym, ap, ◌∙◌, subst, eq-eqb, true≢false, arith, length-append}
-use Rattle.std.proofs.Common.{Bor, inr}
-use Rattle.std.specs.Prelude.{◌==◌, Option, Some, None, Result, Ok, Err, IfOk, IfErr, IsOkUnless, OnOk, cond, is_err, find, is_some, reverse}
+use Rattle.std.proofs.Common.{Bor, inl, inr}
+use Rattle.std.specs.Prelude.{◌==◌, Option, Some, None, Result, Ok, Err, IfOk, IfErr, IsOkUnless, OnErr, OnOk, cond, is_err, find, is_some, reverse}
 use Rattle.std.specs.List.{AllByRecursion}
 use Rattle.std.specs.Option.{option_copied, option_map}
 use Rattle.std.proofs.lemmas.List.{append-nil}
@@ -36,26 +36,29 @@ use Rattle.call_script.specs.declared.script.AutoReply.{AutoReply}
 use Rattle.call_script.specs.declared.script.Line.{Line}
 use Rattle.call_script.specs.declared.script.NameId.{NameId}
 use Rattle.remote_receiver.specs.Notes.{Kept}
-use Rattle.script_run.specs.Autos.{Due, due_for, replies_to}
-use Rattle.script_run.specs.Names.{Named, named_after}
-use Rattle.script_run.specs.OfScript.{asked_by, outgoing}
+use Rattle.script_names.specs.Autos.{Due, due_for, replies_to}
+use Rattle.script_names.specs.Names.{Named, named_after}
+use Rattle.script_run.specs.OfScript.{replied}
+use Rattle.script_names.specs.Asking.{asked_by, outgoing}
 use Rattle.script_run.specs.declared.cut.Cut.{Cut}
 use Rattle.script_run.specs.declared.cut.Cut.TheVariants as cuts
-use Rattle.script_run.specs.declared.names.Names.{Names}
+use Rattle.script_names.specs.declared.names.Names.{Names}
 use Rattle.script_run.specs.declared.plain.Plain.{Plain}
-use Rattle.script_run.specs.declared.rooms.Rooms.{Rooms}
-use Rattle.script_run.specs.declared.stands.Stands.{Stands}
-use Rattle.script_run.specs.AtDesk.{SameDesk, Seen}
-use Rattle.script_run.specs.steps.Desks.{CutIn, DidCommand, DidLine, DidTake, IfSpent, IsFull, IsFullBehind, Replied, SawAt, Served}
+use Rattle.script_names.specs.declared.rooms.Rooms.{Rooms}
+use Rattle.script_names.specs.declared.stands.Stands.{Stands}
+use Rattle.script_run.specs.AtDesk.{Adds, SameDesk, Seen}
+use Rattle.script_run.specs.steps.Desks.{AtMost, CameTo, CutIn, DidCommand, DidLine, DidTake, IfSpent, IsFull, IsFullBehind, Replied, SawAt, Served}
+use Rattle.script_run.specs.steps.Desks.{answered_it, asked_it}
 use Rattle.script_run.specs.steps.Desks.{TookAt, Went, due_by, reply_of}
-use Rattle.script_run.specs.steps.Needs.{AreNames}
-use Rattle.script_run.specs.Held.{HaveNames, names_in}
-use Rattle.script_run.specs.steps.Rooms.{HasRoomBehind, HasRoomFor, SameHeld}
-use Rattle.script_run.specs.steps.Settling.{EndsWith, LeavesLast, Settles, SpendsAs, TookFor}
-use Rattle.script_run.specs.Held.{held_at}
-use Rattle.script_run.proofs.LineNames.{names_after}
-use Rattle.script_run.proofs.RoomsSettled.{have_same, names_same, settled_since}
-use Rattle.script_run.proofs.WhatIsTold.{room_behind}
+use Rattle.script_names.specs.Needs.{AreNames}
+use Rattle.script_names.specs.Held.{HaveNames, names_in}
+use Rattle.script_names.specs.Rooms.{HasRoomBehind, HasRoomFor, SameHeld}
+use Rattle.script_names.specs.Settling.{EndsWith, LeavesLast, Settles, SpendsAs, TookFor}
+use Rattle.script_names.specs.Held.{held_at}
+use Rattle.script_run.proofs.Later.{adds_then, err_weaker, went_adds, went_most}
+use Rattle.script_names.proofs.LineNames.{names_after}
+use Rattle.script_names.proofs.RoomsSettled.{have_same, names_same, settled_since}
+use Rattle.script_names.proofs.WhatIsTold.{room_behind}
 
 -- ## One event
 
@@ -340,6 +343,25 @@ answer_done reply before after old new responder copied handles pendings told ot
       (same_sent copied reply.prepared handles pendings targets values none bare) went),
 )
 
+-- or at least so much of it, where the result is one of want of memory
+pub answer_came : {A : Type 0} (result : Result A Cut) (reply : AutoReply) (before after : Seen) (old new : Kept Plain) (responder : ResponderId)
+    (copied : Prepared) (handles : List Thing) (pendings : List Half) (told : Told) (others : List ResponderId) → EndsWith responder others
+    → copied.target ≡ reply.prepared.target → view copied.value ≡ view reply.prepared.value → handles ≡ [] → pendings ≡ []
+    → Went before after old new (asks.Answer responder (outgoing_of copied handles pendings)) told
+    → OnErr result ((r : ResponderId) → EndsWith r others → AtMost (replied (r, reply)) before after)
+answer_came (Ok x) reply before after old new responder copied handles pendings told others mine targets values none bare went = tt
+answer_came (Err e) reply before after old new responder copied handles pendings told others mine targets values none bare went = λ r last.
+    let sent = answer_done reply before after old new responder copied handles pendings told others mine targets values none bare went r last in
+    inr (sent.0, went_adds before after old new (replied (r, reply)) sent.0 sent.1)
+
+-- what a line's command asked came
+pub command_came : {A : Type 0} (result : Result A Cut) (before after : Seen) (old new : Kept Plain) (command : Command) (told : Told)
+    → Went before after old new (asked_of command) told → (line : Line) (start first : Rooms) → SameHeld start first
+    → asked_of command ≡ asked_by (names_in first) line → OnErr result (AtMost (asked_by (names_in start) line) before after)
+command_came result before after old new command told went line start first held asked =
+    let is : asked_of command ≡ asked_by (names_in start) line = asked ∙ ap (λ (n : Named). asked_by n line) (names_same start first held) in
+    subst (λ (a : Asked). OnErr result (AtMost a before after)) is (went_most result before after old new (asked_of command) told went)
+
 -- behind what was asked
 module _ (autos : List AutoReply) (before mid : Seen) (asked : Asked) (told : Told) (reply : AutoReply) (others : List ResponderId) (same : SameDesk before mid)
     (found : Some reply ≡ reply_of (due_by before.schema autos before.me asked told))
@@ -361,6 +383,23 @@ module _ (autos : List AutoReply) (before mid : Seen) (asked : Asked) (told : To
       → Replied (due_by before.schema autos before.me asked told) mid after kept new
   replied_is after kept new answered =
       subst (λ (o : Option Due). Replied o mid after kept new) (sym due_is_it.1) (answered due_is_it.0 (last (due_is_it.0, reply) due_is_it.1))
+
+  -- how far it came that was to answer
+  pub came_behind : {A : Type 0} (result : Result A Cut) (after : Seen) (old kept : Kept Plain) → Went before mid old kept asked told
+      → OnErr result ((r : ResponderId) → EndsWith r others → AtMost (replied (r, reply)) mid after) → OnErr result (CameTo autos asked before after)
+  came_behind result after old kept went = err_weaker result (λ came. go (came due_is_it.0 (last (due_is_it.0, reply) due_is_it.1)))
+    where
+      event : Event
+      event = record { seq = before.me; asked = asked; told = told }
+
+      then : (ys : List Event) → Adds mid after ys → Adds before after (event ∷ ys)
+      then ys adds = adds_then before mid after (event ∷ []) ys same.me same.alone (went_adds before mid old kept asked told went) adds
+
+      go : AtMost (replied (due_is_it.0, reply)) mid after → CameTo autos asked before after
+      go (inl none) = asked_it told (then [] none)
+      go (inr came) = answered_it told (due_is_it.0, reply) came.0 due_is_it.1
+          (subst (λ (s : SeqId). Adds before after (event ∷ record { seq = s; asked = replied (due_is_it.0, reply); told = came.0 } ∷ [])) same.me
+          (then (record { seq = mid.me; asked = replied (due_is_it.0, reply); told = came.0 } ∷ []) came.1))
 
   pub full_behind : (after : Seen) (old kept : Kept Plain) → Went before mid old kept asked told → IsFull mid after → IsFullBehind autos asked before after old
   full_behind after old kept went full = record {

@@ -18,18 +18,19 @@ use Rattle.call_script.specs.declared.script.Line.{Line}
 use Rattle.call_script.specs.declared.script.Script.{Script}
 use Rattle.remote_receiver.specs.Notes.{Kept}
 use Rattle.remote_receiver.specs.declared.rest.Rest.{Rest}
-use Rattle.script_run.specs.Autos.{due, line_at}
-use Rattle.script_run.specs.Names.{Named, named_after}
-use Rattle.script_run.specs.OfScript.{AsksNext, asked_by, names_of, next_of, reply_first}
+use Rattle.script_names.specs.Autos.{due, line_at}
+use Rattle.script_names.specs.Names.{Named, named_after}
+use Rattle.script_run.specs.OfScript.{AsksNext, names_of, next_of, reply_first}
+use Rattle.script_names.specs.Asking.{asked_by}
 use Rattle.script_run.specs.Order.{InTurns, lines_of, turn}
 use Rattle.script_run.specs.declared.plain.Plain.{Plain}
-use Rattle.script_run.specs.declared.rooms.Rooms.{Rooms}
+use Rattle.script_names.specs.declared.rooms.Rooms.{Rooms}
 use Rattle.script_run.specs.AtDesk.{Seen}
 use Rattle.script_run.specs.steps.Desks.{DidLine, due_by}
 use Rattle.script_run.specs.Draining.{past_in}
 use Rattle.script_run.specs.steps.Going.{HasDone, IsPutBack, IsWoken}
 use Rattle.script_run.specs.steps.Orders.{AreInOrder}
-use Rattle.script_run.specs.Held.{HaveNames, names_in}
+use Rattle.script_names.specs.Held.{HaveNames, names_in}
 use Rattle.script_run.specs.steps.Running.{DidTurn, IsRunning, seat_of}
 use Rattle.script_run.proofs.Coming.{Came, CameAlone, CameBoth, at_seat, came, came_of, core_behind, each_room, ends, names_reply, none_behind, rested_behind}
 use Rattle.script_run.proofs.TurnLemmas.{AreCounted, asks_line, counted_line, counted_reply, line_within, names_line}

@@ -23,18 +23,19 @@ use Rattle.call_script.specs.declared.script.Line.{Line}
 use Rattle.call_script.specs.declared.script.Script.{Script}
 use Rattle.remote_receiver.specs.Notes.{Kept}
 use Rattle.remote_receiver.specs.declared.rest.Rest.{Rest}
-use Rattle.script_run.specs.Autos.{Due}
-use Rattle.script_run.specs.Names.{Named}
-use Rattle.script_run.specs.OfScript.{AsksNext, GoesOn, Next, asked_by, next_join, next_of, next_take, reply_or}
+use Rattle.script_names.specs.Autos.{Due}
+use Rattle.script_names.specs.Names.{Named}
+use Rattle.script_run.specs.OfScript.{AsksNext, GoesOn, Next, next_join, next_of, next_take, reply_or}
+use Rattle.script_names.specs.Asking.{asked_by}
 use Rattle.script_run.specs.declared.plain.Plain.{Plain}
-use Rattle.script_run.specs.declared.rooms.Rooms.{Rooms}
+use Rattle.script_names.specs.declared.rooms.Rooms.{Rooms}
 use Rattle.script_run.specs.steps.Cutting.{CutJoin, CutLine, CutTake}
 use Rattle.script_run.specs.AtDesk.{Seen}
 use Rattle.script_run.specs.steps.Desks.{CutIn, IsFull}
 use Rattle.script_run.specs.Draining.{HasDrained, past_in}
 use Rattle.script_run.specs.steps.Going.{HasDone, HasJoined}
 use Rattle.script_run.specs.steps.Orders.{AreInOrder}
-use Rattle.script_run.specs.Held.{names_in}
+use Rattle.script_names.specs.Held.{names_in}
 use Rattle.script_run.specs.steps.Running.{seat_of}
 use Rattle.script_run.proofs.FewEvents.{few_events}
 use Rattle.script_run.proofs.Sequences.{same_seq}

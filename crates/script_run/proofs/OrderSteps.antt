@@ -24,7 +24,7 @@ use Rattle.script_run.specs.steps.Orders.{AreInOrder, AreQueues, GivesNext, HasT
 use Rattle.script_run.specs.steps.Orders.{count_of, has_more, left_from, next_in_order, numbered, queued, waiting, whose}
 use Rattle.script_run.proofs.OrderLists.{kept_passes}
 use Rattle.script_run.proofs.Sequences.{same_seq}
-use Rattle.script_run.proofs.TableLemmas.{drop_at, drop_past, eqb-turned}
+use Rattle.script_names.proofs.TableLemmas.{drop_at, drop_past, eqb-turned}
 use Rattle.script_run.proofs.TurnLemmas.{left_behind}
 
 -- ## The queues that have lines left

@@ -31,21 +31,22 @@ use Rattle.call_script.specs.declared.script.NameId.{NameId}
 use Rattle.call_script.specs.declared.script.Script.{Script}
 use Rattle.call_script.specs.Sound.{IsLine}
 use Rattle.remote_receiver.specs.declared.rest.Rest.{Rest}
-use Rattle.script_run.specs.Autos.{due}
-use Rattle.script_run.specs.Names.{joined, unnamed}
-use Rattle.script_run.specs.OfScript.{GoesOn, IsPart, Next, OfScript, asked_by, joins_by, next_join, next_take}
+use Rattle.script_names.specs.Autos.{due}
+use Rattle.script_names.specs.Names.{joined, unnamed}
+use Rattle.script_run.specs.OfScript.{GoesOn, IsPart, Next, OfScript, joins_by, next_join, next_take}
+use Rattle.script_names.specs.Asking.{asked_by}
 use Rattle.script_run.specs.Order.{is_join, joins_of}
 use Rattle.script_run.specs.declared.cut.Cut.{Cut}
 use Rattle.script_run.specs.declared.draining.Drained.{Drained}
 use Rattle.script_run.specs.declared.plain.Plain.{Plain}
-use Rattle.script_run.specs.declared.rooms.Rooms.{Rooms}
+use Rattle.script_names.specs.declared.rooms.Rooms.{Rooms}
 use Rattle.script_run.specs.declared.runner.Ran.{Ran}
 use Rattle.script_run.specs.Draining.{DrainedAll, HasDrained, HaveRested, IsCoreOf, past_in}
 use Rattle.script_run.specs.steps.Going.{HasDone, HasJoined, Played, PlayedAll}
 use Rattle.script_run.specs.steps.Orders.{AreInOrder}
-use Rattle.script_run.specs.Held.{HaveNames, name_of, names_in}
+use Rattle.script_names.specs.Held.{HaveNames, name_of, names_in}
 use Rattle.script_run.specs.steps.Running.{AreDone, AreLines, AreUnnamed, IsRunning, IsUnnamed}
-use Rattle.script_run.specs.Held.{held_at}
+use Rattle.script_names.specs.Held.{held_at}
 use Rattle.script_run.proofs.OrderLists.{kept_passes}
 use Rattle.script_run.proofs.TurnLemmas.{AreCounted, line_holds, over_left}
 

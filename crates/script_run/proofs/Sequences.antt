@@ -7,7 +7,7 @@ use Rattle.mj_base.specs.declared.ids.SeqId.{SeqId}
 use Rattle.bind_model.specs.Laws.{up_from}
 use Rattle.script_run.specs.Order.{counted_round}
 use Rattle.script_run.specs.steps.Orders.{numbered}
-use Rattle.script_run.proofs.TableLemmas.{there}
+use Rattle.script_names.proofs.TableLemmas.{there}
 
 -- a sequence is its number
 pub same_seq : (s t : SeqId) → (s.0 == t.0) ≡ true → s ≡ t

@@ -1,8 +1,8 @@
 -- A take more of the drain is done.
-use Rattle.std.proofs.Common.{◌≡◌, ◌≤◌, ◌<◌, ◌-◌, List, ◌∷◌, ◌++◌, inl, inr, length, refl, sym, ap, ◌∙◌, subst, arith}
-use Rattle.std.specs.Prelude.{Option, Some, None, filter, option_and_then}
+use Rattle.std.proofs.Common.{◌≡◌, ◌≤◌, ◌<◌, ◌-◌, List, [], ◌∷◌, ◌++◌, inl, inr, length, refl, sym, ap, ◌∙◌, append_assoc, subst, arith}
+use Rattle.std.specs.Prelude.{Option, Some, None, filter, option_and_then, reverse}
 use Rattle.std.specs.Option.{option_map}
-use Rattle.std.proofs.lemmas.List.{length-reverse}
+use Rattle.std.proofs.lemmas.List.{append-nil, length-reverse, reverse-append}
 use Rattle.mj_base.specs.declared.ids.EndId.{EndId}
 use Rattle.mj_base.specs.declared.ids.SeqId.{SeqId}
 use Rattle.mj_base.specs.declared.limits.TheConstants.{MAX_EVENTS}
@@ -21,12 +21,13 @@ use Rattle.call_script.specs.declared.script.AutoReply.{AutoReply}
 use Rattle.call_script.specs.declared.script.Script.{Script}
 use Rattle.remote_receiver.specs.Notes.{Kept}
 use Rattle.remote_receiver.specs.declared.rest.Rest.{Rest}
-use Rattle.script_run.specs.Autos.{Due}
+use Rattle.script_names.specs.Autos.{Due, due}
 use Rattle.script_run.specs.OfScript.{GoesOn, IsPart, Next, next_take, replied, reply_or}
 use Rattle.script_run.specs.declared.plain.Plain.{Plain}
-use Rattle.script_run.specs.AtDesk.{Seen}
-use Rattle.script_run.specs.steps.Desks.{TookAt, due_by}
-use Rattle.script_run.specs.Draining.{HasDrained, HaveRested, IsCoreOf, past_in}
+use Rattle.script_run.specs.AtDesk.{Adds, Seen}
+use Rattle.script_run.specs.steps.Cutting.{PartTake}
+use Rattle.script_run.specs.steps.Desks.{CameTo, TookAt, answered_it, asked_it, due_by, stood}
+use Rattle.script_run.specs.Draining.{DrainedPart, HasDrained, HaveRested, IsCoreOf, past_in}
 use Rattle.script_run.specs.steps.Going.{IsPutBack, IsWoken}
 use Rattle.script_run.specs.steps.Running.{TookTurn, seat_of}
 use Rattle.script_run.proofs.Coming.{Came, CameAlone, CameBoth, at_seat, came, came_of, core_behind, ends, more_behind, rested_behind}
@@ -137,6 +138,49 @@ module _ (schema : Schema) (script : Script) (before : List Event) (core : Play)
     asks = drained.asks;
     over = next_ready None e;
   }
+
+  -- one that was cut off
+  module _ (seq : SeqId) (end : EndId) (there : ready (wire_of core.schema) (past_in core) ≡ Some (seq, end)) (after : Play)
+      (part : PartTake script seq end core after) where
+    next_asks : next drained.own ≡ Some (seq, asks.Take end)
+    next_asks = next_ready (Some (seq, end)) there
+
+    -- by the events that came
+    with_events : (evs back own : List Event) → reverse (core.events ++ evs) ≡ back ++ past_in core → own ≡ back ++ drained.own → GoesOn next own
+        → Adds (seat_of core seq) (seat_of after seq) evs → DrainedPart schema script before after
+    with_events evs back own turned is goes adds = record {
+      schema = part.came.0.same.schema ∙ drained.core.schema;
+      seqs = part.came.0.same.seqs ∙ drained.core.seqs;
+      legal = part.legal;
+      own = own;
+      whole =
+          ap reverse (adds.sole refl)
+          ∙ (turned ∙ (ap (λ (es : List Event). back ++ es) drained.whole
+          ∙ (sym (append_assoc back drained.own before) ∙ ap (λ (es : List Event). es ++ before) (sym is))));
+      asks = goes;
+    }
+
+    pub drained_part : DrainedPart schema script before after
+    drained_part = go part.came.1
+      where
+        go : CameTo script.autos (asks.Take end) (seat_of core seq) (seat_of after seq) → DrainedPart schema script before after
+        go (stood none) = with_events [] [] drained.own (ap reverse (append-nil core.events)) refl drained.asks none
+        go (asked_it told came) =
+            let event : Event = record { seq = seq; asked = asks.Take end; told = told } in
+            with_events (event ∷ []) (event ∷ []) (event ∷ drained.own) (reverse-append core.events (event ∷ [])) refl (next_asks, drained.asks) came
+        go (answered_it told d answer found came) =
+            let event : Event = record { seq = seq; asked = asks.Take end; told = told } in
+            let reply : Event = record { seq = seq; asked = replied d; told = answer } in
+            let here : due wire script.autos (event ∷ (drained.own ++ before)) ≡ Some d =
+            subst (λ (s : Schema). due_by s script.autos seq (asks.Take end) told ≡ Some d) drained.core.schema found in
+            let who : d.1.seq ≡ seq = due_seq wire script.autos event (drained.own ++ before) d here in
+            let asks_reply : next (event ∷ drained.own) ≡ Some (seq, replied d) =
+            ap
+            (λ (o : Option Due). reply_or o (option_map (λ (turn : SeqId × EndId). (turn.0, asks.Take turn.1)) (ready wire ((event ∷ drained.own) ++ before))))
+            here
+            ∙ ap (λ (s : SeqId). Some (s, replied d)) who in
+            with_events (event ∷ reply ∷ []) (reply ∷ event ∷ []) (reply ∷ event ∷ drained.own) (reverse-append core.events (event ∷ reply ∷ [])) refl
+            (asks_reply, (next_asks, drained.asks)) came
 
   -- one take more
   module _ (seq : SeqId) (end : EndId) (there : ready (wire_of core.schema) (past_in core) ≡ Some (seq, end)) (after : Play)

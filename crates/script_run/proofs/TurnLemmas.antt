@@ -21,14 +21,15 @@ use Rattle.bind_model.specs.Wire.{Wire}
 use Rattle.call_script.specs.declared.script.AutoReply.{AutoReply}
 use Rattle.call_script.specs.declared.script.Line.{Line}
 use Rattle.call_script.specs.declared.script.Script.{Script}
-use Rattle.script_run.specs.Autos.{Due, due, due_for, line_at, lines_done, replies_to}
-use Rattle.script_run.specs.Names.{named_after}
-use Rattle.script_run.specs.OfScript.{asked_by, names_of, next_of, outgoing, replied, reply_first}
+use Rattle.script_names.specs.Autos.{Due, due, due_for, line_at, lines_done, replies_to}
+use Rattle.script_names.specs.Names.{named_after}
+use Rattle.script_run.specs.OfScript.{names_of, next_of, replied, reply_first}
+use Rattle.script_names.specs.Asking.{asked_by, outgoing}
 use Rattle.script_run.specs.Order.{InTurns, counted_round, drawn, due_first, has_left, is_join, is_own, lines_of, next_drawn, sequences, turn}
 use Rattle.script_run.specs.steps.Orders.{AreInOrder, count_of, next_in_order, whose}
 use Rattle.script_run.proofs.OrderLists.{found_passes, kept_holds, kept_passes, same_kept, some_kept}
 use Rattle.script_run.proofs.Sequences.{all_below, same_seq, some_round, stands_at}
-use Rattle.script_run.proofs.TableLemmas.{eqb-turned, there}
+use Rattle.script_names.proofs.TableLemmas.{eqb-turned, there}
 
 -- ## The next line
 

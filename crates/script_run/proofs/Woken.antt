@@ -25,16 +25,17 @@ use Rattle.remote_receiver.specs.Waits.{AreDrawn}
 use Rattle.remote_receiver.specs.Stepped.{Step}
 use Rattle.remote_receiver.specs.declared.rest.Rest.{Rest}
 use Rattle.remote_receiver.proofs.Drawing.{drawn_more}
-use Rattle.script_run.specs.Autos.{Due}
-use Rattle.script_run.specs.Names.{Named}
-use Rattle.script_run.specs.OfScript.{asked_by, replied}
+use Rattle.script_names.specs.Autos.{Due}
+use Rattle.script_names.specs.Names.{Named}
+use Rattle.script_run.specs.OfScript.{replied}
+use Rattle.script_names.specs.Asking.{asked_by}
 use Rattle.script_run.specs.declared.plain.Plain.{Plain}
 use Rattle.script_run.specs.declared.seat.Seat.{Seat}
 use Rattle.script_run.specs.AtDesk.{AnswersZero, Seen, step_by, steps_of}
 use Rattle.script_run.specs.steps.Desks.{DidLine, Replied, TookAt, Went, due_by}
 use Rattle.script_run.specs.Draining.{HasRested, HaveRested}
 use Rattle.script_run.specs.steps.Going.{IsPutBack, IsWoken}
-use Rattle.script_run.proofs.TableLemmas.{eqb-turned, there}
+use Rattle.script_names.proofs.TableLemmas.{eqb-turned, there}
 
 -- the sequence of a number
 abbrev pub numbered : ℕ → SeqId

@@ -1,12 +1,12 @@
 -- What the desk of a sequence stands on, and what becomes of the callbacks of its calls.
-use Rattle.std.specs.Prelude.{ℕ, Bool, ◌≡◌, List, map, Option, Some, None, if◌then◌else◌}
+use Rattle.std.specs.Prelude.{ℕ, Bool, true, ◌≡◌, ◌++◌, List, map, Option, Some, None, if◌then◌else◌}
 use Rattle.mj_base.specs.declared.ids.SeqId.{SeqId}
 use Rattle.mj_schema.specs.declared.schema.Schema.{Schema}
 use Rattle.wire_model.specs.declared.target.Target.{Target}
 use Rattle.bind_model.specs.declared.asked.Asked.{Asked}
 use Rattle.bind_model.specs.declared.asked.Asked.TheVariants.{Call}
 use Rattle.bind_model.specs.declared.event.Event.{Event}
-use Rattle.bind_model.specs.Seen.{own_of}
+use Rattle.bind_model.specs.Seen.{KeepsLegal, own_of}
 use Rattle.bind_model.specs.Wire.{Wire}
 use Rattle.bind_model.specs.WireOf.{wire_of}
 use Rattle.remote_receiver.specs.Stepped.{Step}
@@ -58,3 +58,18 @@ pub record SameDesk (before after : Seen) : Type 0 where
   pub seqs : after.seqs ≡ before.seqs
   pub alone : after.alone ≡ before.alone
   pub me : after.me ≡ before.me
+
+-- a list begins with another
+abbrev pub Begins : {A : Type 0} → List A → List A → Type 0
+Begins {A} first now = (more : List A) × (now ≡ first ++ more)
+
+-- it is the same but for the events, which begin with those before and are legal where those are
+pub record IsLater (before after : Seen) : Type 0 where
+  pub same : SameDesk before after
+  pub begins : Begins before.events after.events
+  pub legal : KeepsLegal before.schema before.seqs before.events after.events
+
+-- these events of the sequence came, and where nobody else steps meanwhile no others
+pub record Adds (before after : Seen) (events : List Event) : Type 0 where
+  pub own : own_of before.me after.events ≡ own_of before.me before.events ++ events
+  pub sole : before.alone ≡ true → after.events ≡ before.events ++ events

@@ -13,7 +13,7 @@ use Rattle.remote_receiver.specs.Held.{kept_of}
 use Rattle.remote_receiver.specs.Notes.{HasKept}
 use Rattle.remote_receiver.specs.Waits.{AreDrawn}
 use Rattle.remote_receiver.specs.declared.rest.Rest.{Rest}
-use Rattle.script_run.specs.Autos.{due}
+use Rattle.script_names.specs.Autos.{due}
 use Rattle.script_run.specs.OfScript.{GoesOn, IsPart, next_take}
 use Rattle.script_run.specs.declared.draining.Drained.{Drained}
 use Rattle.script_run.specs.declared.plain.Plain.{Plain}
@@ -61,6 +61,15 @@ pub record DrainedAll (schema : Schema) (script : Script) (before : List Event) 
 
 abbrev pub DrainedOf : Schema → Script → List Event → Drained → Type 0
 DrainedOf schema script before drained = IfNone drained.cut (DrainedAll schema script before drained)
+
+-- a drain that was cut off took, and answered, as far as it came
+pub record DrainedPart (given : Schema) (script : Script) (before : List Event) (core : Play) : Type 0 where
+  pub schema : core.schema ≡ given
+  pub seqs : core.seqs ≡ script.seqs
+  pub legal : Legal (wire_of core.schema) core.seqs core.events
+  pub own : List Event
+  pub whole : past_in core ≡ own ++ before
+  pub asks : GoesOn (next_take (wire_of given) script.autos before) own
 
 -- a cut that isn't for the number of events
 abbrev pub IsUnspent : Cut → Type 0

@@ -1,9 +1,6 @@
-pub mod Autos
-pub mod Names
 pub mod Order
 pub mod OfScript
 pub mod AtDesk
-pub mod Held
 pub mod Working
 pub mod Draining
 pub mod steps

@@ -10,8 +10,8 @@ use Rattle.call_script.specs.declared.script.Command.{Command}
 use Rattle.call_script.specs.declared.script.Command.TheVariants.{Join}
 use Rattle.call_script.specs.declared.script.Line.{Line}
 use Rattle.call_script.specs.declared.script.Script.{Script}
-use Rattle.script_run.specs.Autos.{Due, due, lines_done}
-use Rattle.script_run.specs.Names.{is_seq}
+use Rattle.script_names.specs.Autos.{Due, due, lines_done}
+use Rattle.script_names.specs.Names.{is_seq}
 
 -- ## The lines of a sequence
 

@@ -3,7 +3,7 @@
 ghost use Rattle.std.specs.Prelude.{◌≡◌, find};
 ghost use Rattle.std.specs.Option.{option_copied};
 ghost use Rattle.bind_model.specs.Plain.{responders_in};
-ghost use Rattle.script_run.specs.Autos.{replies_to, due_for};
+ghost use Rattle.script_names.specs.Autos.{replies_to, due_for};
 ghost use Rattle.script_run.specs.steps.Desks.{reply_of};
 
 use bind_model::{Reply, ResponderId};

@@ -2,11 +2,6 @@
 
 use thiserror::Error;
 
-/// There was no memory for the run.
-#[derive(Clone, Copy, Debug, PartialEq, Eq, Error)]
-#[error("out of memory")]
-pub struct NoMemory;
-
 /// Why a sequence didn't do all of its lines.
 #[derive(Clone, Copy, Debug, PartialEq, Eq, Error)]
 pub enum Cut {

@@ -13,13 +13,13 @@ ghost use Rattle.script_run.specs.Draining.{HaveRested};
 ghost use Rattle.script_run.specs.steps.Going.{IsPutBack, IsWoken};
 
 use crate::callbacks::push_shown;
-use crate::cut::NoMemory;
 use crate::plain::Plain;
 use crate::seat::Seat;
 use bind_core::Core;
 use history_text::Note;
 use mj_base::{Items, SeqId};
 use remote_receiver::{Desk, Rest};
+use script_names::NoMemory;
 use std::alloc::Global;
 use std::mem;
 

@@ -15,13 +15,11 @@ ghost use Rattle.script_run.specs.steps.Desks.{IfSpent};
 ghost use Rattle.script_run.specs.Draining.{HaveRested};
 ghost use Rattle.script_run.specs.steps.Going.{HasJoined};
 ghost use Rattle.script_run.specs.steps.Joints.{Come, Gave, GaveBoth, HasMade, HasPlacesAt, HasSpaceAt, Joined, Knows, Spared};
-ghost use Rattle.script_run.specs.steps.Rooms.{HasPlaces, SameHeld};
+ghost use Rattle.script_names.specs.Rooms.{HasPlaces, SameHeld};
 
-use crate::cut::{Cut, NoMemory};
+use crate::cut::Cut;
 use crate::desks::{leave, put_to_rest, wake};
-use crate::kept::Kept;
 use crate::plain::Plain;
-use crate::rooms::Rooms;
 use crate::worker::ask;
 use bind_core::Core;
 use bind_model::{Command, Reply};
@@ -30,6 +28,7 @@ use handle_table::{Handle, Handles, Thing};
 use mj_base::SeqId;
 use mj_schema::Schema;
 use remote_receiver::Rest;
+use script_names::{Kept, NoMemory, Rooms};
 use std::alloc::Global;
 
 /// A line that joins: who asks, whose the second end is, and the names of both.

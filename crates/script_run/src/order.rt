@@ -5,8 +5,8 @@ ghost use Rattle.std.specs.Option.{option_copied, option_map};
 ghost use Rattle.script_run.specs.Order.{counted_round, is_join, is_own, next_draw};
 ghost use Rattle.script_run.specs.steps.Orders.{AreInOrder, AreQueues, Takes, has_more, left_from, numbered, queued, waiting};
 
-use crate::cut::NoMemory;
 use call_script::{Command, Line, Script};
+use script_names::NoMemory;
 use std::alloc::{AllocError, Global};
 
 /// The number that is drawn after another.

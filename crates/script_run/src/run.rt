@@ -17,12 +17,12 @@ use crate::desks::{leave, put_to_rest, wake};
 use crate::draining::{Drained, cut_off, drain};
 use crate::joins::do_joins;
 use crate::plain::Plain;
-use crate::rooms::Rooms;
 use crate::worker::do_line;
 use bind_core::Core;
 use call_script::{Line, Script};
 use mj_schema::Schema;
 use remote_receiver::Rest;
+use script_names::Rooms;
 use std::alloc::Global;
 
 /// Room for what each of so many sequences holds.

@@ -10,11 +10,9 @@ ghost use Rattle.call_script.specs.Sound.{IsScript};
 ghost use Rattle.script_run.specs.OfScript.{OfScript};
 ghost use Rattle.script_run.specs.Draining.{IsUnspent};
 
-use crate::cut::NoMemory;
 use crate::desks::at_rest;
 use crate::draining::Drained;
 use crate::order::in_order;
-use crate::rooms::Rooms;
 use crate::run::play;
 use bind_core::Core;
 use bind_model::History;
@@ -24,6 +22,7 @@ use history_text::Note;
 use mj_base::Items;
 use mj_base::limits::{MAX_EVENTS, MAX_FILE_BYTES};
 use mj_schema::Schema;
+use script_names::{NoMemory, Rooms};
 use std::alloc::Global;
 use std::sync::Arc;
 

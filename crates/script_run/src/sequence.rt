@@ -1,26 +1,29 @@
 //! All lines of one sequence.
 
-ghost use Rattle.std.specs.Prelude.{◌≡◌, ◌<◌, ◌≤◌, ◌+◌, Err, IfNone, IfOk, OnOk, Some, length};
+ghost use Rattle.std.specs.Prelude.{◌≡◌, ◌<◌, ◌≤◌, ◌+◌, ◌++◌, [], ◌∷◌, true, Err, IfNone, IfOk, IfSome, OnErr, OnOk, Some, length};
 ghost use Rattle.std.specs.List.{AllByRecursion};
 ghost use Rattle.mj_base.specs.declared.limits.TheConstants.{MAX_EVENTS, MAX_SCRIPT_LINES};
 ghost use Rattle.call_script.specs.Sound.{IsLine, IsReply, IsScript};
 ghost use Rattle.remote_receiver.specs.Held.{kept_of};
-ghost use Rattle.script_run.specs.Order.{is_own};
-ghost use Rattle.script_run.specs.AtDesk.{SameDesk, seen_by};
-ghost use Rattle.script_run.specs.Held.{HaveNames, names_in};
-ghost use Rattle.script_run.specs.Working.{Works};
-ghost use Rattle.script_run.specs.steps.Working.{DidOwn};
+ghost use Rattle.script_names.specs.Asking.{asked_by};
+ghost use Rattle.step_gate.specs.declared.GateCall.TheVariants as calls_of;
+ghost use Rattle.script_run.specs.Order.{is_own, lines_of};
+ghost use Rattle.script_run.specs.AtDesk.{IsLater, SameDesk, seen_by};
+ghost use Rattle.script_names.specs.Held.{HaveNames, names_in};
+ghost use Rattle.script_run.specs.Working.{CallsAll, CallsSome, CutWork, Works};
+ghost use Rattle.script_run.specs.steps.Desks.{CameTo};
+ghost use Rattle.script_run.specs.steps.Working.{DidOwn, calls_by, steps_by};
 
 use crate::cut::Cut;
 use crate::order::is_join;
 use crate::plain::Plain;
-use crate::rooms::Rooms;
 use crate::worker::do_line;
 use bind_model::Stepper;
 use call_script::{AutoReply, Line, Script};
 use mj_base::SeqId;
 use mj_schema::Schema;
 use remote_receiver::Desk;
+use script_names::Rooms;
 use std::alloc::Global;
 use step_gate::Gate;
 
@@ -47,7 +50,7 @@ fn do_own<P: Stepper, G: Gate>(
     schema: &Schema,
     autos: &[AutoReply],
     line: &Line,
-    gate: &G,
+    gate: &mut G,
     number: u64,
 ) -> Result<u64, Cut>
     requires seq { (P.me desk.old.stepper).0 < P.seqs desk.old.stepper }
@@ -57,13 +60,20 @@ fn do_own<P: Stepper, G: Gate>(
     requires names { HaveNames (length rooms.old.stands.things.items) rooms.old }
     requires number { number < MAX_SCRIPT_LINES }
     ensures home { P.home desk.new.stepper ≡ P.home desk.old.stepper }
+    ensures later { IsLater (seen_by P.schema P.seqs P.alone P.me P.seen desk.old.stepper)
+        (seen_by P.schema P.seqs P.alone P.me P.seen desk.new.stepper) }
+    ensures came { OnErr result ((is_own (P.me desk.old.stepper) line.now ≡ true)
+        × CameTo autos.now (asked_by (names_in rooms.old) line.now) (seen_by P.schema P.seqs P.alone P.me P.seen desk.old.stepper)
+        (seen_by P.schema P.seqs P.alone P.me P.seen desk.new.stepper)) }
     ensures same { OnOk result (SameDesk (seen_by P.schema P.seqs P.alone P.me P.seen desk.old.stepper)
         (seen_by P.schema P.seqs P.alone P.me P.seen desk.new.stepper)) }
     ensures did { OnOk result (DidOwn (is_own (P.me desk.old.stepper) line.now) autos.now line.now
         (seen_by P.schema P.seqs P.alone P.me P.seen desk.old.stepper) (seen_by P.schema P.seqs P.alone P.me P.seen desk.new.stepper)
         (kept_of desk.old.jobs) (kept_of desk.new.jobs) (names_in rooms.old) (names_in rooms.new)) }
     ensures names { OnOk result (HaveNames (length rooms.old.stands.things.items) rooms.new) }
-    ensures number { IfOk result (λ done. done ≤ number + 1) }
+    ensures number { IfOk result (λ done. done ≡ number + steps_by (is_own (P.me desk.old.stepper) line.now)) }
+    ensures gate { OnOk result (G.calls gate.new ≡ G.calls gate.old ++ calls_by (is_own (P.me desk.old.stepper) line.now) (P.me desk.old.stepper) number) }
+    ensures begun { OnErr result (G.calls gate.new ≡ G.calls gate.old ++ calls_of.Before (P.me desk.old.stepper) number ∷ []) }
     ensures spent { result ≡ Err Cut.Spent → MAX_EVENTS ≤ length (P.seen desk.new.stepper) }
 {
     let seq = desk.stepper().seq();
@@ -76,14 +86,15 @@ fn do_own<P: Stepper, G: Gate>(
     Ok(number + 1)
 }
 
-/// Does the lines of a desk's sequence, in order, each with its automatic reply.
-fn do_lines<P: Stepper, G: Gate>(
+/// Does the lines of a desk's sequence, in order, each with its automatic reply, with what the joins gave it
+/// under its names. It is cut off as spent only where the history that its stepper has seen then is full.
+pub fn work_on<P: Stepper, G: Gate>(
     desk: &mut Desk<Plain, P>,
     rooms: &mut Rooms,
     alloc: Global,
     schema: &Schema,
     script: &Script,
-    gate: &G,
+    gate: &mut G,
 ) -> Result<(), Cut>
     requires seq { (P.me desk.old.stepper).0 < P.seqs desk.old.stepper }
     requires schema { P.schema desk.old.stepper ≡ schema.now }
@@ -91,8 +102,16 @@ fn do_lines<P: Stepper, G: Gate>(
     requires seqs { P.seqs desk.old.stepper ≡ script.now.seqs }
     requires names { HaveNames script.now.names rooms.old }
     ensures home { P.home desk.new.stepper ≡ P.home desk.old.stepper }
+    ensures later { IsLater (seen_by P.schema P.seqs P.alone P.me P.seen desk.old.stepper)
+        (seen_by P.schema P.seqs P.alone P.me P.seen desk.new.stepper) }
+    ensures part { OnErr result (CutWork script.now (seen_by P.schema P.seqs P.alone P.me P.seen desk.old.stepper)
+        (seen_by P.schema P.seqs P.alone P.me P.seen desk.new.stepper) rooms.old) }
     ensures works { OnOk result (Works script.now (seen_by P.schema P.seqs P.alone P.me P.seen desk.old.stepper)
         (seen_by P.schema P.seqs P.alone P.me P.seen desk.new.stepper) (kept_of desk.old.jobs) (kept_of desk.new.jobs) rooms.old rooms.new) }
+    ensures gate { OnOk result (CallsAll (P.me desk.old.stepper) (length (lines_of script.now (P.me desk.old.stepper)))
+        (G.calls gate.old) (G.calls gate.new)) }
+    ensures begun { OnErr result (CallsSome (P.me desk.old.stepper) (length (lines_of script.now (P.me desk.old.stepper)))
+        (G.calls gate.old) (G.calls gate.new)) }
     ensures spent { result ≡ Err Cut.Spent → MAX_EVENTS ≤ length (P.seen desk.new.stepper) }
 {
     let autos = script.autos.as_slice();
@@ -103,15 +122,14 @@ fn do_lines<P: Stepper, G: Gate>(
     Ok(())
 }
 
-/// Does the lines of a desk's sequence, in order, each with its automatic reply, with what the joins gave
-/// it under its names. It is cut off as spent only where the history that its stepper has seen then is full.
+/// Does the lines of a desk's sequence as `work_on` does, and hands all back.
 pub fn work<P: Stepper, G: Gate>(
     alloc: Global,
     schema: &Schema,
     desk: Desk<Plain, P>,
     script: &Script,
     held: Rooms,
-    gate: &G,
+    gate: &mut G,
 ) -> Worked<P>
     requires seq { (P.me desk.stepper).0 < P.seqs desk.stepper }
     requires schema { P.schema desk.stepper ≡ schema.now }
@@ -119,12 +137,20 @@ pub fn work<P: Stepper, G: Gate>(
     requires seqs { P.seqs desk.stepper ≡ script.now.seqs }
     requires names { HaveNames script.now.names held }
     ensures home { P.home result.desk.stepper ≡ P.home desk.stepper }
+    ensures later { IsLater (seen_by P.schema P.seqs P.alone P.me P.seen desk.stepper)
+        (seen_by P.schema P.seqs P.alone P.me P.seen result.desk.stepper) }
+    ensures part { IfSome result.cut (λ cut. CutWork script.now (seen_by P.schema P.seqs P.alone P.me P.seen desk.stepper)
+        (seen_by P.schema P.seqs P.alone P.me P.seen result.desk.stepper) held) }
     ensures works { IfNone result.cut (Works script.now (seen_by P.schema P.seqs P.alone P.me P.seen desk.stepper)
         (seen_by P.schema P.seqs P.alone P.me P.seen result.desk.stepper) (kept_of desk.jobs) (kept_of result.desk.jobs) held result.held) }
+    ensures gate { IfNone result.cut (CallsAll (P.me desk.stepper) (length (lines_of script.now (P.me desk.stepper)))
+        (G.calls gate.old) (G.calls gate.new)) }
+    ensures begun { IfSome result.cut (λ cut. CallsSome (P.me desk.stepper) (length (lines_of script.now (P.me desk.stepper)))
+        (G.calls gate.old) (G.calls gate.new)) }
     ensures spent { result.cut ≡ Some Cut.Spent → MAX_EVENTS ≤ length (P.seen result.desk.stepper) }
 {
     let mut desk = desk;
     let mut held = held;
-    let cut = do_lines(&mut desk, &mut held, alloc, schema, script, gate).err();
+    let cut = work_on(&mut desk, &mut held, alloc, schema, script, gate).err();
     Worked { desk, held, cut }
 }

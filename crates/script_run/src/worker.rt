@@ -1,6 +1,6 @@
 //! A sequence at its desk: its lines, each with its automatic reply.
 
-ghost use Rattle.std.specs.Prelude.{◌≡◌, ◌<◌, ℕ, IfErr, IfOk, IsOkUnless, OnOk, Some, is_some, length};
+ghost use Rattle.std.specs.Prelude.{◌≡◌, ◌<◌, ℕ, [], IfErr, IfOk, IsOkUnless, OnErr, OnOk, Some, is_some, length};
 ghost use Rattle.std.specs.List.{AllByRecursion};
 ghost use Rattle.std.specs.Option.{option_copied};
 ghost use Rattle.bind_model.specs.Plain.{asked_of, told_of, responders_in, IsOf};
@@ -8,21 +8,18 @@ ghost use Rattle.bind_model.specs.declared.asked.Asked.TheVariants as asks;
 ghost use Rattle.bind_model.specs.declared.endpoint.ResponderId.{ResponderId as responder_id};
 ghost use Rattle.call_script.specs.Sound.{IsLine, IsReply};
 ghost use Rattle.remote_receiver.specs.Held.{kept_of};
-ghost use Rattle.script_run.specs.Autos.{due_for};
-ghost use Rattle.script_run.specs.OfScript.{asked_by};
-ghost use Rattle.script_run.specs.AtDesk.{seen_by};
-ghost use Rattle.script_run.specs.steps.Desks.{CutIn, DidCommand, DidLine, DidTake, IfSpent, IsFull, Replied, SawAt, TookAt, Went, reply_of};
-ghost use Rattle.script_run.specs.Held.{HaveNames, names_in};
-ghost use Rattle.script_run.specs.steps.Rooms.{HasPlaces, HasRoomBehind, SameHeld};
-ghost use Rattle.script_run.specs.steps.Settling.{EndsWith, LeavesLast, Settles};
+ghost use Rattle.script_names.specs.Autos.{due_for};
+ghost use Rattle.script_run.specs.OfScript.{replied};
+ghost use Rattle.script_names.specs.Asking.{asked_by};
+ghost use Rattle.script_run.specs.AtDesk.{Adds, IsLater, seen_by};
+ghost use Rattle.script_run.specs.steps.Desks.{AtMost, CameTo, CutIn, DidCommand, DidLine, DidTake, IfSpent, IsFull, Replied, SawAt, TookAt, Went, reply_of};
+ghost use Rattle.script_names.specs.Held.{HaveNames, names_in};
+ghost use Rattle.script_names.specs.Rooms.{HasPlaces, HasRoomBehind, SameHeld};
+ghost use Rattle.script_names.specs.Settling.{EndsWith, LeavesLast, Settles};
 
 use crate::autos::due_after;
-use crate::copy::copy;
 use crate::cut::Cut;
-use crate::lines::command_of;
-use crate::names::Names;
 use crate::plain::Plain;
-use crate::rooms::Rooms;
 use crate::serve::serve;
 use bind_model::{Command, PendingList, Refused, Reply, Stepper};
 use call_script::{AutoReply, Line};
@@ -30,6 +27,7 @@ use handle_table::Handles;
 use mj_base::EndId;
 use mj_schema::Schema;
 use remote_receiver::Desk;
+use script_names::{Names, Rooms, command_of, copy_prepared};
 use std::alloc::Global;
 
 /// Does a command at a desk, with room for what comes back. One that comes back without an event is kept.
@@ -45,6 +43,10 @@ pub fn ask<P: Stepper>(
     requires prepared { IsOf (P.schema desk.old.stepper) command }
     requires places { HasPlaces 3 rooms.old }
     ensures home { P.home desk.new.stepper ≡ P.home desk.old.stepper }
+    ensures later { IsLater (seen_by P.schema P.seqs P.alone P.me P.seen desk.old.stepper)
+        (seen_by P.schema P.seqs P.alone P.me P.seen desk.new.stepper) }
+    ensures still { OnErr result (Adds (seen_by P.schema P.seqs P.alone P.me P.seen desk.old.stepper)
+        (seen_by P.schema P.seqs P.alone P.me P.seen desk.new.stepper) []) }
     ensures held { SameHeld rooms.old rooms.new }
     ensures saw { IfOk result (SawAt (seen_by P.schema P.seqs P.alone P.me P.seen desk.old.stepper)
         (seen_by P.schema P.seqs P.alone P.me P.seen desk.new.stepper) command) }
@@ -109,6 +111,11 @@ fn answer<P: Stepper>(
     requires reply { IsReply (P.schema desk.old.stepper) (P.seqs desk.old.stepper) reply.now }
     requires last { (r : responder_id) × EndsWith r rooms.old.responders.others.items }
     ensures home { P.home desk.new.stepper ≡ P.home desk.old.stepper }
+    ensures later { IsLater (seen_by P.schema P.seqs P.alone P.me P.seen desk.old.stepper)
+        (seen_by P.schema P.seqs P.alone P.me P.seen desk.new.stepper) }
+    ensures came { OnErr result ((r : responder_id) → EndsWith r rooms.old.responders.others.items
+        → AtMost (replied (r, reply.now)) (seen_by P.schema P.seqs P.alone P.me P.seen desk.old.stepper)
+        (seen_by P.schema P.seqs P.alone P.me P.seen desk.new.stepper)) }
     ensures names { OnOk result (names_in rooms.new ≡ names_in rooms.old) }
     ensures went { OnOk result ((r : responder_id) → EndsWith r rooms.old.responders.others.items
         → Replied (Some (r, reply.now)) (seen_by P.schema P.seqs P.alone P.me P.seen desk.old.stepper)
@@ -121,7 +128,7 @@ fn answer<P: Stepper>(
     if rooms.make_place().is_err() {
         return Err(Cut::Memory);
     }
-    let Ok(prepared) = copy(alloc, &reply.prepared) else {
+    let Ok(prepared) = copy_prepared(alloc, &reply.prepared) else {
         return Err(Cut::Memory);
     };
     let Some(responder) = rooms.responders.others.pop() else {
@@ -151,6 +158,10 @@ fn do_command<'s, P: Stepper>(
     requires line { IsLine (P.schema desk.old.stepper) (P.seqs desk.old.stepper) (length rooms.old.stands.things.items) line.now }
     requires names { HaveNames (length rooms.old.stands.things.items) rooms.old }
     ensures home { P.home desk.new.stepper ≡ P.home desk.old.stepper }
+    ensures later { IsLater (seen_by P.schema P.seqs P.alone P.me P.seen desk.old.stepper)
+        (seen_by P.schema P.seqs P.alone P.me P.seen desk.new.stepper) }
+    ensures came { OnErr result (AtMost (asked_by (names_in rooms.old) line.now) (seen_by P.schema P.seqs P.alone P.me P.seen desk.old.stepper)
+        (seen_by P.schema P.seqs P.alone P.me P.seen desk.new.stepper)) }
     ensures did { IfOk result (λ found. DidCommand autos.now line.now (option_copied found)
         (seen_by P.schema P.seqs P.alone P.me P.seen desk.old.stepper)
         (seen_by P.schema P.seqs P.alone P.me P.seen desk.new.stepper)
@@ -184,6 +195,10 @@ fn do_take<'s, P: Stepper>(
     requires seq { (P.me desk.old.stepper).0 < P.seqs desk.old.stepper }
     requires schema { P.schema desk.old.stepper ≡ schema.now }
     ensures home { P.home desk.new.stepper ≡ P.home desk.old.stepper }
+    ensures later { IsLater (seen_by P.schema P.seqs P.alone P.me P.seen desk.old.stepper)
+        (seen_by P.schema P.seqs P.alone P.me P.seen desk.new.stepper) }
+    ensures came { OnErr result (AtMost (asks.Take end) (seen_by P.schema P.seqs P.alone P.me P.seen desk.old.stepper)
+        (seen_by P.schema P.seqs P.alone P.me P.seen desk.new.stepper)) }
     ensures did { IfOk result (λ found. DidTake autos.now end (option_copied found) (seen_by P.schema P.seqs P.alone P.me P.seen desk.old.stepper)
         (seen_by P.schema P.seqs P.alone P.me P.seen desk.new.stepper)
         (kept_of desk.old.jobs) (kept_of desk.new.jobs) rooms.new.responders.others.items) }
@@ -213,6 +228,10 @@ pub fn do_line<P: Stepper>(
     requires autos { AllByRecursion (IsReply (P.schema desk.old.stepper) (P.seqs desk.old.stepper)) autos.now }
     requires names { HaveNames (length rooms.old.stands.things.items) rooms.old }
     ensures home { P.home desk.new.stepper ≡ P.home desk.old.stepper }
+    ensures later { IsLater (seen_by P.schema P.seqs P.alone P.me P.seen desk.old.stepper)
+        (seen_by P.schema P.seqs P.alone P.me P.seen desk.new.stepper) }
+    ensures came { OnErr result (CameTo autos.now (asked_by (names_in rooms.old) line.now)
+        (seen_by P.schema P.seqs P.alone P.me P.seen desk.old.stepper) (seen_by P.schema P.seqs P.alone P.me P.seen desk.new.stepper)) }
     ensures did { OnOk result (DidLine autos.now line.now (seen_by P.schema P.seqs P.alone P.me P.seen desk.old.stepper)
         (seen_by P.schema P.seqs P.alone P.me P.seen desk.new.stepper)
         (kept_of desk.old.jobs) (kept_of desk.new.jobs) (names_in rooms.old) (names_in rooms.new)) }
@@ -240,6 +259,10 @@ pub fn take<P: Stepper>(
     requires schema { P.schema desk.old.stepper ≡ schema.now }
     requires autos { AllByRecursion (IsReply (P.schema desk.old.stepper) (P.seqs desk.old.stepper)) autos.now }
     ensures home { P.home desk.new.stepper ≡ P.home desk.old.stepper }
+    ensures later { IsLater (seen_by P.schema P.seqs P.alone P.me P.seen desk.old.stepper)
+        (seen_by P.schema P.seqs P.alone P.me P.seen desk.new.stepper) }
+    ensures came { OnErr result (CameTo autos.now (asks.Take end)
+        (seen_by P.schema P.seqs P.alone P.me P.seen desk.old.stepper) (seen_by P.schema P.seqs P.alone P.me P.seen desk.new.stepper)) }
     ensures took { OnOk result (TookAt autos.now end (seen_by P.schema P.seqs P.alone P.me P.seen desk.old.stepper)
         (seen_by P.schema P.seqs P.alone P.me P.seen desk.new.stepper) (kept_of desk.old.jobs) (kept_of desk.new.jobs)) }
     ensures cut { IfErr result (λ cut. IfSpent cut (CutIn autos.now (asks.Take end)

@@ -9,11 +9,12 @@ use Rattle.bind_model.specs.declared.asked.Asked.TheVariants as asks
 use Rattle.call_script.specs.declared.script.Line.{Line}
 use Rattle.call_script.specs.declared.script.Script.{Script}
 use Rattle.remote_receiver.specs.Notes.{Kept}
-use Rattle.script_run.specs.OfScript.{asked_by}
+use Rattle.script_names.specs.Asking.{asked_by}
 use Rattle.script_run.specs.declared.plain.Plain.{Plain}
-use Rattle.script_run.specs.declared.rooms.Rooms.{Rooms}
-use Rattle.script_run.specs.steps.Desks.{CutIn, IsFull}
-use Rattle.script_run.specs.Held.{names_in}
+use Rattle.script_names.specs.declared.rooms.Rooms.{Rooms}
+use Rattle.script_run.specs.AtDesk.{IsLater, Seen}
+use Rattle.script_run.specs.steps.Desks.{CameTo, CutIn, IsFull}
+use Rattle.script_names.specs.Held.{names_in}
 use Rattle.script_run.specs.steps.Running.{seat_of}
 
 -- a join for which the history was full
@@ -34,3 +35,11 @@ pub record CutTake (script : Script) (seq : SeqId) (end : EndId) (before after :
   pub legal : Legal (wire_of after.schema) after.seqs after.events
   pub kept : Kept Plain
   pub cut : CutIn script.autos (asks.Take end) (seat_of before seq) (seat_of after seq) kept
+
+-- how far the turn of a take came
+abbrev pub CameTaking : Script → EndId → Seen → Seen → Type 0
+CameTaking script end before after = IsLater before after × CameTo script.autos (asks.Take end) before after
+
+pub record PartTake (script : Script) (seq : SeqId) (end : EndId) (before after : Play) : Type 0 where
+  pub legal : Legal (wire_of after.schema) after.seqs after.events
+  pub came : CameTaking script end (seat_of before seq) (seat_of after seq)

@@ -1,5 +1,5 @@
 -- What a desk does for its sequence.
-use Rattle.script_run.specs.AtDesk.{AnswersZero, SameDesk, Seen, step_by}
+use Rattle.script_run.specs.AtDesk.{Adds, AnswersZero, SameDesk, Seen, step_by}
 use Rattle.std.specs.Prelude.{ℕ, true, ◌≡◌, ◌≤◌, ◌⊎◌, ◌++◌, List, [], ◌∷◌, length}
 use Rattle.std.specs.Prelude.{Option, Some, None, Result, Ok, Err, IfOk, IfErr, OnErr}
 use Rattle.std.specs.Option.{option_map}
@@ -27,10 +27,11 @@ use Rattle.remote_receiver.specs.Notes.{Follows, Kept}
 use Rattle.remote_receiver.specs.declared.call.CallRefused.{CallRefused}
 use Rattle.remote_receiver.specs.declared.call.CallRefused.TheVariants.{No, Memory, Spent}
 use Rattle.remote_receiver.specs.declared.call.Sent.{Sent}
-use Rattle.script_run.specs.Autos.{Due, due_for}
-use Rattle.script_run.specs.Names.{Named, named_after}
-use Rattle.script_run.specs.OfScript.{asked_by, replied}
-use Rattle.script_run.specs.steps.Settling.{EndsWith}
+use Rattle.script_names.specs.Autos.{Due, due_for}
+use Rattle.script_names.specs.Names.{Named, named_after}
+use Rattle.script_run.specs.OfScript.{replied}
+use Rattle.script_names.specs.Asking.{asked_by}
+use Rattle.script_names.specs.Settling.{EndsWith}
 use Rattle.script_run.specs.declared.cut.Cut.{Cut}
 use Rattle.script_run.specs.declared.cut.Cut.TheVariants as cuts
 use Rattle.script_run.specs.declared.plain.Plain.{Plain}
@@ -131,6 +132,19 @@ pub record TookAt (autos : List AutoReply) (end : EndId) (before after : Seen) (
   pub replied : Replied (due_by before.schema autos before.me (Take end) told) between after kept new
 
 -- ## Cut off
+
+-- this was asked at most
+abbrev pub AtMost : Asked → Seen → Seen → Type 0
+AtMost asked before after =
+    Adds before after [] ⊎ ((told : Told) × Adds before after (record { seq = before.me; asked = asked; told = told } ∷ []))
+
+-- how far a sequence came that was to ask this, and to answer what is due behind it
+pub data CameTo (autos : List AutoReply) (asked : Asked) (before after : Seen) : Type 0 where
+  stood : Adds before after [] → CameTo autos asked before after
+  asked_it : (told : Told) → Adds before after (record { seq = before.me; asked = asked; told = told } ∷ []) → CameTo autos asked before after
+  answered_it : (told : Told) (d : Due) (answer : Told) → due_by before.schema autos before.me asked told ≡ Some d
+      → Adds before after (record { seq = before.me; asked = asked; told = told } ∷ record { seq = before.me; asked = replied d; told = answer } ∷ [])
+      → CameTo autos asked before after
 
 -- this, where the history is full
 abbrev pub IfSpent : Cut → Type 0 → Type 0

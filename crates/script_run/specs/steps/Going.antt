@@ -14,15 +14,15 @@ use Rattle.remote_receiver.specs.Held.{kept_of}
 use Rattle.remote_receiver.specs.Notes.{Kept}
 use Rattle.remote_receiver.specs.Waits.{AreDrawn}
 use Rattle.remote_receiver.specs.declared.rest.Rest.{Rest}
-use Rattle.script_run.specs.Autos.{due, lines_done}
-use Rattle.script_run.specs.Names.{Named, joined}
+use Rattle.script_names.specs.Autos.{due, lines_done}
+use Rattle.script_names.specs.Names.{Named, joined}
 use Rattle.script_run.specs.OfScript.{AsksNext, GoesOn, OfScript, names_of, next_join, next_of}
 use Rattle.script_run.specs.Order.{InTurns, joins_of, turn}
 use Rattle.script_run.specs.declared.draining.Drained.{Drained}
 use Rattle.script_run.specs.declared.plain.Plain.{Plain}
-use Rattle.script_run.specs.declared.rooms.Rooms.{Rooms}
+use Rattle.script_names.specs.declared.rooms.Rooms.{Rooms}
 use Rattle.script_run.specs.steps.Orders.{count_of}
-use Rattle.script_run.specs.Held.{HaveNames, names_in}
+use Rattle.script_names.specs.Held.{HaveNames, names_in}
 
 -- one room for each sequence, with these names
 pub record HaveRooms (seqs size : ℕ) (named : SeqId → Named) (rooms : List Rooms) : Type 0 where

@@ -12,10 +12,10 @@ use Rattle.call_script.specs.declared.script.NameId.{NameId}
 use Rattle.remote_receiver.specs.declared.rest.Rest.{Rest}
 use Rattle.script_run.specs.declared.joins.Joint.{Joint}
 use Rattle.script_run.specs.declared.plain.Plain.{Plain}
-use Rattle.script_run.specs.declared.rooms.Rooms.{Rooms}
+use Rattle.script_names.specs.declared.rooms.Rooms.{Rooms}
 use Rattle.script_run.specs.Draining.{HaveRested}
-use Rattle.script_run.specs.steps.Rooms.{HasPlaces}
-use Rattle.script_run.specs.steps.Tables.{filled}
+use Rattle.script_names.specs.Rooms.{HasPlaces}
+use Rattle.script_names.specs.Tables.{filled}
 
 -- ## Rooms by their numbers
 

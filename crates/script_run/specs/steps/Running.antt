@@ -12,15 +12,15 @@ use Rattle.call_script.specs.declared.script.Script.{Script}
 use Rattle.call_script.specs.Sound.{IsLine}
 use Rattle.remote_receiver.specs.Notes.{Kept}
 use Rattle.remote_receiver.specs.declared.rest.Rest.{Rest}
-use Rattle.script_run.specs.Autos.{due}
+use Rattle.script_names.specs.Autos.{due}
 use Rattle.script_run.specs.OfScript.{DoesLines, IsPart, next_join}
 use Rattle.script_run.specs.Order.{InTurns, turn}
 use Rattle.script_run.specs.declared.plain.Plain.{Plain}
-use Rattle.script_run.specs.declared.rooms.Rooms.{Rooms}
+use Rattle.script_names.specs.declared.rooms.Rooms.{Rooms}
 use Rattle.script_run.specs.AtDesk.{Seen}
 use Rattle.script_run.specs.steps.Desks.{DidLine, TookAt}
 use Rattle.script_run.specs.Draining.{HaveRested, IsCoreOf, past_in}
-use Rattle.script_run.specs.Held.{HaveNames, names_in}
+use Rattle.script_names.specs.Held.{HaveNames, names_in}
 
 -- ## Rooms at the start
 

@@ -1,6 +1,13 @@
-use Rattle.std.proofs.Common.{◌≡◌, ◌++◌, arith, drop, length, subst, sym, take}
+use Rattle.std.proofs.Common.{◌≡◌, ◌≤◌, ◌++◌, ◌∙◌, ap, arith, drop, length, subst, sym, take}
+use Rattle.std.specs.Prelude.{Err}
+use Rattle.mj_base.specs.declared.limits.TheConstants.{MAX_EVENTS}
+use Rattle.mj_schema.specs.declared.schema.Schema.{Schema}
+use Rattle.bind_core.specs.Play.{Play}
 use Rattle.std.proofs.lemmas.List.{take_at}
-use Rattle.script_run.specs.Draining.{HaveRested, past_in}
+use Rattle.script_run.specs.Draining.{DrainedPart, HaveRested, past_in}
+use Rattle.script_run.specs.declared.cut.Cut.{Cut}
+use Rattle.script_run.specs.declared.cut.Cut.TheVariants as cuts
+use Rattle.script_run.proofs.CutTurns.{cut_is}
 use Rattle.script_run.proofs.RunParts.{drained_all}
 use Rattle.script_run.proofs.draining.drain.Goals as goal
 
@@ -24,4 +31,17 @@ returns-in-Ok-clause-drained c =
 pub returns-in-Err-clause-unspent : goal.returns-in-Err-clause-unspent
 returns-in-Err-clause-unspent c = λ after_joins middle short whole joins asks.
     let unspent = c.take_all-core.ensures.unspent after_joins middle short whole joins asks in
-    rw c.cut_off.ensures (rw c.in-Err.is at unspent)
+    rw c.cut_off.ensures.cut (rw c.in-Err.is at unspent)
+
+pub returns-in-Err-clause-cut : goal.returns-in-Err-clause-cut
+returns-in-Err-clause-cut c =
+    let part = rw c.in-Err.is at c.take_all-core.ensures.cut in
+    rw c.cut_off.ensures.cut
+    (subst (λ (s : Schema). DrainedPart s c.args.script.now (past_in c.args.core) c.cut_off.result.core) (sym c.requires.schema)
+    (subst (DrainedPart c.args.schema.now c.args.script.now (past_in c.args.core)) (sym c.cut_off.ensures.core) part))
+
+pub returns-in-Err-clause-spent : goal.returns-in-Err-clause-spent
+returns-in-Err-clause-spent c = λ e.
+    subst (λ (p : Play). MAX_EVENTS ≤ length p.events) (sym c.cut_off.ensures.core)
+    (c.take_all-core.ensures.spent
+    (c.in-Err.is ∙ ap (λ (cut : Cut). Err cut) (cut_is c.in-Err.cut cuts.Spent (sym c.cut_off.ensures.cut ∙ e))))

@@ -1,5 +1,5 @@
 use Rattle.remote_receiver.specs.Held.{kept_of}
-use Rattle.script_run.proofs.CutTurns.{cut_take}
+use Rattle.script_run.proofs.CutTurns.{cut_take, part_take}
 use Rattle.script_run.proofs.TakeTurns.{took_turn}
 use Rattle.script_run.proofs.draining.turn.Goals as goal
 
@@ -17,3 +17,10 @@ returns-in-Err-clause-cut c =
     c.wake-desk.result.stepper.seq c.take.new.desk.stepper.seq c.args.rests.now c.wake-desk.new.rests (kept_of c.wake-desk.result.jobs)
     c.as_slice-autos.ensures c.leave-core.ensures c.history-history-in-Err.ensures.legal c.args.seq c.args.end c.wake-desk.ensures c.in-Err.cut
     c.in-Err.ensures.cut
+
+pub returns-in-Err-clause-part : goal.returns-in-Err-clause-part
+returns-in-Err-clause-part c =
+    part_take c.args.script.now c.as_slice-autos.result.now c.args.core c.wake-desk.result.stepper.core c.take.new.desk.stepper.core c.leave-core.result
+    c.wake-desk.result.stepper.seq c.take.new.desk.stepper.seq c.args.rests.now c.wake-desk.new.rests (kept_of c.wake-desk.result.jobs)
+    c.as_slice-autos.ensures c.leave-core.ensures c.history-history-in-Err.ensures.legal c.args.seq c.args.end c.wake-desk.ensures c.take.ensures.later
+    c.in-Err.ensures.came

@@ -1,7 +1,7 @@
 use Rattle.std.proofs.Common.{◌<◌, ℕ, arith, subst, sym}
 use Rattle.std.proofs.lemmas.Option.{slice_get-get_or}
 use Rattle.std.proofs.lemmas.Result.{on_ok_weaker}
-use Rattle.script_run.specs.steps.Rooms.{HasPlaces, SameHeld}
+use Rattle.script_names.specs.Rooms.{HasPlaces, SameHeld}
 use Rattle.script_run.proofs.Joining.{at_set, come_held, come_set, held_none, held_then}
 use Rattle.script_run.proofs.joins.join.Goals as goal
 use Rattle.script_run.specs.steps.Cutting.{CutJoin}

@@ -44,4 +44,4 @@ returns-in-Ok-clause-unspent c = λ order short are.
 
 pub returns-in-Err-clause-unspent : goal.returns-in-Err-clause-unspent
 returns-in-Err-clause-unspent c = λ order short are.
-    rw c.cut_off-in-Err.ensures (rw c.in-Err.is at (c.do_all-core.ensures.unspent order short are))
+    rw c.cut_off-in-Err.ensures.cut (rw c.in-Err.is at (c.do_all-core.ensures.unspent order short are))

@@ -1,5 +1,5 @@
 use Rattle.std.proofs.Common.{◌∙◌, false, refl}
-use Rattle.script_run.proofs.RoomsSettled.{have_same, have_settled, held_through, names_same, names_still}
+use Rattle.script_names.proofs.RoomsSettled.{have_same, have_settled, held_through, names_same, names_still}
 use Rattle.script_run.proofs.worker.answer.Goals as goal
 
 pub returns-in-Ok-settle-clause-names : goal.returns-in-Ok-settle-clause-names

@@ -2,13 +2,13 @@ use Rattle.std.proofs.Common.{sym, subst}
 use Rattle.std.specs.Prelude.{is_some}
 use Rattle.call_script.specs.declared.script.NameId.{NameId}
 use Rattle.remote_receiver.specs.Held.{kept_of}
-use Rattle.script_run.specs.declared.stands.Stands.{Stands}
+use Rattle.script_names.specs.declared.stands.Stands.{Stands}
 use Rattle.script_run.specs.AtDesk.{seen_by}
 use Rattle.script_run.specs.steps.Desks.{IsFull}
-use Rattle.script_run.specs.steps.Needs.{AreNames}
-use Rattle.script_run.specs.Held.{held_at}
-use Rattle.script_run.proofs.LineDone.{commands_done, memory_cut}
-use Rattle.script_run.proofs.RoomsSettled.{have_all}
+use Rattle.script_names.specs.Needs.{AreNames}
+use Rattle.script_names.specs.Held.{held_at}
+use Rattle.script_run.proofs.LineDone.{command_came, commands_done, memory_cut}
+use Rattle.script_names.proofs.RoomsSettled.{have_all}
 use Rattle.script_run.proofs.worker.do_command.Goals as goal
 
 pub command_of-requires : goal.command_of-requires
@@ -41,3 +41,11 @@ returns-clause-cut g c =
     let s = g.P.Stepper in
     memory_cut c.settle.result (IsFull (seen_by s.schema s.seqs s.alone s.me s.seen c.args.desk.now.stepper)
     (seen_by s.schema s.seqs s.alone s.me s.seen c.ask.new.desk.stepper)) c.settle.ensures.cut
+
+pub returns-clause-came : goal.returns-clause-came
+returns-clause-came g c =
+    let s = g.P.Stepper in
+    command_came c.settle.result (seen_by s.schema s.seqs s.alone s.me s.seen c.args.desk.now.stepper)
+    (seen_by s.schema s.seqs s.alone s.me s.seen c.ask.new.desk.stepper) (kept_of c.args.desk.now.jobs) (kept_of c.ask.new.desk.jobs)
+    c.in-Ok-command_of.command _ c.in_ok-reply.ensures.went c.args.line.now c.args.rooms.now c.make_place.new.self c.make_place.ensures.same
+    c.in-Ok-command_of.ensures.asked

@@ -3,7 +3,8 @@ use Rattle.std.specs.Option.{option_copied}
 use Rattle.bind_model.specs.declared.asked.Asked.TheVariants as asks
 use Rattle.remote_receiver.specs.Held.{kept_of}
 use Rattle.script_run.specs.AtDesk.{seen_by}
-use Rattle.script_run.proofs.LineDone.{cut_behind, take_alone, take_replied, reply_last, reply_read}
+use Rattle.script_run.proofs.Later.{most_came, on_err}
+use Rattle.script_run.proofs.LineDone.{came_behind, cut_behind, take_alone, take_replied, reply_last, reply_read}
 use Rattle.script_run.proofs.worker.take.Goals as goal
 
 pub answer-requires-clause-reply : goal.answer-requires-clause-reply
@@ -47,3 +48,20 @@ returns-in-None-clause-took g c =
     take_alone c.args.autos.now (seen_by s.schema s.seqs s.alone s.me s.seen c.args.desk.now.stepper)
     (seen_by s.schema s.seqs s.alone s.me s.seen c.do_take.new.desk.stepper) (kept_of c.args.desk.now.jobs) (kept_of c.do_take.new.desk.jobs)
     c.do_take.new.rooms.responders.others.items (option_copied c.in_ok-reply.field-0) (ap option_copied c.in-None.is) c.args.end c.in_ok-reply.ensures.did
+
+pub returns-in-Some-clause-came : goal.returns-in-Some-clause-came
+returns-in-Some-clause-came g c =
+    let s = g.P.Stepper in
+    let did = c.in_ok-reply.ensures.did in
+    came_behind c.args.autos.now (seen_by s.schema s.seqs s.alone s.me s.seen c.args.desk.now.stepper)
+    (seen_by s.schema s.seqs s.alone s.me s.seen c.do_take.new.desk.stepper) (asks.Take c.args.end) did.told c.in-Some.reply.now
+    c.do_take.new.rooms.responders.others.items did.went.same (sym (ap option_copied c.in-Some.is) ∙ did.found) did.last c.answer.result
+    (seen_by s.schema s.seqs s.alone s.me s.seen c.answer.new.desk.stepper) (kept_of c.args.desk.now.jobs) (kept_of c.do_take.new.desk.jobs) did.went
+    c.answer.ensures.came
+
+pub returns-in_err-reply-clause-came : goal.returns-in_err-reply-clause-came
+returns-in_err-reply-clause-came g c =
+    let s = g.P.Stepper in
+    on_err c.from_residual.result
+    (most_came c.args.autos.now (asks.Take c.args.end) (seen_by s.schema s.seqs s.alone s.me s.seen c.args.desk.now.stepper)
+    (seen_by s.schema s.seqs s.alone s.me s.seen c.do_take.new.desk.stepper) c.in_err-reply.ensures.came)

@@ -1,0 +1,127 @@
+-- What commands are told: bytes that are written bring their end back, and nothing else does; an endpoint that is made brings a pending.
+use Rattle.std.proofs.Common.{◌≡◌, ◌≤◌, ℕ, Bool, true, false, List, [], ◌∷◌, length, refl, sym, ap, ◌∙◌, subst, inl, inr, arith, true≢false}
+use Rattle.std.specs.Prelude.{nat_le}
+use Rattle.mj_base.specs.declared.ids.EndId.{EndId}
+use Rattle.mj_base.specs.declared.ids.SeqId.{SeqId}
+use Rattle.handle_table.specs.declared.thing.Thing.{Thing}
+use Rattle.handle_table.specs.declared.thing.Thing.TheVariants.{End, Token}
+use Rattle.bind_model.specs.Plain.{asked_of, told_of, HandsBack}
+use Rattle.bind_model.specs.Replies.{all_out, answer, cannot_write, unless, wrote_at}
+use Rattle.bind_model.specs.Wire.{Wire}
+use Rattle.bind_model.specs.declared.asked.Asked.{Asked}
+use Rattle.bind_model.specs.declared.asked.Asked.TheVariants as asks
+use Rattle.bind_model.specs.declared.commands.Command.{Command}
+use Rattle.bind_model.specs.declared.commands.Command.TheVariants.{Associate, Raw}
+use Rattle.bind_model.specs.declared.commands.Reply.{Reply}
+use Rattle.bind_model.specs.declared.commands.Reply.TheVariants as replies
+use Rattle.bind_model.specs.declared.endpoint.PendingId.{PendingId}
+use Rattle.bind_model.specs.declared.event.Event.{Event}
+use Rattle.bind_model.specs.declared.limits.TheConstants.{MAX_RAW_BYTES, MAX_RAW_HANDLES}
+use Rattle.bind_model.specs.declared.told.Told.{Told}
+use Rattle.bind_model.specs.declared.told.Told.TheVariants as tells
+use Rattle.bind_model.specs.declared.told.Why.TheVariants.{NoName, TooLong, TooManyHandles}
+use Rattle.bind_model.proofs.Outcomes.{Outcome, Refused, associates, first_cases, outcome, writes}
+use Rattle.script_names.specs.declared.rooms.Rooms.{Rooms}
+use Rattle.script_names.specs.Carried.{halves_room, halves_with, things_with}
+use Rattle.script_names.specs.Rooms.{HasRoom, HasRoomBehind, HasRoomFor}
+
+-- whether a command writes bytes
+abbrev pub is_raw : Command → Bool
+is_raw (Raw handle bytes handles) = true
+is_raw command = false
+
+-- whether what is told is neither a refusal nor that bytes were written
+abbrev pub is_plain : Told → Bool
+is_plain (tells.No why) = false
+is_plain (tells.Wrote x) = false
+is_plain told = true
+
+abbrev IsRaw : Asked → Type 0
+IsRaw (asks.Raw x bytes handles) = Unit {0}
+IsRaw asked = ⊥
+
+abbrev IsMaking : Asked → Type 0
+IsMaking (asks.Associate y side interface) = Unit {0}
+IsMaking asked = ⊥
+
+-- what asks for what is told
+abbrev Comes : Told → Asked → Type 0
+Comes (tells.Wrote x) asked = IsRaw asked
+Comes (tells.Associated p) asked = IsMaking asked
+Comes told asked = Unit {0}
+
+raw_command : (command : Command) → IsRaw (asked_of command) → is_raw command ≡ true
+raw_command (Raw handle bytes handles) h = refl
+raw_command command h = absurd h
+
+raw_room : (command : Command) → is_raw command ≡ true → 1 ≤ length (things_with command)
+raw_room (Raw handle bytes handles) h = omega arith
+raw_room command h = absurd (true≢false (sym h))
+
+making_room : (command : Command) → IsMaking (asked_of command) → 1 ≤ halves_room command
+making_room (Associate end side interface) h = omega arith
+making_room command h = absurd h
+
+halves_fit : (command : Command) → length (halves_with command) ≤ halves_room command
+halves_fit (Associate end side interface) = omega arith
+halves_fit command = omega arith
+
+less_room : (a b c d : ℕ) (rooms : Rooms) → c ≤ a → d ≤ b → HasRoom a b rooms → HasRoom c d rooms
+less_room a b c d rooms things halves room = record {
+  handles = let most = room.handles in omega arith;
+  pendings = let most = room.pendings in omega arith;
+  responders = room.responders;
+}
+
+module _ (wire : Wire) (seqs : ℕ) (past : List Event) (me : SeqId) where
+  refused_not : (told : Told) → Refused told → is_plain told ≡ false
+  refused_not told r = ap is_plain r.1
+
+  wrote_not : (x : Thing) (bytes : List ℕ) (handles : List Thing) (told : Told) → told ≡ wrote_at wire past x bytes handles → is_plain told ≡ false
+  wrote_not (Token t) bytes handles told h = ap is_plain h
+  wrote_not (End x) bytes handles told h = elim (first_cases (
+      unless (nat_le (length bytes) MAX_RAW_BYTES) TooLong
+      ∷ unless (nat_le (length handles) MAX_RAW_HANDLES) TooManyHandles
+      ∷ cannot_write wire past x false handles)
+      (tells.Wrote x) told h) [
+        | inl r ↦ refused_not told r
+        | inr p ↦ ap is_plain p.1
+      ]
+
+  raw_not : (x : Thing) (bytes : List ℕ) (handles : List Thing) (told : Told) → told ≡ answer wire seqs past me (asks.Raw x bytes handles)
+      → is_plain told ≡ false
+  raw_not x bytes handles told h = elim (first_cases (unless (all_out past (x ∷ handles)) NoName ∷ []) (wrote_at wire past x bytes handles) told h) [
+    | inl r ↦ refused_not told r
+    | inr p ↦ wrote_not x bytes handles told p.1
+  ]
+
+  -- what is told something else writes no bytes
+  pub not_raw : (command : Command) (told : Told) → told ≡ answer wire seqs past me (asked_of command) → is_plain told ≡ true → is_raw command ≡ false
+  not_raw (Raw handle bytes handles) told h plain = absurd (true≢false (sym plain ∙ raw_not handle bytes handles told h))
+  not_raw command told h plain = refl
+
+  comes : {asked : Asked} {told : Told} → Outcome wire seqs past me asked told → Comes told asked
+  comes (writes own at) = tt
+  comes (associates main here alive is) = tt
+  comes other = tt
+
+  -- bytes that were written are those of a command for it
+  pub wrote_raw : (command : Command) (x : EndId) → tells.Wrote x ≡ answer wire seqs past me (asked_of command) → is_raw command ≡ true
+  wrote_raw command x h = raw_command command (comes (outcome wire seqs past me (asked_of command) (tells.Wrote x) h))
+
+  made_room : (command : Command) (p : PendingId) → tells.Associated p ≡ answer wire seqs past me (asked_of command) → 1 ≤ halves_room command
+  made_room command p h = making_room command (comes (outcome wire seqs past me (asked_of command) (tells.Associated p) h))
+
+  -- there is room for what comes back with a reply where there was room for what may come back of its command
+  pub room_behind : (command : Command) (reply : Reply) (rooms : Rooms) → told_of reply ≡ answer wire seqs past me (asked_of command)
+      → HandsBack command reply → HasRoomFor command rooms → HasRoomBehind reply rooms
+  room_behind command (replies.Wrote back) rooms told hands room =
+      less_room (length (things_with command)) (halves_room command) 1 0 rooms (raw_room command (wrote_raw command _ told)) (omega arith) room
+  room_behind command (replies.Associated pending) rooms told hands room =
+      less_room (length (things_with command)) (halves_room command) 0 1 rooms (omega arith) (made_room command pending.name told) room
+  room_behind command (replies.No why back) rooms told hands room =
+      subst (λ (c : Command). HasRoom (length (things_with c)) (length (halves_with c)) rooms) (sym hands)
+      (less_room (length (things_with command)) (halves_room command) (length (things_with command)) (length (halves_with command)) rooms (omega arith)
+      (halves_fit command) room)
+  room_behind command reply rooms told hands room =
+      less_room (length (things_with command)) (halves_room command) 0 0 rooms (omega arith) (omega arith) room

@@ -1,0 +1,17 @@
+use Rattle.std.proofs.Common.{◌≡◌, ◌+◌, ◌≤◌, ◌++◌, drop, length}
+use Rattle.std.specs.Prelude.{vec_len, vec_capacity}
+use Rattle.std.specs.Option.{option_map}
+use Rattle.script_names.specs.Tables.{given, taken_from, left_by}
+use Rattle.script_names.proofs.held.Held.take_all.Given as goal
+
+-- what was taken, and then what is taken from the names left, is all; to give back what was taken undoes it
+abbrev pub invariant-loop-name : goal.invariant-loop-name
+invariant-loop-name g l = record {
+  count : vec_len l.taken ≡ l.name-index;
+  things : taken_from l.fn.self.named.items l.names
+      ≡ option_map (λ more. l.taken.items ++ more) (taken_from l.self.named.items (drop l.name-index l.names));
+  named : left_by l.fn.self.named.items l.names ≡ left_by l.self.named.items (drop l.name-index l.names);
+  back : given l.names l.taken.items l.self.named.items ≡ l.fn.self.named.items;
+  room : length l.names + vec_len l.self.others ≤ vec_capacity l.self.others;
+  space : length l.names ≤ vec_capacity l.taken;
+}

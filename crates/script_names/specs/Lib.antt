@@ -1,0 +1,10 @@
+pub mod Autos
+pub mod Names
+pub mod Asking
+pub mod Held
+pub mod Carried
+pub mod Tables
+pub mod Needs
+pub mod Rooms
+pub mod Settling
+pub mod steps

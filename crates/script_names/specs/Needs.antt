@@ -1,0 +1,50 @@
+-- The names of a line, by what it has them for.
+use Rattle.std.specs.Prelude.{◌≡◌, Bool, true, false, List, [], filter, not, Option, Some, None}
+use Rattle.call_script.specs.declared.script.Command.{Command}
+use Rattle.call_script.specs.declared.script.Command.TheVariants.{Bind, Attach, Call, Answer, Raw, CloseToken}
+use Rattle.call_script.specs.declared.script.NameId.{NameId}
+use Rattle.call_script.specs.Sound.{sets}
+use Rattle.script_names.specs.declared.names.Names.{Names}
+
+-- the name whose handle, pending or responder a command needs by itself
+abbrev pub needed : Command → Option NameId
+needed (Bind n side interface) = Some n
+needed (Attach n seq) = Some n
+needed (Answer n prepared names) = Some n
+needed (Raw n bytes names) = Some n
+needed (CloseToken n) = Some n
+needed command = None
+
+-- of the names in a command's list those whose handles it needs, and those whose pendings
+module _ (is_thing : NameId → Bool) where
+  abbrev pub chosen : Bool → NameId → Bool
+  chosen true n = is_thing n
+  chosen false n = not (is_thing n)
+
+  abbrev pub selected : Bool → List NameId → List NameId
+  selected stand names = filter (λ (n : NameId). chosen stand n) names
+
+  abbrev pub handles_needed : Command → List NameId
+  handles_needed (Call n id prepared names) = filter is_thing names
+  handles_needed (Answer n prepared names) = filter is_thing names
+  handles_needed (Raw n bytes names) = names
+  handles_needed command = []
+
+  abbrev pub pendings_needed : Command → List NameId
+  pendings_needed (Call n id prepared names) = filter (λ n. not (is_thing n)) names
+  pendings_needed (Answer n prepared names) = filter (λ n. not (is_thing n)) names
+  pendings_needed command = []
+
+  -- they are the names of this command
+  pub record AreNames (command : Command) (names : Names) : Type 0 where
+    pub sets : names.sets.items ≡ sets command
+    pub one : names.one ≡ needed command
+    pub handles : names.handles.items ≡ handles_needed command
+    pub pendings : names.pendings.items ≡ pendings_needed command
+
+-- there are none
+pub record AreNone (names : Names) : Type 0 where
+  pub sets : names.sets.items ≡ []
+  pub one : names.one ≡ None
+  pub handles : names.handles.items ≡ []
+  pub pendings : names.pendings.items ≡ []

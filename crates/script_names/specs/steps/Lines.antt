@@ -1,0 +1,39 @@
+-- What lines ask, case by case, by what is held or meant.
+use Rattle.std.specs.Prelude.{ℕ, List, Option}
+use Rattle.std.specs.Option.{option_map}
+use Rattle.mj_base.specs.declared.ids.EndId.{EndId}
+use Rattle.mj_base.specs.declared.ids.SeqId.{SeqId}
+use Rattle.handle_table.specs.declared.thing.Thing.{Thing}
+use Rattle.wire_encoder.specs.declared.endpoint.EndpointSide.{EndpointSide}
+use Rattle.bind_model.specs.declared.asked.Asked.{Asked}
+use Rattle.bind_model.specs.declared.asked.Asked.TheVariants as asks
+use Rattle.bind_model.specs.declared.asked.Closing.TheVariants as closings
+use Rattle.bind_model.specs.declared.endpoint.PendingId.{PendingId}
+use Rattle.bind_model.specs.declared.endpoint.ResponderId.{ResponderId}
+use Rattle.bind_model.specs.declared.commands.Command.{Command}
+use Rattle.call_script.specs.declared.script.NameId.{NameId}
+use Rattle.script_names.specs.declared.rooms.Rooms.{Rooms}
+use Rattle.script_names.specs.Asking.{closed_of, or_skip}
+use Rattle.script_names.specs.Settling.{Took}
+
+abbrev pub bound : ℕ → EndpointSide → ℕ → Option Thing → Asked
+bound number side interface thing = or_skip number (option_map (λ (x : Thing). asks.Bind x side interface) thing)
+
+abbrev pub associated : ℕ → EndpointSide → ℕ → Option EndId → Asked
+associated number side interface end = or_skip number (option_map (λ (y : EndId). asks.Associate y side interface) end)
+
+abbrev pub attached : ℕ → SeqId → Option PendingId → Asked
+attached number seq pending = or_skip number (option_map (λ (p : PendingId). asks.Attach p seq) pending)
+
+abbrev pub taken : ℕ → Option EndId → Asked
+taken number end = or_skip number (option_map asks.Take end)
+
+abbrev pub shut : ℕ → Option Thing → Option PendingId → Option ResponderId → Asked
+shut number thing pending responder = or_skip number (closed_of thing pending responder)
+
+abbrev pub shut_at : ℕ → ℕ → Option EndId → Asked
+shut_at number id end = or_skip number (option_map (λ (y : EndId). asks.Close (closings.Endpoint y id)) end)
+
+-- nothing goes with a command, so that whatever its names are nothing is taken for it
+abbrev pub TakesNothing : Command → Type 0
+TakesNothing command = (one : Option NameId) (handles pendings : List NameId) (rooms : Rooms) → Took one handles pendings command rooms rooms

@@ -1,0 +1,8 @@
+//! Want of memory.
+
+use thiserror::Error;
+
+/// There was no memory for the run.
+#[derive(Clone, Copy, Debug, PartialEq, Eq, Error)]
+#[error("out of memory")]
+pub struct NoMemory;

@@ -1,4 +1,0 @@
-use Rattle.script_run.proofs.kept.retire_all.Given as goal
-
-abbrev pub decreases-loop-one : goal.decreases-loop-one
-decreases-loop-one l = goal.left-loop-one l
