@@ -12,11 +12,12 @@ use Rattle.mojom_files.specs.Refusals.{where_true}
 use Rattle.const_eval.specs.declared.kinds.Range.{Range}
 use Rattle.const_meanings.specs.Known.{Known, TextValue, BoolValue, NumberValue}
 
--- the basic kind of a type without `?`, where it is one
+-- the basic kind that a name of one part spells, where it is one
 abbrev pub basic_of_parts : List Identifier → Option Basic
 basic_of_parts (part ∷ []) = basic_of part.text
 basic_of_parts _ = None
 
+-- the basic kind of a type without `?`, where it is one
 abbrev pub basic_of_base : BaseTree → Option Basic
 basic_of_base (Named name) = basic_of_parts name.parts
 basic_of_base _ = None

@@ -50,6 +50,7 @@ origin_of_const (Some basics.Float) origin = Written literals.Float
 origin_of_const (Some basics.Double) origin = Written literals.Float
 origin_of_const _ origin = origin
 
+-- the same by what is defined: for a constant its kind and its written value say it
 abbrev pub origin_of_item : List FileThings → List FileNames → ℕ → Option (List ℕ) → DefinitionItem → Origin
 origin_of_item things names file enclosing (items.Const item) =
     origin_of_const (basic_of_base item.kind.base) (origin_of_value things names file enclosing item.value)

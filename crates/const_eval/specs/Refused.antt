@@ -93,26 +93,31 @@ refused_ordinals file next members =
     flat_map (λ (one : NumberedAs Member). refused_uint32 file (place_of_ordinal one.member) one.ordinal)
     (numbered_by (λ (n : ℕ). n) (λ (m : Member). m.ordinal) next members)
 
+-- a field of a struct, with its ordinal; a constant or an enum in a struct is no member here
 abbrev pub field_member : StructItem → List Member
 field_member (struct_items.Field f) = record { name = f.name; ordinal = f.ordinal } ∷ []
 field_member (struct_items.Const c) = []
 field_member (struct_items.Enum e) = []
 
+-- a method of an interface, with its ordinal; a constant or an enum in an interface is no member here
 abbrev pub method_member : InterfaceItem → List Member
 method_member (interface_items.Method m) = record { name = m.name; ordinal = m.ordinal } ∷ []
 method_member (interface_items.Const c) = []
 method_member (interface_items.Enum e) = []
 
--- the fields of a struct, the fields of a union, the methods of an interface, and parameters, as members
+-- the fields of a struct, as members
 abbrev pub struct_members : List StructMember → List Member
 struct_members members = flat_map (λ (m : StructMember). field_member m.item) members
 
+-- the fields of a union, as members
 abbrev pub union_members : List UnionField → List Member
 union_members fields = map (λ (f : UnionField). record { name = f.name; ordinal = f.ordinal }) fields
 
+-- the methods of an interface, as members
 abbrev pub interface_members : List InterfaceMember → List Member
 interface_members members = flat_map (λ (m : InterfaceMember). method_member m.item) members
 
+-- the parameters of one list, as members
 abbrev pub parameter_members : List Parameter → List Member
 parameter_members parameters = map (λ (p : Parameter). record { name = p.name; ordinal = p.ordinal }) parameters
 
@@ -130,6 +135,7 @@ refused_version_value site enclosing name None = wrong_literal site.file name �
 refused_version_value site enclosing name (Some value) =
     of_known (refused_value site.file name (place_of_value value) basics.Uint32) (value_in site.consts site.names site.file enclosing value)
 
+-- what is refused of one attribute: nothing of one that isn't a MinVersion
 abbrev pub refused_version : Site → Option (List ℕ) → Identifier → Attribute → List Refusal
 refused_version site enclosing name attribute =
     if is_min_version attribute then refused_version_value site enclosing name attribute.value else []
@@ -158,6 +164,7 @@ abbrev pub refused_const_value : Site → ℕ → Const → List Refusal
 refused_const_value site thing c =
     refused_const_as site.file c.name (place_of_value c.value) (basic_of_base c.kind.base) (value_at site.consts thing)
 
+-- all that is refused of a constant: that it needs itself, then its kind and value, and then the lengths in its type
 abbrev pub refused_const : Site → ℕ → Const → List Refusal
 refused_const site thing c =
     refused_circle site thing c.name ++ (refused_const_value site thing c ++ refused_lengths site.file c.kind.base)
@@ -171,6 +178,7 @@ refused_enumerator_value file e value =
 abbrev pub refused_known_enumerator : Site → ℕ → Enumerator → List Refusal
 refused_known_enumerator site thing e = of_known (refused_enumerator_value site.file e) (value_at site.consts thing)
 
+-- all that is refused of an enumerator: that it needs itself, then its value, and then the versions before it
 abbrev pub refused_enumerator : Site → Option (List ℕ) → ℕ → Enumerator → List Refusal
 refused_enumerator site inside thing e =
     refused_circle site thing e.name
@@ -230,6 +238,7 @@ abbrev pub refused_default_of : Site → Option (List ℕ) → Field → Value �
 refused_default_of site enclosing f value kind =
     if f.kind.nullable && not (is_string kind) then wrong_literal site.file f.name ∷ [] else refused_default_by site enclosing f value kind
 
+-- what is refused of a field's default, where one is written
 abbrev pub refused_default : Site → Option (List ℕ) → Field → Option Value → List Refusal
 refused_default site enclosing f None = []
 refused_default site enclosing f (Some value) = refused_default_of site enclosing f value (basic_of_base f.kind.base)
@@ -244,13 +253,16 @@ refused_field site enclosing attributes (struct_items.Field f) =
 refused_field site enclosing attributes (struct_items.Const c) = []
 refused_field site enclosing attributes (struct_items.Enum e) = []
 
+-- what is refused of a member of a struct, with the attributes before it
 abbrev pub refused_struct_member : Site → Option (List ℕ) → StructMember → List Refusal
 refused_struct_member site enclosing member = refused_field site enclosing member.attributes member.item
 
+-- a field of a union, which has no default: the versions before it, and the lengths in its type
 abbrev pub refused_union_field : Site → Option (List ℕ) → UnionField → List Refusal
 refused_union_field site enclosing f =
     refused_versions site enclosing f.name f.attributes ++ refused_lengths site.file f.kind.base
 
+-- a parameter, which has no default: the versions before it, and the lengths in its type
 abbrev pub refused_parameter : Site → Option (List ℕ) → Parameter → List Refusal
 refused_parameter site enclosing p =
     refused_versions site enclosing p.name p.attributes ++ refused_lengths site.file p.kind.base
@@ -270,6 +282,7 @@ refused_method site enclosing attributes (interface_items.Method m) =
 refused_method site enclosing attributes (interface_items.Const c) = []
 refused_method site enclosing attributes (interface_items.Enum e) = []
 
+-- what is refused of a member of an interface, with the attributes before it
 abbrev pub refused_interface_member : Site → Option (List ℕ) → InterfaceMember → List Refusal
 refused_interface_member site enclosing member =
     refused_method site enclosing member.attributes member.item

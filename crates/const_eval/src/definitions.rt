@@ -105,8 +105,9 @@ fn check_definition(
 {
     let name = definition.name();
     let attributes = definition.attributes();
-    check_versions(alloc, best, here, definition.enclosing(), name, attributes)?;
-    let inside = Some(Text::from_str(alloc, definition.full())?);
+    let enclosing = definition.enclosing(alloc)?;
+    check_versions(alloc, best, here, &enclosing, name, attributes)?;
+    let inside = Some(definition.full(alloc)?);
     check_item(alloc, best, here, thing, &inside, definition.item())
 }
 
@@ -138,7 +139,7 @@ fn check_enumerators_of(
     ensures { OnOk result (best.new ≡ best_of best.old
         (numbered (refused_enumerator (site_of here.now) (Some definition.now.full)) thing (enumerators_of definition.now.item))) }
 {
-    let inside = Some(Text::from_str(alloc, definition.full())?);
+    let inside = Some(definition.full(alloc)?);
     let enumerators = enumerators_of(definition);
     check_enumerators(alloc, best, here, &inside, thing, enumerators)
 }

@@ -100,7 +100,10 @@ impl Scope<'_> {
         };
         match basic_of_base(&item.kind.node().base) {
             Some(Basic::Float | Basic::Double) => Ok(Origin::Written(Literal::Float)),
-            _ => self.origin_of_value(alloc, definition.enclosing(), &item.value),
+            _ => {
+                let enclosing = definition.enclosing(alloc)?;
+                self.origin_of_value(alloc, &enclosing, &item.value)
+            }
         }
     }
 
@@ -155,7 +158,7 @@ impl Scope<'_> {
         ensures { OnOk result (origins.new.items ≡ origins.old.items
             ++ origins_of_enumerators self.now.things.now self.now.names.now.files self.now.file definition.now) }
     {
-        let inside = Some(Text::from_str(alloc, definition.full())?);
+        let inside = Some(definition.full(alloc)?);
         self.add_in_order(alloc, origins, &inside, enumerators_of(definition))
     }
 

@@ -47,6 +47,7 @@ is_struct Parameters = true
 abbrev pub refused_count : Scope → Identifier → ℕ → ℕ → List Refusal
 refused_count scope owner limit count = where_true (nat_lt limit count) (refused scope owner (TooManyFields owner.text))
 
+-- nothing stands in the list
 abbrev pub is_empty : {A : Type 0} → List A → Bool
 is_empty [] = true
 is_empty _ = false
@@ -69,24 +70,29 @@ refused_list scope owner sort members =
 
 -- the lists of a method: the request first, and then the response where it has one
 
+-- all refusals of one list of parameters, of the method of this identifier
 abbrev pub refused_parameters : Scope → Identifier → List Parameter → List Refusal
 refused_parameters scope owner parameters = refused_list scope owner Parameters (map parameter_of parameters)
 
+-- all refusals of the response of a method, where it has one
 abbrev pub refused_response : Scope → Identifier → Option (List Parameter) → List Refusal
 refused_response scope owner None = []
 refused_response scope owner (Some parameters) = refused_parameters scope owner parameters
 
+-- all refusals of the parameters of a method; constants and enums in an interface have none
 abbrev pub refused_in_item : Scope → InterfaceItem → List Refusal
 refused_in_item scope (interface_items.Method m) =
     refused_parameters scope m.name m.request ++ refused_response scope m.name m.response
 refused_in_item scope (interface_items.Const c) = []
 refused_in_item scope (interface_items.Enum e) = []
 
+-- all refusals of the parameters of a member of an interface
 abbrev pub refused_in_interface : Scope → InterfaceMember → List Refusal
 refused_in_interface scope member = refused_in_item scope member.item
 
 -- enums
 
+-- the refusal of one more enumerator with `[Default]`
 abbrev pub refused_default : Scope → Enumerator → Refusal
 refused_default scope e = refused scope e.name (DoubleDefault e.name.text)
 
@@ -109,6 +115,7 @@ refused_item scope full (items.Interface item) =
     ++ flat_map (refused_in_interface (inside scope full)) item.members
 refused_item scope full (items.Const item) = refused_in_type scope item.name false item.kind
 
+-- all refusals of a definition in the file of this number, its names looked up from what encloses it
 abbrev pub refused_definition : List FileNames → Consts → ℕ → Defined → List Refusal
 refused_definition names consts file d = refused_item (around names consts file d.enclosing) d.full d.item
 

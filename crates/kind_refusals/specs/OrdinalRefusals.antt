@@ -23,6 +23,7 @@ doubled before [] = []
 doubled before (one ∷ others) =
     (if is_among before one.ordinal then one ∷ [] else []) ++ doubled (before ++ one.ordinal ∷ []) others
 
+-- the refusal of a member whose ordinal stands before it already
 abbrev pub refused_double : Scope → Numbered → Refusal
 refused_double scope one = refused scope one.member.name (OrdinalDouble one.member.name.text one.ordinal)
 
@@ -32,6 +33,7 @@ refused_doubles scope members = map (refused_double scope) (doubled [] members)
 
 -- ordinals that are lacking
 
+-- the ordinals that members have, in order
 abbrev pub ordinals_of : List Numbered → List ℕ
 ordinals_of members = map (λ (one : Numbered). one.ordinal) members
 

@@ -16,11 +16,13 @@ use Rattle.kind_scope.specs.declared.meant.Meant.TheVariants as meant
 use Rattle.kind_scope.specs.Scopes.{Scope, meant_in, refused}
 use Rattle.kind_scope.specs.Members.{Member}
 
+-- the basic kinds float and double
 abbrev pub is_float_basic : Basic → Bool
 is_float_basic basics.Float = true
 is_float_basic basics.Double = true
 is_float_basic _ = false
 
+-- the basic kind string
 abbrev pub is_text_basic : Basic → Bool
 is_text_basic basics.Text = true
 is_text_basic _ = false
@@ -29,10 +31,12 @@ is_text_basic _ = false
 abbrev pub is_number_basic : Basic → Bool
 is_number_basic basic = not (is_float_basic basic || is_text_basic basic)
 
+-- what is defined is an enum
 abbrev pub is_enum : Option DefinitionSort → Bool
 is_enum (Some sorts.Enum) = true
 is_enum _ = false
 
+-- what is defined is a struct or a union
 abbrev pub is_struct_or_union : Option DefinitionSort → Bool
 is_struct_or_union (Some sorts.Struct) = true
 is_struct_or_union (Some sorts.Union) = true
@@ -94,5 +98,6 @@ abbrev pub refused_in_option : Scope → Identifier → (field : Bool) → Optio
 refused_in_option scope member field None = []
 refused_in_option scope member field (Some kind) = refused_in_type scope member field kind
 
+-- all refusals in the type of a member, by the member's identifier
 abbrev pub refused_in_member : Scope → (field : Bool) → Member → List Refusal
 refused_in_member scope field member = refused_in_option scope member.name field member.kind

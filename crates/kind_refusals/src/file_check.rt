@@ -176,13 +176,15 @@ fn check_definition(
 ) -> Result<(), AllocError>
     ensures { OnOk result (best.new ≡ best_of best.old (refused_definition names.now.files consts.now file view.now)) }
 {
+    let enclosing = view.enclosing(alloc)?;
     let scope = ScopeView {
         names,
         consts,
         file,
-        enclosing: view.enclosing(),
+        enclosing: &enclosing,
     };
-    check_item(alloc, best, &scope, view.full(), view.item())
+    let full = view.full(alloc)?;
+    check_item(alloc, best, &scope, full.as_str(), view.item())
 }
 
 /// The first refusal of the file of this number; none exactly where nothing is refused.

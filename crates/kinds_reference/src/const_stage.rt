@@ -4,7 +4,6 @@ use crate::here::Here;
 use crate::orders::ordinals_of;
 use crate::parts::{Stand, parts_of};
 use crate::value_reasons::{add_const, add_default, add_found, add_range, add_versions, start_of};
-use mj_base::Text;
 use mojom_ast::{BaseNode, TypeNode};
 use mojom_files::{Basic, DefinitionView, ItemView, definitions};
 use names_reference::{
@@ -147,7 +146,7 @@ fn add_lists(
     file: usize,
     definition: &DefinitionView<'_>,
 ) -> Result<(), AllocError> {
-    let full = Some(Text::from_str(alloc, definition.full())?);
+    let full = Some(definition.full(alloc)?);
     let here = Here {
         given,
         file,
@@ -171,10 +170,11 @@ pub fn reasons_of_consts(
     };
     add_things(alloc, &mut reasons, given, file)?;
     for definition in &definitions(alloc, &named.tree)? {
+        let enclosing = definition.enclosing(alloc)?;
         let here = Here {
             given,
             file,
-            enclosing: definition.enclosing(),
+            enclosing: &enclosing,
         };
         add_outside(alloc, &mut reasons, here, definition)?;
         add_lists(alloc, &mut reasons, given, file, definition)?;

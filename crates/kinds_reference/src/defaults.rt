@@ -2,7 +2,6 @@
 
 use crate::here::{Here, found_at};
 use crate::orders::{ordinals_of, places_along};
-use mj_base::Text;
 use mojom_files::definitions;
 use names_reference::{Found, Given, ListSort, Member, MemberList, lists_of, value};
 use std::alloc::{AllocError, Global};
@@ -100,7 +99,7 @@ fn push_file(
         return Ok(());
     };
     for definition in &definitions(alloc, &named.tree)? {
-        let full = Some(Text::from_str(alloc, definition.full())?);
+        let full = Some(definition.full(alloc)?);
         let here = Here {
             given,
             file,

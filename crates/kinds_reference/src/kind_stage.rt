@@ -3,7 +3,6 @@
 use crate::here::{Here, Sort, is_plain, sort_of, version_at};
 use crate::orders::{gap, has_double, is_among_first, ordinals_of, place_before};
 use crate::parts::{Part, Stand, parts_of};
-use mj_base::Text;
 use mojom_ast::{BaseNode, Identifier, TypeNode};
 use mojom_files::{Basic, DefinitionView, ItemView, definitions};
 use names_reference::{Given, ListSort, Member, MemberList, Reason, Word, add_reason, lists_of};
@@ -248,7 +247,7 @@ fn add_definition(
         let kind = item.kind.node();
         add_type(alloc, reasons, outside, &item.name, kind, Stand::Other)?;
     }
-    let full = Some(Text::from_str(alloc, definition.full())?);
+    let full = Some(definition.full(alloc)?);
     let inside = Here {
         given: outside.given,
         file: outside.file,
@@ -271,10 +270,11 @@ pub fn reasons_of_kinds(
         return Ok(reasons);
     };
     for definition in &definitions(alloc, &named.tree)? {
+        let enclosing = definition.enclosing(alloc)?;
         let outside = Here {
             given,
             file,
-            enclosing: definition.enclosing(),
+            enclosing: &enclosing,
         };
         add_definition(alloc, &mut reasons, outside, definition)?;
     }

@@ -4,7 +4,6 @@ use crate::fields::push_struct;
 use crate::here::{Here, found_at};
 use crate::orders::ordinals_of;
 use crate::type_text::{push_found, push_type};
-use mj_base::Text;
 use mojom_ast::Attribute;
 use mojom_files::{DefinitionView, ItemView, definitions};
 use names_reference::{Given, ListSort, MemberList, lists_of, value};
@@ -90,7 +89,8 @@ fn push_const(
     let ItemView::Const(item) = definition.item() else {
         return Ok(());
     };
-    let full = definition.full();
+    let name = definition.full(alloc)?;
+    let full = name.as_str();
     text.push_str(format!(in alloc; "const {full} ")?.as_str())?;
     push_type(alloc, text, here, item.kind.node())?;
     text.push_str(" ")?;
@@ -122,7 +122,7 @@ fn push_definition(
     definition: &DefinitionView<'_>,
 ) -> Result<(), AllocError> {
     push_const(alloc, text, outside, definition)?;
-    let full = Some(Text::from_str(alloc, definition.full())?);
+    let full = Some(definition.full(alloc)?);
     let inside = Here {
         given: outside.given,
         file: outside.file,
@@ -143,10 +143,11 @@ pub fn listing(alloc: Global, given: Given<'_>) -> Result<String, AllocError> {
             continue;
         };
         for definition in &definitions(alloc, &named.tree)? {
+            let enclosing = definition.enclosing(alloc)?;
             let outside = Here {
                 given,
                 file: *number,
-                enclosing: definition.enclosing(),
+                enclosing: &enclosing,
             };
             push_definition(alloc, &mut text, outside, definition)?;
         }

@@ -1,64 +1,51 @@
--- Fronts of a text, the longest first.
-use Rattle.std.proofs.Common.{◌≡◌, ℕ, zero, suc, ◌+◌, ◌<◌, ◌≤◌, List, [], ◌∷◌, ◌++◌, length, take, get_or, sym, ◌∙◌, ap, subst, arith}
+-- Fronts of a text, and how many dots they have, the longest first.
+use Rattle.std.proofs.Common.{◌≡◌, ℕ, zero, suc, ◌<◌, ◌≤◌, List, [], ◌∷◌, ◌++◌, map, length, take, get_or, sym, ◌∙◌, ap, arith}
 use Rattle.std.specs.Prelude.{reverse}
-use Rattle.std.specs.Str.{IsCharBoundary}
-use Rattle.std.proofs.lemmas.List.{get_or-map, get_or_default, length-map, length-take-le, reverse-append}
-use Rattle.std.proofs.lemmas.List.Elements.{All-get_or}
-use Rattle.mojom_files.specs.Names.{within}
-use Rattle.module_resolver.specs.steps.Cuts.{cut_at, AreCuts, Falls}
-use Rattle.module_resolver.proofs.MarkedLengths.{within_len}
+use Rattle.std.proofs.lemmas.List.{get_or-map, get_or_default, length-map, reverse-append}
+use Rattle.module_resolver.specs.steps.Cuts.{cut_at, Falls}
+use Rattle.module_resolver.specs.steps.Dots.{dots_in}
 
 -- none of these is above a number
 abbrev pub AreUpTo : ℕ → List ℕ → Type 0
-AreUpTo most ends = (k : ℕ) → k < length ends → get_or ends k 0 ≤ most
+AreUpTo most counts = (k : ℕ) → k < length counts → get_or counts k 0 ≤ most
 
-pub falls_more : (most : ℕ) (ends : List ℕ) → AreUpTo most ends → Falls ends → Falls (most ∷ ends)
-falls_more most ends up falls zero zero le lt = omega arith
-falls_more most ends up falls zero (suc j) le lt = up j (omega (arith, lt))
-falls_more most ends up falls (suc i) zero le lt = absurd (let bad : ⊥ = omega (arith, le) in bad)
-falls_more most ends up falls (suc i) (suc j) le lt = falls i j (omega (arith, le)) (omega (arith, lt))
+pub falls_more : (most : ℕ) (counts : List ℕ) → AreUpTo most counts → Falls counts → Falls (most ∷ counts)
+falls_more most counts up falls zero zero le lt = omega arith
+falls_more most counts up falls zero (suc j) le lt = up j (omega (arith, lt))
+falls_more most counts up falls (suc i) zero le lt = absurd (let bad : ⊥ = omega (arith, le) in bad)
+falls_more most counts up falls (suc i) (suc j) le lt = falls i j (omega (arith, le)) (omega (arith, lt))
 
-up_more : (most next : ℕ) (ends : List ℕ) → most ≤ next → AreUpTo most ends → AreUpTo next (most ∷ ends)
-up_more most next ends le up zero lt = le
-up_more most next ends le up (suc k) lt = let here = up k (omega (arith, lt)) in omega (arith, here, le)
+pub up_more : (most next : ℕ) (counts : List ℕ) → most ≤ next → AreUpTo most counts → AreUpTo next (most ∷ counts)
+up_more most next counts le up zero lt = le
+up_more most next counts le up (suc k) lt = let here = up k (omega (arith, lt)) in omega (arith, here, le)
 
-pub turned : (ends : List ℕ) (last : ℕ) → reverse (ends ++ last ∷ []) ≡ last ∷ reverse ends
-turned ends last = reverse-append ends (last ∷ [])
+pub turned : (counts : List ℕ) (last : ℕ) → reverse (counts ++ last ∷ []) ≡ last ∷ reverse counts
+turned counts last = reverse-append counts (last ∷ [])
 
--- one front more, which is the longest
-pub front_more : (text inner more ends longer : List ℕ) → longer ≡ ends ++ length text ∷ [] → more ≡ within text inner
-    → Falls (reverse ends) → AreUpTo (length text) (reverse ends) → Falls (reverse longer) × AreUpTo (length more) (reverse longer)
-front_more text inner more ends longer is whole falls up =
-    let turn : reverse longer ≡ length text ∷ reverse ends = ap reverse is ∙ turned ends (length text) in
-    let long : length more ≡ length text + length inner + 1 = ap (λ (t : List ℕ). length t) whole ∙ within_len text inner in (
-      subst Falls (sym turn) (falls_more (length text) (reverse ends) up falls),
-      subst (AreUpTo (length more)) (sym turn) (up_more (length text) (length more) (reverse ends) (omega (arith, long)) up),
-    )
+-- as many counts as places
+pub many_of : (text ends dots : List ℕ) → map dots_in (cut_at text ends) ≡ dots → length ends ≡ length dots
+many_of text ends dots are =
+    sym (length-map ends (λ (end : ℕ). take end text))
+    ∙ (sym (length-map (cut_at text ends) dots_in) ∙ ap (λ (ns : List ℕ). length ns) are)
 
--- how long a front is
-pub front_len : (text ends : List ℕ) (k : ℕ) → AreCuts text ends → k < length ends → length (get_or (cut_at text ends) k []) ≡ get_or ends k 0
-front_len text ends k cuts lt =
-    ap (λ (t : List ℕ). length t) (get_or-map (λ (end : ℕ). take end text) ends k 0 [] lt)
-    ∙ length-take-le (get_or ends k 0) text (All-get_or (IsCharBoundary text) ends k 0 lt cuts).0
+-- as many counts as fronts
+pub as_many : (fronts : List (List ℕ)) (dots : List ℕ) → map dots_in fronts ≡ dots → length fronts ≡ length dots
+as_many fronts dots are = sym (length-map fronts dots_in) ∙ ap (λ (ns : List ℕ). length ns) are
 
-view_len : (text ends : List ℕ) (fronts : List (List ℕ)) (k : ℕ) → cut_at text ends ≡ fronts → AreCuts text ends → k < length ends
-    → length (get_or fronts k []) ≡ get_or ends k 0
-view_len text ends fronts k view cuts lt = ap (λ (fs : List (List ℕ)). length (get_or fs k [])) (sym view) ∙ front_len text ends k cuts lt
+-- how many dots a front has
+pub front_dots : (fronts : List (List ℕ)) (dots : List ℕ) (k : ℕ) → map dots_in fronts ≡ dots → k < length fronts
+    → dots_in (get_or fronts k []) ≡ get_or dots k 0
+front_dots fronts dots k are lt = sym (get_or-map dots_in fronts k [] 0 lt) ∙ ap (λ (ns : List ℕ). get_or ns k 0) are
 
--- a later front is no longer
-pub falls_fronts : (text ends : List ℕ) (fronts : List (List ℕ)) (len at number k : ℕ) → cut_at text ends ≡ fronts → AreCuts text ends → Falls ends
-    → at ≡ get_or ends number at → len + 0 ≡ at → number ≤ k → k < length fronts
-    → length (get_or fronts k []) ≤ len
-falls_fronts text ends fronts len at number k view cuts falls read is le lt =
-    let many : length fronts ≡ length ends = ap (λ (fs : List (List ℕ)). length fs) (sym view) ∙ length-map ends (λ (end : ℕ). take end text) in
-    let there : k < length ends = omega (arith, many, lt) in
-    let here : number < length ends = omega (arith, there, le) in
-    let one = view_len text ends fronts k view cuts there in
-    let two : at ≡ get_or ends number 0 = read ∙ get_or_default ends number at 0 here in
+-- a later front has no more dots
+pub falls_fronts : (fronts : List (List ℕ)) (dots : List ℕ) (at number k : ℕ) → map dots_in fronts ≡ dots → Falls dots
+    → at ≡ get_or dots number at → number ≤ k → k < length fronts
+    → dots_in (get_or fronts k []) ≤ at
+falls_fronts fronts dots at number k are falls read le lt =
+    let many = as_many fronts dots are in
+    let there : k < length dots = omega (arith, many, lt) in
+    let here : number < length dots = omega (arith, there, le) in
+    let one = front_dots fronts dots k are lt in
+    let two : at ≡ get_or dots number 0 = read ∙ get_or_default dots number at 0 here in
     let less = falls number k le there in
-    omega (arith, one, two, is, less)
-
--- a front is as long as the place says where it ends
-pub longer_front : (text ends : List ℕ) (fronts : List (List ℕ)) (k limit : ℕ) → cut_at text ends ≡ fronts → AreCuts text ends → k < length ends
-    → limit < get_or ends k 0 → limit < length (get_or fronts k [])
-longer_front text ends fronts k limit view cuts there less = let one = view_len text ends fronts k view cuts there in omega (arith, one, less)
+    omega (arith, one, two, less)

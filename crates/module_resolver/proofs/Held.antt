@@ -4,7 +4,7 @@ use Rattle.std.specs.Prelude.{Bool, true, false, reverse, ◌||◌, ◌==◌, Op
 use Rattle.std.specs.Option.{option_map, option_or, unwrap_or}
 use Rattle.std.specs.Str.{bytes_eq}
 use Rattle.std.proofs.lemmas.Bool.{eq-eqb, eqb-true, ne_eqb}
-use Rattle.std.proofs.lemmas.List.{get_or-map, get_or_default, length-map, map-append, reverse-append}
+use Rattle.std.proofs.lemmas.List.{get_or-map, get_or_default, length-map, map-append}
 use Rattle.std.proofs.Math.Seq.{take-length}
 use Rattle.std.proofs.lemmas.Option.{slice_get-map, none-some, same_Some}
 use Rattle.indexmap.specs.IndexMap.{get}
@@ -17,28 +17,32 @@ use Rattle.name_tree.proofs.Steps.{as_before, grown_twice, same_owner}
 use Rattle.name_tree.proofs.Owners.{walk_within, value_kept}
 use Rattle.module_resolver.specs.declared.target.Target.{Target}
 use Rattle.module_resolver.specs.declared.name_index.NameIndex.{NameIndex}
+use Rattle.module_resolver.specs.declared.entry.Entry.{Entry}
+use Rattle.module_resolver.specs.steps.Dots.{dots_in}
 use Rattle.module_resolver.specs.NamesOf.{texts_from, fronts_of}
 use Rattle.module_resolver.specs.steps.Owners.{file_of, first_seen, where_seen, owner, Notes}
-use Rattle.module_resolver.specs.steps.Held.{Adds, node_of, held, owner_below, IsSound, Entered, NotedAt}
+use Rattle.module_resolver.specs.steps.Held.{Adds, node_of, held, owner_below, IsSound, IsEntry, IsMeasured, Entered, NotedAt, KeepsNodes}
 use Rattle.module_resolver.proofs.Owned.{written}
-use Rattle.module_resolver.proofs.MarkedLengths.{no_both}
-use Rattle.module_resolver.proofs.OneMore.{take_item}
+use Rattle.module_resolver.proofs.MarkedLengths.{no_both, within_len}
+use Rattle.module_resolver.proofs.DotCounts.{dots_within}
+use Rattle.module_resolver.proofs.OneMore.{take_item, map_reverse}
 
 pub none_kept : {A B : Type 0} (own : A → Option B) → ((n : A) → own n ≡ None) → (o : Option A) → option_and_then own o ≡ None
 none_kept own none None = refl
 none_kept own none (Some n) = none n
 
 -- a name is entered
-pub entered : (old new : NameIndex) → new.owners ≡ old.owners → new.marks ≡ old.marks → IsSound old → IsNameTree new.tree
+pub entered : (old new : NameIndex) → new.owners ≡ old.owners → new.marks ≡ old.marks → new.dots ≡ old.dots → IsSound old → IsNameTree new.tree
     → Grows (child old.tree) (count old.tree) (child new.tree) (count new.tree)
     → Entered old new
-entered old new owners marks sound tree grows = record {
+entered old new owners marks dots sound tree grows = record {
   sound = record {
     tree = tree;
     root = let one = sound.root in let more = grows.longer in omega (arith, one, more);
     inside = λ n le.
         ap (λ m. get nat_eq m n) owners ∙ sound.inside n (let more = grows.longer in omega (arith, more, le));
     marked = λ name none. same name ∙ sound.marked name (ap (λ m. get_or m.items (length name) false) (sym marks) ∙ none);
+    dotted = λ name none. same name ∙ sound.dotted name (ap (λ m. get_or m.items (dots_in name) false) (sym dots) ∙ none);
   };
   grows = grows;
   same = same;
@@ -70,41 +74,71 @@ node_kept old new both node name found is = kept_walk (child old.tree) (child ne
 pub node_there : (index : NameIndex) → IsSound index → (node : ℕ) (name : List ℕ) (found : ℕ) → node_of index node name ≡ Some found → found < count index.tree
 node_there index sound node name found is = in_tree (child index.tree) (count index.tree) sound.tree.tree node [] name found is
 
--- a node is that of one name
-pub node_long : (index : NameIndex) → IsSound index → (name other : List ℕ) (node len : ℕ) → node_of index 0 name ≡ Some node → len ≡ length name
-    → node_of index 0 other ≡ Some node → length other ≡ len
-node_long index sound name other node len is long also =
-    ap (λ (t : List ℕ). length t) (one_text (child index.tree) (count index.tree) sound.tree.tree node other name also is) ∙ sym long
+-- what stands somewhere is one name
+pub measured : (index : NameIndex) → IsSound index → (name : List ℕ) (entry : Entry) → IsEntry index name entry → IsMeasured index entry
+measured index sound name entry at = λ other also.
+    let same : other ≡ name = one_text (child index.tree) (count index.tree) sound.tree.tree entry.node other name also at.is in
+    (ap (λ (t : List ℕ). length t) same ∙ at.long, ap dots_in same ∙ at.dotted)
 
-held_marked : (step : ℕ → List ℕ → Option ℕ) (old new : ℕ → Option (List Target)) (node len : ℕ) (target : Target) (name : List ℕ) (o : Option ℕ)
-    → Adds old new node target → walk step 0 [] name ≡ o → (walk step 0 [] name ≡ Some node → length name ≡ len) → (length name == len) ≡ false
+-- a name stays where it stands
+pub entry_kept : (old new : NameIndex) → KeepsNodes old new → (name : List ℕ) (entry : Entry) → IsEntry old name entry → IsEntry new name entry
+entry_kept old new keeps name entry at = record { is = keeps name entry.node at.is; long = at.long; dotted = at.dotted }
+
+-- nodes stay those of their names
+pub keeps_nodes : (old new : NameIndex) → Entered old new → KeepsNodes old new
+keeps_nodes old new both = λ name node is. node_kept old new both 0 name node is
+
+-- a name is entered within the one that stands somewhere
+pub entry_within : (old new : NameIndex) → Entered old new → (outer name : List ℕ) (entry made : Entry) → IsEntry old outer entry
+    → node_of new entry.node name ≡ Some made.node → made.len ≡ entry.len + length name + 1 → made.dots ≡ entry.dots + dots_in name + 1
+    → IsEntry new (within outer name) made
+entry_within old new both outer name entry made at is len dots =
+    let here : node_of new 0 outer ≡ Some entry.node = node_kept old new both 0 outer entry.node at.is in
+    let long = within_len outer name in
+    let deep = dots_within outer name in
+    let one = at.long in
+    let two = at.dotted in
+    record {
+      is = walk_within (child new.tree) outer name entry.node here ∙ is;
+      long = omega (arith, long, one, len);
+      dotted = omega (arith, deep, two, dots);
+    }
+
+held_marked : (step : ℕ → List ℕ → Option ℕ) (old new : ℕ → Option (List Target)) (node size len : ℕ) (target : Target) (name : List ℕ) (o : Option ℕ)
+    → Adds old new node target → walk step 0 [] name ≡ o → (walk step 0 [] name ≡ Some node → size ≡ len) → (size == len) ≡ false
     → option_and_then old o ≡ None → option_and_then new o ≡ None
-held_marked step old new node len target name None adds e long apart none = refl
-held_marked step old new node len target name (Some k) adds e long apart none = go (node == k) refl
+held_marked step old new node size len target name None adds e long apart none = refl
+held_marked step old new node size len target name (Some k) adds e long apart none = go (node == k) refl
   where
     go : (b : Bool) → (node == k) ≡ b → new k ≡ None
     go true same =
         let here : node ≡ k = eqb-true node k same in
-        let is : length name ≡ len = long (e ∙ ap (λ (n : ℕ). Some n) (sym here)) in
-        absurd (let clash : true ≡ false = sym (eq-eqb (length name) len is) ∙ apart in cc)
+        let is : size ≡ len = long (e ∙ ap (λ (n : ℕ). Some n) (sym here)) in
+        absurd (let clash : true ≡ false = sym (eq-eqb size len is) ∙ apart in cc)
     go false differs = adds.writes k ∙ (ap (λ (b : Bool). if b then Some adds.list else old k) differs ∙ none)
 
--- a target is noted at a node
-pub noted : (old new : NameIndex) (node len : ℕ) (target : Target) → new.tree ≡ old.tree → IsSound old → node < count old.tree
-    → ((name : List ℕ) → node_of old 0 name ≡ Some node → length name ≡ len)
-    → ((k : ℕ) → get_or new.marks.items k false ≡ (get_or old.marks.items k false || (k == len)))
-    → Adds (get nat_eq old.owners) (get nat_eq new.owners) node target
-    → NotedAt old new node target
-noted old new node len target tree sound there long marks adds = record {
+-- a target is noted where a name stands
+pub noted : (old new : NameIndex) (entry : Entry) (target : Target) → new.tree ≡ old.tree → IsSound old → entry.node < count old.tree
+    → IsMeasured old entry
+    → ((k : ℕ) → get_or new.marks.items k false ≡ (get_or old.marks.items k false || (k == entry.len)))
+    → ((k : ℕ) → get_or new.dots.items k false ≡ (get_or old.dots.items k false || (k == entry.dots)))
+    → Adds (get nat_eq old.owners) (get nat_eq new.owners) entry.node target
+    → NotedAt old new entry.node target
+noted old new entry target tree sound there sizes marks dots adds = record {
   sound = record {
     tree = subst (λ t. IsNameTree t) (sym tree) sound.tree;
     root = subst (λ t. 0 < count t) (sym tree) sound.root;
     inside = λ n le. beyond n (subst (λ t. count t ≤ n) tree le);
     marked = λ name none.
-        let both = no_both (get_or old.marks.items (length name) false) (length name == len) (sym (marks (length name)) ∙ none) in
+        let both = no_both (get_or old.marks.items (length name) false) (length name == entry.len) (sym (marks (length name)) ∙ none) in
         ap (λ t. option_and_then (get nat_eq new.owners) (walk (child t) 0 [] name)) tree
-        ∙ held_marked (child old.tree) (get nat_eq old.owners) (get nat_eq new.owners) node len target name (walk (child old.tree) 0 [] name) adds refl
-        (long name) both.1 (sound.marked name both.0);
+        ∙ held_marked (child old.tree) (get nat_eq old.owners) (get nat_eq new.owners) entry.node (length name) entry.len target name
+        (walk (child old.tree) 0 [] name) adds refl (λ is. (sizes name is).0) both.1 (sound.marked name both.0);
+    dotted = λ name none.
+        let both = no_both (get_or old.dots.items (dots_in name) false) (dots_in name == entry.dots) (sym (dots (dots_in name)) ∙ none) in
+        ap (λ t. option_and_then (get nat_eq new.owners) (walk (child t) 0 [] name)) tree
+        ∙ held_marked (child old.tree) (get nat_eq old.owners) (get nat_eq new.owners) entry.node (dots_in name) entry.dots target name
+        (walk (child old.tree) 0 [] name) adds refl (λ is. (sizes name is).1) both.1 (sound.dotted name both.0);
   };
   tree = tree;
   notes = λ name is. subst
@@ -116,12 +150,12 @@ noted old new node len target tree sound there long marks adds = record {
       adds.adds p
       ∙ ap (λ (o : Option (List Target)). option_or (first_seen p (unwrap_or o [])) (where_seen p (file_of target) (Some target)))
       (sym (ap (option_and_then (get nat_eq old.owners)) is)))
-      (value_kept (child old.tree) (count old.tree) (get nat_eq old.owners) (get nat_eq new.owners) node name adds.list sound.tree.tree is adds.writes));
+      (value_kept (child old.tree) (count old.tree) (get nat_eq old.owners) (get nat_eq new.owners) entry.node name adds.list sound.tree.tree is adds.writes));
 }
   where
     beyond : (n : ℕ) → count old.tree ≤ n → get nat_eq new.owners n ≡ None
     beyond n le =
-        let differs : (node == n) ≡ false = ne_eqb node n (λ same. let bad : ⊥ = omega (arith, there, le, same) in bad) in
+        let differs : (entry.node == n) ≡ false = ne_eqb entry.node n (λ same. let bad : ⊥ = omega (arith, there, le, same) in bad) in
         adds.writes n ∙ (ap (λ (b : Bool). if b then Some adds.list else get nat_eq old.owners n) differs ∙ sound.inside n le)
 
 -- what has a name in another is what has it below the node of that other
@@ -254,13 +288,6 @@ pub one_behind : {A B C : Type 0} (f : B → C) (g : A → B) (xs : List A) → 
 one_behind f g [] = refl
 one_behind f g (x ∷ xs) = ap (λ zs. f (g x) ∷ zs) (one_behind f g xs)
 
-turned : {A B : Type 0} (f : A → B) (xs : List A) → map f (reverse xs) ≡ reverse (map f xs)
-turned f [] = refl
-turned {A} {B} f (x ∷ xs) =
-    ap (map f) (reverse-append (x ∷ []) xs)
-    ∙ (map-append f (reverse xs) (x ∷ [])
-    ∙ (ap (λ (ys : List B). ys ++ f x ∷ []) (turned f xs) ∙ sym (reverse-append (f x ∷ []) (map f xs))))
-
 -- the nodes of the fronts, the longest first
 pub fronts_turned : (index : NameIndex) (parts : List Identifier) (first : Identifier) (nodes : List ℕ) → 1 ≤ length parts → first ≡ get_or parts 0 first
     → map (node_of index 0) (texts_from first.text (take (length parts - 1) (drop 1 parts))) ≡ map (λ (n : ℕ). Some n) nodes
@@ -271,5 +298,5 @@ fronts_turned index (part ∷ parts) first nodes some is h =
     let rest : take (length (part ∷ parts) - 1) parts ≡ parts = ap (λ (n : ℕ). take n parts) e ∙ take-length parts in
     let texts : texts_from part.text parts ≡ texts_from first.text (take (length (part ∷ parts) - 1) parts) =
     ap (λ (p : Identifier). texts_from p.text parts) (sym is) ∙ ap (texts_from first.text) (sym rest) in
-    turned (node_of index 0) (texts_from part.text parts)
-    ∙ (ap (λ (ts : List (List ℕ)). reverse (map (node_of index 0) ts)) texts ∙ (ap reverse h ∙ sym (turned (λ (n : ℕ). Some n) nodes)))
+    map_reverse (node_of index 0) (texts_from part.text parts)
+    ∙ (ap (λ (ts : List (List ℕ)). reverse (map (node_of index 0) ts)) texts ∙ (ap reverse h ∙ sym (map_reverse (λ (n : ℕ). Some n) nodes)))

@@ -1,6 +1,6 @@
 -- The greatest lengths of full names that are not above a length.
 use Rattle.std.proofs.Common.{◌≡◌, ℕ, zero, suc, ◌+◌, ◌-◌, ◌<◌, ◌≤◌, List, [], ◌∷◌, ◌++◌, length, drop}
-use Rattle.std.proofs.Common.{map, get_or, refl, sym, ◌∙◌, ap, inl, inr, arith, length-append, length-drop, get_or-drop, drop-drop}
+use Rattle.std.proofs.Common.{map, get_or, refl, sym, ◌∙◌, ap, subst, inl, inr, arith, length-append, length-drop, get_or-drop, drop-drop}
 use Rattle.std.specs.Prelude.{Bool, true, false, nat_lt, ◌⊎◌, Option, Some, None, is_some, if◌then◌else◌}
 use Rattle.std.specs.Option.{option_or}
 use Rattle.std.proofs.Math.Nat.{eq-or-lt_of_le}
@@ -8,10 +8,11 @@ use Rattle.std.proofs.lemmas.Bool.{ltb-true, ltb-false}
 use Rattle.std.proofs.lemmas.List.{get_or_past, get_or_default, get_or_push, get_or_append_left, drop_all}
 use Rattle.mojom_files.specs.Names.{within}
 use Rattle.mojom_files.specs.Refusals.{first_of}
-use Rattle.module_resolver.specs.steps.Lengths.{IsLesser, IsBetween, reached, limit_of}
-use Rattle.module_resolver.specs.steps.Owners.{owner, HaveMarks, HaveLengths}
+use Rattle.module_resolver.specs.steps.Dots.{dots_in}
+use Rattle.module_resolver.specs.steps.Lengths.{IsLesser, IsBetween, reached}
+use Rattle.module_resolver.specs.steps.Owners.{owner, HaveMarks, HaveLengths, HaveDotMarks, HaveDots}
 use Rattle.module_resolver.specs.declared.target.Target.{Target}
-use Rattle.module_resolver.proofs.MarkedLengths.{within_len}
+use Rattle.module_resolver.proofs.DotCounts.{dots_within}
 use Rattle.module_resolver.proofs.OneMore.{drop_item}
 
 -- what is kept of the lengths before this one
@@ -88,34 +89,23 @@ pub have_lengths : (marks : List Bool) (lesser : List ℕ) (owners : List ℕ �
 have_lengths marks lesser owners have is name between =
     have name (unmarked marks lesser (length name) is between.len between.above between.below)
 
-limit_some : (known name limit : ℕ) (b : Bool) → nat_lt name known ≡ b → Some limit ≡ (if b then Some (known - name - 1) else None) → known ≡ limit + name + 1
-limit_some known name limit true lt is =
-    let less : name < known = ltb-true name known lt in
-    let same : limit ≡ known - name - 1 = cc in
-    omega (arith, less, same)
-limit_some known name limit false lt is = absurd (cc)
+-- nothing has a name of as many dots as stand between those that are kept
+pub have_dots : (marks : List Bool) (lesser : List ℕ) (owners : List ℕ → Option (List Target)) → HaveDotMarks marks owners → IsLesser marks lesser
+    → HaveDots lesser owners
+have_dots marks lesser owners have is name between =
+    have name (unmarked marks lesser (dots_in name) is between.len between.above between.below)
 
-limit_none : (known name : ℕ) (b : Bool) → nat_lt name known ≡ b → None ≡ (if b then Some (known - name - 1) else None) → known ≤ name
-limit_none known name true lt is = absurd (cc)
-limit_none known name false ge is = ltb-false name known ge
+-- where nothing has a name, no owner of it is seen
+none_seen : (owners : List ℕ → Option (List Target)) (seen : ℕ → Bool) (full : List ℕ) → owners full ≡ None → owner owners seen full ≡ None
+none_seen owners seen full none = rw none refl
 
--- an outer name of more bytes than the limit gives a name of a length between
-pub above_limit : (lengths outer name : List ℕ) (most limit : ℕ) → Some limit ≡ limit_of lengths most (length name) → limit < length outer → length outer ≤ most
-    → IsBetween lengths (length (within outer name))
-above_limit lengths outer name most limit is above below =
-    let known = limit_some (reached lengths (most + length name + 1)) (length name) limit
-    (nat_lt (length name) (reached lengths (most + length name + 1))) refl is in
-    let long = within_len outer name in
-    record { len = most + length name + 1; above = omega (arith, known, long, above); below = omega (arith, long, below) }
-
--- where there is no limit, each outer name does
-pub without_limit : (lengths outer name : List ℕ) (most : ℕ) → None ≡ limit_of lengths most (length name) → length outer ≤ most
-    → IsBetween lengths (length (within outer name))
-without_limit lengths outer name most is below =
-    let known = limit_none (reached lengths (most + length name + 1)) (length name)
-    (nat_lt (length name) (reached lengths (most + length name + 1))) refl is in
-    let long = within_len outer name in
-    record { len = most + length name + 1; above = omega (arith, known, long); below = omega (arith, long, below) }
+-- nothing has a name in another where as many dots stand between those of full names
+pub undotted : (owners : List ℕ → Option (List Target)) (seen : ℕ → Bool) (dots outer name : List ℕ) (count : ℕ) → count ≡ dots_in name
+    → HaveDots dots owners → IsBetween dots (dots_in outer + count + 1)
+    → owner owners seen (within outer name) ≡ None
+undotted owners seen dots outer name count is have between =
+    let many : dots_in outer + count + 1 ≡ dots_in (within outer name) = ap (λ (n : ℕ). dots_in outer + n + 1) is ∙ sym (dots_within outer name) in
+    none_seen owners seen (within outer name) (have (within outer name) (subst (IsBetween dots) many between))
 
 -- fronts in which nothing is found are left out
 pub left_out : {B : Type 0} (look : List ℕ → Option B) (full : List ℕ → List ℕ) (fronts rest : List (List ℕ)) (count : ℕ) → count ≤ length fronts

@@ -1,4 +1,5 @@
 pub mod OneMore
+pub mod DotCounts
 pub mod Owned
 pub mod Cuts
 pub mod MarkedLengths
@@ -7,3 +8,4 @@ pub mod LesserLengths
 pub mod Falls
 pub mod Held
 pub mod Enums
+pub mod FrontDots

@@ -1,3 +1,4 @@
 pub mod LookUp
+pub mod Enums
 pub mod NamesOf
 pub mod steps

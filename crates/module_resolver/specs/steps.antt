@@ -4,4 +4,4 @@ pub mod Owners
 pub mod Seen
 pub mod Lengths
 pub mod Held
-pub mod Enums
+pub mod Dots

@@ -1,12 +1,13 @@
 //! The full names of enumerators.
 
 use mj_base::{Items, Text};
+use mojom_files::FullName;
 use std::marker::Model;
 
 /// The enumerators of an enum: its full name, and their own names.
 #[derive(Drop)]
 pub struct EnumNames {
-    pub outer: Text,
+    pub outer: FullName,
     pub names: Items<Text>,
 }
 
@@ -20,7 +21,7 @@ pub struct EnumeratorNames {
 impl Model for EnumeratorNames {
     ghost use Rattle.std.specs.Prelude.{List, ℕ};
     ghost use Rattle.std.specs.List.{flat_map};
-    ghost use Rattle.module_resolver.specs.steps.Enums.{names_in_enum};
+    ghost use Rattle.module_resolver.specs.Enums.{names_in_enum};
 
     ghost Value = { List (List ℕ) };
 
@@ -30,7 +31,7 @@ impl Model for EnumeratorNames {
 impl EnumeratorNames {
     ghost use Rattle.std.specs.Prelude.{◌≡◌};
     ghost use Rattle.std.specs.List.{flat_map};
-    ghost use Rattle.module_resolver.specs.steps.Enums.{names_in_enum};
+    ghost use Rattle.module_resolver.specs.Enums.{names_in_enum};
 
     /// The names of the enumerators of these enums. Takes no memory.
     pub(crate) fn from_vec(enums: Vec<EnumNames>) -> EnumeratorNames

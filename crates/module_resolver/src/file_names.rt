@@ -5,14 +5,15 @@ use crate::fronts::Fronts;
 use crate::indexed_files::IndexedFiles;
 use crate::seen::Seen;
 use crate::target::DefinitionSort;
-use mj_base::{Items, Text};
+use mj_base::Items;
+use mojom_files::FullName;
 
 /// The names of a file: the full names of its definitions and what these are, the full names of its
 /// enumerators, the files in which its names are looked up, and the fronts of its module's name.
 #[derive(Drop)]
 pub struct FileNames {
     /// The full names of its definitions, by their numbers.
-    pub definitions: Items<Text>,
+    pub definitions: Items<FullName>,
     /// What each definition is.
     pub sorts: Items<DefinitionSort>,
     /// The full names of its enumerators, by their numbers.

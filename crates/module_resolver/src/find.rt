@@ -1,15 +1,17 @@
 //! The look-up of a name.
 
-ghost use Rattle.std.specs.Prelude.{◌≡◌, ◌<◌, ◌≤◌, ◌+◌, ◌^◌, ℕ, [], length, get_or, Some, IfSome};
+ghost use Rattle.std.specs.Prelude.{◌≡◌, ◌<◌, ◌≤◌, ◌+◌, ◌^◌, ℕ, [], length, get_or, Some, None, IfSome};
 ghost use Rattle.std.specs.Option.{unwrap_or};
 ghost use Rattle.mojom_files.specs.Names.{within};
 ghost use Rattle.mojom_files.specs.Refusals.{first_of};
 ghost use Rattle.import_order.specs.Imports.{has};
 ghost use Rattle.module_resolver.specs.LookUp.{candidates};
-ghost use Rattle.module_resolver.specs.steps.Owners.{owner, HaveLengths};
+ghost use Rattle.module_resolver.specs.steps.Owners.{owner, HaveLengths, HaveDots};
+ghost use Rattle.module_resolver.specs.steps.Dots.{dots_in};
 ghost use Rattle.module_resolver.specs.steps.Held.{node_of, held, AreNodes};
 ghost use Rattle.module_resolver.specs.steps.Lengths.{IsBetween};
 
+use crate::dots::dots_in;
 use crate::file_names::{FileNames, Names};
 use crate::fronts::Fronts;
 use crate::lengths::{has_length, limit_of};
@@ -63,17 +65,17 @@ fn meant_within(
     index.meant(&here.seen, node, name)
 }
 
-/// The number of the first front, from this number on, in which a name may have a length of a full
-/// name; none where it has none in any.
-fn next_front(lengths: &[usize], fronts: &Fronts, number: usize, name: &str) -> Option<usize>
+/// The number of the first front, from this number on, in which a name of so many dots may have as many as
+/// a full name; none where it has so many in none.
+fn next_front(dots: &[usize], fronts: &Fronts, number: usize, name: usize) -> Option<usize>
     ensures next { IfSome result (λ next. (number ≤ next) × (next < length fronts.now) × (next + 1 < 2 ^ 64)) }
     ensures skipped { (k : ℕ) → number ≤ k → k < unwrap_or result (length fronts.now)
-        → IsBetween lengths.now (length (within (get_or fronts.now k []) name.now)) }
+        → IsBetween dots.now (dots_in (get_or fronts.now k []) + name + 1) }
 {
     if fronts.len() <= number {
         return None;
     }
-    let limit = limit_of(lengths, fronts.at(number).len(), name.len())?;
+    let limit = limit_of(dots, fronts.dots_at(number), name)?;
     let next = fronts.first_within(number, limit);
     if next < fronts.len() {
         Some(next)
@@ -82,28 +84,22 @@ fn next_front(lengths: &[usize], fronts: &Fronts, number: usize, name: &str) -> 
     }
 }
 
-/// What a name means in a file, where these are the nodes of the fronts of its module.
-pub(crate) fn look_up_from(
+/// What a name means in a module, where these are the nodes of its fronts, and else by itself.
+fn meant_in_fronts(
     index: &NameIndex,
-    lengths: &[usize],
+    dots: &[usize],
     nodes: &[u32],
     here: &FileNames,
-    enclosing: &Option<Text>,
     name: &str,
 ) -> Option<Target>
-    requires lengths { HaveLengths lengths.now (held index.now) }
+    requires dots { HaveDots dots.now (held index.now) }
     requires nodes { AreNodes index.now here.now.fronts nodes.now }
-    ensures { result ≡ first_of (owner (held index.now) (has here.now.seen)) (candidates enclosing.now here.now.fronts name.now) }
+    ensures { result ≡ first_of (owner (held index.now) (has here.now.seen)) (candidates None here.now.fronts name.now) }
 {
     let seen = &here.seen;
-    if let Some(outer) = enclosing {
-        let found = meant_within(index, lengths, nodes, here, outer.as_str(), name);
-        if found.is_some() {
-            return found;
-        }
-    }
+    let count = dots_in(name);
     let mut number = 0;
-    while let Some(next) = next_front(lengths, &here.fronts, number, name) {
+    while let Some(next) = next_front(dots, &here.fronts, number, count) {
         let found = index.meant(seen, nodes[next], name);
         if found.is_some() {
             return found;
@@ -111,6 +107,30 @@ pub(crate) fn look_up_from(
         number = next + 1;
     }
     index.meant(seen, 0, name)
+}
+
+/// What a name means in a file, where these are the nodes of the fronts of its module.
+pub(crate) fn look_up_from(
+    index: &NameIndex,
+    lengths: &[usize],
+    dots: &[usize],
+    nodes: &[u32],
+    here: &FileNames,
+    enclosing: &Option<Text>,
+    name: &str,
+) -> Option<Target>
+    requires lengths { HaveLengths lengths.now (held index.now) }
+    requires dots { HaveDots dots.now (held index.now) }
+    requires nodes { AreNodes index.now here.now.fronts nodes.now }
+    ensures { result ≡ first_of (owner (held index.now) (has here.now.seen)) (candidates enclosing.now here.now.fronts name.now) }
+{
+    if let Some(outer) = enclosing {
+        let found = meant_within(index, lengths, nodes, here, outer.as_str(), name);
+        if found.is_some() {
+            return found;
+        }
+    }
+    meant_in_fronts(index, dots, nodes, here, name)
 }
 
 impl Names {

@@ -2,16 +2,18 @@
 
 ghost use Rattle.std.specs.Prelude.{◌≡◌, reverse};
 
+use crate::dot_counts::front_dots;
 use mojom_ast::Identifier;
 use std::alloc::{AllocError, Global};
 use std::marker::Model;
 
-/// The text of a name and of each shorter front of it, the longest first: the text itself, and where
-/// in it each of them ends.
+/// The text of a name and of each shorter front of it, the longest first: the text itself, where in it
+/// each of them ends, and how many dots each of them has.
 #[derive(Drop)]
 pub struct Fronts {
     whole: String,
     ends: Vec<usize>,
+    dots: Vec<usize>,
 }
 
 /// These, the last first.
@@ -30,12 +32,13 @@ impl Model for Fronts {
 
     ghost view = { λ f. cut_at (string_bytes f.whole) f.ends.items };
 
-    ghost invariant = { λ f. AreFronts (string_bytes f.whole) f.ends.items };
+    ghost invariant = { λ f. AreFronts (string_bytes f.whole) f.ends.items f.dots.items };
 }
 
 impl Fronts {
     ghost use Rattle.std.specs.Prelude.{◌≡◌, ◌<◌, ◌≤◌, ℕ, [], length, get_or, IfOk};
     ghost use Rattle.module_resolver.specs.NamesOf.{fronts_of};
+    ghost use Rattle.module_resolver.specs.steps.Dots.{dots_in};
 
     /// No fronts. Takes no memory.
     pub(crate) fn none(alloc: Global) -> Fronts
@@ -44,6 +47,7 @@ impl Fronts {
         Fronts {
             whole: String::new(alloc),
             ends: Vec::new(alloc),
+            dots: Vec::new(alloc),
         }
     }
 
@@ -62,9 +66,11 @@ impl Fronts {
             whole.push_str(part.text.as_str())?;
         }
         ends.push(whole.as_str().len())?;
+        let dots = front_dots(alloc, parts)?;
         Ok(Fronts {
             whole,
             ends: reversed(ends),
+            dots,
         })
     }
 
@@ -84,25 +90,32 @@ impl Fronts {
     /// The front of this number.
     pub(crate) fn at(&self, number: usize) -> &str
         requires { number < length self.now }
-        ensures is { result.now ≡ get_or self.now number [] }
-        ensures falls { (k : ℕ) → number ≤ k → k < length self.now → length (get_or self.now k []) ≤ length result.now }
+        ensures { result.now ≡ get_or self.now number [] }
     {
         &self.whole.as_str()[..self.ends[number]]
     }
 
-    /// The number of the first front, from this number on, of at most so many bytes; the number of
-    /// all fronts where there is none.
+    /// How many dots the front of this number has; none behind it has more.
+    pub(crate) fn dots_at(&self, number: usize) -> usize
+        requires { number < length self.now }
+        ensures { (k : ℕ) → number ≤ k → k < length self.now → dots_in (get_or self.now k []) ≤ result }
+    {
+        self.dots[number]
+    }
+
+    /// The number of the first front, from this number on, of at most so many dots; the number of all
+    /// fronts where there is none.
     pub(crate) fn first_within(&self, number: usize, limit: usize) -> usize
         requires { number < length self.now }
         ensures from { number ≤ result }
         ensures bound { result ≤ length self.now }
-        ensures before { (k : ℕ) → number ≤ k → k < result → limit < length (get_or self.now k []) }
+        ensures before { (k : ℕ) → number ≤ k → k < result → limit < dots_in (get_or self.now k []) }
     {
         let mut low = number;
-        let mut high = self.ends.len();
+        let mut high = self.dots.len();
         while low < high {
             let middle = low + (high - low) / 2;
-            if self.ends[middle] > limit {
+            if self.dots[middle] > limit {
                 low = middle + 1;
             } else {
                 high = middle;

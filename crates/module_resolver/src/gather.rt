@@ -6,7 +6,7 @@ ghost use Rattle.mojom_files.specs.Names.{within};
 ghost use Rattle.mojom_files.specs.Definitions.{enumerator_names};
 ghost use Rattle.mojom_files.specs.Views.{item_view};
 ghost use Rattle.module_resolver.specs.NamesOf.{sort_of_item, module_fronts, sees, sees_number, names_in, names_of};
-ghost use Rattle.module_resolver.specs.steps.Enums.{names_in_enum};
+ghost use Rattle.module_resolver.specs.Enums.{names_in_enum};
 ghost use Rattle.module_resolver.specs.steps.Seen.{ArePaths};
 
 use crate::enumerator_names::{EnumNames, EnumeratorNames};
@@ -18,16 +18,16 @@ use crate::target::DefinitionSort;
 use indexmap::IndexSet;
 use mj_base::{Items, Text};
 use mojom_ast::{Enumerator, Import, ModuleStatement};
-use mojom_files::{DefinitionView, ItemView, NamedFile, definitions};
+use mojom_files::{DefinitionView, FullName, ItemView, NamedFile, definitions};
 use std::alloc::{AllocError, Global};
 
-/// The full names of definitions.
-fn full_names(alloc: Global, views: &[DefinitionView<'_>]) -> Result<Items<Text>, AllocError>
+/// The full names of definitions, each by its parts.
+fn full_names(alloc: Global, views: &[DefinitionView<'_>]) -> Result<Items<FullName>, AllocError>
     ensures { IfOk result (λ names. names ≡ map (λ d. d.full) views.now) }
 {
     let mut names = Vec::new(alloc);
     for view in views {
-        names.push(Text::from_str(alloc, view.full())?)?;
+        names.push(view.kept(alloc)?)?;
     }
     Ok(Items::from_vec(names))
 }
@@ -67,18 +67,18 @@ fn own_names(alloc: Global, enumerators: &[Enumerator]) -> Result<Items<Text>, A
     Ok(Items::from_vec(names))
 }
 
-/// Adds the enumerators of an enum of this full name.
+/// Adds the enumerators of an enum.
 fn add_enum(
     alloc: Global,
     enums: &mut Vec<EnumNames>,
-    outer: &str,
+    view: &DefinitionView<'_>,
     enumerators: &[Enumerator],
 ) -> Result<(), AllocError>
     ensures { OnOk result (flat_map names_in_enum enums.new.items
-        ≡ flat_map names_in_enum enums.old.items ++ map (λ e. within outer.now e.name.text) enumerators.now) }
+        ≡ flat_map names_in_enum enums.old.items ++ map (λ e. within view.now.full e.name.text) enumerators.now) }
 {
     let names = own_names(alloc, enumerators)?;
-    let outer = Text::from_str(alloc, outer)?;
+    let outer = view.kept(alloc)?;
     enums.push(EnumNames { outer, names })?;
     Ok(())
 }
@@ -92,7 +92,7 @@ fn add_of_definition(
     ensures { OnOk result (flat_map names_in_enum enums.new.items ≡ flat_map names_in_enum enums.old.items ++ enumerator_names view.now) }
 {
     match view.item() {
-        ItemView::Enum(item) => add_enum(alloc, enums, view.full(), item.enumerators.as_slice()),
+        ItemView::Enum(item) => add_enum(alloc, enums, view, item.enumerators.as_slice()),
         ItemView::Struct(_) | ItemView::Union(_) | ItemView::Interface(_) | ItemView::Const(_) => {
             Ok(())
         }

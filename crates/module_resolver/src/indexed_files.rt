@@ -12,13 +12,14 @@ use std::alloc::{AllocError, Global};
 use std::marker::Model;
 
 /// The names of all files, in the order in which these were given. Contracts see them alone; beside
-/// them is kept what has each full name in any file, which lengths full names have, and for each file the
-/// nodes of the fronts of its module.
+/// them is kept what has each full name in any file, how many bytes and how many dots full names have, and
+/// for each file the nodes of the fronts of its module.
 #[derive(Drop)]
 pub struct IndexedFiles {
     files: Items<FileNames>,
     index: NameIndex,
     lengths: Vec<usize>,
+    dots: Vec<usize>,
     nodes: Items<Items<u32>>,
 }
 
@@ -32,7 +33,7 @@ impl Model for IndexedFiles {
 
     ghost view = { λ f. f.files };
 
-    ghost invariant = { λ f. IsIndex f.files f.index f.lengths.items f.nodes };
+    ghost invariant = { λ f. IsIndex f.files f.index f.lengths.items f.dots.items f.nodes };
 }
 
 impl IndexedFiles {
@@ -52,11 +53,13 @@ impl IndexedFiles {
     {
         let mut index = index_of(alloc, names.as_slice(), order)?;
         let lengths = index.lengths(alloc)?;
+        let dots = index.dots(alloc)?;
         let nodes = nodes_of(alloc, &mut index, files)?;
         Ok(IndexedFiles {
             files: names,
             index,
             lengths,
+            dots,
             nodes,
         })
     }
@@ -75,9 +78,11 @@ impl IndexedFiles {
         let here = self.files.as_slice().get(file as usize)?;
         let nodes = self.nodes.as_slice().get(file as usize)?;
         let lengths = self.lengths.as_slice();
+        let dots = self.dots.as_slice();
         look_up_from(
             &self.index,
             lengths,
+            dots,
             nodes.as_slice(),
             here,
             enclosing,

@@ -1,6 +1,9 @@
 //! The names that Mojom files define, and what a name means where it stands.
 #![tactic(auto)]
 
+mod dot_counts;
+mod dots;
+mod entry;
 mod enumerator_names;
 mod file_names;
 mod find;

@@ -4,6 +4,7 @@ ghost use Rattle.std.specs.Prelude.{◌≡◌, OnOk, nat_eq};
 ghost use Rattle.indexmap.specs.IndexMap.{get};
 ghost use Rattle.module_resolver.specs.steps.Held.{Adds};
 
+use crate::entry::Entry;
 use crate::lengths::{lesser_of, mark};
 use crate::owners::Owners;
 use crate::seen::Seen;
@@ -13,12 +14,13 @@ use name_tree::NameTree;
 use std::alloc::{AllocError, Global};
 
 /// What has each full name in any file: the names in a tree, what has the name of a node, and marks of
-/// the lengths in bytes of the names that anything has.
+/// how many bytes and how many dots the names that anything has have.
 #[derive(Drop)]
 pub struct NameIndex {
     tree: NameTree,
     owners: IndexMap<u32, Owners>,
     marks: Vec<bool>,
+    dots: Vec<bool>,
 }
 
 /// Adds a target to what a node has, behind all that it has already.
@@ -38,11 +40,11 @@ fn add_owner(
 }
 
 impl NameIndex {
-    ghost use Rattle.std.specs.Prelude.{◌≡◌, ◌<◌, ℕ, List, length, Some, None, IfOk, OnOk};
+    ghost use Rattle.std.specs.Prelude.{◌≡◌, ◌<◌, ℕ, List, Some, None, IfOk, OnOk};
     ghost use Rattle.import_order.specs.Imports.{has};
     ghost use Rattle.name_tree.specs.Trees.{count};
-    ghost use Rattle.module_resolver.specs.steps.Owners.{HaveLengths};
-    ghost use Rattle.module_resolver.specs.steps.Held.{node_of, held, owner_below, IsSound, Entered, NotedAt};
+    ghost use Rattle.module_resolver.specs.steps.Owners.{HaveLengths, HaveDots};
+    ghost use Rattle.module_resolver.specs.steps.Held.{node_of, held, owner_below, IsSound, IsMeasured, Entered, NotedAt};
 
     /// An index of no names.
     pub(crate) fn new(alloc: Global) -> NameIndex
@@ -53,6 +55,7 @@ impl NameIndex {
             tree: NameTree::new(alloc),
             owners: IndexMap::new(alloc),
             marks: Vec::new(alloc),
+            dots: Vec::new(alloc),
         }
     }
 
@@ -67,21 +70,21 @@ impl NameIndex {
         Ok(made)
     }
 
-    /// Notes what has the name of a node, which is so many bytes long, behind all that has it already.
+    /// Notes what has the name that stands here, behind all that has it already.
     pub(crate) fn note(
         &mut self,
         alloc: Global,
-        node: u32,
-        len: usize,
+        entry: Entry,
         target: Target,
     ) -> Result<(), AllocError>
         requires sound { IsSound self.old }
-        requires there { node < count self.old.tree }
-        requires long { (name : List ℕ) → node_of self.old 0 name ≡ Some node → length name ≡ len }
-        ensures { OnOk result (NotedAt self.old self.new node target) }
+        requires there { entry.node < count self.old.tree }
+        requires measured { IsMeasured self.old entry }
+        ensures { OnOk result (NotedAt self.old self.new entry.node target) }
     {
-        mark(&mut self.marks, len)?;
-        add_owner(alloc, &mut self.owners, node, target)
+        mark(&mut self.marks, entry.len)?;
+        mark(&mut self.dots, entry.dots)?;
+        add_owner(alloc, &mut self.owners, entry.node, target)
     }
 
     /// For each length in bytes the greatest, not above it, of a full name that anything has.
@@ -90,6 +93,14 @@ impl NameIndex {
         ensures { IfOk result (λ lengths. HaveLengths lengths.items (held self.now)) }
     {
         lesser_of(alloc, self.marks.as_slice())
+    }
+
+    /// For each number of dots the greatest, not above it, that a full name has that anything has.
+    pub(crate) fn dots(&self, alloc: Global) -> Result<Vec<usize>, AllocError>
+        requires { IsSound self.now }
+        ensures { IfOk result (λ dots. HaveDots dots.items (held self.now)) }
+    {
+        lesser_of(alloc, self.dots.as_slice())
     }
 
     /// The node of a name below a node; none where it was never entered.

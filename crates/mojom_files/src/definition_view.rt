@@ -6,7 +6,9 @@ ghost use Rattle.mojom_files.specs.Names.{named_in};
 ghost use Rattle.mojom_files.specs.Definitions.{module_of, identifier_of, in_struct, in_interface, with_nested, definitions_of, nested};
 ghost use Rattle.mojom_files.specs.Views.{item_view};
 
-use crate::names::{dotted, within};
+use crate::full_name::{FullName, NameParts};
+use crate::names::dotted;
+use crate::shared_text::{SharedText, shared};
 use mj_base::Text;
 use mojom_ast::{
     Attribute, Const, Definition, DefinitionItem, Enum, File, Identifier, Interface, InterfaceItem,
@@ -25,11 +27,12 @@ pub enum ItemView<'a> {
     Const(&'a Const),
 }
 
-/// A definition of a file, with its names: what a tree has of it is lent from there.
+/// A definition of a file: what a tree has of it is lent from there, and the text of the module's name is
+/// shared by all. Full names are made where they are asked for, so that no more than the parts is kept.
 #[derive(Drop)]
 pub struct DefinitionView<'a> {
-    full: Text,
-    enclosing: Option<Text>,
+    module_name: Option<SharedText>,
+    outer: Option<SharedText>,
     name: &'a Identifier,
     attributes: &'a [Attribute],
     item: ItemView<'a>,
@@ -39,31 +42,51 @@ impl<'a> Model for DefinitionView<'a> {
     ghost use Rattle.std.specs.Coded.{codes};
     ghost use Rattle.mojom_ast.specs.contracts.types.Type as kinds;
     ghost use Rattle.mojom_files.specs.Definitions.{Defined};
-    ghost use Rattle.mojom_files.specs.Views.{item_view};
+    ghost use Rattle.mojom_files.specs.Views.{item_view, defined_by};
 
     ghost Value = { Defined };
 
     ghost coded = { Prim.hlevel (codes, kinds.the_row.coded) };
 
-    ghost view = { λ d. record { full = d.full; enclosing = d.enclosing; name = d.name.now; attributes = d.attributes.now; item = item_view d.item } };
+    ghost view = { λ d. defined_by d.module_name d.outer d.name.now d.attributes.now (item_view d.item) };
 }
 
 impl<'a> DefinitionView<'a> {
-    ghost use Rattle.std.specs.Prelude.{◌≡◌};
+    ghost use Rattle.std.specs.Prelude.{◌≡◌, IfOk};
+    ghost use Rattle.mojom_files.specs.Names.{around, full_name};
     ghost use Rattle.mojom_files.specs.Views.{item_view};
 
-    /// The full name.
-    pub fn full(&self) -> &str
-        ensures { result.now ≡ self.now.full }
+    /// The parts of the full name.
+    pub fn parts(&self) -> NameParts<'_>
+        ensures full { self.now.full ≡ full_name result.module_name.now result.outer.now result.name.now }
+        ensures enclosing { self.now.enclosing ≡ around result.module_name.now result.outer.now }
     {
-        self.full.as_str()
+        NameParts {
+            module_name: &self.module_name,
+            outer: &self.outer,
+            name: self.name.text.as_str(),
+        }
     }
 
-    /// The full name of the definition around it, where there is one.
-    pub fn enclosing(&self) -> &Option<Text>
-        ensures { result.now ≡ self.now.enclosing }
+    /// The full name, as one text.
+    pub fn full(&self, alloc: Global) -> Result<Text, AllocError>
+        ensures { IfOk result (λ full. full ≡ self.now.full) }
     {
-        &self.enclosing
+        self.parts().full(alloc)
+    }
+
+    /// The full name, kept by its parts.
+    pub fn kept(&self, alloc: Global) -> Result<FullName, AllocError>
+        ensures { IfOk result (λ kept. kept ≡ self.now.full) }
+    {
+        self.parts().kept(alloc)
+    }
+
+    /// The full name of the definition around it, as one text, where there is one.
+    pub fn enclosing(&self, alloc: Global) -> Result<Option<Text>, AllocError>
+        ensures { IfOk result (λ enclosing. enclosing ≡ self.now.enclosing) }
+    {
+        self.parts().enclosing(alloc)
     }
 
     /// The identifier.
@@ -115,64 +138,56 @@ fn identifier<'a>(item: ItemView<'a>) -> &'a Identifier
 }
 
 /// The text of the module's name.
-fn module_name(
+fn name_of_module(
     alloc: Global,
     statement: &Option<ModuleStatement>,
-) -> Result<Option<Text>, AllocError>
+) -> Result<Option<SharedText>, AllocError>
     ensures { IfOk result (λ name. name ≡ module_of statement.now) }
 {
     match statement {
-        Some(statement) => Ok(Some(dotted(alloc, statement.name.parts.as_slice())?)),
+        Some(statement) => {
+            let name = dotted(alloc, statement.name.parts.as_slice())?;
+            Ok(Some(SharedText::new(alloc, name)?))
+        }
         None => Ok(None),
     }
 }
 
-/// The full name of what may stand in another thing.
-fn named_in(alloc: Global, outer: &Option<Text>, name: &str) -> Result<Text, AllocError>
-    ensures { IfOk result (λ full. full ≡ named_in outer.now name.now) }
-{
-    match outer {
-        Some(outer) => within(alloc, outer.as_str(), name),
-        None => Text::from_str(alloc, name),
-    }
-}
-
-/// A definition that is nested in the one of this full name.
+/// A definition that is nested in the one of this own name.
 fn nested<'a>(
-    alloc: Global,
-    outer: &str,
+    module_name: &Option<SharedText>,
+    outer: &SharedText,
     attributes: &'a [Attribute],
     item: ItemView<'a>,
 ) -> Result<DefinitionView<'a>, AllocError>
-    ensures { IfOk result (λ made. made ≡ nested outer.now attributes.now (item_view item.entry)) }
+    ensures { IfOk result (λ made. made ≡ nested (named_in module_name.now outer.now) attributes.now (item_view item.entry)) }
 {
-    let name = identifier(item);
     Ok(DefinitionView {
-        full: within(alloc, outer, name.text.as_str())?,
-        enclosing: Some(Text::from_str(alloc, outer)?),
-        name,
+        module_name: shared(module_name)?,
+        outer: Some(outer.share()?),
+        name: identifier(item),
         attributes,
         item,
     })
 }
 
-/// Adds what is nested in a struct of this full name.
+/// Adds what is nested in a struct of this own name.
 fn add_in_struct<'a>(
-    alloc: Global,
     found: &mut Vec<DefinitionView<'a>>,
-    outer: &str,
+    module_name: &Option<SharedText>,
+    outer: &SharedText,
     members: &'a [StructMember],
 ) -> Result<(), AllocError>
-    ensures { OnOk result (found.new.items ≡ found.old.items ++ flat_map (in_struct outer.now) members.now) }
+    ensures { OnOk result (found.new.items ≡ found.old.items ++ flat_map (in_struct (named_in module_name.now outer.now)) members.now) }
 {
     for member in members {
         let attributes = member.attributes.as_slice();
         match &member.item {
             StructItem::Const(item) => {
-                found.push(nested(alloc, outer, attributes, ItemView::Const(item))?)?;
+                found.push(nested(module_name, outer, attributes, ItemView::Const(item))?)?;
             }
             StructItem::Enum(item) => {
-                found.push(nested(alloc, outer, attributes, ItemView::Enum(item))?)?;
+                found.push(nested(module_name, outer, attributes, ItemView::Enum(item))?)?;
             }
             StructItem::Field(_) => {}
         }
@@ -180,23 +195,23 @@ fn add_in_struct<'a>(
     Ok(())
 }
 
-/// Adds what is nested in an interface of this full name.
+/// Adds what is nested in an interface of this own name.
 fn add_in_interface<'a>(
-    alloc: Global,
     found: &mut Vec<DefinitionView<'a>>,
-    outer: &str,
+    module_name: &Option<SharedText>,
+    outer: &SharedText,
     members: &'a [InterfaceMember],
 ) -> Result<(), AllocError>
-    ensures { OnOk result (found.new.items ≡ found.old.items ++ flat_map (in_interface outer.now) members.now) }
+    ensures { OnOk result (found.new.items ≡ found.old.items ++ flat_map (in_interface (named_in module_name.now outer.now)) members.now) }
 {
     for member in members {
         let attributes = member.attributes.as_slice();
         match &member.item {
             InterfaceItem::Const(item) => {
-                found.push(nested(alloc, outer, attributes, ItemView::Const(item))?)?;
+                found.push(nested(module_name, outer, attributes, ItemView::Const(item))?)?;
             }
             InterfaceItem::Enum(item) => {
-                found.push(nested(alloc, outer, attributes, ItemView::Enum(item))?)?;
+                found.push(nested(module_name, outer, attributes, ItemView::Enum(item))?)?;
             }
             InterfaceItem::Method(_) => {}
         }
@@ -208,28 +223,28 @@ fn add_in_interface<'a>(
 fn add_with_nested<'a>(
     alloc: Global,
     found: &mut Vec<DefinitionView<'a>>,
-    outer: &Option<Text>,
+    module_name: &Option<SharedText>,
     definition: &'a Definition,
 ) -> Result<(), AllocError>
-    ensures { OnOk result (found.new.items ≡ found.old.items ++ with_nested outer.now definition.now) }
+    ensures { OnOk result (found.new.items ≡ found.old.items ++ with_nested module_name.now definition.now) }
 {
     let item = lent(&definition.item);
     let name = identifier(item);
-    let full = named_in(alloc, outer, name.text.as_str())?;
-    let copy = Text::from_str(alloc, full.as_str())?;
     found.push(DefinitionView {
-        full,
-        enclosing: None,
+        module_name: shared(module_name)?,
+        outer: None,
         name,
         attributes: definition.attributes.as_slice(),
         item,
     })?;
     match item {
         ItemView::Struct(item) => {
-            add_in_struct(alloc, found, copy.as_str(), item.members.as_slice())
+            let outer = SharedText::from_str(alloc, name.text.as_str())?;
+            add_in_struct(found, module_name, &outer, item.members.as_slice())
         }
         ItemView::Interface(item) => {
-            add_in_interface(alloc, found, copy.as_str(), item.members.as_slice())
+            let outer = SharedText::from_str(alloc, name.text.as_str())?;
+            add_in_interface(found, module_name, &outer, item.members.as_slice())
         }
         ItemView::Union(_) | ItemView::Enum(_) | ItemView::Const(_) => Ok(()),
     }
@@ -239,10 +254,10 @@ fn add_with_nested<'a>(
 pub fn definitions<'a>(alloc: Global, file: &'a File) -> Result<Vec<DefinitionView<'a>>, AllocError>
     ensures { IfOk result (λ found. found.items ≡ definitions_of file.now) }
 {
-    let outer = module_name(alloc, &file.module_statement)?;
+    let module_name = name_of_module(alloc, &file.module_statement)?;
     let mut found = Vec::new(alloc);
     for definition in file.definitions.as_slice() {
-        add_with_nested(alloc, &mut found, &outer, definition)?;
+        add_with_nested(alloc, &mut found, &module_name, definition)?;
     }
     Ok(found)
 }

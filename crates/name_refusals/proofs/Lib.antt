@@ -1,3 +1,4 @@
 pub mod Known
 pub mod OneMore
 pub mod Places
+pub mod KnownTree

@@ -1,2 +1,3 @@
 -- Definitions that serve proofs alone: no public clause cites them.
 pub mod Sets
+pub mod Trees

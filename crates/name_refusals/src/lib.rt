@@ -1,6 +1,7 @@
 //! Why the names of Mojom files are refused: those that stand twice, and those that mean nothing or no such thing.
 #![tactic(auto)]
 
+mod known_names;
 mod lists;
 mod members;
 mod name_set;

@@ -182,7 +182,7 @@ fn check_item(
 ) -> Result<(), AllocError>
     ensures { OnOk result (best.new ≡ best_of best.old (refused_uses names.now.files file (uses_in_item view.now view.now.item))) }
 {
-    let here = Some(Text::from_str(alloc, view.full())?);
+    let here = Some(view.full(alloc)?);
     match view.item() {
         ItemView::Struct(item) => {
             check_fields(alloc, names, file, &here, item.members.as_slice(), best)
@@ -197,9 +197,9 @@ fn check_item(
             check_methods(alloc, names, file, &here, item.members.as_slice(), best)
         }
         ItemView::Const(item) => {
-            let enclosing = view.enclosing();
-            check_type(alloc, names, file, enclosing, &item.kind, best)?;
-            check_value(alloc, names, file, enclosing, &item.value, best)
+            let enclosing = view.enclosing(alloc)?;
+            check_type(alloc, names, file, &enclosing, &item.kind, best)?;
+            check_value(alloc, names, file, &enclosing, &item.value, best)
         }
     }
 }
@@ -215,14 +215,8 @@ pub fn check_definitions(
     ensures { OnOk result (best.new ≡ best_of best.old (refused_uses names.now.files file (flat_map uses_of views.now))) }
 {
     for view in views {
-        check_attributes(
-            alloc,
-            names,
-            file,
-            view.enclosing(),
-            view.attributes(),
-            best,
-        )?;
+        let enclosing = view.enclosing(alloc)?;
+        check_attributes(alloc, names, file, &enclosing, view.attributes(), best)?;
         check_item(alloc, names, file, view, best)?;
     }
     Ok(())

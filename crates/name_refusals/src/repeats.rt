@@ -1,15 +1,17 @@
 //! Names that stand twice.
 
-ghost use Rattle.std.specs.Prelude.{◌≡◌, [], ◌∷◌, OnOk, map, fold, if◌then◌else◌};
+ghost use Rattle.std.specs.Prelude.{◌≡◌, [], ◌∷◌, IfOk, OnOk, map, fold, if◌then◌else◌};
 ghost use Rattle.std.specs.List.{flat_map};
 ghost use Rattle.mojom_files.specs.Refusals.{best_of};
 ghost use Rattle.mojom_files.specs.Views.{item_view};
 ghost use Rattle.name_refusals.specs.Known.{with_name};
 ghost use Rattle.name_refusals.specs.steps.Sets.{holds};
+ghost use Rattle.name_refusals.specs.steps.Trees.{knows, AreKnown};
 ghost use Rattle.name_refusals.specs.Uses.{response_of};
 ghost use Rattle.name_refusals.specs.NameRefusals.{duplicate, method_name, parameter_names, parameter_lists, member_lists};
 ghost use Rattle.name_refusals.specs.NameRefusals.{repeated_members, repeated_definitions, named_as_basic, repeated_in};
 
+use crate::known_names::KnownNames;
 use crate::lists::{enumerator_names, field_names, method_names, parameter_names, union_names};
 use crate::name_set::NameSet;
 use mj_base::{Items, Text};
@@ -67,19 +69,56 @@ fn check_list(
     Ok(())
 }
 
+/// Adds the full name of a definition to those that are known, and says whether it was one of them.
+fn add_full(
+    alloc: Global,
+    known: &mut KnownNames,
+    view: &DefinitionView<'_>,
+) -> Result<bool, AllocError>
+    requires { AreKnown known.old }
+    ensures known { OnOk result (AreKnown known.new) }
+    ensures was { IfOk result (λ was. was ≡ knows known.old view.now.full) }
+    ensures added { OnOk result (knows known.new ≡ with_name (knows known.old) view.now.full) }
+{
+    let was = known.add(alloc, view.parts())?;
+    Ok(was)
+}
+
+/// Refuses a definition whose full name is known, and adds the name to those that are known.
+fn check_full_name(
+    alloc: Global,
+    file: u32,
+    known: &mut KnownNames,
+    view: &DefinitionView<'_>,
+    best: &mut Option<Refusal>,
+) -> Result<(), AllocError>
+    requires { AreKnown known.old }
+    ensures known { OnOk result (AreKnown known.new) }
+    ensures kept { OnOk result (best.new ≡ best_of best.old (map (duplicate file) (if knows known.old view.now.full then view.now.name ∷ [] else []))) }
+    ensures added { OnOk result (knows known.new ≡ with_name (knows known.old) view.now.full) }
+{
+    let was_known = add_full(alloc, known, view)?;
+    if was_known {
+        refuse(alloc, file, view.name(), best)?;
+    }
+    Ok(())
+}
+
 /// Refuses definitions whose full name is known, and adds their names to those that are known.
 fn check_full_names(
     alloc: Global,
     file: u32,
-    known: &mut NameSet,
+    known: &mut KnownNames,
     views: &[DefinitionView<'_>],
     best: &mut Option<Refusal>,
 ) -> Result<(), AllocError>
-    ensures kept { OnOk result (best.new ≡ best_of best.old (map (duplicate file) (repeated_definitions (holds known.old) views.now))) }
-    ensures added { OnOk result (holds known.new ≡ fold with_name (holds known.old) (map (λ d. d.full) views.now)) }
+    requires { AreKnown known.old }
+    ensures known { OnOk result (AreKnown known.new) }
+    ensures kept { OnOk result (best.new ≡ best_of best.old (map (duplicate file) (repeated_definitions (knows known.old) views.now))) }
+    ensures added { OnOk result (knows known.new ≡ fold with_name (knows known.old) (map (λ d. d.full) views.now)) }
 {
     for view in views {
-        check_one(alloc, file, known, view.full(), view.name(), best)?;
+        check_full_name(alloc, file, known, view, best)?;
     }
     Ok(())
 }
@@ -218,12 +257,14 @@ fn check_items(
 pub fn check_repeats(
     alloc: Global,
     file: u32,
-    known: &mut NameSet,
+    known: &mut KnownNames,
     views: &[DefinitionView<'_>],
     best: &mut Option<Refusal>,
 ) -> Result<(), AllocError>
-    ensures kept { OnOk result (best.new ≡ best_of best.old (map (duplicate file) (repeated_in (holds known.old) views.now))) }
-    ensures added { OnOk result (holds known.new ≡ fold with_name (holds known.old) (map (λ d. d.full) views.now)) }
+    requires { AreKnown known.old }
+    ensures known { OnOk result (AreKnown known.new) }
+    ensures kept { OnOk result (best.new ≡ best_of best.old (map (duplicate file) (repeated_in (knows known.old) views.now))) }
+    ensures added { OnOk result (knows known.new ≡ fold with_name (knows known.old) (map (λ d. d.full) views.now)) }
 {
     check_full_names(alloc, file, known, views, best)?;
     check_basic_names(alloc, file, views, best)?;

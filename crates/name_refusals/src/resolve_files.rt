@@ -3,14 +3,14 @@
 ghost use Rattle.std.specs.Prelude.{◌≡◌, ◌++◌, OnOk, IfOk, IfErr, None, fold, slice_get};
 ghost use Rattle.mojom_files.specs.Refusals.{best_of};
 ghost use Rattle.name_refusals.specs.Known.{with_name};
-ghost use Rattle.name_refusals.specs.steps.Sets.{holds};
+ghost use Rattle.name_refusals.specs.steps.Trees.{knows, AreKnown};
 ghost use Rattle.module_resolver.specs.NamesOf.{names_of};
 ghost use Rattle.name_refusals.specs.NameRefusals.{of_file, full_names, refusals_in};
 ghost use Rattle.import_order.specs.Errors.{IsFor};
 ghost use Rattle.name_refusals.specs.Resolved.{AreNames, IsRefused};
 
+use crate::known_names::KnownNames;
 use crate::members::check_definitions;
-use crate::name_set::NameSet;
 use crate::repeats::check_repeats;
 use import_order::ResolveError;
 use module_resolver::{Names, names_of};
@@ -21,13 +21,15 @@ use std::alloc::{AllocError, Global};
 fn check_file(
     alloc: Global,
     names: &Names,
-    known: &mut NameSet,
+    known: &mut KnownNames,
     number: u32,
     file: &NamedFile,
     best: &mut Option<Refusal>,
 ) -> Result<(), AllocError>
-    ensures kept { OnOk result (best.new ≡ best_of best.old (refusals_in names.now.files (holds known.old) number file.now)) }
-    ensures added { OnOk result (holds known.new ≡ fold with_name (holds known.old) (full_names file.now)) }
+    requires { AreKnown known.old }
+    ensures known { OnOk result (AreKnown known.new) }
+    ensures kept { OnOk result (best.new ≡ best_of best.old (refusals_in names.now.files (knows known.old) number file.now)) }
+    ensures added { OnOk result (knows known.new ≡ fold with_name (knows known.old) (full_names file.now)) }
 {
     let found = definitions(alloc, &file.tree)?;
     let views = found.as_slice();
@@ -41,11 +43,13 @@ fn first_of_file(
     alloc: Global,
     files: &[NamedFile],
     names: &Names,
-    known: &mut NameSet,
+    known: &mut KnownNames,
     number: u32,
 ) -> Result<Option<Refusal>, AllocError>
-    ensures first { IfOk result (λ first. first ≡ best_of None (of_file (refusals_in names.now.files (holds known.old) number) (slice_get files.now number))) }
-    ensures added { OnOk result (holds known.new ≡ fold with_name (holds known.old) (of_file full_names (slice_get files.now number))) }
+    requires { AreKnown known.old }
+    ensures known { OnOk result (AreKnown known.new) }
+    ensures first { IfOk result (λ first. first ≡ best_of None (of_file (refusals_in names.now.files (knows known.old) number) (slice_get files.now number))) }
+    ensures added { OnOk result (knows known.new ≡ fold with_name (knows known.old) (of_file full_names (slice_get files.now number))) }
 {
     let mut best = None;
     if let Some(file) = files.get(number as usize) {
@@ -62,7 +66,7 @@ pub fn resolve(alloc: Global, files: &[NamedFile], order: &[u32]) -> Result<Name
     ensures refused { IfErr result (IsFor (IsRefused files.now order.now)) }
 {
     let names = names_of(alloc, files, order)?;
-    let mut known = NameSet::new(alloc);
+    let mut known = KnownNames::new(alloc);
     for number in order {
         if let Some(refusal) = first_of_file(alloc, files, &names, &mut known, *number)? {
             return Err(ResolveError::Refused(refusal));

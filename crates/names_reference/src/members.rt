@@ -177,7 +177,7 @@ fn add_own<'a>(
         ItemView::Interface(item) => (ListSort::Methods, methods(alloc, item)?),
         ItemView::Const(_) => return Ok(()),
     };
-    let full = Text::from_str(alloc, definition.full())?;
+    let full = definition.full(alloc)?;
     lists.push(MemberList {
         sort,
         head: definition.name(),
@@ -195,7 +195,8 @@ pub fn lists_of<'a>(
     let mut lists = Vec::new(alloc);
     add_own(alloc, &mut lists, definition)?;
     if let ItemView::Interface(item) = definition.item() {
-        add_methods(alloc, &mut lists, definition.full(), item)?;
+        let full = definition.full(alloc)?;
+        add_methods(alloc, &mut lists, full.as_str(), item)?;
     }
     Ok(lists)
 }

@@ -38,7 +38,8 @@ fn add_definitions(
     for (number, one) in definitions.iter().enumerate() {
         let name = one.name();
         let text = name.text.as_str();
-        let is_double = is_defined_before(given, one.full(), file, number);
+        let full = one.full(alloc)?;
+        let is_double = is_defined_before(given, full.as_str(), file, number);
         if is_double || Basic::of_name(text).is_some() {
             add_reason(alloc, reasons, name.span.start, Word::DuplicateName, text)?;
         }

@@ -36,14 +36,6 @@ pub struct Thing<'a> {
     pub origin: Origin<'a>,
 }
 
-/// A copy of a text, where there is one.
-pub(crate) fn copied(alloc: Global, text: &Option<Text>) -> Result<Option<Text>, AllocError> {
-    match text {
-        Some(text) => Ok(Some(Text::from_str(alloc, text.as_str())?)),
-        None => Ok(None),
-    }
-}
-
 /// The basic kind of this name.
 pub fn basic_of(name: &Name) -> Option<Basic> {
     match name.parts.as_slice() {
@@ -85,15 +77,16 @@ fn add_enumerators<'a>(
     let ItemView::Enum(item) = definition.item() else {
         return Ok(());
     };
+    let full = definition.full(alloc)?;
     for (place, one) in item.enumerators.as_slice().iter().enumerate() {
         things.push(Thing {
             file,
             is_enumerator: true,
             number: first.saturating_add(place),
-            full: within(alloc, definition.full(), one.name.text.as_str())?,
+            full: within(alloc, full.as_str(), one.name.text.as_str())?,
             name: &one.name,
             item: definition.item(),
-            enclosing: Some(Text::from_str(alloc, definition.full())?),
+            enclosing: Some(definition.full(alloc)?),
             origin: origin_at(place, one),
         })?;
     }
@@ -112,10 +105,10 @@ fn add_definitions<'a>(
             file,
             is_enumerator: false,
             number,
-            full: Text::from_str(alloc, one.full())?,
+            full: one.full(alloc)?,
             name: one.name(),
             item: one.item(),
-            enclosing: copied(alloc, one.enclosing())?,
+            enclosing: one.enclosing(alloc)?,
             origin: origin_of_item(one.item()),
         })?;
     }

@@ -1,7 +1,7 @@
 //! The names that are used.
 
 use crate::look_up::Given;
-use crate::things::{basic_of, copied};
+use crate::things::basic_of;
 use mj_base::Text;
 use mojom_ast::{
     Attribute, BaseNode, Enumerator, InterfaceItem, InterfaceMember, Name, Parameter, StructItem,
@@ -162,9 +162,9 @@ fn add_uses<'a>(
     add_inside(&mut names, definition.item())?;
     for (number, (name, wanted)) in names.iter().enumerate() {
         let enclosing = if number < outside {
-            copied(alloc, definition.enclosing())?
+            definition.enclosing(alloc)?
         } else {
-            Some(Text::from_str(alloc, definition.full())?)
+            Some(definition.full(alloc)?)
         };
         uses.push(Use {
             file,

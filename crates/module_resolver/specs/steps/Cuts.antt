@@ -1,7 +1,8 @@
 -- Fronts of a text, by the places where they end.
-use Rattle.std.specs.Prelude.{ℕ, ◌<◌, ◌≤◌, List, length, map, take, get_or}
+use Rattle.std.specs.Prelude.{ℕ, ◌≡◌, ◌<◌, ◌≤◌, List, length, map, take, get_or}
 use Rattle.std.specs.List.{All}
 use Rattle.std.specs.Str.{IsCharBoundary}
+use Rattle.module_resolver.specs.steps.Dots.{dots_in}
 
 -- the fronts of a text that end at these places
 abbrev pub cut_at : List ℕ → List ℕ → List (List ℕ)
@@ -13,9 +14,11 @@ AreCuts text ends = All (IsCharBoundary text) ends
 
 -- none of these is less than one behind it
 abbrev pub Falls : List ℕ → Type 0
-Falls ends = (i j : ℕ) → i ≤ j → j < length ends → get_or ends j 0 ≤ get_or ends i 0
+Falls counts = (i j : ℕ) → i ≤ j → j < length counts → get_or counts j 0 ≤ get_or counts i 0
 
--- fronts of a text, the longest first
-pub record AreFronts (text ends : List ℕ) : Type 0 where
+-- fronts of a text, the longest first, and how many dots each has
+pub record AreFronts (text ends dots : List ℕ) : Type 0 where
   pub cuts : AreCuts text ends
-  pub falls : Falls ends
+  pub dotted : map dots_in (cut_at text ends) ≡ dots
+  pub many : length ends ≡ length dots
+  pub falls : Falls dots

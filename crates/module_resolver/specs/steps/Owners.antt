@@ -3,6 +3,7 @@ use Rattle.std.specs.Prelude.{ℕ, ◌≡◌, Bool, false, if◌then◌else◌, 
 use Rattle.std.specs.Option.{option_or, unwrap_or}
 use Rattle.import_order.specs.Imports.{has}
 use Rattle.module_resolver.specs.LookUp.{meant_by}
+use Rattle.module_resolver.specs.steps.Dots.{dots_in}
 use Rattle.module_resolver.specs.steps.Lengths.{IsBetween}
 use Rattle.module_resolver.specs.declared.target.Target.{Target}
 use Rattle.module_resolver.specs.declared.target.Target.TheVariants.{Definition, Enumerator}
@@ -45,3 +46,11 @@ HaveMarks marks owners = (name : List ℕ) → get_or marks (length name) false 
 -- where the length of a name stands between two of full names, nothing has the name
 abbrev pub HaveLengths : List ℕ → (List ℕ → Option (List Target)) → Type 0
 HaveLengths lengths owners = (name : List ℕ) → IsBetween lengths (length name) → owners name ≡ None
+
+-- where the number of a name's dots has no mark, nothing has the name
+abbrev pub HaveDotMarks : List Bool → (List ℕ → Option (List Target)) → Type 0
+HaveDotMarks marks owners = (name : List ℕ) → get_or marks (dots_in name) false ≡ false → owners name ≡ None
+
+-- where the number of a name's dots stands between two of full names, nothing has the name
+abbrev pub HaveDots : List ℕ → (List ℕ → Option (List Target)) → Type 0
+HaveDots dots owners = (name : List ℕ) → IsBetween dots (dots_in name) → owners name ≡ None

@@ -11,4 +11,4 @@ bounds-nodes-0 c =
 pub node_from-requires : goal.node_from-requires
 node_from-requires c =
     let some : 0 < length c.args.fronts.now = search rules in
-    ap (node_of c.args.index.now 0) c.at.ensures.is ∙ (node_at c.args.index.now c.args.fronts.now c.args.nodes.now 0 c.requires some).1
+    ap (node_of c.args.index.now 0) c.at.ensures ∙ (node_at c.args.index.now c.args.fronts.now c.args.nodes.now 0 c.requires some).1

@@ -1,7 +1,7 @@
 use Rattle.std.proofs.Common.{◌≡◌, take}
 use Rattle.std.specs.List.{flat_map}
 use Rattle.mojom_files.specs.Definitions.{enumerator_names}
-use Rattle.module_resolver.specs.steps.Enums.{names_in_enum}
+use Rattle.module_resolver.specs.Enums.{names_in_enum}
 use Rattle.module_resolver.proofs.gather.enumerator_names.Given as goal
 
 abbrev pub invariant-loop-view : goal.invariant-loop-view

@@ -1,7 +1,7 @@
 use Rattle.std.proofs.Common.{◌+◌, ℕ, refl, ◌∙◌, ap}
 use Rattle.module_resolver.specs.declared.target.Target.TheVariants.{Enumerator}
 use Rattle.module_resolver.specs.steps.Held.{held}
-use Rattle.module_resolver.proofs.Held.{node_kept, owner_kept}
+use Rattle.module_resolver.proofs.Held.{owner_kept, keeps_nodes, entry_kept}
 use Rattle.module_resolver.proofs.Owned.{none_noted}
 use Rattle.module_resolver.proofs.Enums.{within_noted}
 use Rattle.module_resolver.proofs.index.note_enum.Goals as goal
@@ -11,21 +11,22 @@ loop-place-init c =
     let both = c.in_ok-inner.ensures.entered in
     record {
       sound = both.sound;
-      nodes = λ q n is. node_kept c.args.index.now c.enter_full.new.index both 0 q n is;
+      nodes = keeps_nodes c.args.index.now c.enter_kept.new.index both;
       inner = c.in_ok-inner.ensures.is;
-      notes = λ p q. owner_kept c.args.index.now c.enter_full.new.index both p q ∙ none_noted p c.args.file _;
+      notes = λ p q. owner_kept c.args.index.now c.enter_kept.new.index both p q ∙ none_noted p c.args.file _;
     }
 
 pub loop-place-preserved : goal.loop-place-preserved
 loop-place-preserved c =
     let here = c.in_ok-note_within.ensures in
     let item = c.index-names-place.result in
+    let outer = c.args.one.now.outer in
     record {
       sound = here.sound;
       nodes = λ q n is. here.nodes q n (c.loop-place.invariant.nodes q n is);
-      inner = here.nodes c.as_str-outer.result.now c.in_ok-inner.inner c.loop-place.invariant.inner;
+      inner = entry_kept c.loop-place.index c.note_within.new.index here.nodes outer c.in_ok-inner.inner c.loop-place.invariant.inner;
       notes =
           within_noted (held c.args.index.now) (held c.loop-place.index) (held c.note_within.new.index) (λ (n : ℕ). Enumerator c.args.file (c.args.first + n))
-          c.args.file c.loop-place.place c.as_str-outer.result.now c.as_str.result.now item c.as_slice-names.result.now _ refl c.loop-place-test.true
+          c.args.file c.loop-place.place outer c.as_str.result.now item c.as_slice-names.result.now _ refl c.loop-place-test.true
           (c.as_str.ensures ∙ c.index-names-place.is) (ap (λ (n : ℕ). Enumerator c.args.file n) c.in_ok-number.ensures) c.loop-place.invariant.notes here.notes;
     }

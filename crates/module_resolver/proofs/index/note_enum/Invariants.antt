@@ -1,18 +1,17 @@
-use Rattle.std.proofs.Common.{◌≡◌, ◌+◌, ℕ, take, map}
-use Rattle.std.specs.Prelude.{Some}
+use Rattle.std.proofs.Common.{◌+◌, ℕ, take, map}
 use Rattle.std.specs.Option.{option_map}
 use Rattle.import_order.specs.Numbers.{number_of}
 use Rattle.mojom_files.specs.Names.{within}
 use Rattle.module_resolver.specs.declared.target.Target.TheVariants.{Enumerator}
 use Rattle.module_resolver.specs.steps.Owners.{where_seen, Notes}
-use Rattle.module_resolver.specs.steps.Held.{node_of, held, IsSound, KeepsNodes}
+use Rattle.module_resolver.specs.steps.Held.{held, IsSound, IsEntry, KeepsNodes}
 use Rattle.module_resolver.proofs.index.note_enum.Given as goal
 
 abbrev pub invariant-loop-place : goal.invariant-loop-place
 invariant-loop-place l = record {
   sound : IsSound l.index;
   nodes : KeepsNodes l.fn.index l.index;
-  inner : node_of l.index 0 l.outer ≡ Some l.inner;
+  inner : IsEntry l.index l.one.outer l.inner;
   notes : Notes (held l.fn.index) (held l.index)
-      (λ p q. where_seen p l.file (option_map (λ (n : ℕ). Enumerator l.file (l.first + n)) (number_of q (take l.place (map (within l.outer) l.names)))));
+      (λ p q. where_seen p l.file (option_map (λ (n : ℕ). Enumerator l.file (l.first + n)) (number_of q (take l.place (map (within l.one.outer) l.names)))));
 }

@@ -6,26 +6,23 @@ use Rattle.std.proofs.lemmas.List.{take_all, length-map}
 use Rattle.import_order.specs.Numbers.{number_of}
 use Rattle.mojom_files.specs.Names.{within}
 use Rattle.module_resolver.specs.declared.target.Target.TheVariants.{Enumerator}
-use Rattle.module_resolver.specs.steps.Enums.{names_in_enum}
+use Rattle.module_resolver.specs.Enums.{names_in_enum}
 use Rattle.module_resolver.specs.steps.Owners.{where_seen, Notes}
 use Rattle.module_resolver.specs.steps.Held.{held}
 use Rattle.module_resolver.proofs.OneMore.{take_item}
 use Rattle.module_resolver.proofs.Owned.{none_noted}
-use Rattle.module_resolver.proofs.Held.{owner_kept}
+use Rattle.module_resolver.proofs.Held.{owner_kept, entry_kept}
 use Rattle.module_resolver.proofs.Enums.{flat_pushed, names_noted}
 use Rattle.module_resolver.proofs.index.note_enumerators.Goals as goal
 
-pub enter-requires-clause-there : goal.enter-requires-clause-there
-enter-requires-clause-there c = c.requires.root
-
 pub loop-one-init : goal.loop-one-init
 loop-one-init c =
-    let both = c.in_ok-node.ensures.entered in
+    let both = c.in_ok-at.ensures.entered in
     record {
       sound = both.sound;
-      node = c.in_ok-node.ensures.is;
+      at = c.in_ok-at.ensures.is;
       first = search rules;
-      notes = λ p q. owner_kept c.args.index.now c.enter.new.self both p q ∙ none_noted p c.args.file _;
+      notes = λ p q. owner_kept c.args.index.now c.enter_alone.new.index both p q ∙ none_noted p c.args.file _;
     }
 
 pub loop-one-preserved : goal.loop-one-preserved
@@ -38,7 +35,7 @@ loop-one-preserved c =
     flat_pushed names_in_enum (take i enums) (take (i + 1) enums) one (take_item enums i one c.loop-one-test.true c.one-item.is) in
     record {
       sound = c.in_ok-note_enum.ensures.sound;
-      node = c.in_ok-note_enum.ensures.nodes c.args.around.now c.in_ok-node.node c.loop-one.invariant.node;
+      at = entry_kept c.loop-one.index c.note_enum.new.index c.in_ok-note_enum.ensures.nodes c.args.around.now c.in_ok-at.at c.loop-one.invariant.at;
       first =
           c.in_ok-first.ensures
           ∙ (ap (λ (n : ℕ). c.loop-one.first + n) c.len.ensures

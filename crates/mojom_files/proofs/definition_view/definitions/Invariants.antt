@@ -5,4 +5,4 @@ use Rattle.mojom_files.proofs.definition_view.definitions.Given as goal
 
 abbrev pub invariant-loop-definition : goal.invariant-loop-definition
 invariant-loop-definition l =
-    l.found.items ++ flat_map (with_nested l.outer) (drop l.definition-index l.file.definitions) ≡ definitions_of l.file
+    l.found.items ++ flat_map (with_nested l.module_name) (drop l.definition-index l.file.definitions) ≡ definitions_of l.file

@@ -1,12 +1,23 @@
-use Rattle.std.proofs.Common.{arith, ◌<◌, length}
-use Rattle.std.specs.Prelude.{string_bytes}
-use Rattle.module_resolver.proofs.Falls.{longer_front}
+use Rattle.std.proofs.Common.{arith, ◌≡◌, ◌<◌, ◌∙◌, length, map, sym, ap}
+use Rattle.module_resolver.specs.steps.Dots.{dots_in}
+use Rattle.module_resolver.proofs.Falls.{as_many, front_dots}
 use Rattle.module_resolver.proofs.fronts.Fronts.first_within.Goals as goal
+
+pub returns-clause-bound : goal.returns-clause-bound
+returns-clause-bound c =
+    let ordered = c.loop-low.invariant.ordered in
+    let bound = c.loop-low.invariant.bound in
+    let many = as_many c.args.self.now c.self.inside.dots.items (ap (map dots_in) (sym c.self.view_is) ∙ c.self.invariant.dotted) in
+    omega (arith, ordered, bound, many)
 
 pub returns-clause-before : goal.returns-clause-before
 returns-clause-before c = λ k from less.
+    let fronts = c.args.self.now in
     let ordered = c.loop-low.invariant.ordered in
     let bound = c.loop-low.invariant.bound in
-    let there : k < length c.self.inside.ends.items = omega (arith, less, ordered, bound) in
-    longer_front (string_bytes c.self.inside.whole) c.self.inside.ends.items c.args.self.now k c.args.limit c.self.view_is c.self.invariant.cuts there
-    (c.loop-low.invariant.before k from less)
+    let are : map dots_in fronts ≡ c.self.inside.dots.items = ap (map dots_in) (sym c.self.view_is) ∙ c.self.invariant.dotted in
+    let many = as_many fronts c.self.inside.dots.items are in
+    let there : k < length fronts = omega (arith, less, ordered, bound, many) in
+    let one = front_dots fronts c.self.inside.dots.items k are there in
+    let above = c.loop-low.invariant.before k from less in
+    omega (arith, one, above)

@@ -5,8 +5,8 @@ abbrev pub invariant-loop-low : goal.invariant-loop-low
 invariant-loop-low l = record {
   from : l.number ≤ l.low;
   ordered : l.low ≤ l.high;
-  bound : l.high ≤ length l.self-inside.ends.items;
-  before : (k : ℕ) → l.number ≤ k → k < l.low → l.limit < get_or l.self-inside.ends.items k 0;
+  bound : l.high ≤ length l.self-inside.dots.items;
+  before : (k : ℕ) → l.number ≤ k → k < l.low → l.limit < get_or l.self-inside.dots.items k 0;
 }
 
 abbrev pub decreases-loop-low : goal.decreases-loop-low

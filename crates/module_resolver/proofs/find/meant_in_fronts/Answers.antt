@@ -3,34 +3,36 @@ use Rattle.mojom_files.specs.Names.{within}
 use Rattle.import_order.specs.Imports.{has}
 use Rattle.module_resolver.specs.steps.Owners.{owner}
 use Rattle.module_resolver.specs.steps.Held.{held}
-use Rattle.module_resolver.proofs.LesserLengths.{unowned, found_at, not_at, alone}
+use Rattle.module_resolver.proofs.LesserLengths.{undotted, found_at, not_at, alone}
 use Rattle.module_resolver.proofs.Held.{below_is, node_at}
-use Rattle.module_resolver.proofs.find.look_up_from.Goals as goal
+use Rattle.module_resolver.proofs.find.meant_in_fronts.Goals as goal
 
 pub bounds-nodes-next : goal.bounds-nodes-next
 bounds-nodes-next c =
-    (node_at c.args.index.now c.args.here.now.fronts c.args.nodes.now c.in-Some-next_front.next c.requires.nodes c.in-Some-next_front.ensures.next.1).0
+    (node_at c.args.index.now c.args.here.now.fronts c.args.nodes.now c.in-Some.next c.requires.nodes c.in-Some.ensures.next.1).0
 
-pub returns-then-is_some-2 : goal.returns-then-is_some-2
-returns-then-is_some-2 c =
+pub returns-then-is_some : goal.returns-then-is_some
+returns-then-is_some c =
     let index = c.args.index.now in
     let owners = held index in
     let seen = has c.args.here.now.seen in
     let name = c.args.name.now in
     let fronts = c.args.here.now.fronts in
     let full = λ (outer : List ℕ). within outer name in
-    let facts = c.in-Some-next_front.ensures in
-    let next = c.in-Some-next_front.next in
+    let facts = c.in-Some.ensures in
+    let next = c.in-Some.next in
     let front = get_or fronts next [] in
     let node = node_at index fronts c.args.nodes.now next c.requires.nodes facts.next.1 in
     found_at (owner owners seen) full fronts (name ∷ []) c.loop-next.number next front _ c.meant-found.result
     c.loop-next.invariant facts.next.0 facts.next.1
-    (λ k le lt. unowned owners seen c.args.lengths.now (full (get_or fronts k [])) c.requires.lengths (facts.skipped k le lt))
+    (λ k le lt.
+    undotted owners seen c.args.dots.now (get_or fronts k []) name c.dots_in-count.result c.dots_in-count.ensures c.requires.dots
+    (facts.skipped k le lt))
     (c.meant-found.ensures ∙ below_is index seen front name (get_or c.args.nodes.now next 0) node.1) refl
-    (sym c.is_some-in-Some-next_front.ensures ∙ c.if-is_some-2.true)
+    (sym c.is_some.ensures ∙ c.if-is_some.true)
 
 pub overflow_add-number : goal.overflow_add-number
-overflow_add-number c = record { fits = omega (arith, c.in-Some-next_front.ensures.next.2) }
+overflow_add-number c = record { fits = omega (arith, c.in-Some.ensures.next.2) }
 
 pub loop-next-preserved : goal.loop-next-preserved
 loop-next-preserved c =
@@ -40,15 +42,17 @@ loop-next-preserved c =
     let name = c.args.name.now in
     let fronts = c.args.here.now.fronts in
     let full = λ (outer : List ℕ). within outer name in
-    let facts = c.in-Some-next_front.ensures in
-    let next = c.in-Some-next_front.next in
+    let facts = c.in-Some.ensures in
+    let next = c.in-Some.next in
     let front = get_or fronts next [] in
     let node = node_at index fronts c.args.nodes.now next c.requires.nodes facts.next.1 in
     not_at (owner owners seen) full fronts (name ∷ []) c.loop-next.number next front _ c.meant-found.result
     c.loop-next.invariant facts.next.0 facts.next.1
-    (λ k le lt. unowned owners seen c.args.lengths.now (full (get_or fronts k [])) c.requires.lengths (facts.skipped k le lt))
+    (λ k le lt.
+    undotted owners seen c.args.dots.now (get_or fronts k []) name c.dots_in-count.result c.dots_in-count.ensures c.requires.dots
+    (facts.skipped k le lt))
     (c.meant-found.ensures ∙ below_is index seen front name (get_or c.args.nodes.now next 0) node.1) refl
-    (sym c.is_some-in-Some-next_front.ensures ∙ c.if-is_some-2.false)
+    (sym c.is_some.ensures ∙ c.if-is_some.false)
 
 pub returns : goal.returns
 returns c =
@@ -59,4 +63,6 @@ returns c =
     let full = λ (outer : List ℕ). within outer name in
     c.meant.ensures
     ∙ alone (owner owners seen) full fronts name c.loop-next.number _ c.loop-next.invariant
-    (λ k le lt. unowned owners seen c.args.lengths.now (full (get_or fronts k [])) c.requires.lengths (c.in_default-next_front.ensures.skipped k le lt))
+    (λ k le lt.
+    undotted owners seen c.args.dots.now (get_or fronts k []) name c.dots_in-count.result c.dots_in-count.ensures c.requires.dots
+    (c.in_default.ensures.skipped k le lt))

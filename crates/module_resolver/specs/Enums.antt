@@ -1,4 +1,4 @@
--- The full names of enumerators, as the code keeps them.
+-- The full names of enumerators.
 use Rattle.std.specs.Prelude.{ℕ, List, map}
 use Rattle.mojom_files.specs.Names.{within}
 use Rattle.module_resolver.specs.declared.enumerator_names.EnumNames.{EnumNames}

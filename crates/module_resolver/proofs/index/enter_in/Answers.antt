@@ -1,0 +1,21 @@
+use Rattle.std.proofs.Common.{subst}
+use Rattle.module_resolver.specs.steps.Held.{IsEntry}
+use Rattle.module_resolver.proofs.Held.{entered_twice, node_there}
+use Rattle.module_resolver.proofs.index.enter_in.Goals as goal
+
+pub enter_below-requires-clause-there : goal.enter_below-requires-clause-there
+enter_below-requires-clause-there c =
+    let is = c.in_ok-entry-in-Some.ensures in
+    node_there c.enter_module.new.index is.entered.sound 0 c.as_str.result.now c.in_ok-entry-in-Some.entry.node is.is.is
+
+pub returns-in_ok-made-in-Some-clause-entered : goal.returns-in_ok-made-in-Some-clause-entered
+returns-in_ok-made-in-Some-clause-entered c =
+    entered_twice c.args.index.now c.enter_module.new.index c.enter_below.new.index c.in_ok-entry-in-Some.ensures.entered
+    c.in_ok-made-in-Some.ensures.entered
+
+pub returns-in_ok-made-in-Some-clause-is : goal.returns-in_ok-made-in-Some-clause-is
+returns-in_ok-made-in-Some-clause-is c =
+    let mid = c.enter_module.new.index in
+    let entry = c.in_ok-entry-in-Some.entry in
+    let at : IsEntry mid c.in-Some.outer entry = subst (λ t. IsEntry mid t entry) c.as_str.ensures c.in_ok-entry-in-Some.ensures.is in
+    rw c.in-Some.is (c.in_ok-made-in-Some.ensures.is c.in-Some.outer at)
