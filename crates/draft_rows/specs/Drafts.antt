@@ -25,6 +25,7 @@ use Rattle.draft_rows.specs.declared.draft.Draft.{Draft}
 use Rattle.kind_scope.specs.Scopes.{Scope, inside, around}
 use Rattle.kind_scope.specs.Members.{field_of, union_field_of}
 use Rattle.draft_rows.specs.RowCounts.{methods_in, structs_of, after, after_all, no_rows, definitions_at, rows_of}
+use Rattle.draft_rows.specs.InterfaceVersions.{interface_version}
 use Rattle.draft_rows.specs.Rows.{const_row, struct_row, union_row, valued, enum_row, interface_row, structs_of_methods}
 
 -- no tables
@@ -63,7 +64,7 @@ methods_order first (m ∷ ms) = method_order first m ++ methods_order (first + 
 abbrev pub draft_of_interface : List FileRows → Scope → Counts → List ℕ → Interface → Draft
 draft_of_interface rows scope counts full item = record empty {
   structs = structs_of_methods rows scope full (methods_in item.members);
-  interfaces = interface_row full counts.structs (methods_in item.members) ∷ [];
+  interfaces = interface_row full counts.structs (methods_in item.members) (interface_version scope item.members) ∷ [];
   order = row_at sorts.Interface counts.interfaces ∷ methods_order counts.structs (methods_in item.members);
 }
 

@@ -1,4 +1,5 @@
 pub mod RowCounts
+pub mod InterfaceVersions
 pub mod Kinds
 pub mod Rows
 pub mod Drafts

@@ -168,9 +168,10 @@ rows_of_methods first (one ∷ others) =
 abbrev pub method_rows : ℕ → ℕ → List Method → List MethodRow
 method_rows next first methods = rows_of_methods first (numbered_by held (λ (m : Method). m.ordinal) next methods)
 
--- the interface of this full name and these methods, which stand as the file has them, where so many structs stand before theirs
-abbrev pub interface_row : List ℕ → ℕ → List Method → InterfaceRow
-interface_row full first methods = record { name = full; methods = method_rows 0 first methods }
+-- the interface of this full name and these methods, which stand as the file has them, where so many structs stand before theirs, and of
+-- this version
+abbrev pub interface_row : List ℕ → ℕ → List Method → ℕ → InterfaceRow
+interface_row full first methods version = record { name = full; methods = method_rows 0 first methods; version = version }
 
 -- the struct of a list of parameters
 abbrev pub parameters_row : List FileRows → Scope → List ℕ → List Parameter → DraftStruct

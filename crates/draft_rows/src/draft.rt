@@ -13,12 +13,13 @@ use crate::counts::{
     Counts, NO_ROWS, after, definitions_at, methods_in, more, rows_of, structs_of,
 };
 use crate::interface_row::{add_methods, interface_row};
+use crate::interface_version::interface_version;
 use crate::item_row::{row_of_enum, row_of_struct, row_of_union};
 use crate::literal::const_row;
 use crate::row_table::RowTable;
 use const_eval::Consts;
 use kind_scope::ScopeView;
-use mj_base::{Items, Text};
+use mj_base::Items;
 use mj_schema::{ConstRow, DefinitionRow, DraftStruct, EnumRow, InterfaceRow, RowSort, UnionRow};
 use module_resolver::Names;
 use mojom_ast::{Const, Enum, Interface, Method, Struct, Union};
@@ -140,7 +141,8 @@ fn add_interface(
     add_row(&mut lists.order, RowSort::Interface, counts.interfaces)?;
     add_methods_order(&mut lists.order, counts.structs, list)?;
     add_methods(alloc, &mut lists.structs, rows, scope, full, list)?;
-    let row = interface_row(alloc, full, counts.structs, list)?;
+    let version = interface_version(alloc, scope, item.members.as_slice())?;
+    let row = interface_row(alloc, full, counts.structs, list, version)?;
     lists.interfaces.push(row)?;
     Ok(())
 }
@@ -175,7 +177,8 @@ fn add_union(
     ensures { OnOk result (lists_view lists.new ≡ join (lists_view lists.old)
         (draft_of_union rows.now (scope_view scope.now) counts view.now.full view.now.attributes item.now)) }
 {
-    let row = row_of_union(alloc, rows, scope, view.full(), view.attributes(), item)?;
+    let full = view.full(alloc)?;
+    let row = row_of_union(alloc, rows, scope, full.as_str(), view.attributes(), item)?;
     lists.unions.push(row)?;
     add_row(&mut lists.order, RowSort::Union, counts.unions)
 }
@@ -192,7 +195,8 @@ fn add_enum(
     ensures { OnOk result (lists_view lists.new ≡ join (lists_view lists.old)
         (draft_of_enum (scope_view scope.now) counts view.now.full view.now.attributes item.now)) }
 {
-    let row = row_of_enum(alloc, scope, view.full(), view.attributes(), item)?;
+    let full = view.full(alloc)?;
+    let row = row_of_enum(alloc, scope, full.as_str(), view.attributes(), item)?;
     lists.enums.push(row)?;
     add_row(&mut lists.order, RowSort::Enum, counts.enums)
 }
@@ -229,7 +233,8 @@ fn add_within(
     ensures { OnOk result (lists_view lists.new ≡ join (lists_view lists.old)
         (draft_of_item rows.now (scope_view scope.now) counts view.now.full view.now.attributes view.now.item)) }
 {
-    let full = view.full();
+    let name = view.full(alloc)?;
+    let full = name.as_str();
     match view.item() {
         ItemView::Struct(item) => add_struct(alloc, lists, rows, inner, counts, full, item),
         ItemView::Union(item) => add_union(alloc, lists, rows, inner, counts, view, item),
@@ -251,7 +256,7 @@ fn add_item(
     ensures { OnOk result (lists_view lists.new ≡ join (lists_view lists.old)
         (draft_of_item rows.now (scope_view scope.now) counts view.now.full view.now.attributes view.now.item)) }
 {
-    let enclosing = Some(Text::from_str(alloc, view.full())?);
+    let enclosing = Some(view.full(alloc)?);
     let inner = ScopeView {
         names: scope.names,
         consts: scope.consts,
@@ -276,11 +281,12 @@ fn add_all(
 {
     let mut behind = counts;
     for view in views {
+        let enclosing = view.enclosing(alloc)?;
         let around = ScopeView {
             names: scope.names,
             consts: scope.consts,
             file: scope.file,
-            enclosing: view.enclosing(),
+            enclosing: &enclosing,
         };
         add_item(alloc, lists, rows, &around, behind, view)?;
         behind = after(behind, view.item()).ok_or(AllocError)?;

@@ -9,8 +9,8 @@ ghost use Rattle.draft_rows.specs.steps.Views.{valued_view};
 use crate::member_row::is_extensible;
 use const_meanings::KnownView;
 use kind_scope::{ScopeView, is_default, known_in};
-use mj_base::{Items, Text};
-use mj_schema::{EnumRow, MemberRow};
+use mj_base::Text;
+use mj_schema::{EnumRow, MemberRow, MemberRows};
 use mojom_ast::{Attribute, Enumerator, Value};
 use std::alloc::{AllocError, Global};
 
@@ -82,7 +82,7 @@ pub fn valued<'a>(
 }
 
 /// The rows of enumerators.
-fn member_rows(alloc: Global, ones: &[ValuedView<'_>]) -> Result<Items<MemberRow>, AllocError>
+fn member_rows(alloc: Global, ones: &[ValuedView<'_>]) -> Result<MemberRows, AllocError>
     ensures { IfOk result (λ made. made ≡ map member_row (map valued_view ones.now)) }
 {
     let mut made = Vec::new(alloc);
@@ -91,7 +91,8 @@ fn member_rows(alloc: Global, ones: &[ValuedView<'_>]) -> Result<Items<MemberRow
         let number = one.number;
         made.push(MemberRow { name, number })?;
     }
-    Ok(Items::from_vec(made))
+    let members = MemberRows::from_vec(alloc, made)?;
+    Ok(members)
 }
 
 /// The number of the first enumerator with `[Default]`; none where there is none.

@@ -57,18 +57,21 @@ fn method_rows(
     Ok(Items::from_vec(made))
 }
 
-/// The interface of this full name and these methods, where so many structs stand before theirs.
+/// The interface of this full name and these methods, where so many structs stand before theirs, and of
+/// this version.
 pub fn interface_row(
     alloc: Global,
     full: &str,
     first: u32,
     methods: &[&Method],
+    version: u32,
 ) -> Result<InterfaceRow, AllocError>
-    ensures { IfOk result (λ made. made ≡ interface_row full.now first (map (λ m. m.now) methods.now)) }
+    ensures { IfOk result (λ made. made ≡ interface_row full.now first (map (λ m. m.now) methods.now) version) }
 {
     Ok(InterfaceRow {
         name: Text::from_str(alloc, full)?,
         methods: method_rows(alloc, first, methods)?,
+        version,
     })
 }
 

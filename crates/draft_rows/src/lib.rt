@@ -5,6 +5,7 @@ mod counts;
 mod draft;
 mod enum_row;
 mod interface_row;
+mod interface_version;
 mod item_row;
 mod kind_of;
 mod literal;

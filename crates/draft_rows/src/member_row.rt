@@ -13,7 +13,7 @@ use kind_scope::{
     MemberView, NumberedView, ScopeView, along_ordinals, has_attribute, numbered, version_of,
 };
 use mj_base::{Items, Text};
-use mj_schema::{DraftField, DraftStruct, Kind, Literal, UnionFieldRow, UnionRow};
+use mj_schema::{DraftField, DraftStruct, Kind, Literal, UnionFieldRow, UnionFieldRows, UnionRow};
 use mojom_ast::{Attribute, Type, Value};
 use std::alloc::{AllocError, Global};
 
@@ -139,7 +139,7 @@ fn union_field_rows(
     rows: &RowTable,
     scope: &ScopeView<'_>,
     ones: &[NumberedView<'_>],
-) -> Result<Items<UnionFieldRow>, AllocError>
+) -> Result<UnionFieldRows, AllocError>
     ensures { IfOk result (λ made. made ≡ found_of (union_field_row rows.now (scope_view scope.now)) (map numbered_view ones.now)) }
 {
     let mut made = Vec::new(alloc);
@@ -148,7 +148,8 @@ fn union_field_rows(
             made.push(row)?;
         }
     }
-    Ok(Items::from_vec(made))
+    let fields = UnionFieldRows::from_vec(alloc, made)?;
+    Ok(fields)
 }
 
 /// Whether `[Extensible]` stands among attributes.

@@ -1,15 +1,12 @@
 //! A payload of 67,108,864 bytes, and one of a letter more.
 
-ghost use Rattle.std.specs.Prelude.{IfSome};
-ghost use Rattle.wire_encoder.specs.Prepared.{HasTarget};
-
 use mj_base::{Items, Text};
 use mj_schema::Schema;
 use mojom_compile::{Source, compile};
 use std::alloc::{AllocError, Global};
 use std::test::Fail;
-use wire_encoder::{PrepareError, prepare};
-use wire_model::{MessageSide, Target, Value};
+use wire_encoder::{PrepareError, prepare, target};
+use wire_model::{MessageSide, Value};
 
 /// What is said to.
 const LISTENER: &str = "interface P { Say(string s); };";
@@ -24,18 +21,6 @@ fn compiled(alloc: Global) -> Result<Option<Schema>, AllocError> {
         bytes: Items::from_vec(Vec::from_slice(alloc, LISTENER.as_bytes())?),
     };
     Ok(compile(alloc, &[source]).ok())
-}
-
-/// The request of the first method.
-fn target_of(schema: &Schema) -> Option<Target>
-    ensures { IfSome result (HasTarget schema.now) }
-{
-    let _method = schema.method(0, 0)?;
-    Some(Target {
-        interface: 0,
-        method: 0,
-        side: MessageSide::Request,
-    })
 }
 
 /// The parameters with so many letters.
@@ -53,7 +38,7 @@ fn letters(alloc: Global, count: usize) -> Result<Value, AllocError> {
 
 /// What becomes of so many letters: the payload's length, or none where it is too long and the value comes back.
 fn said(alloc: Global, schema: &Schema, count: usize) -> Result<Option<usize>, Fail> {
-    let Some(target) = target_of(schema) else {
+    let Some(target) = target(schema, "P", "Say", MessageSide::Request) else {
         return Ok(Some(0));
     };
     match prepare(alloc, schema, target, letters(alloc, count)?) {

@@ -20,7 +20,7 @@ use Rattle.wire_model.specs.Bytes.{number32, number64}
 use Rattle.wire_model.specs.Kinded.{ArePaired}
 use Rattle.wire_model.specs.Depth.{IsOfKind, AreOfKinds}
 use Rattle.wire_model.specs.Marks as marks
-use Rattle.wire_model.specs.Marks.{Next, pointer_marks, array_marks, content_marks, text_marks, map_marks, struct_marks, found_struct_marks, object_marks, visit, count_is, count_at, slots_up_to}
+use Rattle.wire_model.specs.Marks.{Next, pointer_marks, array_marks, text_marks, map_marks, struct_marks, found_struct_marks, object_marks, visit, count_is, count_at, slots_up_to}
 use Rattle.wire_model.specs.Rows.{row_for}
 use Rattle.wire_model.specs.Slots.{Slot, element_slots, found_fields, field_slot}
 use Rattle.wire_model.specs.Stands.{IsFine}

@@ -4,4 +4,5 @@ pub mod Absent
 pub mod KindedSlots
 pub mod KindedObjects
 pub mod Open
+pub mod FilledSchemas
 pub mod OfItsKind

@@ -1,6 +1,8 @@
 pub mod Readings
 pub mod SameStructs
 pub mod Trees
+pub mod Strings
+pub mod Sound
 pub mod SomeSchema
 pub mod InFile
 pub mod NamesInFile

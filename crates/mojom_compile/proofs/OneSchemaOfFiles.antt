@@ -1,5 +1,5 @@
 -- Files have one schema or one refusal.
-use Rattle.std.proofs.Common.{◌≡◌, ℕ, zero, suc, ◌+◌, ◌^◌, ◌<◌, List, [], ◌∷◌, length, take, refl, sym, ap, ◌∙◌, subst, inl, inr, arith}
+use Rattle.std.proofs.Common.{◌≡◌, ℕ, zero, suc, ◌+◌, ◌^◌, ◌<◌, List, [], ◌∷◌, length, map, take, refl, sym, ap, ◌∙◌, subst, inl, inr, arith}
 use Rattle.std.specs.Prelude.{IsTrue, ◌⊎◌, slice_get, Some}
 use Rattle.std.specs.List.{AllByRecursion}
 use Rattle.std.proofs.Props.{props}
@@ -13,7 +13,8 @@ use Rattle.mj_schema.specs.declared.rows.EnumRow.{EnumRow}
 use Rattle.mj_schema.specs.declared.rows.InterfaceRow.{InterfaceRow}
 use Rattle.mj_schema.specs.declared.rows.ConstRow.{ConstRow}
 use Rattle.mj_schema.specs.declared.rows.DefinitionRow.{DefinitionRow}
-use Rattle.mj_schema.specs.Layout.{IsLaidOut}
+use Rattle.mj_schema.specs.Layout.{IsLaidOut, draft_of}
+use Rattle.mj_schema.specs.Sound.{are_sound, are_texts}
 use Rattle.mj_schema.specs.WellFormed.{is_well_formed}
 use Rattle.mj_schema.specs.steps.Proper.{all_laid_out-prop}
 use Rattle.mojom_ast.specs.declared.file.File.{File}
@@ -231,77 +232,81 @@ module _ (files : List NamedFile) where
 
 -- schemas
 
+-- what rows owe to be those of a schema
+record AreRows (ss : List StructRow) (us : List UnionRow) (es : List EnumRow) (is : List InterfaceRow) (cs : List ConstRow)
+    (ds : List DefinitionRow) : Type 0 where
+  few : length ss + length us + length es + length is + length cs < 2 ^ 32
+  laid_out : AllByRecursion IsLaidOut ss
+  well_formed : IsTrue (is_well_formed ss us es is cs ds)
+  sound : IsTrue (are_sound (map draft_of ss) us es is cs ds)
+  texts : IsTrue (are_texts (map draft_of ss) cs)
+
 -- a schema of these parts
 abbrev made : (ss : List StructRow) (us : List UnionRow) (es : List EnumRow) (is : List InterfaceRow) (cs : List ConstRow) (ds : List DefinitionRow)
-    → length ss + length us + length es + length is + length cs < 2 ^ 32 → AllByRecursion IsLaidOut ss
-    → IsTrue (is_well_formed ss us es is cs ds) → Schema
-made ss us es is cs ds few laid_out well_formed = record {
+    → AreRows ss us es is cs ds → Schema
+made ss us es is cs ds are = record {
   structs = ss;
   unions = us;
   enums = es;
   interfaces = is;
   consts = cs;
   order = ds;
-  few = few;
-  laid_out = laid_out;
-  well_formed = well_formed;
+  few = are.few;
+  laid_out = are.laid_out;
+  well_formed = are.well_formed;
+  sound = are.sound;
+  texts = are.texts;
 }
 
 same_proofs : (ss : List StructRow) (us : List UnionRow) (es : List EnumRow) (is : List InterfaceRow) (cs : List ConstRow) (ds : List DefinitionRow)
-    (f g : length ss + length us + length es + length is + length cs < 2 ^ 32) (l m : AllByRecursion IsLaidOut ss)
-    (u v : IsTrue (is_well_formed ss us es is cs ds)) → made ss us es is cs ds f l u ≡ made ss us es is cs ds g m v
-same_proofs ss us es is cs ds f g l m u v =
-    let prop : IsProp (IsTrue (is_well_formed ss us es is cs ds)) = hlevel props in
-    ap (λ (k : length ss + length us + length es + length is + length cs < 2 ^ 32). made ss us es is cs ds k l u) (le_prop f g)
-    ∙ ap (λ (k : AllByRecursion IsLaidOut ss). made ss us es is cs ds g k u) (all_laid_out-prop ss l m)
-    ∙ ap (λ (k : IsTrue (is_well_formed ss us es is cs ds)). made ss us es is cs ds g m k) (prop u v)
+    (u v : AreRows ss us es is cs ds) → made ss us es is cs ds u ≡ made ss us es is cs ds v
+same_proofs ss us es is cs ds u v =
+    let formed : IsProp (IsTrue (is_well_formed ss us es is cs ds)) = hlevel props in
+    let sound : IsProp (IsTrue (are_sound (map draft_of ss) us es is cs ds)) = hlevel props in
+    let texts : IsProp (IsTrue (are_texts (map draft_of ss) cs)) = hlevel props in
+    ap (λ (k : length ss + length us + length es + length is + length cs < 2 ^ 32). made ss us es is cs ds (record u { few = k })) (le_prop u.few v.few)
+    ∙ ap (λ (k : AllByRecursion IsLaidOut ss). made ss us es is cs ds (record u { few = v.few; laid_out = k }))
+    (all_laid_out-prop ss u.laid_out v.laid_out)
+    ∙ ap (λ (k : IsTrue (is_well_formed ss us es is cs ds)). made ss us es is cs ds (record v { well_formed = k; sound = u.sound; texts = u.texts }))
+    (formed u.well_formed v.well_formed)
+    ∙ ap (λ (k : IsTrue (are_sound (map draft_of ss) us es is cs ds)). made ss us es is cs ds (record v { sound = k; texts = u.texts }))
+    (sound u.sound v.sound)
+    ∙ ap (λ (k : IsTrue (are_texts (map draft_of ss) cs)). made ss us es is cs ds (record v { texts = k })) (texts u.texts v.texts)
 
 -- schemas of the same rows are one
 same_rows : (ss ss' : List StructRow) (us us' : List UnionRow) (es es' : List EnumRow) (is is' : List InterfaceRow) (cs cs' : List ConstRow)
     (ds ds' : List DefinitionRow) → ss ≡ ss' → us ≡ us' → es ≡ es' → is ≡ is' → cs ≡ cs' → ds ≡ ds'
-    → (f : length ss + length us + length es + length is + length cs < 2 ^ 32)
-    (g : length ss' + length us' + length es' + length is' + length cs' < 2 ^ 32)
-    (l : AllByRecursion IsLaidOut ss) (m : AllByRecursion IsLaidOut ss')
-    (u : IsTrue (is_well_formed ss us es is cs ds)) (v : IsTrue (is_well_formed ss' us' es' is' cs' ds'))
-    → made ss us es is cs ds f l u ≡ made ss' us' es' is' cs' ds' g m v
+    → (u : AreRows ss us es is cs ds) (v : AreRows ss' us' es' is' cs' ds') → made ss us es is cs ds u ≡ made ss' us' es' is' cs' ds' v
 same_rows ss ss' us us' es es' is is' cs cs' ds ds' a b c d e h =
     subst
-    (λ (x : List StructRow). (f : length ss + length us + length es + length is + length cs < 2 ^ 32)
-    (g : length x + length us' + length es' + length is' + length cs' < 2 ^ 32) (l : AllByRecursion IsLaidOut ss) (m : AllByRecursion IsLaidOut x)
-    (u : IsTrue (is_well_formed ss us es is cs ds)) (v : IsTrue (is_well_formed x us' es' is' cs' ds'))
-    → made ss us es is cs ds f l u ≡ made x us' es' is' cs' ds' g m v) a
+    (λ (x : List StructRow). (u : AreRows ss us es is cs ds) (v : AreRows x us' es' is' cs' ds')
+    → made ss us es is cs ds u ≡ made x us' es' is' cs' ds' v) a
     (subst
-    (λ (x : List UnionRow). (f : length ss + length us + length es + length is + length cs < 2 ^ 32)
-    (g : length ss + length x + length es' + length is' + length cs' < 2 ^ 32) (l m : AllByRecursion IsLaidOut ss)
-    (u : IsTrue (is_well_formed ss us es is cs ds)) (v : IsTrue (is_well_formed ss x es' is' cs' ds'))
-    → made ss us es is cs ds f l u ≡ made ss x es' is' cs' ds' g m v) b
+    (λ (x : List UnionRow). (u : AreRows ss us es is cs ds) (v : AreRows ss x es' is' cs' ds')
+    → made ss us es is cs ds u ≡ made ss x es' is' cs' ds' v) b
     (subst
-    (λ (x : List EnumRow). (f : length ss + length us + length es + length is + length cs < 2 ^ 32)
-    (g : length ss + length us + length x + length is' + length cs' < 2 ^ 32) (l m : AllByRecursion IsLaidOut ss)
-    (u : IsTrue (is_well_formed ss us es is cs ds)) (v : IsTrue (is_well_formed ss us x is' cs' ds'))
-    → made ss us es is cs ds f l u ≡ made ss us x is' cs' ds' g m v) c
+    (λ (x : List EnumRow). (u : AreRows ss us es is cs ds) (v : AreRows ss us x is' cs' ds')
+    → made ss us es is cs ds u ≡ made ss us x is' cs' ds' v) c
     (subst
-    (λ (x : List InterfaceRow). (f : length ss + length us + length es + length is + length cs < 2 ^ 32)
-    (g : length ss + length us + length es + length x + length cs' < 2 ^ 32) (l m : AllByRecursion IsLaidOut ss)
-    (u : IsTrue (is_well_formed ss us es is cs ds)) (v : IsTrue (is_well_formed ss us es x cs' ds'))
-    → made ss us es is cs ds f l u ≡ made ss us es x cs' ds' g m v) d
+    (λ (x : List InterfaceRow). (u : AreRows ss us es is cs ds) (v : AreRows ss us es x cs' ds')
+    → made ss us es is cs ds u ≡ made ss us es x cs' ds' v) d
     (subst
-    (λ (x : List ConstRow). (f : length ss + length us + length es + length is + length cs < 2 ^ 32)
-    (g : length ss + length us + length es + length is + length x < 2 ^ 32) (l m : AllByRecursion IsLaidOut ss)
-    (u : IsTrue (is_well_formed ss us es is cs ds)) (v : IsTrue (is_well_formed ss us es is x ds'))
-    → made ss us es is cs ds f l u ≡ made ss us es is x ds' g m v) e
+    (λ (x : List ConstRow). (u : AreRows ss us es is cs ds) (v : AreRows ss us es is x ds')
+    → made ss us es is cs ds u ≡ made ss us es is x ds' v) e
     (subst
-    (λ (x : List DefinitionRow). (f g : length ss + length us + length es + length is + length cs < 2 ^ 32) (l m : AllByRecursion IsLaidOut ss)
-    (u : IsTrue (is_well_formed ss us es is cs ds)) (v : IsTrue (is_well_formed ss us es is cs x))
-    → made ss us es is cs ds f l u ≡ made ss us es is cs x g m v) h
+    (λ (x : List DefinitionRow). (u : AreRows ss us es is cs ds) (v : AreRows ss us es is cs x)
+    → made ss us es is cs ds u ≡ made ss us es is cs x v) h
     (same_proofs ss us es is cs ds))))))
+
+abbrev rows_of : (s : Schema) → AreRows s.structs s.unions s.enums s.interfaces s.consts s.order
+rows_of s = record { few = s.few; laid_out = s.laid_out; well_formed = s.well_formed; sound = s.sound; texts = s.texts }
 
 same_schema : (draft : Draft) (s t : Schema) → IsLayoutOf draft s → IsLayoutOf draft t → s ≡ t
 same_schema draft s t a b =
     same_rows s.structs t.structs s.unions t.unions s.enums t.enums s.interfaces t.interfaces s.consts t.consts s.order t.order
     (same_structs s.structs t.structs s.laid_out t.laid_out (a.structs ∙ sym b.structs))
     (a.unions ∙ sym b.unions) (a.enums ∙ sym b.enums) (a.interfaces ∙ sym b.interfaces) (a.consts ∙ sym b.consts) (a.order ∙ sym b.order)
-    s.few t.few s.laid_out t.laid_out s.well_formed t.well_formed
+    (rows_of s) (rows_of t)
 
 module _ (sources : List Source) where
   same_draft : (one two : Draft) → HaveTables sources one → HaveTables sources two → one ≡ two

@@ -1,6 +1,6 @@
 -- Files have a schema or a refusal.
 use Rattle.std.proofs.Common.{◌≡◌, ℕ, zero, suc, ◌+◌, ◌^◌, ◌<◌, ◌≤◌, List, [], ◌∷◌, length, map, refl, sym, ap, ◌∙◌, subst, inl, inr}
-use Rattle.std.specs.Prelude.{◌⊎◌}
+use Rattle.std.specs.Prelude.{◌⊎◌, IsTrue}
 use Rattle.std.specs.List.{AllByRecursion}
 use Rattle.std.proofs.lemmas.Bool.{cases_lt}
 use Rattle.std.proofs.lemmas.List.{length-map}
@@ -8,13 +8,13 @@ use Rattle.mj_schema.specs.declared.schema.Schema.{Schema}
 use Rattle.mj_schema.specs.declared.rows.DraftStruct.{DraftStruct}
 use Rattle.mj_schema.specs.declared.rows.StructRow.{StructRow}
 use Rattle.mj_schema.specs.Layout.{IsLaidOut, draft_of}
+use Rattle.mj_schema.specs.Sound.{are_sound, are_texts}
 use Rattle.mojom_ast.specs.declared.file.File.{File}
 use Rattle.mojom_files.specs.declared.named_file.NamedFile.{NamedFile}
 use Rattle.draft_rows.specs.declared.draft.Draft.{Draft}
 use Rattle.draft_rows.specs.Drafts.{draft_of as tables_of}
 use Rattle.schema_laws.specs.Refused.{HasAnswer}
-use Rattle.schema_laws.specs.Whole.{CanBeLaidOut, IsWhole}
-use Rattle.schema_laws.proofs.Assembly.{whole_passed}
+use Rattle.schema_laws.specs.Whole.{CanBeLaidOut}
 use Rattle.schema_laws.proofs.SomeAnswer.{some_answer}
 use Rattle.schema_laws.proofs.SomeLayout.{some_layout}
 use Rattle.mojom_compile.specs.declared.error.FileRefusal.{FileRefusal}
@@ -24,6 +24,7 @@ use Rattle.mojom_compile.specs.declared.source.Source.{Source}
 use Rattle.mojom_compile.specs.Compiled.{IsParsed, IsUnread}
 use Rattle.mojom_compile.specs.Schemas.{IsTreeOf, AreTreesOf, IsFirstUnread, IsRefusalOf, HaveTables, IsLayoutOf, IsSchemaOfFiles, rows_in, HasTooManyRows}
 use Rattle.mojom_compile.proofs.Readings.{one_tree}
+use Rattle.mojom_compile.proofs.Sound.{CanBeSchema, can_be}
 
 -- trees
 
@@ -79,9 +80,9 @@ some_structs (draft ∷ drafts) can =
       ),
     )
 
-schema_of : (draft : Draft) → IsWhole draft → rows_in draft < 2 ^ 32 → (schema : Schema) × IsLayoutOf draft schema
-schema_of draft whole few =
-    let rows = some_structs draft.structs whole.structs in
+schema_of : (draft : Draft) → CanBeSchema draft → rows_in draft < 2 ^ 32 → (schema : Schema) × IsLayoutOf draft schema
+schema_of draft can few =
+    let rows = some_structs draft.structs can.whole.structs in
     let count : length rows.0 ≡ length draft.structs = sym (length-map rows.0 draft_of) ∙ ap length rows.1.1 in
     let fits =
     subst
@@ -96,7 +97,11 @@ schema_of draft whole few =
       order = draft.order;
       few = fits;
       laid_out = rows.1.0;
-      well_formed = whole.well_formed rows.0 rows.1.1;
+      well_formed = can.whole.well_formed rows.0 rows.1.1;
+      sound =
+          subst (λ (ss : List DraftStruct). IsTrue (are_sound ss draft.unions draft.enums draft.interfaces draft.consts draft.order)) (sym rows.1.1)
+          can.sound;
+      texts = subst (λ (ss : List DraftStruct). IsTrue (are_texts ss draft.consts)) (sym rows.1.1) can.texts;
     } in (
       schema,
       record {
@@ -115,11 +120,11 @@ module _ (sources : List Source) where
       ((schema : Schema) × IsSchemaOfFiles sources schema)
       ⊎ (((error : SchemaError) × IsRefusalOf sources error) ⊎ HasTooManyRows sources)
 
-  few_or_many : (draft : Draft) → HaveTables sources draft → IsWhole draft → (rows_in draft < 2 ^ 32) ⊎ (2 ^ 32 ≤ rows_in draft) → Answer
-  few_or_many draft tables whole (inl few) =
-      let made = schema_of draft whole few in
+  few_or_many : (draft : Draft) → HaveTables sources draft → (rows_in draft < 2 ^ 32) ⊎ (2 ^ 32 ≤ rows_in draft) → Answer
+  few_or_many draft tables (inl few) =
+      let made = schema_of draft (can_be sources tables.files draft tables.trees tables.tables) few in
       inl (made.0, record { draft = draft; tables = tables; layout = made.1 })
-  few_or_many draft tables whole (inr many) = inr (inr (record { draft = draft; tables = tables; many = many }))
+  few_or_many draft tables (inr many) = inr (inr (record { draft = draft; tables = tables; many = many }))
 
   trees_answer : (files : List NamedFile) → AreTreesOf sources files → HasAnswer files → Answer
   trees_answer files are (inr refused) =
@@ -131,7 +136,7 @@ module _ (sources : List Source) where
         trees = are;
         tables = record { order = passes.order; names = passes.names; consts = passes.consts; passed = passes.passed; are = refl };
       } in
-      few_or_many draft tables (whole_passed files passes.order passes.names passes.consts passes.passed) (cases_lt (rows_in draft) (2 ^ 32))
+      few_or_many draft tables (cases_lt (rows_in draft) (2 ^ 32))
 
   answer : TreesOrNot sources → Answer
   answer (inl trees) = trees_answer trees.0 trees.1 (some_answer trees.0)

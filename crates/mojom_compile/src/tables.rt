@@ -4,6 +4,7 @@ ghost use Rattle.std.specs.Prelude.{◌≡◌, ◌+◌, IfOk, map};
 ghost use Rattle.std.specs.List.{AllByRecursion};
 ghost use Rattle.mj_schema.specs.Layout.{IsLaidOut, draft_of};
 ghost use Rattle.schema_laws.specs.Whole.{CanBeLaidOut, IsWhole};
+ghost use Rattle.sound_laws.specs.Sound.{IsSound, HasTexts};
 ghost use Rattle.draft_rows.specs.steps.RowNumbers.{row_number};
 ghost use Rattle.mojom_compile.specs.Schemas.{IsLayoutOf};
 
@@ -55,7 +56,9 @@ fn row_count(
 
 /// The schema that has these tables, with the fields of structs at their places.
 pub fn schema_of(alloc: Global, draft: Draft) -> Result<Schema, AllocError>
-    requires { IsWhole draft }
+    requires whole { IsWhole draft }
+    requires sound { IsSound draft }
+    requires texts { HasTexts draft }
     ensures { IfOk result (IsLayoutOf draft) }
 {
     let Draft {

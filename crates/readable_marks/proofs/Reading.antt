@@ -19,7 +19,7 @@ use Rattle.wire_model.specs.Slots.{element_bytes, element_slots, field_slot}
 use Rattle.wire_model.specs.Tight.{MAX_DEPTH, marks_of}
 use Rattle.wire_model.specs.Stands.{IsFine, IsOrderly, objects}
 use Rattle.readable_marks.specs.Readable.{AreReadable}
-use Rattle.readable_marks.specs.Rooms.{field_marks}
+use Rattle.readable_marks.specs.steps.Rooms.{field_marks}
 use Rattle.mj_schema.specs.Parts.{flag_place}
 
 pub readable_left : (n : ℕ) (xs ys : List Mark) → AreReadable n (xs ++ ys) → AreReadable n xs

@@ -12,7 +12,7 @@ use Rattle.wire_model.specs.Readable.{EndsWithin}
 use Rattle.wire_model.specs.Slots.{element_bytes}
 use Rattle.wire_model.specs.steps.Cells.{cell_size}
 use Rattle.wire_laws.proofs.Lengths.{cell_fits}
-use Rattle.readable_marks.specs.Rooms.{EndsIn}
+use Rattle.readable_marks.specs.steps.Rooms.{EndsIn}
 
 -- fields within an object lie within the bytes
 pub within_bytes : (fields : List FieldRow) (row_bytes p size n : ℕ) → All (EndsWithin row_bytes) fields → row_bytes ≤ size → p + size ≤ n

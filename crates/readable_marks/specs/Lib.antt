@@ -1,2 +1,2 @@
 pub mod Readable
-pub mod Rooms
+pub mod steps

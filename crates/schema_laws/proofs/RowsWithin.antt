@@ -33,6 +33,7 @@ use Rattle.draft_rows.specs.declared.draft.Draft.{Draft}
 use Rattle.kind_scope.specs.Scopes.{Scope, inside, around}
 use Rattle.kind_scope.specs.Members.{Member, field_of, union_field_of, parameter_of, numbered, along_ordinals}
 use Rattle.draft_rows.specs.RowCounts.{methods_in, structs_of_all, after, after_all, no_rows, definitions_at, rows_of}
+use Rattle.draft_rows.specs.InterfaceVersions.{interface_version}
 use Rattle.draft_rows.specs.Rows.{struct_row, union_row, response_row, method_structs, structs_of_methods, interface_row}
 use Rattle.draft_rows.specs.Drafts.{empty, join, methods_order, draft_of_interface, draft_of_item, enclosed, draft_of_definition, draft_of_all, draft_from}
 use Rattle.draft_rows.specs.Drafts.{draft_of}
@@ -126,7 +127,8 @@ interface_there rows scope total counts full item there structs interfaces = rec
   unions = refl;
   consts = refl;
   methods =
-      and_from (list_all (has_structs total.structs) (interface_row full counts.structs (methods_in item.members)).methods) true
+      and_from (list_all (has_structs total.structs)
+      (interface_row full counts.structs (methods_in item.members) (interface_version scope item.members)).methods) true
       (methods_there 0 counts.structs total.structs (methods_in item.members) structs) refl;
   order =
       and_from (nat_lt counts.interfaces total.interfaces) (list_all (is_row total) (methods_order counts.structs (methods_in item.members)))

@@ -19,7 +19,7 @@ use Rattle.byte_rules.specs.Reading.{Fails}
 use Rattle.byte_rules.specs.steps.Reading.{with_front}
 use Rattle.value_text.specs.Rules.{null_word, opened, array, structure, fields, fields_after, union, or_null, slot_value}
 use Rattle.value_text.specs.steps.Reading.{has_room, inside, inner, base_at}
-use Rattle.value_text.specs.Rules.{fields_of, pair, pairs_of}
+use Rattle.value_text.specs.Rules.{fields_of, items_of, elements, pair, pairs_of}
 use Rattle.value_text.specs.steps.Reading.{pair_of}
 
 value_is : (schema : Schema) (left : ℕ) (flagged : Bool) (k : KindTree) (bs : List ℕ)
@@ -66,6 +66,15 @@ pub array_room : (schema : Schema) (left : ℕ) (of : KindTree) (count : Option 
     → (opened (has_room left) 91 (array (inside schema left false of) count)).read bs ≡ (91 ▸ array (inner schema (left - 1) of) count).read bs
 array_room schema zero of count bs h = absurd (omega (arith, h))
 array_room schema (suc left) of count bs h = let e : suc left - 1 ≡ left = omega arith in rw e refl
+
+as_items : (one : Lang (List Tree)) (bs rest : List ℕ) (ts : List Tree) (t : Tree) → one.read bs ≡ Ok (ts, rest) → t ≡ items_of ts
+    → (as_value items_of one).read bs ≡ Ok (t, rest)
+as_items one bs rest ts t g e =
+    ap (λ (r : Read (List Tree)). r >>= λ x. Ok (items_of x.0, x.1)) g ∙ ap (λ (u : Tree). Ok (u, rest)) (sym e)
+
+pub array_ok : (one : Lang Tree) (count : Option ℕ) (bs rest after : List ℕ) (ts : List Tree) (t : Tree) → (byte 91).read bs ≡ Ok (91, rest)
+    → (elements one count).read rest ≡ Ok (ts, after) → t ≡ items_of ts → (91 ▸ array one count).read bs ≡ Ok (t, after)
+array_ok one count bs rest after ts t r g e = rw r (as_items (elements one count) rest after ts t g e)
 
 pub map_room : (schema : Schema) (left : ℕ) (key one : KindTree) (bs : List ℕ) → 0 < left
     → (opened (has_room left) 123 (as_value pairs_of (listed 125 (pair (inside schema left false key) (inside schema left false one))))).read bs

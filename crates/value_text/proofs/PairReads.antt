@@ -1,10 +1,10 @@
 -- How the pairs of a map are read.
-use Rattle.std.proofs.Common.{◌≡◌, ℕ, List, [], ◌∷◌, ◌++◌, Ok, Err, sym, ap, ◌∙◌, append_assoc}
+use Rattle.std.proofs.Common.{◌≡◌, ℕ, List, [], ◌∷◌, ◌++◌, Ok, Err, false, ◌==◌, refl, sym, ap, ◌∙◌, append_assoc}
 use Rattle.std.proofs.lemmas.List.{append-nil}
 use Rattle.wire_model.specs.Trees.{Tree}
 use Rattle.byte_rules.specs.declared.stop.Stop.{Stop}
 use Rattle.byte_rules.specs.declared.stop.Stop.TheVariants as stops
-use Rattle.byte_rules.specs.Lang.{Lang, Read, ◌>>=◌, byte, as_value, listed, ◌▸◌}
+use Rattle.byte_rules.specs.Lang.{Lang, Read, ◌>>=◌, byte, as_value, front_is, listed, many, ◌▸◌}
 use Rattle.byte_rules.specs.Reading.{Fails}
 use Rattle.byte_rules.specs.steps.Reading.{gathered}
 use Rattle.value_text.specs.Rules.{keys_of, values_of, map_of, pairs_of}
@@ -20,6 +20,17 @@ pub one_added : (front : Lists) (p : Tree × Tree) (ps : List (Tree × Tree)) �
 one_added (ks, vs) p ps =
     ap (λ (l : List Tree). (l, vs ++ p.1 ∷ values_of ps)) (sym (append_assoc ks (p.0 ∷ []) (keys_of ps)))
     ∙ ap (λ (l : List Tree). ((ks ++ p.0 ∷ []) ++ keys_of ps, l)) (sym (append_assoc vs (p.1 ∷ []) (values_of ps)))
+
+first_on : (p : Tree × Tree) (r : Read (List (Tree × Tree)))
+    → gathered add_pairs ([], []) (r >>= λ y. Ok (p ∷ y.0, y.1)) ≡ gathered add_pairs (p.0 ∷ [], p.1 ∷ []) r
+first_on p (Ok y) = refl
+first_on p (Err n) = refl
+
+-- the pairs of a list, of which the first was read
+pub first_pair : (one : Lang (Tree × Tree)) (bs rest : List ℕ) (p : Tree × Tree) (ks vs : List Tree) → front_is (λ b. b == 125) bs ≡ false
+    → one.read bs ≡ Ok (p, rest) → ks ≡ p.0 ∷ [] → vs ≡ p.1 ∷ []
+    → gathered add_pairs ([], []) ((listed 125 one).read bs) ≡ gathered add_pairs (ks, vs) ((many 125 (44 ▸ one)).read rest)
+first_pair one bs rest p ks vs e r k v = rw (e, r, k, v) (first_on p ((many 125 (44 ▸ one)).read rest))
 
 -- the map of what was read
 abbrev mapped : Read (List (Tree × Tree)) → Read Tree

@@ -20,6 +20,7 @@ abbrev mutual
   brackets (EndpointRemote i version) = 0
   brackets Null = 0
 
+  -- of some values the most that one of them has
   pub brackets_in : Trees → ℕ
   brackets_in none = 0
   brackets_in (more t ts) = max (brackets t) (brackets_in ts)

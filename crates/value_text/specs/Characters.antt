@@ -4,9 +4,11 @@ use Rattle.std.specs.List.{flat_map}
 use Rattle.byte_rules.specs.Lang.{Lang, byte_in, choice, as_value, closed, ◌then◌, ◌▸◌, many}
 use Rattle.value_text.specs.Numbers.{is_digit}
 
+-- a hexadecimal digit, in lower case
 abbrev pub is_hex : ℕ → Bool
 is_hex b = is_digit b || (nat_le 97 b && nat_le b 102)
 
+-- the number that a hexadecimal digit stands for
 abbrev pub hex_value : ℕ → ℕ
 hex_value b = if nat_le b 57 then b - 48 else b - 87
 
@@ -22,16 +24,19 @@ escape = choice (λ b. b == 34) (closed 34 (34 ∷ [])) (choice (λ b. b == 92) 
 abbrev pub is_plain : ℕ → Bool
 is_plain b = nat_le 32 b && nat_le b 127 && not (b == 34) && not (b == 92)
 
--- what begins a character of two, three and four bytes, and what goes on with one
+-- what begins a character of two bytes
 abbrev pub leads_two : ℕ → Bool
 leads_two b = nat_le 194 b && nat_le b 223
 
+-- what begins a character of three bytes
 abbrev pub leads_three : ℕ → Bool
 leads_three b = nat_le 224 b && nat_le b 239
 
+-- what begins a character of four bytes
 abbrev pub leads_four : ℕ → Bool
 leads_four b = nat_le 240 b && nat_le b 244
 
+-- a byte that goes on with a character
 abbrev pub goes_on : ℕ → Bool
 goes_on b = nat_le 128 b && nat_le b 191
 
@@ -39,12 +44,15 @@ goes_on b = nat_le 128 b && nat_le b 191
 abbrev pub second_of : ℕ → ℕ → Bool
 second_of a b = nat_le (if a == 224 then 160 else (if a == 240 then 144 else 128)) b && nat_le b (if a == 237 then 159 else (if a == 244 then 143 else 191))
 
+-- a character of two bytes
 unfoldable pub two_bytes : Lang (List ℕ)
 two_bytes = byte_in leads_two then λ a. as_value (λ b. a ∷ b ∷ []) (byte_in goes_on)
 
+-- a character of three bytes
 unfoldable pub three_bytes : Lang (List ℕ)
 three_bytes = byte_in leads_three then λ a. byte_in (second_of a) then λ b. as_value (λ c. a ∷ b ∷ c ∷ []) (byte_in goes_on)
 
+-- a character of four bytes
 unfoldable pub four_bytes : Lang (List ℕ)
 four_bytes = byte_in leads_four then λ a. byte_in (second_of a) then λ b. byte_in goes_on then λ c. as_value (λ d. a ∷ b ∷ c ∷ d ∷ []) (byte_in goes_on)
 
@@ -53,6 +61,7 @@ unfoldable pub character : Lang (List ℕ)
 character = choice (λ b. b == 92) (92 ▸ escape)
     (choice is_plain (as_value (λ b. b ∷ []) (byte_in is_plain)) (choice leads_two two_bytes (choice leads_three three_bytes four_bytes)))
 
+-- the bytes of some characters, one behind the other
 abbrev pub all_of : List (List ℕ) → List ℕ
 all_of cs = flat_map (λ c. c) cs
 

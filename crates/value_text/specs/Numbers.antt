@@ -52,11 +52,12 @@ whole w false = as_value pos (number 0 (2 ^ bits_of w - 1))
 abbrev pub index : Lang ℕ
 index = number 0 (2 ^ 32 - 1)
 
--- a number that an int32 can be, and one that a uint32 can be
+-- a number that an int32 can be
 abbrev pub is_int32 : ℤ → Bool
 is_int32 (pos n) = nat_lt n (2 ^ 31)
 is_int32 (negsuc n) = nat_lt n (2 ^ 31)
 
+-- a number that a uint32 can be
 abbrev pub is_uint32 : ℕ → Bool
 is_uint32 n = nat_lt n (2 ^ 32)
 

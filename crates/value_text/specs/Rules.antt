@@ -45,10 +45,11 @@ unfoldable pub fields : (Bool → KindTree → Lang Tree) → List FieldRow → 
 fields inside [] = closed 41 []
 fields inside (f ∷ fs) = inside (is_some f.flag) f.kind then λ v. as_value (λ vs. v ∷ vs) (fields_after inside fs)
 
--- the array of these elements, and the struct of these fields
+-- the array of these elements
 abbrev pub items_of : List Tree → Tree
 items_of vs = values.Items (trees vs)
 
+-- the struct of these fields
 abbrev pub fields_of : List Tree → Tree
 fields_of vs = values.Fields (trees vs)
 
@@ -57,6 +58,7 @@ abbrev pub elements : Lang Tree → Option ℕ → Lang (List Tree)
 elements one None = listed 93 one
 elements one (Some n) = exactly 93 n one
 
+-- an array of such elements, of any number or so many, behind its first bracket
 abbrev pub array : Lang Tree → Option ℕ → Lang Tree
 array one count = as_value items_of (elements one count)
 
@@ -69,10 +71,11 @@ structure inside (Some row) = as_value fields_of (fields inside row.fields)
 unfoldable pub pair : Lang Tree → Lang Tree → Lang (Tree × Tree)
 pair key one = key then λ k. 58 ▸ as_value (λ v. (k, v)) one
 
--- the keys of pairs, and their values
+-- the keys of pairs, in order
 abbrev pub keys_of : List (Tree × Tree) → List Tree
 keys_of ps = map (λ (p : Tree × Tree). p.0) ps
 
+-- the values of pairs, in order
 abbrev pub values_of : List (Tree × Tree) → List Tree
 values_of ps = map (λ (p : Tree × Tree). p.1) ps
 
@@ -80,6 +83,7 @@ values_of ps = map (λ (p : Tree × Tree). p.1) ps
 abbrev pub map_of : List Tree → List Tree → Tree
 map_of ks vs = values.Pairs (values.more (values.Items (trees ks)) (values.more (values.Items (trees vs)) values.none))
 
+-- the map of these pairs
 abbrev pub pairs_of : List (Tree × Tree) → Tree
 pairs_of ps = map_of (keys_of ps) (values_of ps)
 

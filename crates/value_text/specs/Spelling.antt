@@ -16,15 +16,17 @@ abbrev pub flag_text : Bool → List ℕ
 flag_text true = codes "true"
 flag_text false = codes "false"
 
--- the kind of an array's elements; those of a map's keys and values
+-- the kind of an array's elements
 abbrev pub element_of : KindTree → KindTree
 element_of (kinds.ArrayKind of count nullable) = of
 element_of k = k
 
+-- the kind of a map's keys
 abbrev pub key_of : KindTree → KindTree
 key_of (kinds.MapKind key one nullable) = key
 key_of k = k
 
+-- the kind of a map's values
 abbrev pub value_of : KindTree → KindTree
 value_of (kinds.MapKind key one nullable) = one
 value_of k = k
@@ -38,6 +40,7 @@ abbrev pub row_kinds : Option StructRow → List KindTree
 row_kinds None = []
 row_kinds (Some row) = fields_kinds row.fields
 
+-- the kinds of the fields of the struct of this kind, where there is one
 abbrev pub field_kinds : Schema → KindTree → List KindTree
 field_kinds schema k = row_kinds (row_of schema k)
 
@@ -79,6 +82,7 @@ unfoldable mutual
   first_item schema k none = 93 ∷ []
   first_item schema k (more t ts) = spell schema k t ++ next_items schema k ts
 
+  -- elements each behind a comma, and the bracket
   pub next_items : Schema → KindTree → Trees → List ℕ
   next_items schema k none = 93 ∷ []
   next_items schema k (more t ts) = 44 ∷ (spell schema k t ++ next_items schema k ts)
@@ -99,6 +103,7 @@ unfoldable mutual
   first_field schema (k ∷ ks) none = 41 ∷ []
   first_field schema (k ∷ ks) (more t ts) = spell schema k t ++ next_fields schema ks ts
 
+  -- fields each behind a comma, and the bracket
   pub next_fields : Schema → List KindTree → Trees → List ℕ
   next_fields schema [] ts = 41 ∷ []
   next_fields schema (k ∷ ks) none = 41 ∷ []

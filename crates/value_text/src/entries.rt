@@ -1,8 +1,8 @@
-//! Maps and structs from their parts.
+//! Lists, maps and structs from their parts.
 
 ghost use Rattle.std.specs.Prelude.{◌≡◌, ◌∷◌, ◌++◌, [], map, OnOk};
 ghost use Rattle.wire_model.specs.Trees.{view};
-ghost use Rattle.value_text.specs.Rules.{map_of, fields_of};
+ghost use Rattle.value_text.specs.Rules.{map_of, items_of, fields_of};
 
 use std::alloc::AllocError;
 use wire_model::Value;
@@ -34,6 +34,13 @@ pub fn map_of(pairs: Entries) -> Value
         keys: pairs.keys,
         values: pairs.values,
     }
+}
+
+/// The list of these elements.
+pub fn list_of(items: Vec<Value>) -> Value
+    ensures { view result ≡ items_of (map view items.items) }
+{
+    Value::List(items)
 }
 
 /// The struct of these fields.

@@ -1,10 +1,7 @@
 //! Numbers of an enum's members, and tags of a union's fields.
 
-ghost use Rattle.std.specs.Prelude.{◌≡◌, ℤ, List, slice_get, Some, Ok, true, pos, decimal, IsTrue, IfSome};
+ghost use Rattle.std.specs.Prelude.{◌≡◌, slice_get, Some, Ok, pos, decimal, IfSome};
 ghost use Rattle.std.specs.Fmt.{signed_decimal};
-ghost use Rattle.std.specs.List.{list_any};
-ghost use Rattle.std.specs.Ordering.{int_eq};
-ghost use Rattle.mj_schema.specs.declared.rows.MemberRow.{MemberRow};
 ghost use Rattle.mj_schema.specs.declared.rows.UnionRow.{UnionRow};
 ghost use Rattle.byte_rules.specs.Among.{among};
 ghost use Rattle.byte_rules.specs.Reading.{Gives};
@@ -12,7 +9,7 @@ ghost use Rattle.value_text.specs.Numbers.{members_numbers, fields_tags};
 
 use crate::numbers::{index, integer, is_digit_next};
 use byte_rules::{Stop, nearer};
-use mj_schema::{MemberRow, Schema, UnionFieldRow, UnionRow};
+use mj_schema::{MemberRow, MemberRows, Schema, UnionFieldRow, UnionRow};
 use schema_rows::kind_in;
 use std::alloc::Global;
 
@@ -41,27 +38,8 @@ fn as_int32(number: i128) -> Option<i32>
     }
 }
 
-/// Whether the member that halving finds has the number; it finds each where numbers go up.
-fn is_found(members: &[MemberRow], number: i32) -> bool
-    ensures { IsTrue result → list_any (λ (member : MemberRow). int_eq member.number number) members.now ≡ true }
-{
-    let found = members.binary_search_by_key(&number, |member| member.number);
-    match members.get(found.unwrap_or(0)) {
-        Some(member) => member.number == number,
-        None => false,
-    }
-}
-
-/// Whether one of the members has a number. The one that halving finds is looked at first, since the numbers of
-/// most enums go up.
-fn is_member(members: &[MemberRow], number: i32) -> bool
-    ensures { result ≡ list_any (λ (member : MemberRow). int_eq member.number number) members.now }
-{
-    is_found(members, number) || members.iter().any(|member| member.number == number)
-}
-
 /// The number of a member at the front, and the bytes after it, where no digit follows; none says nothing.
-pub fn known_member<'a>(members: &[MemberRow], bytes: &'a [u8]) -> Option<(i128, &'a [u8])>
+pub fn known_member<'a>(members: &MemberRows, bytes: &'a [u8]) -> Option<(i128, &'a [u8])>
     ensures { IfSome result (λ x. (among (pos 0) signed_decimal (members_numbers members.now)).read bytes.now ≡ Ok (x.0, x.1.now)) }
 {
     let Ok((number, rest)) = integer(1 << 31, (1 << 31) - 1, bytes) else {
@@ -71,7 +49,7 @@ pub fn known_member<'a>(members: &[MemberRow], bytes: &'a [u8]) -> Option<(i128,
         return None;
     }
     match as_int32(number) {
-        Some(small) if is_member(members, small) => Some((number, rest)),
+        Some(small) if members.has_number(small) => Some((number, rest)),
         _ => None,
     }
 }
@@ -98,7 +76,6 @@ pub fn nearest_member<'a>(
 
 /// The tag of a field of the union of this number at the front, and the bytes after it, where no digit
 /// follows; none says nothing.
-#[tactic(auto, using(crate::proofs::KnownNumbers::known_tag_read))]
 pub fn known_tag<'a>(schema: &Schema, number: u32, bytes: &'a [u8]) -> Option<(u32, &'a [u8])>
     ensures { IfSome result (λ x. (row : UnionRow) → slice_get schema.now.unions number ≡ Some row
         → (among 0 decimal (fields_tags row.fields)).read bytes.now ≡ Ok (x.0, x.1.now)) }

@@ -18,7 +18,7 @@ use wire_model::Value;
 const MAX_BRACKETS: u32 = 512;
 
 /// What the reading of a kind says of all the bytes.
-#[tactic(auto, unfolding(crate::specs::Rules::value), using(crate::proofs::Whole::rest_within, crate::proofs::Whole::left_within))]
+#[tactic(auto, unfolding(crate::specs::Rules::value))]
 fn judge(alloc: Global, schema: &Schema, kind: &Kind, bytes: &[u8]) -> Result<Value, TextError>
     ensures { Agrees result (verdict (length bytes.now) ((value schema.now 512 kind.now).read bytes.now)) }
 {

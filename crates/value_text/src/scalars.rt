@@ -73,7 +73,7 @@ fn enum_number<'a>(
             if row.extensible {
                 return integer(1 << 31, (1 << 31) - 1, bytes);
             }
-            match known_member(row.members.as_slice(), bytes) {
+            match known_member(&row.members, bytes) {
                 Some(known) => Ok(known),
                 None => nearest_member(alloc, row.members.as_slice(), bytes),
             }

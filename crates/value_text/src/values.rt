@@ -9,7 +9,7 @@ ghost use Rattle.byte_rules.specs.steps.Reading.{gathered, with_front};
 ghost use Rattle.value_text.specs.Rules.{slot_value, opened, elements, array, pair, pairs_of, fields, fields_after, structure, union, member};
 ghost use Rattle.value_text.specs.steps.Reading.{inside, inner, has_room, base_at, more_of, pair_of, more_pairs_of, add_pairs};
 
-use crate::entries::{Entries, map_of, struct_of};
+use crate::entries::{Entries, list_of, map_of, struct_of};
 use crate::rows::{has_flag, may_be_null};
 use crate::scalars::{
     boolean, endpoint, endpoint_remote, enum_value, handle, int, null, remote, string, tag, unknown,
@@ -86,7 +86,7 @@ fn array<'a>(
     }
     let rest = expect(bytes, 91)?;
     let (items, rest) = elements(alloc, schema, left - 1, of, count, rest)?;
-    Ok((Value::List(items), rest))
+    Ok((list_of(items), rest))
 }
 
 /// The elements of an array up to the bracket, and the bytes after it.

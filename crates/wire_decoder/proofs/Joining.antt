@@ -11,7 +11,7 @@ use Rattle.wire_model.specs.Slots.{element_slots, field_slot}
 use Rattle.wire_model.specs.Trees.{Tree, Trees, view, trees, none, more}
 use Rattle.wire_model.specs.Values.{Behind, value_if, slot_value, slots_value}
 use Rattle.wire_decoder.specs.steps.Joined.{joined}
-use Rattle.readable_marks.specs.Rooms.{field_value}
+use Rattle.readable_marks.specs.steps.Rooms.{field_value}
 use Rattle.wire_model.specs.Marks.{has_value}
 use Rattle.mj_schema.specs.Parts.{flag_place}
 

@@ -7,7 +7,7 @@ ghost use Rattle.wire_model.specs.Absent.{literal_value, has_zero, first_number,
 ghost use Rattle.wire_model.specs.Trees.{view, trees};
 ghost use Rattle.wire_decoder.specs.steps.Joined.{joined};
 
-use mj_schema::{EnumRow, FieldRow, KindNode, Literal, MemberRow, Schema};
+use mj_schema::{EnumRow, FieldRow, KindNode, Literal, MemberRow, MemberRows, Schema};
 use schema_rows::find_enum;
 use std::alloc::{AllocError, Global};
 use wire_model::Value;
@@ -32,24 +32,20 @@ fn literal_value(alloc: Global, literal: &Literal) -> Result<Value, AllocError>
     }
 }
 
-/// Whether a member has the number 0.
-fn has_zero(members: &[MemberRow]) -> bool
-    ensures { result ≡ has_zero members.now }
+/// 0 where a member has it, else the number of the first member.
+fn first_number(members: &MemberRows) -> i32
+    ensures { result ≡ first_number members.now }
 {
-    for member in members {
-        if member.number == 0 {
-            return true;
-        }
-    }
-    false
+    first_unless(members.has_number(0), members.as_slice())
 }
 
-/// 0 where a member has it, else the number of the first member.
-fn first_number(members: &[MemberRow]) -> i32
+/// 0 where that is so, else the number of the first member.
+fn first_unless(zero: bool, members: &[MemberRow]) -> i32
+    requires { zero ≡ has_zero members.now }
     ensures { result ≡ first_number members.now }
 {
     match members {
-        [first, ..] if !has_zero(members) => first.number,
+        [first, ..] if !zero => first.number,
         _ => 0,
     }
 }
@@ -61,7 +57,7 @@ fn enum_number(row: Option<&EnumRow>) -> i32
     match row {
         Some(row) => match row.default {
             Some(number) => number,
-            None => first_number(row.members.as_slice()),
+            None => first_number(&row.members),
         },
         None => 0,
     }

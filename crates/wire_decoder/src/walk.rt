@@ -17,7 +17,7 @@ ghost use Rattle.wire_model.specs.Values.{value, object_value, struct_value, slo
 ghost use Rattle.wire_model.specs.Tight.{marks_of, value_of};
 ghost use Rattle.wire_decoder.specs.steps.Joined.{joined};
 ghost use Rattle.readable_marks.specs.Readable.{AreReadable};
-ghost use Rattle.readable_marks.specs.Rooms.{EndsIn, field_marks, field_value};
+ghost use Rattle.readable_marks.specs.steps.Rooms.{EndsIn, field_marks, field_value};
 
 use crate::absent::{add_absent, copied};
 use crate::adding::{add, put_into_union, struct_of};

@@ -23,7 +23,8 @@ use Rattle.mj_schema.proofs.RisingRows.{rows_are_a_table}
 use Rattle.wire_model.specs.Marks.{row_fits}
 use Rattle.wire_model.specs.Rows.{row_for, last_or, newest_version, no_row}
 use Rattle.wire_model.specs.Slots.{field_slot, found_size, found_version}
-use Rattle.wire_laws.specs.Carried.{Pair, KindFits, SlotsFit, RowFits, FieldsFit, AreLater}
+use Rattle.wire_laws.specs.Carried.{Pair, KindFits, SlotsFit, RowFits}
+use Rattle.wire_laws.specs.steps.Prefixes.{FieldsFit, AreLater}
 use Rattle.wire_laws.proofs.CarriedObjects.{size_kept}
 use Rattle.wire_laws.proofs.VersionRows.{by_test, since, last_number, newest_of, newest_is_last, last_mapped, last_row, last_grows, all_fields}
 

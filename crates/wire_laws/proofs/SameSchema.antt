@@ -21,7 +21,8 @@ use Rattle.wire_model.specs.Slots.{Slot, field_slot, element_slots, map_slots, f
 use Rattle.wire_model.specs.Tight.{IsEncodable, StandsFor, MAX_DEPTH, payload_of}
 use Rattle.wire_model.specs.Trees as values
 use Rattle.wire_model.specs.Trees.{Tree, Trees, Fields, none, more, count}
-use Rattle.wire_laws.specs.Carried.{Pair, Structs, Unions, Enums, Interfaces, KindFits, FieldsFit, AreLater, IsClosed}
+use Rattle.wire_laws.specs.Carried.{Pair, Structs, Unions, Enums, KindFits, IsClosed}
+use Rattle.wire_laws.specs.steps.Prefixes.{FieldsFit, AreLater}
 use Rattle.wire_laws.specs.Grown.{grown, grown_slots, grown_parameters, all_fields, as_member}
 use Rattle.wire_laws.proofs.VersionRows.{newest_of}
 use Rattle.wire_laws.proofs.CarriedObjects.{fit_count, slots_length}
@@ -34,7 +35,6 @@ abbrev Same : Pair → Type 0
 Same (Structs i j) = i ≡ j
 Same (Unions i j) = i ≡ j
 Same (Enums i j) = i ≡ j
-Same (Interfaces i j) = i ≡ j
 
 kind_same : (k : KindTree) → KindFits Same k k
 kind_same (kinds.BoolKind n) = refl

@@ -1,8 +1,7 @@
 -- Two schemas, and pairs of their rows of which the second reads what the first writes.
-use Rattle.std.specs.Prelude.{◌≡◌, ◌<◌, ℕ, ℤ, Bool, true, IsTrue, List, [], ◌∷◌, length, Option, Some, slice_get}
+use Rattle.std.specs.Prelude.{◌≡◌, ℕ, ℤ, Bool, true, IsTrue, List, [], ◌∷◌, length, Option, Some, slice_get}
 use Rattle.mj_schema.specs.KindTrees as kinds
 use Rattle.mj_schema.specs.KindTrees.{KindTree}
-use Rattle.mj_schema.specs.declared.rows.FieldRow.{FieldRow}
 use Rattle.mj_schema.specs.declared.rows.StructRow.{StructRow}
 use Rattle.mj_schema.specs.declared.schema.Schema.{Schema}
 use Rattle.wire_model.specs.Marks.{count_is, is_known, row_fits, slots_up_to}
@@ -14,9 +13,8 @@ pub data Pair : Type 0 where
   Structs : (old new : ℕ) → Pair
   Unions : (old new : ℕ) → Pair
   Enums : (old new : ℕ) → Pair
-  Interfaces : (old new : ℕ) → Pair
 
--- null where it was; or added
+-- what may be null in the older may be null in the newer
 abbrev pub Grows : Bool → Bool → Type 0
 Grows old new = IsTrue old → IsTrue new
 
@@ -24,7 +22,7 @@ Grows old new = IsTrue old → IsTrue new
 abbrev pub CountFits : Option ℕ → Option ℕ → Type 0
 CountFits old new = (n : ℕ) → IsTrue (count_is old n) → IsTrue (count_is new n)
 
--- kinds of one form whose named rows are among the pairs; a number, a bool or an enum may be null in both or in neither
+-- kinds of one form whose structs, unions and enums are among the pairs; a number, a bool or an enum may be null in both or in neither
 abbrev pub KindFits : (Pair → Type 0) → KindTree → KindTree → Type 0
 KindFits P (kinds.BoolKind n) k = k ≡ kinds.BoolKind n
 KindFits P (kinds.IntKind width signed n) k = k ≡ kinds.IntKind width signed n
@@ -49,26 +47,13 @@ SlotsFit P [] (s' ∷ ss') = ⊥
 SlotsFit P (s ∷ ss) [] = ⊥
 SlotsFit P (s ∷ ss) (s' ∷ ss') = (s'.place ≡ s.place) × (s'.flag ≡ s.flag) × KindFits P s.kind s'.kind × SlotsFit P ss ss'
 
--- each field of the older struct has one of the newer at its place in the list, which has its version and a kind that fits
-abbrev pub FieldsFit : (Pair → Type 0) → List FieldRow → List FieldRow → Type 0
-FieldsFit P [] gs = Unit {0}
-FieldsFit P (f ∷ fs) [] = ⊥
-FieldsFit P (f ∷ fs) (g ∷ gs) = KindFits P f.kind g.kind × (g.min_version ≡ f.min_version) × FieldsFit P fs gs
-
--- the fields that only the newer struct has are of later versions than this
-abbrev pub AreLater : ℕ → List FieldRow → List FieldRow → Type 0
-AreLater v [] [] = Unit {0}
-AreLater v [] (g ∷ gs) = (v < g.min_version) × AreLater v [] gs
-AreLater v (f ∷ fs) [] = Unit {0}
-AreLater v (f ∷ fs) (g ∷ gs) = AreLater v fs gs
-
 -- the newer struct has a row for the older one's newest version: its bytes, its number of fields, its slots
 pub record RowFits (P : Pair → Type 0) (row row' : StructRow) : Type 0 where
   pub bytes : row_fits row'.versions (found_version (Some row)) (found_size (Some row)) ≡ true
   pub fields : (row_for row'.versions (found_version (Some row))).fields ≡ length row.fields
   pub slots : SlotsFit P (found_fields (Some row)) (slots_up_to row' (found_version (Some row)))
 
--- pairs of which each is read, and whose rows name pairs alone
+-- pairs of which each is read, and whose rows name structs, unions and enums of pairs alone; of interfaces nothing is asked
 pub record IsClosed (old new : Schema) (P : Pair → Type 0) : Type 0 where
   pub structs : (i j : ℕ) (row : StructRow) → P (Structs i j) → slice_get old.structs i ≡ Some row
       → (row' : StructRow) × (slice_get new.structs j ≡ Some row') × RowFits P row row'

@@ -28,7 +28,7 @@ use Rattle.schema_laws.proofs.Told.{IsConstAt}
 use Rattle.schema_laws.proofs.ConstsHaveRows.{found_file, const_rows}
 use Rattle.written_laws.specs.Rows.{ArePaired, Placed, placed_in, all_placed}
 use Rattle.written_laws.specs.Literals.{ConstText, IsConst, const_texts, AreConstants}
-use Rattle.written_laws.proofs.Items.{paired_append}
+use Rattle.written_laws.proofs.Pairs.{paired_append}
 use Rattle.written_laws.proofs.Tables.{at_file, placed_same}
 use Rattle.written_laws.proofs.Constants.{const_kept}
 

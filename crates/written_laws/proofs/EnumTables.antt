@@ -26,7 +26,7 @@ use Rattle.schema_laws.proofs.QuietFiles.{all_quiet}
 use Rattle.schema_laws.proofs.ConstsHaveRows.{found_file}
 use Rattle.written_laws.specs.Rows.{ArePaired, Placed, placed_in, all_placed, site_in}
 use Rattle.written_laws.specs.Enums.{AreMembers, default_of, EnumText, IsEnum, enum_texts, AreEnums}
-use Rattle.written_laws.proofs.Items.{paired_append}
+use Rattle.written_laws.proofs.Pairs.{paired_append}
 use Rattle.written_laws.proofs.Tables.{at_file, placed_same}
 use Rattle.written_laws.proofs.Enumerators.{HasMembers, file_members}
 

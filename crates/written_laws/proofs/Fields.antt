@@ -26,7 +26,8 @@ use Rattle.draft_rows.specs.Kinds.{kind_of_base}
 use Rattle.schema_laws.proofs.Quiet.{none_where}
 use Rattle.schema_laws.proofs.ConstsHaveRows.{literal_is}
 use Rattle.written_laws.specs.Values.{known_of, IsDefault}
-use Rattle.written_laws.specs.Kinds.{may_be_null, is_plain, IsKind}
+use Rattle.mj_schema.specs.Sound.{may_be_null, is_plain}
+use Rattle.written_laws.specs.Kinds.{IsKind}
 use Rattle.written_laws.specs.Fits.{is_basic, FitsDefault}
 use Rattle.written_laws.specs.Defaults.{is_enum, HasEnumerator}
 use Rattle.written_laws.specs.Rows.{IsField}
@@ -61,7 +62,7 @@ abbrev pub AllKnown : Scope → Type 0
 AllKnown scope = (value : Value) → refused_uses scope.names scope.file (uses_in_value scope.enclosing value) ≡ [] → IsKnown (site_of scope) value
 
 -- the kind of string is no bool, integer or enum
-string_text : (rows : List FileRows) (scope : Scope) (base : BaseTree) (nullable : Bool) (k : KindTree) → kind_of_base rows scope base nullable ≡ Some k
+pub string_text : (rows : List FileRows) (scope : Scope) (base : BaseTree) (nullable : Bool) (k : KindTree) → kind_of_base rows scope base nullable ≡ Some k
     → (o : Option Basic) → basic_of_base base ≡ o → is_string o ≡ true → is_plain k ≡ false
 string_text rows scope base nullable k found (Some basics.Text) is e =
     subst (λ (t : KindTree). is_plain t ≡ false) (same_Some (TextKind nullable) k (basic_found rows scope base nullable basics.Text k is found)) refl
@@ -78,7 +79,7 @@ string_text rows scope base nullable k found (Some basics.Uint64) is e = absurd 
 string_text rows scope base nullable k found (Some basics.Float) is e = absurd cc
 string_text rows scope base nullable k found (Some basics.Double) is e = absurd cc
 
-text_only : (nullable string : Bool) → nullable ≡ true → (nullable && not string) ≡ false → string ≡ true
+pub text_only : (nullable string : Bool) → nullable ≡ true → (nullable && not string) ≡ false → string ≡ true
 text_only true true asked e = refl
 text_only true false asked e = absurd cc
 text_only false string asked e = absurd cc

@@ -32,7 +32,8 @@ use Rattle.module_resolver.specs.declared.target.DefinitionSort.{DefinitionSort}
 use Rattle.module_resolver.specs.declared.target.DefinitionSort.TheVariants as sorts
 use Rattle.draft_rows.specs.declared.counts.Counts.{Counts}
 use Rattle.draft_rows.specs.Rows.{literal_of}
-use Rattle.written_laws.specs.Fits.{in_bits, Fits, is_basic}
+use Rattle.mj_schema.specs.Sound.{in_bits}
+use Rattle.written_laws.specs.Fits.{Fits, is_basic}
 
 -- the values of basic kinds
 

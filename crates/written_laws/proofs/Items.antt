@@ -29,6 +29,7 @@ use Rattle.kind_scope.specs.Members.{field_of, union_field_of, method_in, method
 use Rattle.kind_scope.specs.Scopes.{around}
 use Rattle.kind_refusals.specs.KindRefusals.{refused_list, refused_in_interface, refused_in_item, refused_parameters as refused_kinds_of_parameters, refused_response, refused_item as refused_kinds}
 use Rattle.draft_rows.specs.RowCounts.{method_among, methods_in, structs_of}
+use Rattle.draft_rows.specs.InterfaceVersions.{interface_version}
 use Rattle.draft_rows.specs.Rows.{struct_row, union_row, parameters_row, response_row, method_structs, structs_of_methods, method_rows, interface_row}
 use Rattle.draft_rows.specs.Drafts.{draft_of_item}
 use Rattle.schema_laws.proofs.Quiet.{both_empty}
@@ -36,20 +37,15 @@ use Rattle.schema_laws.proofs.Each.{all_empty}
 use Rattle.schema_laws.proofs.Kinded.{uses_apart}
 use Rattle.schema_laws.proofs.NothingLost.{IsKept, typed_in_item, typed_members, all_before}
 use Rattle.written_laws.specs.Entries.{Entry, Counted, counted, parameters_of, methods_of}
-use Rattle.written_laws.specs.Rows.{ArePaired, StructText, struct_text, IsStruct, IsUnion, IsMethod, reply_of, IsInterface, site_in, response_texts, method_texts, struct_texts, union_texts, interface_texts}
+use Rattle.written_laws.specs.Values.{Site}
+use Rattle.written_laws.specs.Rows.{ArePaired, StructText, struct_text, IsStruct, IsUnion, IsMethod, reply_of, marks_of, IsLatest, IsInterface, site_in, response_texts, method_texts, struct_texts, union_texts, interface_texts}
 use Rattle.written_laws.proofs.Counts.{ordinal_part, counted_of, fields_same, union_fields_same, parameters_same, methods_same, field_ordinals, union_ordinals, parameter_ordinals, method_ordinals, counted_same}
 use Rattle.written_laws.proofs.Fields.{AllKnown}
+use Rattle.written_laws.proofs.InterfaceVersions.{latest_kept}
+use Rattle.written_laws.proofs.Pairs.{paired_append}
 use Rattle.written_laws.proofs.NamedKindsKept.{site_of}
 use Rattle.written_laws.proofs.Structs.{struct_kept, union_kept}
 use Rattle.written_laws.proofs.Members.{site, each_use, fields_quiet, union_fields_quiet, parameters_quiet}
-
--- lists that fit, behind one another
-pub paired_append : {A B : Type 0} (Fits : A → B → Type 0) (xs ys : List A) (ps qs : List B) → ArePaired Fits xs ps → ArePaired Fits ys qs
-    → ArePaired Fits (xs ++ ys) (ps ++ qs)
-paired_append Fits [] ys [] qs one two = two
-paired_append Fits [] ys (p ∷ ps) qs one two = absurd one
-paired_append Fits (x ∷ xs) ys [] qs one two = absurd one
-paired_append Fits (x ∷ xs) ys (p ∷ ps) qs one two = (one.0, paired_append Fits xs ys ps qs one.1 two)
 
 -- the methods of an interface
 
@@ -92,10 +88,17 @@ replies_same : (ms : List InterfaceMember) (next first : ℕ)
 replies_same [] next first = refl
 replies_same (m ∷ ms) next first = reply_same m.item ms (replies_same ms) next first
 
-interface_kept : (file : ℕ) (full : List ℕ) (first : ℕ) (members : List InterfaceMember) → refused_ordinals file 0 (interface_members members) ≡ []
-    → IsInterface (record { full = full; entries = methods_of members; replies = flat_map (λ (m : InterfaceMember). reply_of m.item) members })
-    (interface_row full first (methods_in members))
-interface_kept file full first members e =
+interface_kept : (at : Site) (file : ℕ) (full : List ℕ) (first : ℕ) (members : List InterfaceMember) (version : ℕ)
+    → IsLatest at (flat_map (λ (m : InterfaceMember). marks_of m.attributes m.item) members) version
+    → refused_ordinals file 0 (interface_members members) ≡ []
+    → IsInterface (record {
+      site = at;
+      full = full;
+      entries = methods_of members;
+      replies = flat_map (λ (m : InterfaceMember). reply_of m.item) members;
+      marks = flat_map (λ (m : InterfaceMember). marks_of m.attributes m.item) members;
+    }) (interface_row full first (methods_in members) version)
+interface_kept at file full first members version latest e =
     let ordinals : refused_ordinals file 0 (map ordinal_part (flat_map method_of members)) ≡ [] =
     subst (λ (os : List Ordinal). refused_ordinals file 0 os ≡ []) (method_ordinals members) e in
     let all = subst (λ (cs : List Counted). ArePaired IsMethod cs (method_rows 0 first (methods_in members)))
@@ -104,6 +107,7 @@ interface_kept file full first members e =
       name = refl;
       methods = subst (λ (es : List Entry). ArePaired IsMethod (counted es) (method_rows 0 first (methods_in members))) (sym (methods_same members)) all;
       replies = replies_same members 0 first;
+      version = latest;
     }
 
 module _ (rows : List FileRows) (scope : Scope) (known : AllKnown scope) where
@@ -172,7 +176,7 @@ pub record HasItem (rows : List FileRows) (names : List FileNames) (consts : Con
     (item : DefinitionItem) (draft : Draft) : Type 0 where
   pub structs : ArePaired (IsStruct rows) (struct_texts (site_in names consts file full) full item) draft.structs
   pub unions : ArePaired (IsUnion rows) (union_texts (site_in names consts file full) full attributes item) draft.unions
-  pub interfaces : ArePaired IsInterface (interface_texts full item) draft.interfaces
+  pub interfaces : ArePaired IsInterface (interface_texts (site_in names consts file full) full item) draft.interfaces
 
 module _ (rows : List FileRows) (names : List FileNames) (consts : Consts) (file : ℕ)
     (known : (full : List ℕ) → AllKnown (around names consts file (Some full))) where
@@ -223,12 +227,16 @@ module _ (rows : List FileRows) (names : List FileNames) (consts : Consts) (file
       let v = both_empty (flat_map (refused_interface_member (site scope) (Some d.full)) item.members)
       (refused_ordinals file 0 (interface_members item.members)) values in
       let k = both_empty (refused_list scope item.name Methods (flat_map method_of item.members)) (flat_map (refused_in_interface scope) item.members) kinds in
+      let quiet = all_empty (refused_interface_member (site scope) (Some d.full)) item.members v.0 in
+      let used = each_use names file (uses_in_interface (Some d.full)) item.members uses in
       record {
-        structs = methods_kept rows scope (known d.full) d.full item.members (all_empty (refused_in_interface scope) item.members k.1)
-            (all_empty (refused_interface_member (site scope) (Some d.full)) item.members v.0)
-            (each_use names file (uses_in_interface (Some d.full)) item.members uses) kept;
+        structs = methods_kept rows scope (known d.full) d.full item.members (all_empty (refused_in_interface scope) item.members k.1) quiet used kept;
         unions = tt;
-        interfaces = (interface_kept file d.full counts.structs item.members v.1, tt);
+        interfaces = (
+          interface_kept (site_of scope) file d.full counts.structs item.members (interface_version scope item.members)
+              (latest_kept scope (known d.full) item.members quiet used) v.1,
+          tt,
+        );
       }
   item_kept thing d counts (items.Enum item) values kinds uses kept = record { structs = tt; unions = tt; interfaces = tt }
   item_kept thing d counts (items.Const item) values kinds uses kept = record { structs = tt; unions = tt; interfaces = tt }

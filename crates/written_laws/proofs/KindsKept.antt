@@ -25,7 +25,8 @@ use Rattle.kind_refusals.specs.TypeRefusals.{is_text_basic, is_struct_or_union, 
 use Rattle.kind_refusals.specs.OrdinalRefusals.{is_behind}
 use Rattle.draft_rows.specs.Kinds.{basic_kind, row_kind, rows_before_target, sort_kind, meant_kind, interface_number, handle_sort, pending_kind, count_of, with_value, kind_of_base}
 use Rattle.schema_laws.proofs.Quiet.{both_empty}
-use Rattle.written_laws.specs.Kinds.{may_be_null, is_plain, IsLength, IsAsWritten}
+use Rattle.mj_schema.specs.Sound.{may_be_null, is_plain}
+use Rattle.written_laws.specs.Kinds.{IsLength, IsAsWritten}
 use Rattle.written_laws.proofs.Counts.{small_number}
 use Rattle.written_laws.proofs.NamedKindsKept.{site_of, named_is, handle_is, end_is}
 

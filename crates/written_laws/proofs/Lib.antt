@@ -16,6 +16,8 @@ pub mod Values
 pub mod Fields
 pub mod Structs
 pub mod Members
+pub mod Pairs
+pub mod InterfaceVersions
 pub mod Items
 pub mod Tables
 pub mod Steps

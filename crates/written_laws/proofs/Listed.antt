@@ -30,7 +30,8 @@ use Rattle.draft_rows.specs.Drafts.{empty, join, response_order, method_order, m
 use Rattle.schema_laws.specs.Passed.{IsPassed}
 use Rattle.schema_laws.proofs.Totals.{AreBetween, structs_length, item_between, HasRow, HaveRowsIn, all_between, HaveRows}
 use Rattle.schema_laws.proofs.ConstsHaveRows.{have_rows}
-use Rattle.written_laws.specs.Listed.{number_in, numbers_in, rows_in, AreListed}
+use Rattle.mj_schema.specs.Sound.{number_in, numbers_in}
+use Rattle.written_laws.specs.Listed.{rows_in, AreListed}
 
 -- how many rows of a sort stand before
 abbrev count_in : Counts → RowSort → ℕ

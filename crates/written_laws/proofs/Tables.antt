@@ -31,7 +31,8 @@ use Rattle.schema_laws.proofs.ConstsHaveRows.{found_file}
 use Rattle.written_laws.specs.Rows.{ArePaired, IsStruct, IsUnion, IsInterface, Placed, placed_in, all_placed, site_in, struct_texts, union_texts, interface_texts, AreAsWritten}
 use Rattle.written_laws.proofs.Values.{value_known}
 use Rattle.written_laws.proofs.Definitions.{quiet_definition}
-use Rattle.written_laws.proofs.Items.{paired_append, HasItem, item_kept}
+use Rattle.written_laws.proofs.Items.{HasItem, item_kept}
+use Rattle.written_laws.proofs.Pairs.{paired_append}
 
 -- joined tables
 
@@ -44,7 +45,8 @@ with_item : (rows : List FileRows) (names : List FileNames) (consts : Consts) (f
 with_item rows names consts file d ones one two a b = record {
   structs = paired_append (IsStruct rows) (struct_texts (site_in names consts file d.full) d.full d.item) _ one.structs two.structs a.structs b.structs;
   unions = paired_append (IsUnion rows) (union_texts (site_in names consts file d.full) d.full d.attributes d.item) _ one.unions two.unions a.unions b.unions;
-  interfaces = paired_append IsInterface (interface_texts d.full d.item) _ one.interfaces two.interfaces a.interfaces b.interfaces;
+  interfaces =
+      paired_append IsInterface (interface_texts (site_in names consts file d.full) d.full d.item) _ one.interfaces two.interfaces a.interfaces b.interfaces;
 }
 
 joined_written : (rows : List FileRows) (names : List FileNames) (consts : Consts) (ps qs : List Placed) (one two : Draft)
@@ -54,7 +56,8 @@ joined_written rows names consts ps qs one two a b =
     (λ (p : Placed). struct_texts (site_in names consts p.file p.definition.full) p.definition.full p.definition.item) ps qs in
     let unions = flat_map-append
     (λ (p : Placed). union_texts (site_in names consts p.file p.definition.full) p.definition.full p.definition.attributes p.definition.item) ps qs in
-    let interfaces = flat_map-append (λ (p : Placed). interface_texts p.definition.full p.definition.item) ps qs in
+    let interfaces = flat_map-append
+    (λ (p : Placed). interface_texts (site_in names consts p.file p.definition.full) p.definition.full p.definition.item) ps qs in
     record {
       structs = subst (λ ts. ArePaired (IsStruct rows) ts (one.structs ++ two.structs)) (sym structs)
           (paired_append (IsStruct rows) _ _ one.structs two.structs a.structs b.structs);

@@ -1,15 +1,11 @@
 -- Which literals fit which kinds.
-use Rattle.std.specs.Prelude.{ℕ, ◌-◌, ◌^◌, ◌≡◌, ◌&&◌, ℤ, pos, neg_ℤ, int_le, Bool, true, false, Option, Some, None}
+use Rattle.std.specs.Prelude.{◌≡◌, Bool, true, false, Option, Some, None}
 use Rattle.mj_schema.specs.KindTrees.{KindTree}
 use Rattle.mj_schema.specs.KindTrees as kinds
 use Rattle.mj_schema.specs.Sizes.{bits_of}
+use Rattle.mj_schema.specs.Sound.{in_bits}
 use Rattle.mj_schema.specs.declared.rows.Literal.{Literal}
 use Rattle.mj_schema.specs.declared.rows.Literal.TheVariants as literals
-
--- a number of so many bits, with a sign or without
-abbrev pub in_bits : Bool → ℕ → ℤ → Bool
-in_bits true bits number = int_le (neg_ℤ (pos (2 ^ (bits - 1)))) number && int_le number (pos (2 ^ (bits - 1) - 1))
-in_bits false bits number = int_le (pos 0) number && int_le number (pos (2 ^ bits - 1))
 
 -- a literal of a basic kind: a bool, a number of so many bits, or a text
 abbrev pub Fits : KindTree → Literal → Type 0

@@ -1,36 +1,14 @@
 -- That kinds are as they are written: which they are, where they may be null, and how long arrays are.
-use Rattle.std.specs.Prelude.{ℕ, ◌≡◌, Bool, true, false, List, Option, Some, None}
+use Rattle.std.specs.Prelude.{ℕ, ◌≡◌, Bool, List, Option, Some, None}
 use Rattle.mojom_ast.specs.TypeTrees.{BaseTree, Named, ArrayOf, MapOf, HandleOf, PendingOf, TypeTree}
 use Rattle.mojom_ast.specs.declared.names.Number.{Number}
 use Rattle.const_eval.specs.Kinds.{basic_of_parts}
 use Rattle.mj_schema.specs.KindTrees.{KindTree}
 use Rattle.mj_schema.specs.KindTrees as kinds
+use Rattle.mj_schema.specs.Sound.{may_be_null}
 use Rattle.draft_rows.specs.declared.counts.FileRows.{FileRows}
 use Rattle.written_laws.specs.Values.{Site}
 use Rattle.written_laws.specs.NamedKinds.{IsNamed, IsHandle, IsOfInterface}
-
--- it may be null
-abbrev pub may_be_null : KindTree → Bool
-may_be_null (kinds.BoolKind nullable) = nullable
-may_be_null (kinds.IntKind width signed nullable) = nullable
-may_be_null (kinds.EnumKind number nullable) = nullable
-may_be_null (kinds.TextKind nullable) = nullable
-may_be_null (kinds.HandleKind sort nullable) = nullable
-may_be_null (kinds.ArrayKind of count nullable) = nullable
-may_be_null (kinds.MapKind key value nullable) = nullable
-may_be_null (kinds.StructKind number nullable) = nullable
-may_be_null (kinds.UnionKind number nullable) = nullable
-may_be_null (kinds.RemoteKind interface nullable) = nullable
-may_be_null (kinds.ReceiverKind interface nullable) = nullable
-may_be_null (kinds.AssociatedRemoteKind interface nullable) = nullable
-may_be_null (kinds.AssociatedReceiverKind interface nullable) = nullable
-
--- a bool, an integer or an enum
-abbrev pub is_plain : KindTree → Bool
-is_plain (kinds.BoolKind nullable) = true
-is_plain (kinds.IntKind width signed nullable) = true
-is_plain (kinds.EnumKind number nullable) = true
-is_plain _ = false
 
 -- the length of an array is the very number that is written, and none where none is
 abbrev pub IsLength : Option Number → Option ℕ → Type 0

@@ -1,5 +1,5 @@
 -- That the rows of tables are as they are written.
-use Rattle.std.specs.Prelude.{ℕ, ◌≡◌, ◌<◌, ◌⊎◌, Bool, true, codes, List, [], ◌∷◌, map, length, slice_get, Option, Some, None, is_some}
+use Rattle.std.specs.Prelude.{ℕ, ◌≡◌, ◌<◌, ◌⊎◌, Bool, true, codes, List, [], ◌∷◌, ◌++◌, map, length, slice_get, Option, Some, None, is_some}
 use Rattle.std.specs.List.{flat_map, AllByRecursion}
 use Rattle.std.specs.Option.{option_map_or}
 use Rattle.mojom_ast.specs.declared.attributes.Attribute.{Attribute}
@@ -24,7 +24,9 @@ use Rattle.draft_rows.specs.declared.counts.FileRows.{FileRows}
 use Rattle.draft_rows.specs.declared.draft.Draft.{Draft}
 use Rattle.written_laws.specs.Entries.{Entry, Counted, counted, has_mark, fields_of, union_fields_of, parameters_of, methods_of}
 use Rattle.written_laws.specs.Values.{Site, version_in, IsVersion, IsDefault}
-use Rattle.written_laws.specs.Kinds.{may_be_null, is_plain, IsKind}
+use Rattle.mj_schema.specs.Sound.{may_be_null, is_plain}
+use Rattle.mj_schema.specs.Versions.{greatest}
+use Rattle.written_laws.specs.Kinds.{IsKind}
 use Rattle.written_laws.specs.Fits.{is_basic, FitsDefault}
 use Rattle.written_laws.specs.Defaults.{is_enum, HasEnumerator}
 
@@ -100,16 +102,35 @@ reply_of (interface_items.Method m) = is_some m.response ∷ []
 reply_of (interface_items.Const c) = []
 reply_of (interface_items.Enum e) = []
 
--- what an interface is written as: its full name, its methods, and which of them have responses
+-- the attributes before a method, and before each of its parameters, those of its response among them
+abbrev pub marks_of : List Attribute → InterfaceItem → List (List Attribute)
+marks_of attributes (interface_items.Method m) =
+    attributes
+    ∷ (map (λ (p : Parameter). p.attributes) m.request ++ map (λ (p : Parameter). p.attributes) (option_map_or (λ (ps : List Parameter). ps) m.response []))
+marks_of attributes (interface_items.Const c) = []
+marks_of attributes (interface_items.Enum e) = []
+
+-- what an interface is written as: where, its full name, its methods, which of them have responses, and the attributes before each method
+-- and parameter
 pub record InterfaceText : Type 0 where
+  pub site : Site
   pub full : List ℕ
   pub entries : List Entry
   pub replies : List Bool
+  pub marks : List (List Attribute)
 
+-- the greatest of the versions that are written among lists of attributes, 0 where there is none
+pub record IsLatest (site : Site) (marks : List (List Attribute)) (version : ℕ) : Type 0 where
+  pub versions : List ℕ
+  pub written : ArePaired (λ (attributes : List Attribute) (since : ℕ). IsVersion site (version_in attributes) since) marks versions
+  pub is : version ≡ greatest versions
+
+-- the row of an interface has its methods, and its version is the greatest since which one of them or of their parameters is there
 pub record IsInterface (text : InterfaceText) (row : InterfaceRow) : Type 0 where
   pub name : row.name ≡ text.full
   pub methods : ArePaired IsMethod (counted text.entries) row.methods
   pub replies : map (λ (method : MethodRow). is_some method.response) row.methods ≡ text.replies
+  pub version : IsLatest text.site text.marks row.version
 
 -- files
 
@@ -162,13 +183,20 @@ union_texts site full attributes (items.Interface item) = []
 union_texts site full attributes (items.Enum item) = []
 union_texts site full attributes (items.Const item) = []
 
-abbrev pub interface_texts : List ℕ → DefinitionItem → List InterfaceText
-interface_texts full (items.Interface item) =
-    record { full = full; entries = methods_of item.members; replies = flat_map (λ (m : InterfaceMember). reply_of m.item) item.members } ∷ []
-interface_texts full (items.Struct item) = []
-interface_texts full (items.Union item) = []
-interface_texts full (items.Enum item) = []
-interface_texts full (items.Const item) = []
+abbrev pub interface_texts : Site → List ℕ → DefinitionItem → List InterfaceText
+interface_texts site full (items.Interface item) =
+    record {
+      site = site;
+      full = full;
+      entries = methods_of item.members;
+      replies = flat_map (λ (m : InterfaceMember). reply_of m.item) item.members;
+      marks = flat_map (λ (m : InterfaceMember). marks_of m.attributes m.item) item.members;
+    }
+    ∷ []
+interface_texts site full (items.Struct item) = []
+interface_texts site full (items.Union item) = []
+interface_texts site full (items.Enum item) = []
+interface_texts site full (items.Const item) = []
 
 -- the tables of definitions have their structs, unions and interfaces as they are written, where so many rows stand before definitions,
 -- and no others
@@ -180,4 +208,6 @@ pub record AreAsWritten (rows : List FileRows) (names : List FileNames) (consts 
       ArePaired (IsUnion rows)
       (flat_map (λ (p : Placed).
       union_texts (site_in names consts p.file p.definition.full) p.definition.full p.definition.attributes p.definition.item) ones) draft.unions
-  pub interfaces : ArePaired IsInterface (flat_map (λ (p : Placed). interface_texts p.definition.full p.definition.item) ones) draft.interfaces
+  pub interfaces :
+      ArePaired IsInterface
+      (flat_map (λ (p : Placed). interface_texts (site_in names consts p.file p.definition.full) p.definition.full p.definition.item) ones) draft.interfaces

@@ -31,7 +31,8 @@ pub fn ordinals_are_whole()
 /// written: each field at its ordinal, and each ordinal, tag, version and length the very number that is
 /// written or meant, or the one after that of the member before. A kind is the one that its name gives, and
 /// may be null exactly where `?` stands; each field of a later version is plain or may be null. A union is
-/// extensible, and a method has a response, where it is written so. There is a default exactly where one is
+/// extensible, and a method has a response, where it is written so; the version of an interface is the
+/// greatest that is written before its methods and their parameters. There is a default exactly where one is
 /// written, and it is the very value that is written or meant: that of a bool, an integer or a text fits,
 /// that of an enum is one of its enumerators, and a bool, an integer or an enum that may be null has none.
 /// This is a law and does nothing.

@@ -35,6 +35,10 @@ enum Shape {
     Tags,
     /// The last member of an enum of many, whose numbers go up by two.
     Members,
+    /// Unions of many fields, each with a tag that its union lacks but may hold.
+    UnknownTags,
+    /// The last member of an enum of many, whose numbers don't rise.
+    MixedMembers,
 }
 
 /// How many members, fields or versions the definitions of these have.
@@ -51,6 +55,8 @@ impl Shape {
             Shape::OldVersions => "old versions",
             Shape::Tags => "tags out of order",
             Shape::Members => "members with gaps",
+            Shape::UnknownTags => "unknown tags",
+            Shape::MixedMembers => "members out of order",
         }
     }
 
@@ -76,10 +82,15 @@ impl Shape {
                 push_many(alloc, file, self)?;
                 file.push_str("}; interface I { m(array<U> a); };\n")
             }
-            Shape::Members => {
+            Shape::Members | Shape::MixedMembers => {
                 file.push_str("enum E {\n")?;
                 push_many(alloc, file, self)?;
                 file.push_str("}; interface I { m(array<E> a); };\n")
+            }
+            Shape::UnknownTags => {
+                file.push_str("[Extensible] union U {\n")?;
+                push_many(alloc, file, self)?;
+                file.push_str("}; interface I { m(array<U> a); };\n")
             }
         }
     }
@@ -93,8 +104,28 @@ impl Shape {
             Shape::SelfPointing => push_self_pointing(bytes, MESSAGE_BYTES / 16),
             Shape::OldVersions => push_old(bytes, MESSAGE_BYTES / 24),
             Shape::Tags => push_tags(bytes, SEARCHED_BYTES / 16),
-            Shape::Members => push_members(bytes, SEARCHED_BYTES / 4),
+            Shape::Members => push_members(bytes, SEARCHED_BYTES / 4, even(MANY.saturating_sub(1))),
+            Shape::UnknownTags => push_unknown_tags(bytes, SEARCHED_BYTES / 16),
+            Shape::MixedMembers => push_members(
+                bytes,
+                SEARCHED_BYTES / 4,
+                mixed(MANY.saturating_sub(1)),
+            ),
         }
+    }
+}
+
+/// A number that is twice another.
+fn even(k: u32) -> u32 {
+    k.saturating_mul(2)
+}
+
+/// Such a number for each even one, and for each odd one that many behind all of them, the later the less.
+fn mixed(k: u32) -> u32 {
+    if k % 2 == 0 {
+        even(k)
+    } else {
+        MANY.saturating_mul(4).saturating_sub(even(k))
     }
 }
 
@@ -105,7 +136,9 @@ fn push_many(alloc: Global, file: &mut String, shape: Shape) -> Result<(), Alloc
         let line = match shape {
             Shape::OldVersions => format!(in alloc; "[MinVersion={k}] uint8 f{k};\n")?,
             Shape::Tags => format!(in alloc; "uint8 f{k}@{falling};\n")?,
-            _ => format!(in alloc; "M{k} = {},\n", k.saturating_mul(2))?,
+            Shape::UnknownTags => format!(in alloc; "uint8 f{k}@{k};\n")?,
+            Shape::MixedMembers => format!(in alloc; "M{k} = {},\n", mixed(k))?,
+            _ => format!(in alloc; "M{k} = {},\n", even(k))?,
         };
         file.push_str(line.as_str())?;
     }
@@ -196,19 +229,23 @@ fn push_tags(bytes: &mut Vec<u8>, count: u32) -> Result<(), AllocError> {
     Ok(())
 }
 
-/// The last member of the enum, again and again, and at last a number that none has.
-fn push_members(bytes: &mut Vec<u8>, count: u32) -> Result<(), AllocError> {
+/// Unions of tags that none of the fields has, the last of which is null.
+fn push_unknown_tags(bytes: &mut Vec<u8>, count: u32) -> Result<(), AllocError> {
+    push_header(bytes, count.saturating_mul(16).saturating_add(8), count)?;
+    for k in 0..count {
+        let size = if k.saturating_add(1) < count { 16 } else { 0 };
+        push_header(bytes, size, MANY.saturating_add(k))?;
+        push_pointer(bytes, 0)?;
+    }
+    Ok(())
+}
+
+/// A member of the enum, again and again, and at last a number that none has.
+fn push_members(bytes: &mut Vec<u8>, count: u32, member: u32) -> Result<(), AllocError> {
     push_header(bytes, count.saturating_mul(4).saturating_add(8), count)?;
     for k in 0..count {
         let is_last = k.saturating_add(1) == count;
-        push_le32(
-            bytes,
-            if is_last {
-                1
-            } else {
-                MANY.saturating_mul(2).saturating_sub(2)
-            },
-        )?;
+        push_le32(bytes, if is_last { 1 } else { member })?;
     }
     Ok(())
 }
@@ -277,6 +314,8 @@ pub fn time_all<R: Print + AllocGlobal + CpuClock>(rt: &R) -> io::Result<()> {
         Shape::OldVersions,
         Shape::Tags,
         Shape::Members,
+        Shape::UnknownTags,
+        Shape::MixedMembers,
     ] {
         time(rt, shape)?;
     }

@@ -10,11 +10,12 @@ use Rattle.value_text.specs.Rules.{pair, keys_of, values_of, base, slot_value}
 use Rattle.wire_model.specs.declared.value.Value.{Value}
 use Rattle.value_text.specs.declared.text_error.TextError.{TextError}
 
--- whether a bracket may be opened, and the values inside it
+-- whether a bracket may be opened
 abbrev pub has_room : ℕ → Bool
 has_room zero = false
 has_room (suc left) = true
 
+-- the values of slots behind a bracket, of which none may stand where no bracket may be opened
 abbrev pub inside : Schema → ℕ → Bool → KindTree → Lang Tree
 inside schema zero = λ flagged k. never values.Null
 inside schema (suc left) = slot_value schema left
@@ -31,10 +32,11 @@ base_at schema left k = base schema (has_room left) (inside schema left) k
 abbrev pub more_of : Schema → ℕ → KindTree → Lang (List Tree)
 more_of schema left k = many 93 (44 ▸ inner schema left k)
 
--- a key and its value, and what follows in a map, behind its first pair
+-- a key and its value
 abbrev pub pair_of : Schema → ℕ → KindTree → KindTree → Lang (Tree × Tree)
 pair_of schema left key one = pair (inner schema left key) (inner schema left one)
 
+-- what follows in a map, behind its first pair
 abbrev pub more_pairs_of : Schema → ℕ → KindTree → KindTree → Lang (List (Tree × Tree))
 more_pairs_of schema left key one = many 125 (44 ▸ pair_of schema left key one)
 

@@ -9,13 +9,13 @@ use Rattle.value_text.proofs.KnownNumbers.{has, known_read}
 use Rattle.value_text.proofs.members.known_member.Goals as goal
 
 -- the number of 128 bits that was read, and the member's of 32
-read : (c : goal.Then-is_member) → (integer (2 ^ 31) (2 ^ 31 - 1)).read c.args.bytes.now ≡ Ok (to_z w128 (of_z w128 c.in-Ok.number), c.in-Ok.rest.now)
+read : (c : goal.Then-has_number) → (integer (2 ^ 31) (2 ^ 31 - 1)).read c.args.bytes.now ≡ Ok (to_z w128 (of_z w128 c.in-Ok.number), c.in-Ok.rest.now)
 read c = search rules
 
-fits : (c : goal.Then-is_member) → SFits w32 c.in-Some.small
+fits : (c : goal.Then-has_number) → SFits w32 c.in-Some.small
 fits c = search rules
 
-found : (c : goal.Then-is_member) → list_any (λ (member : MemberRow). int_eq member.number c.in-Some.small) c.args.members.now ≡ true
+found : (c : goal.Then-has_number) → list_any (λ (member : MemberRow). int_eq member.number c.in-Some.small) c.args.members.now ≡ true
 found c = search rules
 
 pub returns-in-Some : goal.returns-in-Some

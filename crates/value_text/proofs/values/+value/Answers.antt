@@ -1,18 +1,18 @@
-use Rattle.std.proofs.Common.{◌≡◌, ◌∷◌, [], ◌++◌, ◌+◌, ◌-◌, List, Ok, Bool, length, map, drop, slice_get, sym, ap, subst, ◌∙◌, arith}
+use Rattle.std.proofs.Common.{◌≡◌, ℕ, ◌∷◌, [], ◌++◌, ◌+◌, ◌-◌, List, Ok, Bool, length, map, drop, slice_get, sym, ap, subst, ◌∙◌, arith}
 use Rattle.wire_model.specs.declared.value.Value.{Value}
 use Rattle.std.proofs.lemmas.Result.{err_from_is_err_and}
 use Rattle.mj_schema.specs.KindTrees.{KindTree, kind_view}
 use Rattle.std.specs.Prelude.{is_some}
 use Rattle.wire_model.specs.Trees.{Tree, view}
-use Rattle.byte_rules.specs.Lang.{many, rest_of, ◌▸◌}
+use Rattle.byte_rules.specs.Lang.{Read, many, until, rest_of, ◌▸◌}
 use Rattle.byte_rules.specs.Reading.{Fails, Gives}
 use Rattle.byte_rules.specs.steps.Reading.{gathered, with_front}
 use Rattle.byte_rules.proofs.Loops.{halts_ok, done_ok, done_err, goes_on, ends, goes_exactly, ends_exactly, exactly_ok, exactly_err}
 use Rattle.byte_rules.proofs.Gathers as gathers
-use Rattle.value_text.proofs.PairReads.{none_added, one_added, map_ok, map_err}
+use Rattle.value_text.proofs.PairReads.{none_added, one_added, first_pair, map_ok, map_err}
 use Rattle.value_text.specs.Rules.{slot_value, fields, fields_after}
 use Rattle.value_text.specs.steps.Reading.{inner, more_of, pair_of, add_pairs}
-use Rattle.value_text.proofs.KindReads.{value_null, map_room, pushed, structure_ok, structure_err, field_on, no_field, fields_end, no_end}
+use Rattle.value_text.proofs.KindReads.{value_null, array_room, array_ok, map_room, pushed, structure_ok, structure_err, field_on, no_field, fields_end, no_end}
 use Rattle.value_text.proofs.KindReads.{fields_at, fields_gone, fields_first, rest_is, none_ok, none_err, first_exactly, fails_exactly}
 use Rattle.mj_schema.specs.declared.rows.FieldRow.{FieldRow}
 use Rattle.value_text.proofs.values.+value.Goals as goal
@@ -21,6 +21,19 @@ pub value-returns-then-is_next : goal.value-returns-then-is_next
 value-returns-then-is_next t c = rw
     (value_null c.args.schema.now c.args.left c.args.flagged (kind_view c.args.kind.now) c.args.bytes.now (sym c.may_be_null.ensures ∙ c.if-may_be_null.true)
     (sym c.is_next.ensures ∙ c.if-is_next.true)) c.null.ensures
+
+pub array-returns : goal.array-returns
+array-returns t c =
+    let one = inner c.args.schema.now (c.args.left - 1) (kind_view c.args.of.now) in
+    array_room c.args.schema.now c.args.left (kind_view c.args.of.now) c.args.count c.args.bytes.now (omega (arith, c.if-left-eq0.false))
+    ∙ array_ok one c.args.count c.args.bytes.now c.in_ok-rest.rest.now c.in_ok-items.rest.now (map view c.in_ok-items.items.items) (view c.list_of.result)
+    c.in_ok-rest.ensures c.in_ok-items.ensures c.list_of.ensures
+
+pub more-loop-init : goal.more-loop-init
+more-loop-init t c =
+    let one = 44 ▸ inner c.args.schema.now c.args.left (kind_view c.args.of.now) in
+    let all : length c.args.bytes.now - 0 ≡ length c.args.bytes.now = omega arith in
+    ap (λ (n : ℕ). with_front (λ t. t ∷ []) (map view c.args.items.items) ((until 93 n one).read c.args.bytes.now)) all
 
 pub more-returns-then-is_next : goal.more-returns-then-is_next
 more-returns-then-is_next t c =
@@ -174,6 +187,27 @@ as_many-returns t c =
     exactly_ok (λ t. t ∷ []) 93 one
     (map view c.loop.items.items) c.args.count c.loop.counter c.loop.rest.now c.in_ok-rest.rest.now 93 total
     c.loop-test.false c.in_ok-rest.ensures c.loop.invariant
+
+pub pairs-returns : goal.pairs-returns
+pairs-returns t c =
+    let one = pair_of c.args.schema.now c.args.left (kind_view c.args.key.now) (kind_view c.args.one.now) in
+    let first = c.in_ok-first.first in
+    let second = c.in_ok-first.second in
+    let keys = pushed view [] first c.push.new.self.keys.items (c.in_ok-push.ensures.keys ∙ ap (λ (vs : List Value). vs ++ first ∷ []) c.new.ensures.items) in
+    let values =
+    pushed view [] second c.push.new.self.values.items (c.in_ok-push.ensures.values ∙ ap (λ (vs : List Value). vs ++ second ∷ []) c.new-2.ensures.items) in
+    let stops = sym c.is_next.ensures ∙ c.if-is_next.false in
+    let read = first_pair one c.args.bytes.now c.in_ok-first.rest.now (view first, view second) (map view c.push.new.self.keys.items)
+    (map view c.push.new.self.values.items) stops c.in_ok-first.ensures keys values in
+    subst (λ (r : Read (List Tree × List Tree)). Gives (λ x. ((map view x.0.keys.items, map view x.0.values.items), x.1.now)) c.more_pairs.result r) (sym read)
+    c.more_pairs.ensures
+
+pub more_pairs-loop-init : goal.more_pairs-loop-init
+more_pairs-loop-init t c =
+    let one = 44 ▸ pair_of c.args.schema.now c.args.left (kind_view c.args.key.now) (kind_view c.args.one.now) in
+    let front : List Tree × List Tree = (map view c.args.pairs.keys.items, map view c.args.pairs.values.items) in
+    let all : length c.args.bytes.now - 0 ≡ length c.args.bytes.now = omega arith in
+    ap (λ (n : ℕ). gathered add_pairs front ((until 125 n one).read c.args.bytes.now)) all
 
 pub more_pairs-returns-then-is_next : goal.more_pairs-returns-then-is_next
 more_pairs-returns-then-is_next t c =

@@ -1,0 +1,46 @@
+//! The versions of interfaces.
+
+use mj_base::{Items, Text};
+use mojom_compile::{Source, compile};
+use std::alloc::{AllocError, Global};
+use std::test::Fail;
+
+/// The version of the first interface of a text; none where the text is refused or has no interface.
+fn version_of(alloc: Global, text: &str) -> Result<Option<u32>, AllocError> {
+    let source = Source {
+        name: Text::from_str(alloc, "t.mojom")?,
+        bytes: Items::from_vec(Vec::from_slice(alloc, text.as_bytes())?),
+    };
+    let Ok(schema) = compile(alloc, &[source]) else {
+        return Ok(None);
+    };
+    match schema.interfaces.as_slice().first() {
+        Some(row) => Ok(Some(row.version)),
+        None => Ok(None),
+    }
+}
+
+#[test]
+fn the_version_of_an_interface_is_the_greatest_of_its_methods_and_of_their_parameters(
+    rt: HostRuntime,
+) -> Result<(), Fail> {
+    let alloc = rt.alloc();
+    let plain = version_of(
+        alloc,
+        "interface P { Ping(uint32 n); const int32 LAST = 9; };",
+    )?;
+    assert_eq!(rt; plain, Some(0));
+    let parameter = version_of(
+        alloc,
+        "interface P { Ping(uint32 n, [MinVersion=1] string? t); };",
+    )?;
+    assert_eq!(rt; parameter, Some(1));
+    let response = version_of(
+        alloc,
+        "interface P { Ping([MinVersion=1] string? t) => ([MinVersion=2] bool b); };",
+    )?;
+    assert_eq!(rt; response, Some(2));
+    let method = version_of(alloc, "interface P { [MinVersion=3] Ping(); Pong(); };")?;
+    assert_eq!(rt; method, Some(3));
+    Ok(())
+}

@@ -1,0 +1,11 @@
+pub mod Defaults
+pub mod Numbers
+pub mod EnumPlaces
+pub mod EnumDefaults
+pub mod Fields
+pub mod Distinct
+pub mod FieldNames
+pub mod OtherRows
+pub mod Listing
+pub mod SoundDraft
+pub mod Texts
