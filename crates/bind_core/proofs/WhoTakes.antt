@@ -1,6 +1,6 @@
 -- Who takes at an end by what the state keeps is who takes there by the events.
-use Rattle.bind_model.specs.declared.control.Control.{Control}
-use Rattle.bind_model.specs.declared.control.Control.TheVariants as says
+use Rattle.control_bytes.specs.declared.control.Control.{Control}
+use Rattle.control_bytes.specs.declared.control.Control.TheVariants as says
 use Rattle.bind_model.specs.Replies.{heard, is_older, version_of}
 use Rattle.bind_model.specs.Notices.{query_pends}
 use Rattle.std.proofs.Common.{◌≡◌, ℕ, Bool, true, false, List, [], ◌∷◌, length, refl, ap, ◌∙◌}

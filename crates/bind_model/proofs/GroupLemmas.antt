@@ -13,7 +13,7 @@ use Rattle.bind_model.specs.declared.asked.Asked.TheVariants.{Pipe, Join}
 use Rattle.bind_model.specs.declared.told.Told.{Told}
 use Rattle.bind_model.specs.declared.told.Told.TheVariants.{Taken, Dropped}
 use Rattle.bind_model.specs.declared.event.Event.{Event}
-use Rattle.bind_model.specs.declared.control.Control.TheVariants as says
+use Rattle.control_bytes.specs.declared.control.Control.TheVariants as says
 use Rattle.handle_table.specs.Things.{same, same_end, has, seq_of}
 use Rattle.bind_model.specs.Wire.{Wire}
 use Rattle.bind_model.specs.Machine.{peer, peer_by, is_gone, is_local, written, endpoint_at, puts, emits, emits_for, control_of, enters, closed_ids, handles_of, carried, spread, taken}

@@ -22,8 +22,8 @@ use Rattle.bind_model.specs.declared.asked.Asked.{Asked}
 use Rattle.bind_model.specs.declared.asked.Asked.TheVariants.{Pipe, Join, Mint, Bind, Associate, Attach, Call, Answer, Raw, Take, Close, Notify, Pause, Data}
 use Rattle.bind_model.specs.declared.asked.Asked.TheVariants.{Flow as Move, Skip}
 use Rattle.bind_model.specs.declared.asked.Notice.{Notice}
-use Rattle.bind_model.specs.declared.control.Control.{Control as ControlType}
-use Rattle.bind_model.specs.declared.control.Control.TheVariants as says
+use Rattle.control_bytes.specs.declared.control.Control.{Control as ControlType}
+use Rattle.control_bytes.specs.declared.control.Control.TheVariants as says
 use Rattle.bind_model.specs.declared.told.Noted.TheVariants as noted
 use Rattle.bind_model.specs.declared.told.BadWhy.{BadWhy}
 use Rattle.bind_model.specs.declared.told.BadWhy.TheVariants as bads

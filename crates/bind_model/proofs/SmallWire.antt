@@ -10,8 +10,8 @@ use Rattle.mj_base.specs.declared.fault.Fault.{Fault}
 use Rattle.bind_model.specs.declared.asked.Outgoing.{Outgoing}
 use Rattle.bind_model.specs.declared.endpoint.PendingId.{PendingId}
 use Rattle.bind_model.specs.declared.asked.Asked.{Asked}
-use Rattle.bind_model.specs.declared.control.Control.{Control as ControlType}
-use Rattle.bind_model.specs.declared.control.Control.TheVariants as says
+use Rattle.control_bytes.specs.declared.control.Control.{Control as ControlType}
+use Rattle.control_bytes.specs.declared.control.Control.TheVariants as says
 use Rattle.bind_model.specs.declared.told.Got.{Got}
 use Rattle.bind_model.specs.declared.told.Told.{Told}
 use Rattle.bind_model.specs.declared.told.Told.TheVariants.{Skipped}

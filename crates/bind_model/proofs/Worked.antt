@@ -12,7 +12,7 @@ use Rattle.bind_model.specs.declared.asked.Asked.{Asked}
 use Rattle.bind_model.specs.declared.asked.Asked.TheVariants.{Pipe, Join, Mint, Bind, Associate, Attach, Call, Answer, Raw, Take, Close, Notify, Pause, Data}
 use Rattle.bind_model.specs.declared.asked.Asked.TheVariants.{Flow}
 use Rattle.bind_model.specs.declared.asked.Notice.TheVariants.{Query, Require, Flush}
-use Rattle.bind_model.specs.declared.control.Control.TheVariants as says
+use Rattle.control_bytes.specs.declared.control.Control.TheVariants as says
 use Rattle.bind_model.specs.declared.flow.Flow.{Flow as FlowType}
 use Rattle.bind_model.specs.declared.flow.Flow.TheVariants as flows
 use Rattle.handle_table.specs.declared.thing.TokenId.{TokenId}

@@ -7,7 +7,7 @@ use Rattle.wire_model.specs.declared.target.Target.{Target}
 use Rattle.wire_model.specs.Trees.{Tree}
 use Rattle.bind_model.specs.declared.asked.Asked.{Asked}
 use Rattle.bind_model.specs.declared.asked.Asked.TheVariants.{Notify, Take}
-use Rattle.bind_model.specs.declared.control.Control.{Control}
+use Rattle.control_bytes.specs.declared.control.Control.{Control}
 use Rattle.bind_model.specs.declared.told.Noted.TheVariants as noted
 use Rattle.bind_model.specs.declared.told.Notified.TheVariants.{Flushing}
 use Rattle.bind_model.specs.declared.asked.Notice.TheVariants.{Flush}

@@ -13,8 +13,8 @@ use Rattle.bind_model.specs.declared.asked.Asked.{Asked}
 use Rattle.bind_model.specs.declared.asked.Asked.TheVariants.{Call, Take}
 use Rattle.bind_model.specs.declared.told.Told.{Told}
 use Rattle.bind_model.specs.declared.told.Told.TheVariants.{Sent, Taken, Dropped, Control as Heard, Bad}
-use Rattle.bind_model.specs.declared.control.Control.{Control}
-use Rattle.bind_model.specs.declared.control.Control.TheVariants as controls
+use Rattle.control_bytes.specs.declared.control.Control.{Control}
+use Rattle.control_bytes.specs.declared.control.Control.TheVariants as controls
 use Rattle.bind_model.specs.declared.told.Noted.{Noted}
 use Rattle.bind_model.specs.declared.told.Noted.TheVariants as noted
 use Rattle.handle_table.specs.Things.{same_end, times}

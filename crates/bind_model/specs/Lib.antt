@@ -1,5 +1,4 @@
 pub mod Wire
-pub mod ControlBytes
 pub mod WireOf
 pub mod Machine
 pub mod Notices

@@ -22,8 +22,8 @@ use Rattle.bind_model.specs.declared.told.Told.{Told}
 use Rattle.bind_model.specs.declared.told.Told.TheVariants.{Made, Bound, Associated, Attached, Sent, Wrote, Taken, Dropped, Control, Bad, Closed, Notified as Informed}
 use Rattle.bind_model.specs.declared.asked.Notice.{Notice}
 use Rattle.bind_model.specs.declared.asked.Notice.TheVariants.{Query, Require, Flush}
-use Rattle.bind_model.specs.declared.control.Control.{Control as ControlType}
-use Rattle.bind_model.specs.declared.control.Control.TheVariants as controls
+use Rattle.control_bytes.specs.declared.control.Control.{Control as ControlType}
+use Rattle.control_bytes.specs.declared.control.Control.TheVariants as controls
 use Rattle.bind_model.specs.declared.told.Noted.{Noted}
 use Rattle.bind_model.specs.declared.told.Noted.TheVariants as noted
 use Rattle.bind_model.specs.declared.told.Notified.{Notified}

@@ -86,7 +86,7 @@ told_of (Got g) = tells.Taken (record {
   handles = g.handles;
   pendings = names_of g.pendings;
   gone = g.gone;
-  moment = None;
+  moment = g.moment;
 })
 told_of (Dropped id gone) = tells.Dropped id gone
 told_of (Control id) = tells.Control id

@@ -26,8 +26,8 @@ use Rattle.bind_model.specs.declared.asked.Asked.TheVariants.{Pipe, Join, Mint, 
 use Rattle.bind_model.specs.declared.asked.Asked.TheVariants.{Flow as Move, Skip}
 use Rattle.bind_model.specs.declared.asked.Notice.{Notice}
 use Rattle.bind_model.specs.declared.asked.Notice.TheVariants.{Query, Require, Flush}
-use Rattle.bind_model.specs.declared.control.Control.{Control as ControlType}
-use Rattle.bind_model.specs.declared.control.Control.TheVariants as controls
+use Rattle.control_bytes.specs.declared.control.Control.{Control as ControlType}
+use Rattle.control_bytes.specs.declared.control.Control.TheVariants as controls
 use Rattle.bind_model.specs.declared.told.Noted.TheVariants as noted
 use Rattle.bind_model.specs.declared.told.Notified.{Notified}
 use Rattle.bind_model.specs.declared.told.Notified.TheVariants.{Asking, Requiring, Flushing}

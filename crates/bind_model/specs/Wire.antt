@@ -5,7 +5,7 @@ use Rattle.wire_encoder.specs.declared.endpoint.EndpointSide.{EndpointSide}
 use Rattle.wire_encoder.specs.declared.endpoint.WantedEndpoint.{WantedEndpoint}
 use Rattle.wire_model.specs.declared.target.Target.{Target}
 use Rattle.wire_model.specs.Trees.{Tree}
-use Rattle.bind_model.specs.declared.control.Control.{Control}
+use Rattle.control_bytes.specs.declared.control.Control.{Control}
 
 -- the id of the endpoint that a message is for, and the ids that it carries
 pub record Header : Type 0 where

@@ -1,15 +1,15 @@
 -- The wire of a schema: messages as its tables say.
-use Rattle.std.specs.Prelude.{ℕ, Bool, false, List, [], ◌∷◌, length, Option, Some, None, Result, Ok, Err, is_some, option_and_then}
+use Rattle.std.specs.Prelude.{ℕ, Bool, false, List, [], ◌∷◌, length, Option, Some, None, Result, Ok, Err, is_some, option_and_then, slice_get}
+use Rattle.std.specs.Option.{option_map_or}
 use Rattle.bounds_claims.specs.Runs.{first_fault}
 use Rattle.mj_base.specs.declared.fault.Fault.{Fault}
 use Rattle.mj_schema.specs.KindTrees.{StructKind}
 use Rattle.mj_schema.specs.Lookups.{method_in}
+use Rattle.mj_schema.specs.declared.rows.InterfaceRow.{InterfaceRow}
 use Rattle.mj_schema.specs.declared.rows.MethodRow.{MethodRow}
 use Rattle.mj_schema.specs.declared.schema.Schema.{Schema}
-use Rattle.message_header.specs.Controls.{control_bytes, control_id, control_marks}
-use Rattle.bind_model.specs.ControlBytes.{short_control, long_control}
-use Rattle.bind_model.specs.declared.control.Control.TheVariants.{Closed, Query, Version, Require, Flush}
-use Rattle.bind_model.specs.declared.control.Control.{Control}
+use Rattle.control_bytes.specs.Controls.{control_marks, control_said, written_control}
+use Rattle.control_bytes.specs.declared.control.Control.{Control}
 use Rattle.message_header.specs.FirstFailed.{first_failed}
 use Rattle.message_validator.specs.Before.{before_payload}
 use Rattle.wire_encoder.specs.Checks.{Check, Test, HandleAt, EndpointAt, checks}
@@ -22,7 +22,7 @@ use Rattle.wire_model.specs.Bytes.{number32}
 use Rattle.wire_model.specs.Expected.{message_marks, method_named, struct_of}
 use Rattle.wire_model.specs.HeaderMarks.{header_marks}
 use Rattle.wire_model.specs.Indexes.{handles_of}
-use Rattle.wire_model.specs.Message.{ids_read, message, payload_start, request_read}
+use Rattle.wire_model.specs.Message.{ids_read, message, moment_read, payload_start, request_read}
 use Rattle.wire_model.specs.Tight.{value_of}
 use Rattle.wire_model.specs.Trees.{Tree}
 use Rattle.wire_model.specs.declared.target.Expected.{Expected}
@@ -43,6 +43,10 @@ abbrev pub has_response : Option MethodRow → Bool
 has_response None = false
 has_response (Some method) = is_some method.response
 
+-- the version of an interface, 0 where there is none of this number
+abbrev pub version_in : Schema → ℕ → ℕ
+version_in schema interface = option_map_or (λ (row : InterfaceRow). row.version) (slice_get schema.interfaces interface) 0
+
 -- how many handles parameters name, where they fit
 abbrev pub handles_met : Result Met Refusal → ℕ
 handles_met (Ok met) = met.handles
@@ -62,7 +66,7 @@ sealed schema target parameters head = message
       flags = flags_for (method_of schema target) target;
       nonce = 0;
       request = head.request;
-      moment = None;
+      moment = head.moment;
       ids = head.ids;
     })
     (payload_for schema target parameters)
@@ -73,22 +77,9 @@ sealed schema target parameters head = message
 abbrev pub header_in : List ℕ → Result Header Fault
 header_in bytes = unless_fault (first_failed (header_marks bytes)) (record { id = number32 bytes 8; ids = ids_read bytes })
 
--- the id of the endpoint that a control closes, or its first fault
-abbrev pub closed_id_in : List ℕ → Result ℕ Fault
-closed_id_in bytes = unless_fault (first_failed (control_marks bytes)) (control_id bytes)
-
--- only controls that close an endpoint are read
-abbrev pub closing_said : Result ℕ Fault → Result Control Fault
-closing_said (Ok id) = Ok (Closed id)
-closing_said (Err fault) = Err fault
-
--- the bytes of a control
-abbrev pub written_control : Control → List ℕ
-written_control (Closed id) = control_bytes id
-written_control (Query id) = short_control 2 id
-written_control (Version id v) = long_control 3 id v
-written_control (Require id v) = long_control 4 id v
-written_control (Flush k) = short_control 5 k
+-- what a control says, or its first fault
+abbrev pub says_in : List ℕ → Result Control Fault
+says_in bytes = unless_fault (first_failed (control_marks bytes)) (control_said bytes)
 
 -- a receiver gets requests, and a remote responses
 abbrev pub comes_to : EndpointSide → MessageSide
@@ -110,7 +101,7 @@ content_of schema expected bytes number parameters = record {
   parameters = parameters;
   handles = handles_of parameters;
   ids = endpoints_named (checks schema 0 false (StructKind number false) parameters);
-  moment = None;
+  moment = moment_read bytes;
 }
 
 -- the number of the struct of a message's parameters; meaningful where the message stands
@@ -136,9 +127,9 @@ wire_of schema = record {
   handles = λ target parameters. handles_met (verdict schema target parameters);
   wants = λ target parameters. endpoints_met (verdict schema target parameters);
   sealed = sealed schema;
-  version = λ interface. 0;
+  version = version_in schema;
   control = written_control;
   header = header_in;
-  says = λ bytes. closing_said (closed_id_in bytes);
+  says = says_in;
   stands = λ side interface bytes handles. stands_in schema (record { interface = interface; side = comes_to side }) bytes handles;
 }

@@ -52,8 +52,8 @@ pub enum Command {
 
 /// What a take got: the id of the endpoint that the message was for, its method and side, its
 /// parameters, its request id (0 where it has none), the handles and the pendings that the parameters name
-/// in the order of their indexes, the right to answer it where it is a request with a response, and what
-/// went with the handles that the parameters don't name.
+/// in the order of their indexes, the right to answer it where it is a request with a response, what
+/// went with the handles that the parameters don't name, and its moment.
 pub struct Received {
     pub id: u32,
     pub target: Target,
@@ -63,6 +63,7 @@ pub struct Received {
     pub pendings: PendingList,
     pub responder: Option<Responder>,
     pub gone: Items<Thing>,
+    pub moment: Option<i64>,
 }
 
 /// What the caller is told. A refusal hands the command back.
@@ -153,6 +154,7 @@ impl Received {
             pendings,
             responder,
             gone: _,
+            moment: _,
         } = self;
         handles.retire(over);
         pendings.retire(over);

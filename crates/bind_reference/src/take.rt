@@ -1,6 +1,7 @@
 //! The reply to a take.
 
 use bind_model::{BadWhy, Endpoint, Got, Noted, Parameters, PendingId, State, Told, Why};
+use control_bytes::Control;
 use handle_table::Thing;
 use mj_base::{EndId, Items, SeqId};
 use mj_schema::Schema;
@@ -10,7 +11,7 @@ use past_reference::kinds::endpoints_named;
 use past_reference::mail::{Letter, Mail, Text};
 use past_reference::past::{is_asked, is_gone, peer};
 use past_reference::values::handles_named;
-use past_reference::wire::{Content, Whom, meant_for, stands};
+use past_reference::wire::{Content, Whom, meant_for, stands, version_at};
 use std::alloc::{AllocError, Global};
 use wire_model::MessageSide;
 
@@ -89,6 +90,7 @@ fn accept(
         target,
         request,
         parameters,
+        moment,
     } = content;
     Ok(Told::Taken(Got {
         id,
@@ -98,7 +100,7 @@ fn accept(
         handles: Items::from_vec(handles),
         pendings: Items::from_vec(pendings),
         gone: Items::from_vec(gone),
-        moment: None,
+        moment,
     }))
 }
 
@@ -171,6 +173,29 @@ fn meant(
     }
 }
 
+/// What is told of a control, and when it is bad. No command asks for a version yet.
+fn heard(
+    alloc: Global,
+    schema: &Schema,
+    mail: &Mail<'_>,
+    end: EndId,
+    control: Control,
+) -> Result<Told, AllocError> {
+    match control {
+        Control::Closed(id) => Ok(Told::Control(Noted::Closed(id))),
+        Control::Query(id) => {
+            let version = version_at(schema, mail.endpoint(end, id));
+            Ok(Told::Control(Noted::Queried(id, version)))
+        }
+        Control::Version(_, _) => bad(alloc, mail, end, BadWhy::Unasked(0)),
+        Control::Require(id, least) => match version_at(schema, mail.endpoint(end, id)) {
+            Some(version) if version < least => bad(alloc, mail, end, BadWhy::TooOld(least)),
+            _ => Ok(Told::Control(Noted::Required(id, least))),
+        },
+        Control::Flush(flush) => Ok(Told::Control(Noted::Flushed(flush))),
+    }
+}
+
 /// What is told of the oldest unread message at an end.
 fn headed(
     alloc: Global,
@@ -182,11 +207,11 @@ fn headed(
 ) -> Result<Told, AllocError> {
     let bytes = match letter.text {
         Text::Bytes(bytes) => bytes,
-        Text::Control(id) => return Ok(Told::Control(Noted::Closed(id))),
+        Text::Control(control) => return heard(alloc, schema, mail, end, control),
     };
     match meant_for(bytes, letter.handles.len()) {
         Ok(Whom::For(id)) => meant(alloc, schema, mail, seq, end, id, letter, bytes),
-        Ok(Whom::Closed(id)) => Ok(Told::Control(Noted::Closed(id))),
+        Ok(Whom::Machine(control)) => heard(alloc, schema, mail, end, control),
         Err(fault) => bad(alloc, mail, end, BadWhy::Message(fault)),
     }
 }

@@ -29,7 +29,7 @@ fn meant(alloc: Global, mail: &Mail<'_>, end: EndId) -> Result<Option<u32>, Allo
     };
     match meant_for(bytes, letter.handles.len()) {
         Ok(Whom::For(id)) => Ok(Some(id)),
-        Ok(Whom::Closed(_)) | Err(_) => Ok(None),
+        Ok(Whom::Machine(_)) | Err(_) => Ok(None),
     }
 }
 

@@ -1,6 +1,7 @@
 //! Messages as bytes that were written down by hand.
 
-use message_header::{Head, read_control, read_header, write_control, write_header, write_ids};
+use control_bytes::{Control, read_control, write_control};
+use message_header::{Head, read_header, write_header, write_ids};
 use mj_base::{Fault, FaultKind, Span, push_le32};
 use std::alloc::{AllocError, Global};
 use std::test::Fail;
@@ -129,22 +130,56 @@ fn the_first_test_that_fails_is_told(rt: HostRuntime) -> Result<(), Fail> {
     Ok(())
 }
 
+/// What the bytes of a control say, or their first fault.
+fn said(bytes: &[u8]) -> Result<Option<Control>, Fault> {
+    let header = read_header(bytes)?;
+    if header.interface_id == 0xffff_ffff {
+        Ok(Some(read_control(bytes, &header)?))
+    } else {
+        Ok(None)
+    }
+}
+
 #[test]
 fn a_control_is_written_and_read(rt: HostRuntime) -> Result<(), Fail> {
     let alloc = rt.alloc();
-    let control = write_control(alloc, 5)?;
+    let control = write_control(alloc, Control::Closed(5))?;
     let wanted = bytes_of(alloc, &[24, 0, 0xffff_ffff, 0, 0, 0, 16, 0, 1, 5])?;
     assert_eq!(rt; control.as_slice(), wanted.as_slice());
-    let id = match read_header(&control) {
-        Ok(header) => {
-            if header.interface_id == 0xffff_ffff {
-                read_control(&control, &header).ok()
-            } else {
-                None
-            }
-        }
-        Err(_) => None,
+    assert!(rt; said(&control) == Ok(Some(Control::Closed(5))));
+    Ok(())
+}
+
+#[test]
+fn a_version_is_written_and_read(rt: HostRuntime) -> Result<(), Fail> {
+    let alloc = rt.alloc();
+    let control = write_control(alloc, Control::Version(0, 1))?;
+    let wanted = bytes_of(alloc, &[24, 0, 0xffff_ffff, 0, 0, 0, 24, 0, 3, 0, 1, 0])?;
+    assert_eq!(rt; control.as_slice(), wanted.as_slice());
+    assert!(rt; said(&control) == Ok(Some(Control::Version(0, 1))));
+    Ok(())
+}
+
+#[test]
+fn a_query_with_two_numbers_is_refused(rt: HostRuntime) -> Result<(), Fail> {
+    let alloc = rt.alloc();
+    let bytes = bytes_of(alloc, &[24, 0, 0xffff_ffff, 0, 0, 0, 24, 0, 2, 0, 1, 0])?;
+    let fault = Fault {
+        kind: FaultKind::MessageHeaderUnknownMethod,
+        at: 32,
     };
-    assert!(rt; id == Some(5));
+    assert!(rt; said(&bytes) == Err(fault));
+    Ok(())
+}
+
+#[test]
+fn flush_0_is_refused(rt: HostRuntime) -> Result<(), Fail> {
+    let alloc = rt.alloc();
+    let bytes = bytes_of(alloc, &[24, 0, 0xffff_ffff, 0, 0, 0, 16, 0, 5, 0])?;
+    let fault = Fault {
+        kind: FaultKind::IllegalInterfaceId,
+        at: 36,
+    };
+    assert!(rt; said(&bytes) == Err(fault));
     Ok(())
 }

@@ -82,6 +82,7 @@ impl<'a> Held<'a> {
             pendings,
             responder,
             gone: _,
+            moment: _,
         } = received;
         self.put_handles(handles);
         self.put_pendings(pendings);

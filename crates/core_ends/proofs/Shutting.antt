@@ -1,5 +1,5 @@
 -- That an endpoint other than 0 is closed, by what the parts of this did.
-use Rattle.bind_model.specs.declared.control.Control.TheVariants as says
+use Rattle.control_bytes.specs.declared.control.Control.TheVariants as says
 use Rattle.std.proofs.Common.{◌≡◌, ◌<◌, ℕ, zero, suc, Bool, true, false, List, [], ◌∷◌, ◌++◌, Some, refl, sym, ap, ◌∙◌, subst, arith}
 use Rattle.std.specs.Prelude.{if◌then◌else◌, ◌&&◌, not, ◌==◌, Option, filter, is_some, IsSome}
 use Rattle.std.proofs.lemmas.List.{length-reverse}
@@ -88,7 +88,7 @@ module _ (s : State) (seq : SeqId) (able : HasRoom s seq) (y : EndId) (id : ℕ)
 
   pub shut_adds : (new : Contents) → EmitsTo (peer_of (end_of s.pipes.ends y)) (controls_at s.endpoints y (id ∷ [])) s.pipes new
       → Adds (emits (wire_in s) (past_of s) y (endpoint_at (wire_in s) (past_of s) y) says.Closed (id ∷ [])) s.pipes new
-  shut_adds new e = adds_is (schema_of s) (past_of s) keeps s.pipes s.endpoints able.holds.agrees y made_here (id ∷ []) new e
+  shut_adds new e = adds_is (schema_of s) says.Closed (past_of s) keeps s.pipes s.endpoints able.holds.agrees y made_here (id ∷ []) new e
 
   -- ## It is closed
 

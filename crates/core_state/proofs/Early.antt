@@ -1,12 +1,14 @@
--- There no end is paused, and no token is busy.
-use Rattle.std.proofs.Common.{◌≡◌, ℕ, true, List, [], ◌∷◌, refl, ap, ◌∙◌}
-use Rattle.std.specs.Prelude.{None}
+-- There no end is paused, no token is busy, and no version is awaited.
+use Rattle.std.proofs.Common.{◌≡◌, ℕ, Bool, true, false, ◌&&◌, List, [], ◌∷◌, refl, ap, ◌∙◌, arith}
+use Rattle.std.specs.Prelude.{not, nat_lt, Option, None, Some}
+use Rattle.std.proofs.lemmas.Bool.Decides.{nat_tests}
 use Rattle.mj_base.specs.declared.ids.EndId.{EndId}
 use Rattle.mj_base.specs.declared.ids.SeqId.{SeqId}
 use Rattle.handle_table.specs.declared.thing.TokenId.{TokenId}
 use Rattle.handle_table.specs.declared.thing.Thing.{Thing}
 use Rattle.handle_table.specs.declared.thing.Thing.TheVariants.{End, Token}
 use Rattle.bind_model.specs.declared.asked.Asked.{Asked}
+use Rattle.bind_model.specs.declared.endpoint.Endpoint.{Endpoint}
 use Rattle.bind_model.specs.declared.told.Told.{Told}
 use Rattle.bind_model.specs.declared.event.Event.{Event}
 use Rattle.bind_model.specs.declared.commands.Command.{Command}
@@ -14,9 +16,10 @@ use Rattle.bind_model.specs.declared.commands.Command.TheVariants.{Pipe, Join, M
 use Rattle.bind_model.specs.Plain.{asked_of}
 use Rattle.bind_model.specs.Wire.{Wire}
 use Rattle.bind_model.specs.Replies.{legal, busy}
-use Rattle.bind_model.specs.Notices.{waits, waits_by, first_unmet}
+use Rattle.bind_model.specs.Machine.{is_closed}
+use Rattle.bind_model.specs.Notices.{queried, queries, query_pends, versioned, waits, waits_by, first_unmet}
 use Rattle.bind_model.specs.Data.{Begun, Nothing, begun, begun_by}
-use Rattle.bind_model.proofs.Outcomes.{Outcome, outcome, pauses, flows}
+use Rattle.bind_model.proofs.Outcomes.{Outcome, outcome, flows, notifies, pauses}
 use Rattle.core_state.specs.Early.{is_early, IsEarly}
 
 -- no command of today does any of it
@@ -66,3 +69,32 @@ pub unbusy : (wire : Wire) (seqs : ℕ) (past : List Event) → legal wire seqs 
 unbusy wire seqs past h e [] = refl
 unbusy wire seqs past h e (End x ∷ things) = unbusy wire seqs past h e things
 unbusy wire seqs past h e (Token t ∷ things) = rw (nothing_begun wire seqs past h e t) (unbusy wire seqs past h e things)
+
+-- nothing asks for a version
+none_asked : (wire : Wire) (seqs : ℕ) (past : List Event) (seq : SeqId) {asked : Asked} {told : Told} → Outcome wire seqs past seq asked told
+    → is_early asked ≡ true → (x : EndId) (id : ℕ) → queries told asked x id ≡ 0
+none_asked wire seqs past seq (notifies r o e w s f p) h x id = absurd cc
+none_asked wire seqs past seq o h x id = refl
+
+unqueried : (wire : Wire) (seqs : ℕ) (past : List Event) → legal wire seqs past → IsEarly past → (x : EndId) (id : ℕ) → queried past x id ≡ 0
+unqueried wire seqs [] h e x id = refl
+unqueried wire seqs (event ∷ past) h e x id =
+    rw (
+      unqueried wire seqs past h.2 e.1 x id,
+      none_asked wire seqs past event.seq (outcome wire seqs past event.seq event.asked event.told h.1) e.0 x id,
+    ) refl
+
+-- so none is awaited
+pub unpended : (wire : Wire) (seqs : ℕ) (past : List Event) → legal wire seqs past → IsEarly past → (x : EndId) (id : ℕ) (o : Option Endpoint)
+    → query_pends past x id o ≡ false
+unpended wire seqs past h e x id None = refl
+unpended wire seqs past h e x id (Some r) =
+    rw (unqueried wire seqs past h e x id) (go r.peer_closed (is_closed r) (versioned past x id))
+  where
+    none_below : (n : ℕ) → nat_lt n 0 ≡ false
+    none_below n = grind (arith, nat_tests)
+
+    go : (p c : Bool) (n : ℕ) → (not p && not c && nat_lt n 0) ≡ false
+    go true c n = refl
+    go false true n = refl
+    go false false n = none_below n

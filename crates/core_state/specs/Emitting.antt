@@ -4,7 +4,9 @@ use Rattle.std.specs.Option.{option_map}
 use Rattle.mj_base.specs.declared.ids.EndId.{EndId}
 use Rattle.wire_model.specs.HeaderMarks.{CONTROL_ID}
 use Rattle.handle_table.specs.Things.{same_end}
-use Rattle.message_header.specs.Controls.{control_bytes}
+use Rattle.control_bytes.specs.Controls.{written_control}
+use Rattle.control_bytes.specs.declared.control.Control.{Control}
+use Rattle.control_bytes.specs.declared.control.Control.TheVariants.{Closed}
 use Rattle.message_pipe.specs.Contents.{Contents}
 use Rattle.message_pipe.specs.Ends.{end_of, is_closed, peer_of, with_messages}
 use Rattle.message_pipe.specs.declared.message.Message.{Message}
@@ -21,15 +23,21 @@ pub record IsNamed (id : ℕ) : Type 0 where
 abbrev pub AreNamed : List ℕ → Type 0
 AreNamed ids = (id : ℕ) → has_number ids id ≡ true → IsNamed id
 
--- the control of the endpoint of an id
-abbrev pub control_for : ℕ → Message
-control_for id = record { bytes = control_bytes id; handles = []; emitted = true }
+-- the message of a control, which the machine writes by itself
+abbrev pub control_for : Control → Message
+control_for control = record { bytes = written_control control; handles = []; emitted = true }
 
 -- one for each endpoint of these ids at an end, but for those whose peer is known to be closed
+abbrev pub emitted_at : (ℕ → Control) → Routers → EndId → List ℕ → List Message
+emitted_at control endpoints y [] = []
+emitted_at control endpoints y (id ∷ ids) =
+    if not (is_peer_closed (found_at endpoints y id))
+    then control_for (control id) ∷ emitted_at control endpoints y ids
+    else emitted_at control endpoints y ids
+
+-- those which tell that the endpoints are closed
 abbrev pub controls_at : Routers → EndId → List ℕ → List Message
-controls_at endpoints y [] = []
-controls_at endpoints y (id ∷ ids) =
-    if not (is_peer_closed (found_at endpoints y id)) then control_for id ∷ controls_at endpoints y ids else controls_at endpoints y ids
+controls_at endpoints y ids = emitted_at Closed endpoints y ids
 
 -- these messages are written at an end where it is open, and nothing else changes
 pub record Emits (p : EndId) (open_there : Bool) (messages : List Message) (old new : Contents) : Type 0 where

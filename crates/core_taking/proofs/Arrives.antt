@@ -110,7 +110,7 @@ admits_read s h y m ids named same a e f admits =
 pub arrives : (wire : Wire) (past : List Event) (y : EndId) (m : Message) (header : Read) (c : Content) (a : Arrived)
     → IsArriving wire past y m header c a.admitted → a.admitted.strange ≡ None → a.id ≡ header.interface_id → a.target ≡ c.target
     → a.parameters ≡ c.parameters → a.request ≡ c.request → a.named ≡ picked c.handles 0 m.handles → a.left ≡ unpicked c.handles 0 m.handles
-    → c.moment ≡ None → IsGot wire past y a (got_known wire past y m (header_of m header) c (first_strange (endpoint_at wire past y) [] (ids_read m.bytes)))
+    → a.moment ≡ c.moment → IsGot wire past y a (got_known wire past y m (header_of m header) c (first_strange (endpoint_at wire past y) [] (ids_read m.bytes)))
 arrives wire past y m header c a i none id target parameters request named left moment = record {
   m = m;
   h = header_of m header;

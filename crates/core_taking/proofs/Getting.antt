@@ -1,4 +1,5 @@
 -- What a take that consumes a control makes of pipes, places and endpoints.
+use Rattle.bind_model.specs.declared.told.Noted.{Noted}
 use Rattle.bind_model.specs.declared.told.Noted.TheVariants as noted
 use Rattle.std.proofs.Common.{◌≡◌, ◌≤◌, ℕ, Bool, true, false, List, [], ◌∷◌, ◌++◌, length, drop, refl, sym, ap, ◌∙◌, arith}
 use Rattle.std.specs.Prelude.{if◌then◌else◌, ◌||◌, ◌&&◌, not, ◌==◌, is_some, Option, Some, None}
@@ -23,14 +24,15 @@ use Rattle.bind_model.specs.declared.told.Told.TheVariants.{Control}
 use Rattle.bind_model.specs.declared.event.Event.{Event}
 use Rattle.bind_model.specs.Wire.{Wire}
 use Rattle.bind_model.specs.Machine.{made, made_by, peer, peer_by, gone, gone_by, is_gone, out, given, handed, taken, takes, written, puts}
-use Rattle.bind_model.specs.Machine.{unread, endpoint_at}
+use Rattle.bind_model.specs.Machine.{changes, unread, endpoint_at}
 use Rattle.bind_model.proofs.Kept.{Kept, out_made}
 use Rattle.core_state.specs.Routers.{Routers}
 use Rattle.core_state.specs.Placing.{PutsAll}
 use Rattle.core_state.specs.Agreement.{Agrees, end_in, end_with, is_out, is_shut}
 use Rattle.core_state.proofs.After.{gone_after, out_after, unread_after, end_after}
 use Rattle.core_state.proofs.Facts.{gone_out, gone_made}
-use Rattle.core_state.proofs.Steady.{AllAgree}
+use Rattle.core_state.proofs.Steady.{AllAgree, IsSteady}
+use Rattle.core_taking.specs.steps.Founds.{IsSilent}
 
 -- an event that consumes the oldest message at y, and makes, takes in and writes nothing
 pub record IsReading (wire : Wire) (event : Event) (past : List Event) (y : EndId) : Type 0 where
@@ -213,4 +215,50 @@ control_read wire past seq y id = record {
   takes = λ x. one_taken (same_end y x) (Control (noted.Closed id));
   puts = λ x. refl;
   peer = λ x. refl;
+}
+
+-- what one does that is only told
+pub silent_read : (wire : Wire) (past : List Event) (seq : SeqId) (y : EndId) (c : Noted) → IsSilent c
+    → IsReading wire (record { seq = seq; asked = Take y; told = Control c }) past y
+silent_read wire past seq y c silent = record {
+  made = refl;
+  given = refl;
+  takes = λ x. one_taken (same_end y x) (Control c);
+  puts = none c silent;
+  peer = λ x. refl;
+}
+  where
+    none : (c : Noted) → IsSilent c → (x : EndId) → puts wire past (written wire past) (endpoint_at wire past) (Control c) (Take y) x ≡ []
+    none (noted.Closed id) silent x = absurd silent
+    none (noted.Queried id (Some v)) silent x = absurd silent
+    none (noted.Queried id None) silent x = refl
+    none (noted.Version id v) silent x = refl
+    none (noted.Required id v) silent x = refl
+    none (noted.Flushed k) silent x = refl
+
+pub silent_steady : (wire : Wire) (past : List Event) (seq : SeqId) (y : EndId) (c : Noted) → IsSilent c
+    → IsSteady wire (record { seq = seq; asked = Take y; told = Control c }) past
+silent_steady wire past seq y c silent = record {
+  draws = λ x id. refl;
+  answers = λ x id. refl;
+  associates = λ x. refl;
+  endpoints = same c silent;
+}
+  where
+    same : (c : Noted) → IsSilent c → (x : EndId) (id : ℕ)
+        → changes wire past (written wire past) (endpoint_at wire past) seq (Control c) (Take y) x id ≡ endpoint_at wire past x id
+    same (noted.Closed n) silent x id = absurd silent
+    same (noted.Queried n v) silent x id = refl
+    same (noted.Version n v) silent x id = refl
+    same (noted.Required n v) silent x id = refl
+    same (noted.Flushed k) silent x id = refl
+
+-- one that asks for a version that there is
+pub queried_steady : (wire : Wire) (past : List Event) (seq : SeqId) (y : EndId) (n v : ℕ)
+    → IsSteady wire (record { seq = seq; asked = Take y; told = Control (noted.Queried n (Some v)) }) past
+queried_steady wire past seq y n v = record {
+  draws = λ x id. refl;
+  answers = λ x id. refl;
+  associates = λ x. refl;
+  endpoints = λ x id. refl;
 }

@@ -34,6 +34,7 @@ use Rattle.endpoint_router.specs.Rows.{row_at}
 use Rattle.endpoint_router.proofs.Entering.{unsent}
 use Rattle.core_state.specs.Agreement.{Agrees, past_of, schema_of, wire_in}
 use Rattle.core_state.specs.Routers.{Routers, router_at}
+use Rattle.control_bytes.specs.declared.control.Control.TheVariants.{Closed}
 use Rattle.core_taking.specs.declared.admit.Admitted.{Admitted}
 use Rattle.core_state.specs.declared.state.State.{State}
 use Rattle.core_taking.specs.steps.Admits.{Admits}
@@ -200,7 +201,7 @@ module _ (s : State) (seq : SeqId) (able : HasRoom s seq) (y : EndId) (id : ℕ)
       (dropped_takes (wire_in s) s.seqs (past_of s) seq y k m front id gone a.closed.items
       (ap (λ (es : List Entry). closed_ids es) (enters_is ∙ admits.entries) ∙ sym admits.closed))
       s.pipes sent popped new new mid now
-      (emits_is (schema_of s) (past_of s) k s.pipes mid seen y (made_here s seq able y m front h dropped.header [] a admits) a.closed.items sent g)
+      (emits_is (schema_of s) Closed (past_of s) k s.pipes mid seen y (made_here s seq able y m front h dropped.header [] a admits) a.closed.items sent g)
       b c (none_put new)
       (dropped_turns (wire_in s) (past_of s) seq mid now seen.routers y id gone a.entries.items enters_is
       (unsent (wire_in s) s.seqs (past_of s) able.holds.legal y (tells.Dropped id gone)) t)

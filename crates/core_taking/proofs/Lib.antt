@@ -9,6 +9,7 @@ mod SlotsNoted
 mod SlotsNamed
 mod Taken
 mod Obeying
+mod Answering
 mod LetGo
 mod Receiving
 mod Handing

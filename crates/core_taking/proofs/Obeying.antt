@@ -1,6 +1,5 @@
 -- What a control is told, and that it is done.
-use Rattle.bind_model.specs.declared.told.Noted.TheVariants as noted
-use Rattle.std.proofs.Common.{◌≡◌, ℕ, List, [], ◌∷◌, ◌++◌, length, refl, sym, ap, ◌∙◌}
+use Rattle.std.proofs.Common.{◌≡◌, ℕ, List, [], ◌∷◌, ◌++◌, length, refl, sym, ap, ◌∙◌, subst}
 use Rattle.std.specs.Prelude.{if◌then◌else◌, IsSome, Option, None, Some}
 use Rattle.std.specs.Option.{option_map}
 use Rattle.mj_base.specs.declared.ids.EndId.{EndId}
@@ -9,32 +8,42 @@ use Rattle.mj_base.specs.declared.fault.Fault.{Fault}
 use Rattle.mj_base.specs.declared.fault.FaultKind.TheVariants.{IllegalHandle}
 use Rattle.mj_schema.specs.declared.schema.Schema.{Schema}
 use Rattle.handle_table.specs.declared.thing.Thing.{Thing}
-use Rattle.message_header.specs.Controls.{control_id, control_marks}
 use Rattle.message_header.specs.FirstFailed.{first_failed}
 use Rattle.message_pipe.specs.Contents.{Becomes, Closes, Contents}
 use Rattle.message_pipe.specs.Ends.{closed_by, end_of, without_front}
 use Rattle.message_pipe.specs.declared.message.Message.{Message}
 use Rattle.message_pipe.specs.declared.pipe_end.PipeEnd.{PipeEnd}
 use Rattle.wire_model.specs.Stands.{IsFine}
+use Rattle.control_bytes.specs.Controls.{control_marks, control_said}
+use Rattle.control_bytes.specs.declared.control.Control.{Control}
+use Rattle.control_bytes.specs.declared.control.Control.TheVariants as says
+use Rattle.bind_model.specs.Machine.{endpoint_at}
+use Rattle.bind_model.specs.Wire.{Wire}
 use Rattle.bind_model.specs.WireOf.{wire_of}
-use Rattle.bind_model.specs.Replies.{bad, controlled, is_none}
+use Rattle.bind_model.specs.Replies.{bad, controlled, heard, is_none}
 use Rattle.bind_model.specs.declared.asked.Asked.TheVariants as asks
 use Rattle.bind_model.specs.declared.commands.Command.TheVariants as commands
 use Rattle.bind_model.specs.declared.commands.Reply.TheVariants as replies
 use Rattle.bind_model.specs.declared.event.Event.{Event}
 use Rattle.bind_model.specs.declared.told.BadWhy.TheVariants as bads
+use Rattle.bind_model.specs.declared.told.Noted.{Noted}
+use Rattle.bind_model.specs.declared.told.Noted.TheVariants as noted
 use Rattle.bind_model.specs.declared.told.Told.{Told}
 use Rattle.bind_model.specs.declared.told.Told.TheVariants as tells
 use Rattle.bind_model.proofs.Fresh.{kept}
 use Rattle.endpoint_router.specs.Changes.{marked}
-use Rattle.core_state.specs.Agreement.{past_of, schema_of, wire_in}
+use Rattle.core_state.specs.Agreement.{Holds, past_of, schema_of, wire_in}
 use Rattle.core_state.specs.Doing.{Done, HasRoom, told_to}
+use Rattle.core_state.specs.Routers.{Routers}
 use Rattle.core_state.specs.Turns.{TurnsAt}
 use Rattle.core_state.specs.declared.state.State.{State}
-use Rattle.core_taking.proofs.Fronts.{control_there}
-use Rattle.core_taking.proofs.Getting.{control_read, read_agrees}
+use Rattle.core_state.proofs.Early.{unpended}
 use Rattle.core_state.proofs.Held.{event_of, finish, goes}
-use Rattle.core_state.proofs.Steady.{control_turns}
+use Rattle.core_state.proofs.Steady.{AllAgree, control_turns, steady}
+use Rattle.core_taking.specs.declared.reading.Found.{Found}
+use Rattle.core_taking.specs.steps.Founds.{IsSilent, Tells}
+use Rattle.core_taking.proofs.Fronts.{control_there}
+use Rattle.core_taking.proofs.Getting.{IsReading, control_read, read_agrees, silent_read, silent_steady}
 use Rattle.core_taking.proofs.Taken.{none_put}
 use Rattle.core_taking.proofs.WireReads.{control_fails, control_reads}
 
@@ -49,28 +58,38 @@ module _ (schema : Schema) (past : List Event) (y : EndId) (m : Message) (bytes 
   control_bad fault h = ap (controlled (wire_of schema) past y m) (control_fails schema m.bytes fault (rw same h))
 
   -- all hold, and there are no handles
-  pub control_told : (id : ℕ) → IsFine (control_marks bytes) → id ≡ control_id bytes → length m.handles ≡ 0
-      → told_of_control ≡ tells.Control (noted.Closed id)
-  control_told id fine e none =
-      ap (controlled (wire_of schema) past y m) (control_reads schema m.bytes id (rw same fine) (rw same e)) ∙ go m.handles none
+  pub control_told : (c : Control) → IsFine (control_marks bytes) → c ≡ control_said bytes → length m.handles ≡ 0
+      → told_of_control ≡ heard (wire_of schema) past y c
+  control_told c fine e none =
+      ap (controlled (wire_of schema) past y m) (control_reads schema m.bytes c (rw same fine) (rw same e)) ∙ go m.handles none
     where
       go : (hs : List Thing) → length hs ≡ 0
-          → (if is_none hs then tells.Control (noted.Closed id) else bad (wire_of schema) past y (bads.Message (record { kind = IllegalHandle; at = 0 })))
-          ≡ tells.Control (noted.Closed id)
+          → (if is_none hs then heard (wire_of schema) past y c else bad (wire_of schema) past y (bads.Message (record { kind = IllegalHandle; at = 0 })))
+          ≡ heard (wire_of schema) past y c
       go [] h = refl
       go (x ∷ hs) h = absurd cc
 
   -- or there are some
-  pub control_held : (id : ℕ) → IsFine (control_marks bytes) → id ≡ control_id bytes → (length m.handles ≡ 0 → ⊥)
+  pub control_held : (c : Control) → IsFine (control_marks bytes) → c ≡ control_said bytes → (length m.handles ≡ 0 → ⊥)
       → told_of_control ≡ bad (wire_of schema) past y (bads.Message (record { kind = IllegalHandle; at = 0 }))
-  control_held id fine e some =
-      ap (controlled (wire_of schema) past y m) (control_reads schema m.bytes id (rw same fine) (rw same e)) ∙ go m.handles some
+  control_held c fine e some =
+      ap (controlled (wire_of schema) past y m) (control_reads schema m.bytes c (rw same fine) (rw same e)) ∙ go m.handles some
     where
       go : (hs : List Thing) → (length hs ≡ 0 → ⊥)
-          → (if is_none hs then tells.Control (noted.Closed id) else bad (wire_of schema) past y (bads.Message (record { kind = IllegalHandle; at = 0 })))
+          → (if is_none hs then heard (wire_of schema) past y c else bad (wire_of schema) past y (bads.Message (record { kind = IllegalHandle; at = 0 })))
           ≡ bad (wire_of schema) past y (bads.Message (record { kind = IllegalHandle; at = 0 }))
       go [] h = absurd (h refl)
       go (x ∷ hs) h = refl
+
+-- what is told is what is found
+pub tells_as : (wire : Wire) (past : List Event) (y : EndId) (what : Found) (one other : Told) → one ≡ other → Tells wire past y what other
+    → Tells wire past y what one
+tells_as wire past y what one other e t = subst (λ (told : Told). Tells wire past y what told) (sym e) t
+
+-- no version is awaited
+pub unawaited : (s : State) → Holds s → (y : EndId) (id v : ℕ)
+    → heard (wire_in s) (past_of s) y (says.Version id v) ≡ bad (wire_in s) (past_of s) y (bads.Unasked 0)
+unawaited s h y id v = rw (unpended (wire_in s) s.seqs (past_of s) h.legal h.early y id (endpoint_at (wire_in s) (past_of s) y id)) refl
 
 -- ## What is done
 
@@ -88,23 +107,47 @@ none_closed pipes = record {
     go x None = refl
     go x (Some e) = refl
 
-module _ (s : State) (seq : SeqId) (able : HasRoom s seq) (y : EndId) (id : ℕ) (told : told_to s seq (asks.Take y) ≡ tells.Control (noted.Closed id)) where
-  pub obey_there : IsSome (end_of s.pipes.ends y)
-  obey_there =
-      control_there (wire_in s) s.seqs (past_of s) able.holds.legal s.pipes s.endpoints able.holds.agrees seq able.within y (noted.Closed id) (sym told)
+module _ (s : State) (seq : SeqId) (able : HasRoom s seq) (y : EndId) where
+  -- a control lies there
+  pub obey_there : (c : Noted) → told_to s seq (asks.Take y) ≡ tells.Control c → IsSome (end_of s.pipes.ends y)
+  obey_there c told =
+      control_there (wire_in s) s.seqs (past_of s) able.holds.legal s.pipes s.endpoints able.holds.agrees seq able.within y c (sym told)
 
-  pub obey_done : (new : State) → schema_of new ≡ schema_of s → new.seqs ≡ s.seqs → new.rights ≡ s.rights
+  -- it is away, and the routers are those that the events give
+  control_done : (c : Noted) → told_to s seq (asks.Take y) ≡ tells.Control c
+      → IsReading (wire_in s) (record { seq = seq; asked = asks.Take y; told = tells.Control c }) (past_of s) y
+      → (new : State) → schema_of new ≡ schema_of s → new.seqs ≡ s.seqs → new.rights ≡ s.rights
+      → new.log.events ≡ s.log.events ++ record { seq = seq; asked = asks.Take y; told = tells.Control c } ∷ []
+      → AllAgree (wire_in s) (record { seq = seq; asked = asks.Take y; told = tells.Control c } ∷ past_of s) new.endpoints
+      → Becomes y without_front s.pipes new.pipes → Done s new seq (commands.Take y) (replies.Control c)
+  control_done c told reading new schema seqs unmoved events routers b =
+      finish s new seq (commands.Take y) (replies.Control c) able schema seqs unmoved
+      (record { none = refl; handed = λ wire. refl; after = λ rs. refl; gives = refl; hands = refl; halves = λ wire past. refl }) events (sym told)
+      (read_agrees (wire_in s) (event_of seq (commands.Take y) (replies.Control c)) (past_of s) y
+      (kept (wire_in s) s.seqs (past_of s) able.holds.legal)
+      (kept (wire_in s) s.seqs (event_of seq (commands.Take y) (replies.Control c) ∷ past_of s)
+      (goes s new seq (commands.Take y) (replies.Control c) able (sym told)))
+      reading s.pipes new.pipes new.pipes new.pipes s.endpoints new.endpoints b (none_closed new.pipes) (none_put new.pipes) routers able.holds.agrees)
+      tt
+
+  -- the peer of an endpoint is closed
+  pub obey_done : (id : ℕ) → told_to s seq (asks.Take y) ≡ tells.Control (noted.Closed id)
+      → (new : State) → schema_of new ≡ schema_of s → new.seqs ≡ s.seqs → new.rights ≡ s.rights
       → new.log.events ≡ s.log.events ++ record { seq = seq; asked = asks.Take y; told = tells.Control (noted.Closed id) } ∷ []
       → TurnsAt marked y id s.endpoints new.endpoints → Becomes y without_front s.pipes new.pipes
       → Done s new seq (commands.Take y) (replies.Control (noted.Closed id))
-  obey_done new schema seqs unmoved events t b =
-      finish s new seq (commands.Take y) (replies.Control (noted.Closed id)) able schema seqs unmoved
-      (record { none = refl; handed = λ wire. refl; after = λ rs. refl; gives = refl; hands = refl; halves = λ wire past. refl }) events (sym told)
-      (read_agrees (wire_in s) (event_of seq (commands.Take y) (replies.Control (noted.Closed id))) (past_of s) y
-      (kept (wire_in s) s.seqs (past_of s) able.holds.legal)
-      (kept (wire_in s) s.seqs (event_of seq (commands.Take y) (replies.Control (noted.Closed id)) ∷ past_of s)
-      (goes s new seq (commands.Take y) (replies.Control (noted.Closed id)) able (sym told)))
-      (control_read (wire_in s) (past_of s) seq y id) s.pipes new.pipes new.pipes new.pipes s.endpoints new.endpoints b (none_closed new.pipes)
-      (none_put new.pipes)
-      (control_turns (wire_in s) (past_of s) seq s.endpoints new.endpoints able.holds.agrees.routers y id t) able.holds.agrees)
-      tt
+  obey_done id told new schema seqs unmoved events t b =
+      control_done (noted.Closed id) told (control_read (wire_in s) (past_of s) seq y id) new schema seqs unmoved events
+      (control_turns (wire_in s) (past_of s) seq s.endpoints new.endpoints able.holds.agrees.routers y id t) b
+
+  -- nothing else is done
+  pub heed_done : (c : Noted) → told_to s seq (asks.Take y) ≡ tells.Control c → IsSilent c
+      → (new : State) → schema_of new ≡ schema_of s → new.seqs ≡ s.seqs → new.rights ≡ s.rights
+      → new.log.events ≡ s.log.events ++ record { seq = seq; asked = asks.Take y; told = tells.Control c } ∷ []
+      → new.endpoints ≡ s.endpoints → Becomes y without_front s.pipes new.pipes
+      → Done s new seq (commands.Take y) (replies.Control c)
+  heed_done c told silent new schema seqs unmoved events same b =
+      control_done c told (silent_read (wire_in s) (past_of s) seq y c silent) new schema seqs unmoved events
+      (subst (λ (all : Routers). AllAgree (wire_in s) (record { seq = seq; asked = asks.Take y; told = tells.Control c } ∷ past_of s) all) (sym same)
+      (steady (wire_in s) (record { seq = seq; asked = asks.Take y; told = tells.Control c }) (past_of s)
+      (silent_steady (wire_in s) (past_of s) seq y c silent) s.endpoints able.holds.agrees.routers)) b

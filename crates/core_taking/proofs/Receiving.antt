@@ -52,6 +52,7 @@ use Rattle.core_state.specs.steps.Dues.{responder_due, times_in}
 use Rattle.core_state.specs.Turns.{IsSame}
 use Rattle.core_state.proofs.Emitted.{emits_is}
 use Rattle.core_taking.proofs.Fronts.{goes_is, got_there, lie_there}
+use Rattle.control_bytes.specs.declared.control.Control.TheVariants.{Closed}
 use Rattle.core_state.proofs.Held.{event_of, finish_with}
 use Rattle.core_taking.proofs.LetGo.{are_named, are_new, has_peer, made_here, main_row, still_there}
 use Rattle.core_taking.proofs.PendingsOut.{got_hands, got_known, names_from}
@@ -70,7 +71,7 @@ plain_of r = record {
   handles = r.handles;
   pendings = names_of r.pendings;
   gone = r.gone;
-  moment = None;
+  moment = r.moment;
 }
 
 -- ## What is known of the message
@@ -104,7 +105,7 @@ module _ (s : State) (seq : SeqId) (able : HasRoom s seq) (y : EndId) (a : Arriv
     handles = a.named;
     pendings = names;
     gone = gone;
-    moment = None;
+    moment = a.moment;
   }
 
   abbrev names : List PendingId
@@ -199,7 +200,7 @@ module _ (s : State) (seq : SeqId) (able : HasRoom s seq) (y : EndId) (a : Arriv
         (got_takes (wire_in s) s.seqs (past_of s) seq y before got.m front g a.admitted.closed.items
         (ap (λ (es : List Entry). closed_ids es) (got_entering names b.gone ∙ got.admits.entries) ∙ sym got.admits.closed))
         s.pipes sent popped shut new mid now
-        (emits_is (schema_of s) (past_of s) before s.pipes mid seen y
+        (emits_is (schema_of s) Closed (past_of s) before s.pipes mid seen y
         (made_here s seq able y got.m front got.h got.reads got.c.ids a.admitted got.admits) a.admitted.closed.items sent e)
         f c p
         (got_turns (wire_in s) (past_of s) seq mid now seen.routers y g entries entered (got_entering names b.gone)
@@ -216,6 +217,7 @@ module _ (s : State) (seq : SeqId) (able : HasRoom s seq) (y : EndId) (a : Arriv
       pendings = pendings;
       responder = responder;
       gone = b.gone;
+      moment = a.moment;
     }
 
     abbrev noted : List PendingId → List Event

@@ -1,7 +1,7 @@
 -- What a take that consumes a message makes of pipes, places and endpoints, where ids enter and controls are emitted.
-use Rattle.bind_model.specs.declared.control.Control.TheVariants as says
+use Rattle.control_bytes.specs.declared.control.Control.TheVariants as says
 use Rattle.std.proofs.Common.{◌≡◌, ◌≤◌, ℕ, Bool, true, false, List, [], ◌∷◌, ◌++◌, length, drop, refl, sym, ap, ◌∙◌}
-use Rattle.std.specs.Prelude.{if◌then◌else◌, ◌||◌, ◌&&◌, not, ◌==◌, filter, is_some, Option, Some, None}
+use Rattle.std.specs.Prelude.{if◌then◌else◌, ◌||◌, ◌&&◌, not, ◌==◌, filter, is_some, map, Option, Some, None}
 use Rattle.std.specs.Option.{option_map}
 use Rattle.std.specs.List.{count_by}
 use Rattle.std.proofs.lemmas.List.{append-nil}
@@ -21,7 +21,8 @@ use Rattle.message_pipe.specs.declared.pipe_end.PipeEnd.{PipeEnd}
 use Rattle.bind_model.specs.declared.asked.Asked.TheVariants.{Take}
 use Rattle.bind_model.specs.declared.event.Event.{Event}
 use Rattle.bind_model.specs.declared.told.Got.{Got}
-use Rattle.bind_model.specs.declared.told.Told.TheVariants.{Dropped, Taken}
+use Rattle.bind_model.specs.declared.told.Noted.TheVariants as noted
+use Rattle.bind_model.specs.declared.told.Told.TheVariants.{Control, Dropped, Taken}
 use Rattle.bind_model.specs.Wire.{Wire}
 use Rattle.bind_model.specs.Machine.{made, made_by, peer, peer_by, gone, gone_by, is_gone, out, given, handed, taken, takes, written, puts}
 use Rattle.bind_model.specs.Machine.{closed_ids, emits, enters, is_peer_closed, unread, endpoint_at}
@@ -285,5 +286,23 @@ module _ (wire : Wire) (seqs : ℕ) (past : List Event) (seq : SeqId) (y : EndId
     takes = λ x. one_taken (same_end y x) (Dropped id goes);
     front = (m, front.rest, front.stands);
     puts = λ x. ap (λ (js : List ℕ). emits wire past y (endpoint_at wire past y) says.Closed js x) is;
+    peer = λ x. refl;
+  }
+
+  -- the version that is due where an endpoint is asked for it
+  abbrev pub due_version : ℕ → ℕ → List Message
+  due_version id v =
+      map (λ n. record { bytes = wire.control (says.Version n v); handles = []; emitted = true })
+      (filter (λ n. not (is_peer_closed (endpoint_at wire past y n))) (id ∷ []))
+
+  pub queried_takes : (m : Message) (front : Fronts wire past y m) (id v : ℕ)
+      → IsTaking wire (record { seq = seq; asked = Take y; told = Control (noted.Queried id (Some v)) }) past y (due_version id v)
+  queried_takes m front id v = record {
+    made = refl;
+    given = refl;
+    few = few_read wire seqs past seq k y m front (Control (noted.Queried id (Some v)));
+    takes = λ x. one_taken (same_end y x) (Control (noted.Queried id (Some v)));
+    front = (m, front.rest, front.stands);
+    puts = λ x. refl;
     peer = λ x. refl;
   }

@@ -1,5 +1,4 @@
 -- What bytes stand for at a schema's wire, by what the reader and the validator answer.
-use Rattle.bind_model.specs.declared.control.Control.TheVariants.{Closed}
 use Rattle.std.proofs.Common.{◌≡◌, ℕ, true, List, refl, sym, ap, ◌∙◌, subst}
 use Rattle.std.specs.Prelude.{Option, Some, None, Result, Ok, Err, is_ok, option_and_then}
 use Rattle.bounds_claims.specs.Runs.{first_fault, run, passes}
@@ -7,7 +6,8 @@ use Rattle.bounds_claims.specs.declared.claims.Claims.{Claims}
 use Rattle.mj_base.specs.declared.fault.Fault.{Fault}
 use Rattle.mj_base.specs.declared.header.Header.{Header as Read}
 use Rattle.mj_schema.specs.declared.schema.Schema.{Schema}
-use Rattle.message_header.specs.Controls.{control_id, control_marks}
+use Rattle.control_bytes.specs.Controls.{control_marks, control_said}
+use Rattle.control_bytes.specs.declared.control.Control.{Control}
 use Rattle.message_header.specs.FirstFailed.{first_failed}
 use Rattle.message_header.specs.Said.{header_said}
 use Rattle.message_header.proofs.Fine.{fine_passes}
@@ -39,10 +39,10 @@ pub control_fails : (schema : Schema) (bytes : List ℕ) (fault : Fault) → fir
 unfolding wire_of
 control_fails schema bytes fault h = rw h refl
 
-pub control_reads : (schema : Schema) (bytes : List ℕ) (id : ℕ) → IsFine (control_marks bytes) → id ≡ control_id bytes
-    → (wire_of schema).says bytes ≡ Ok (Closed id)
+pub control_reads : (schema : Schema) (bytes : List ℕ) (c : Control) → IsFine (control_marks bytes) → c ≡ control_said bytes
+    → (wire_of schema).says bytes ≡ Ok c
 unfolding wire_of
-control_reads schema bytes id fine e = rw (fine_passes (control_marks bytes) fine, e) refl
+control_reads schema bytes c fine e = rw (fine_passes (control_marks bytes) fine, e) refl
 
 -- what comes to an endpoint of this side and interface
 abbrev pub coming : EndpointSide → ℕ → Expected

@@ -4,7 +4,9 @@
 
 mod admit;
 mod dropping;
+mod hear;
 mod indexes;
+mod obey;
 mod pendings;
 mod reading;
 mod receive;

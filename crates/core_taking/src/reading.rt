@@ -8,12 +8,11 @@ ghost use Rattle.bind_model.specs.declared.told.Told.TheVariants as tells;
 ghost use Rattle.wire_model.specs.Message.{ids_read, payload_start};
 ghost use Rattle.bind_model.specs.Machine.{content_at, endpoint_at, first_strange, goes_behind, is_closed};
 ghost use Rattle.mj_schema.specs.KindTrees.{StructKind};
-ghost use Rattle.mj_schema.specs.declared.schema.Schema.{Schema};
 ghost use Rattle.message_header.specs.Said.{header_said, IsPlaced};
 ghost use Rattle.wire_model.specs.HeaderMarks.{CONTROL_ID};
 ghost use Rattle.bind_model.specs.Replies.{at_endpoint, controlled, got_known, headed, is_response, judged};
 ghost use Rattle.bind_model.specs.Wire.{Wire};
-ghost use Rattle.bind_model.specs.WireOf.{comes_to, content_in, endpoints_named, wire_of};
+ghost use Rattle.bind_model.specs.WireOf.{comes_to, content_in, endpoints_named};
 ghost use Rattle.wire_encoder.specs.Checks.{checks};
 ghost use Rattle.wire_model.specs.Tight.{value_of};
 ghost use Rattle.wire_model.specs.Trees.{view};
@@ -24,12 +23,14 @@ ghost use Rattle.endpoint_router.specs.Rows.{is_pending, row_at};
 ghost use Rattle.core_state.specs.Agreement.{Holds, past_of, wire_in};
 
 use crate::admit::{Admitted, admit, carried_ids};
+use crate::hear::hear;
 use crate::indexes::part_named;
 use crate::slots::slots_of;
-use bind_model::{BadWhy, Endpoint, Parameters, State as EndpointState, Why};
+use bind_model::{BadWhy, Endpoint, Noted, Parameters, State as EndpointState, Why};
+use control_bytes::read_control;
 use core_state::State;
 use handle_table::Thing;
-use message_header::{CONTROL_ID, read_control, read_header};
+use message_header::{CONTROL_ID, read_header};
 use message_pipe::Message;
 use message_validator::{Checked, check};
 use mj_base::{EndId, Fault, FaultKind, Header, Items, SeqId};
@@ -48,14 +49,14 @@ pub(crate) enum Found {
     /// A message for the endpoint of this id, which isn't there or is closed, and what its ids are to the
     /// end.
     Dropped(u32, Admitted),
-    /// A control: the peer of the endpoint of this id is closed.
-    Control(u32),
+    /// A control, as it is told.
+    Control(Noted),
     Value(Arrived),
 }
 
 /// A request or a response for the endpoint of an id: its method and side, its parameters, its request id
 /// (0 where it has none), the things of the handles that the parameters name in the order of their
-/// indexes, those of the others, and what its ids are to the end.
+/// indexes, those of the others, its moment, and what its ids are to the end.
 #[derive(Drop)]
 pub(crate) struct Arrived {
     pub(crate) id: u32,
@@ -64,6 +65,7 @@ pub(crate) struct Arrived {
     pub(crate) request: u64,
     pub(crate) named: Items<Thing>,
     pub(crate) left: Items<Thing>,
+    pub(crate) moment: Option<i64>,
     pub(crate) admitted: Admitted,
 }
 
@@ -148,6 +150,7 @@ fn arrive_known(
         request: checked.request,
         named,
         left,
+        moment: checked.moment,
         admitted,
     }))
 }
@@ -266,20 +269,22 @@ fn deliver(
     }
 }
 
-/// What a control with so many handles says: which endpoint's peer is closed. One with handles is bad.
-fn control(bytes: &[u8], handles: usize, header: &Header) -> Found
+/// What a control with so many handles says at an end. One with handles is bad.
+fn control(state: &State, end: EndId, bytes: &[u8], handles: usize, header: &Header) -> Found
+    requires holds { Holds state.now }
     requires said { header.now ≡ header_said bytes.now }
     requires placed { IsPlaced bytes.now header.now }
     requires control { header.now.interface_id ≡ CONTROL_ID }
-    ensures { (schema : Schema) (past : List Event) (y : end_id) (m : a_message) → m.bytes ≡ bytes.now → length m.handles ≡ handles
-        → Tells (wire_of schema) past y result (controlled (wire_of schema) past y m ((wire_of schema).says m.bytes)) }
+    ensures { (m : a_message) → m.bytes ≡ bytes.now → length m.handles ≡ handles
+        → Tells (wire_in state.now) (past_of state.now) end result
+        (controlled (wire_in state.now) (past_of state.now) end m ((wire_in state.now).says m.bytes)) }
 {
-    let id = match read_control(bytes, header) {
-        Ok(id) => id,
+    let control = match read_control(bytes, header) {
+        Ok(control) => control,
         Err(fault) => return Found::Bad(BadWhy::Message(fault)),
     };
     if handles == 0 {
-        return Found::Control(id);
+        return hear(state, end, control);
     }
     Found::Bad(BadWhy::Message(Fault {
         kind: FaultKind::IllegalHandle,
@@ -306,7 +311,7 @@ pub(crate) fn read(
         Err(fault) => return Ok(Found::Bad(BadWhy::Message(fault))),
     };
     if header.interface_id == CONTROL_ID {
-        return Ok(control(bytes, message.handles.len(), &header));
+        return Ok(control(state, end, bytes, message.handles.len(), &header));
     }
     let endpoint = state.endpoints.find(end, header.interface_id);
     let ids = carried_ids(alloc, bytes, header.ids)?;

@@ -25,7 +25,7 @@ ghost use Rattle.core_taking.specs.steps.Founds.{IsGot, is_pending, pending_ids}
 ghost use Rattle.core_taking.specs.steps.Pending.{HavePlaces};
 ghost use Rattle.core_state.specs.Placing.{PutsAll};
 ghost use Rattle.core_state.specs.steps.Requests.{AnswersAt};
-ghost use Rattle.core_taking.specs.steps.Taking.{IsBrought, LieThere};
+ghost use Rattle.core_taking.specs.steps.Taking.{IsBrought, LieThere, noted_as};
 ghost use Rattle.core_state.specs.steps.Dues.{responder_due, times_in};
 ghost use Rattle.core_state.specs.Turns.{IsSame};
 
@@ -80,26 +80,40 @@ fn names_at(alloc: Global, end: EndId, entries: &[Entering]) -> Result<Items<Pen
     Ok(Items::from_vec(names))
 }
 
+/// What arrived at an end as it is noted, with the things that go.
+fn note_got(
+    alloc: Global,
+    end: EndId,
+    arrived: &Arrived,
+    gone: Items<Thing>,
+) -> Result<Got, AllocError>
+    ensures { IfOk result (λ noted. noted ≡ noted_as end arrived.now gone) }
+{
+    let parameters = Parameters::new(copy_value(alloc, arrived.parameters.value())?);
+    let handles = arrived.named.copy(alloc)?;
+    let pendings = names_at(alloc, end, arrived.admitted.entries.as_slice())?;
+    Ok(Got {
+        id: arrived.id,
+        target: arrived.target,
+        parameters,
+        request: arrived.request,
+        handles,
+        pendings,
+        gone,
+        moment: arrived.moment,
+    })
+}
+
 /// Makes all that a message at an end brings.
 fn gather(pipes: &Pipes, alloc: Global, end: EndId, arrived: &Arrived) -> Result<Brings, AllocError>
     ensures { IfOk result (λ brings. IsBrought pipes.now end arrived.now brings) }
 {
     let left = arrived.left.copy(alloc)?.into_vec();
     let goes = goes_behind(pipes, alloc, end, left)?;
-    let entries = arrived.admitted.entries.as_slice();
-    let noted = Got {
-        id: arrived.id,
-        target: arrived.target,
-        parameters: Parameters::new(copy_value(alloc, arrived.parameters.value())?),
-        request: arrived.request,
-        handles: arrived.named.copy(alloc)?,
-        pendings: names_at(alloc, end, entries)?,
-        gone: goes.noted,
-        moment: None,
-    };
+    let noted = note_got(alloc, end, arrived, goes.noted)?;
     let things = arrived.named.copy(alloc)?;
     let room = Vec::with_capacity(alloc, things.len())?;
-    match room_for(alloc, entries) {
+    match room_for(alloc, arrived.admitted.entries.as_slice()) {
         Ok(pendings) => Ok(Brings {
             noted,
             things,
@@ -313,5 +327,6 @@ pub(crate) fn receive(
         pendings,
         responder,
         gone,
+        moment: arrived.moment,
     }))
 }

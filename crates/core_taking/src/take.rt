@@ -1,24 +1,21 @@
 //! Taking: the oldest unread message at an end.
 
-ghost use Rattle.bind_model.specs.declared.told.Noted.TheVariants as noted;
 ghost use Rattle.std.specs.Prelude.{◌≡◌, Ok, Err, Some, IfOk, IfErr};
 ghost use Rattle.message_pipe.specs.Ends.{carried_in, end_of, peer_of, spread, unread_at};
 ghost use Rattle.message_pipe.specs.Mail.{front_of};
 ghost use Rattle.bind_model.specs.declared.asked.Asked.TheVariants as asks;
-ghost use Rattle.bind_model.specs.declared.told.Told.TheVariants as tells;
 ghost use Rattle.bind_model.specs.Replies.{bad};
-ghost use Rattle.endpoint_router.specs.Changes.{marked};
 ghost use Rattle.core_taking.specs.steps.Founds.{Tells, things_in};
 ghost use Rattle.core_state.specs.Agreement.{Holds, past_of, wire_in};
 ghost use Rattle.core_state.specs.Doing.{CanDo, Done, HasRoom, Undone, told_to};
 ghost use Rattle.core_taking.specs.steps.Taking.{front_found, nothing_at};
-ghost use Rattle.core_state.specs.Turns.{TurnsAt};
 
 use crate::dropping::discard;
+use crate::obey::obey;
 use crate::reading::{Found, read};
 use crate::receive::receive;
-use bind_model::{Asked, BadWhy, Command, Event, Noted, Refused, Reply, Told, Why};
-use core_state::{Goes, Routers, State, Turn, goes_with, refuse};
+use bind_model::{Asked, BadWhy, Command, Event, Refused, Reply, Told, Why};
+use core_state::{Goes, State, goes_with, refuse};
 use handle_table::Thing;
 use message_pipe::{Message, Pipes};
 use mj_base::{EndId, Items, SeqId};
@@ -37,7 +34,7 @@ pub fn take(state: &mut State, alloc: Global, seq: SeqId, end: EndId) -> Result<
         Ok(Found::Nothing(why)) => refuse(state, seq, Asked::Take(end), why, Command::Take(end)),
         Ok(Found::Bad(why)) => spoil(state, alloc, seq, end, why),
         Ok(Found::Dropped(id, admitted)) => discard(state, alloc, seq, end, id, admitted),
-        Ok(Found::Control(id)) => Ok(obey(state, seq, end, id)),
+        Ok(Found::Control(noted)) => obey(state, alloc, seq, end, noted),
         Ok(Found::Value(arrived)) => receive(state, alloc, seq, end, arrived),
         Err(_) => Err(Refused::Memory(Command::Take(end))),
     }
@@ -104,31 +101,6 @@ fn spoil(
         told: Told::Bad(why, goes.noted),
     });
     Ok(Reply::Bad(why, goes.told))
-}
-
-/// Notes that the peer of the endpoint of an id at an end is closed; nothing where the end has no such one.
-fn mark_peer(endpoints: &mut Routers, end: EndId, id: u32)
-    ensures { TurnsAt marked end id endpoints.old endpoints.new }
-{
-    if endpoints.find(end, id).is_some() {
-        endpoints.turn(end, id, Turn::PeerClosed);
-    }
-}
-
-/// Takes a control away: the peer of the endpoint that it names is closed.
-fn obey(state: &mut State, seq: SeqId, end: EndId, id: u32) -> Reply
-    requires able { HasRoom state.old seq }
-    requires told { told_to state.old seq (asks.Take end) ≡ tells.Control (noted.Closed id) }
-    ensures { Done state.old state.new seq (Command.Take end) result }
-{
-    let _front = state.pipes.pop_front(end);
-    mark_peer(&mut state.endpoints, end, id);
-    state.log.push_reserved(Event {
-        seq,
-        asked: Asked::Take(end),
-        told: Told::Control(Noted::Closed(id)),
-    });
-    Reply::Control(Noted::Closed(id))
 }
 
 /// What goes with things of the message that is taken at an end. Nothing is closed yet.

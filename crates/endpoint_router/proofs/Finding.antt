@@ -14,7 +14,7 @@ use Rattle.bind_model.specs.declared.endpoint.Endpoint.{Endpoint}
 use Rattle.bind_model.specs.declared.endpoint.State.{State}
 use Rattle.bind_model.specs.declared.endpoint.State.TheVariants.{Bound, Closed, Pending}
 use Rattle.bind_model.specs.declared.event.Event.{Event}
-use Rattle.bind_model.specs.declared.control.Control.{Control as ControlType}
+use Rattle.control_bytes.specs.declared.control.Control.{Control as ControlType}
 use Rattle.bind_model.specs.declared.told.Told.TheVariants.{No}
 use Rattle.bind_model.specs.declared.told.Why.TheVariants as whys
 use Rattle.endpoint_router.specs.declared.next.Next.TheVariants.{Check, Elsewhere}

@@ -7,7 +7,6 @@ use Rattle.mj_base.specs.declared.header.Header.{Header as Read}
 use Rattle.mj_base.specs.declared.ids.SeqId.{SeqId}
 use Rattle.mj_schema.specs.declared.schema.Schema.{Schema}
 use Rattle.handle_table.specs.declared.thing.Thing.{Thing}
-use Rattle.message_header.specs.Controls.{control_id, control_marks}
 use Rattle.message_header.specs.FirstFailed.{first_failed}
 use Rattle.message_header.specs.Said.{header_said}
 use Rattle.message_header.proofs.Fine.{fine_passes}
@@ -17,8 +16,9 @@ use Rattle.wire_model.specs.Message.{ids_read}
 use Rattle.wire_model.specs.Stands.{IsFine}
 use Rattle.bind_model.specs.Machine.{Endpoints}
 use Rattle.bind_model.specs.Replies.{is_none}
-use Rattle.bind_model.specs.WireOf.{closed_id_in, closing_said, wire_of}
-use Rattle.bind_model.specs.declared.control.Control.TheVariants.{Closed}
+use Rattle.bind_model.specs.WireOf.{says_in, wire_of}
+use Rattle.control_bytes.specs.Controls.{control_marks, control_said}
+use Rattle.control_bytes.specs.declared.control.Control.{Control}
 use Rattle.endpoint_router.specs.Nexts.{control_found, endpoint_found, header_found, next_of}
 use Rattle.endpoint_router.specs.declared.next.Next.TheVariants.{Bad}
 
@@ -33,13 +33,13 @@ header_reads : (schema : Schema) (bytes : List ℕ) (header : Read) → IsFine (
 unfolding wire_of
 header_reads schema bytes header fine e = rw (fine_passes (header_marks bytes) fine, e) refl
 
-closed_id_reads : (schema : Schema) (bytes : List ℕ) → (wire_of schema).says bytes ≡ closing_said (closed_id_in bytes)
+says_reads : (schema : Schema) (bytes : List ℕ) → (wire_of schema).says bytes ≡ says_in bytes
 unfolding wire_of
-closed_id_reads schema bytes = refl
+says_reads schema bytes = refl
 
 -- a control of which each test holds
-pub control_reads : (bytes : List ℕ) (id : ℕ) → IsFine (control_marks bytes) → id ≡ control_id bytes → closing_said (closed_id_in bytes) ≡ Ok (Closed id)
-control_reads bytes id fine e = rw (fine_passes (control_marks bytes) fine, e) refl
+pub control_reads : (bytes : List ℕ) (control : Control) → IsFine (control_marks bytes) → control ≡ control_said bytes → says_in bytes ≡ Ok control
+control_reads bytes control fine e = rw (fine_passes (control_marks bytes) fine, e) refl
 
 -- whether there are handles
 pub some_handles : (things : List Thing) (n : ℕ) → n ≡ length things → nat_lt 0 n ≡ not (is_none things)
@@ -66,8 +66,8 @@ module _ (schema : Schema) (endpoints : Endpoints) (seq : SeqId) (m : Message) w
 
     -- a control
     pub control_next : header.interface_id ≡ CONTROL_ID
-        → control_found m.handles (closing_said (closed_id_in m.bytes)) ≡ next_of (wire_of schema) endpoints seq m
-    control_next e = sym (read ∙ rw (e, closed_id_reads schema m.bytes) refl)
+        → control_found m.handles (says_in m.bytes) ≡ next_of (wire_of schema) endpoints seq m
+    control_next e = sym (read ∙ rw (e, says_reads schema m.bytes) refl)
 
     -- another message
     pub endpoint_next : (header.interface_id ≡ CONTROL_ID → ⊥)

@@ -9,7 +9,7 @@ use Rattle.message_pipe.specs.declared.message.Message.{Message}
 use Rattle.wire_model.specs.HeaderMarks.{CONTROL_ID}
 use Rattle.bind_model.specs.Machine.{Endpoints, endpoint_at, goes_behind}
 use Rattle.bind_model.specs.Replies.{bad, heard, is_none, judged}
-use Rattle.bind_model.specs.declared.control.Control.{Control as ControlType}
+use Rattle.control_bytes.specs.declared.control.Control.{Control as ControlType}
 use Rattle.bind_model.specs.Wire.{Header, Wire}
 use Rattle.bind_model.specs.declared.endpoint.Endpoint.{Endpoint}
 use Rattle.bind_model.specs.declared.endpoint.State.{State}

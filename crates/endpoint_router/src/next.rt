@@ -5,13 +5,14 @@ ghost use Rattle.message_header.specs.Said.{header_said, IsPlaced};
 ghost use Rattle.mj_schema.specs.declared.schema.Schema.{Schema};
 ghost use Rattle.wire_model.specs.HeaderMarks.{CONTROL_ID};
 ghost use Rattle.bind_model.specs.Replies.{is_none};
-ghost use Rattle.bind_model.specs.WireOf.{closed_id_in, closing_said, wire_of};
+ghost use Rattle.bind_model.specs.WireOf.{says_in, wire_of};
 ghost use Rattle.endpoint_router.specs.Nexts.{control_found, endpoint_found, next_of};
 ghost use Rattle.endpoint_router.specs.Rows.{endpoints_of};
 
 use crate::router::Router;
-use bind_model::{Control, Endpoint, State};
-use message_header::{CONTROL_ID, read_control, read_header};
+use bind_model::{Endpoint, State};
+use control_bytes::{Control, read_control};
+use message_header::{CONTROL_ID, read_header};
 use message_pipe::Message;
 use mj_base::{Fault, FaultKind, Header, SeqId};
 
@@ -44,7 +45,7 @@ fn control_found(message: &Message, header: &Header) -> Next
     requires said { header.now ≡ header_said message.now.bytes }
     requires placed { IsPlaced message.now.bytes header.now }
     requires control { header.now.interface_id ≡ CONTROL_ID }
-    ensures { result ≡ control_found message.now.handles (closing_said (closed_id_in message.now.bytes)) }
+    ensures { result ≡ control_found message.now.handles (says_in message.now.bytes) }
 {
     match read_control(message.bytes.as_slice(), header) {
         Err(fault) => Next::Bad(fault),
@@ -52,7 +53,7 @@ fn control_found(message: &Message, header: &Header) -> Next
             kind: FaultKind::IllegalHandle,
             at: 0,
         }),
-        Ok(id) => Next::Control(Control::Closed(id)),
+        Ok(control) => Next::Control(control),
     }
 }
 

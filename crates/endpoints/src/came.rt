@@ -98,6 +98,7 @@ impl Came {
             pendings,
             responder,
             gone: _,
+            moment: _,
         } = got;
         Came::rights(handles, None, pendings, responder)
     }

@@ -1,5 +1,5 @@
 -- What a schema's wire reads of bytes: which are those of a request with a response, and how many ids they carry.
-use Rattle.std.proofs.Common.{◌≡◌, ◌≤◌, ◌<◌, ℕ, zero, suc, ◌+◌, ◌-◌, ◌*◌, ◌%◌, ◌^◌, Bool, true, false, List, [], ◌∷◌, ◌++◌, length, refl, sym, ap, ◌∙◌, subst, arith}
+use Rattle.std.proofs.Common.{◌≡◌, ◌≤◌, ◌<◌, ℕ, ℤ, zero, suc, ◌+◌, ◌-◌, ◌*◌, ◌%◌, ◌^◌, Bool, true, false, List, [], ◌∷◌, ◌++◌, length, refl, sym, ap, ◌∙◌, subst, arith}
 use Rattle.std.specs.Prelude.{◌==◌, nat_lt, Option, Some, None, Result, Ok, Err, is_some, if◌then◌else◌}
 use Rattle.std.proofs.lemmas.Bool.Decides.{nat_tests}
 use Rattle.std.proofs.lemmas.List.{get_or_append_left, get_or-append-add}
@@ -13,9 +13,9 @@ use Rattle.hex.specs.Hex.{IsBytes}
 use Rattle.wire_model.specs.Bytes.{bytes16, bytes32, bytes64, number32, number64}
 use Rattle.wire_model.specs.Cells.{zeros}
 use Rattle.wire_model.specs.Expected.{flags_of, method_marks, method_named, message_marks}
-use Rattle.wire_model.specs.HeaderMarks.{HEADER_BYTES_2, header_marks}
+use Rattle.wire_model.specs.HeaderMarks.{HEADER_BYTES_2, HEADER_BYTES_3, header_marks}
 use Rattle.wire_model.specs.Marks.{Mark, Test}
-use Rattle.wire_model.specs.Message.{Head, back_of, basic, front, id_bytes, ids_from, ids_read, is_plain, message, plain_front, written_request}
+use Rattle.wire_model.specs.Message.{Head, back_of, basic, front, id_bytes, ids_from, ids_read, is_plain, message, moment_bytes, plain_front, written_request}
 use Rattle.wire_model.specs.Stands.{IsFine}
 use Rattle.wire_model.specs.Tight.{MAX_PAYLOAD_BYTES}
 use Rattle.wire_model.specs.Trees.{Tree}
@@ -29,9 +29,9 @@ use Rattle.wire_encoder.specs.declared.endpoint.EndpointSide.{EndpointSide}
 use Rattle.bounds_claims.specs.Runs.{run, step, first_fault, ◌>>=◌}
 use Rattle.bounds_claims.specs.declared.claims.Claims.{Claims}
 use Rattle.bounds_claims.proofs.Steps.{run_append}
-use Rattle.message_header.specs.Controls.{control_id, control_marks}
-use Rattle.bind_model.specs.declared.control.Control.{Control}
-use Rattle.bind_model.specs.declared.control.Control.TheVariants as says
+use Rattle.control_bytes.specs.Controls.{control_marks, control_said, written_control}
+use Rattle.control_bytes.specs.declared.control.Control.{Control}
+use Rattle.control_bytes.specs.declared.control.Control.TheVariants as says
 use Rattle.message_header.specs.FirstFailed.{first_failed}
 use Rattle.message_header.specs.Said.{IsPlaced, header_said, ids_at, no_ids}
 use Rattle.message_header.proofs.Facts.{placed}
@@ -40,7 +40,7 @@ use Rattle.message_validator.specs.Before.{before_payload}
 use Rattle.bind_model.specs.Replies.{is_response}
 use Rattle.bind_model.specs.Wire as machine
 use Rattle.bind_model.specs.Wire.{Content, Header}
-use Rattle.bind_model.specs.WireOf.{wire_of, comes_to, has_response, sealed, stands_in, unless_fault, written_control, closing_said}
+use Rattle.bind_model.specs.WireOf.{wire_of, comes_to, has_response, sealed, stands_in, unless_fault}
 use Rattle.event_counts.specs.Counts.{carries, is_asking, query_headed, query_in, query_of, query_said}
 use Rattle.wire_model.specs.HeaderMarks.{CONTROL_ID}
 
@@ -116,27 +116,31 @@ bytes_of schema target parameters head ids = message
       flags = flags_for (method_of schema target) target;
       nonce = 0;
       request = head.request;
-      moment = None;
+      moment = head.moment;
       ids = ids;
     })
     (payload_for schema target parameters)
 
--- the head of a message without ids and without a moment
-abbrev plain_head : ℕ → ℕ → ℕ → ℕ → ℕ → Head
-plain_head interface name flags nonce request =
-    record { interface = interface; name = name; flags = flags; nonce = nonce; request = request; moment = None; ids = [] }
+-- the head of a message without ids
+abbrev plain_head : Option ℤ → ℕ → ℕ → ℕ → ℕ → ℕ → Head
+plain_head moment interface name flags nonce request =
+    record { interface = interface; name = name; flags = flags; nonce = nonce; request = request; moment = moment; ids = [] }
 
-flags_zero : (interface name flags nonce request : ℕ) (payload : List ℕ) → flags ≡ 0
-    → number32 (message (plain_head interface name flags nonce request) payload) 16 ≡ 0
+flags_zero : (moment : Option ℤ) (interface name flags nonce request : ℕ) (payload : List ℕ) → flags ≡ 0
+    → number32 (message (plain_head moment interface name flags nonce request) payload) 16 ≡ 0
 unfolding number32 bytes32 bytes64
-flags_zero interface name flags nonce request payload e =
-    subst (λ (f : ℕ). number32 (message (plain_head interface name f nonce request) payload) 16 ≡ 0) (sym e) refl
+flags_zero None interface name flags nonce request payload e =
+    subst (λ (f : ℕ). number32 (message (plain_head None interface name f nonce request) payload) 16 ≡ 0) (sym e) refl
+flags_zero (Some moment) interface name flags nonce request payload e =
+    subst (λ (f : ℕ). number32 (message (plain_head (Some moment) interface name f nonce request) payload) 16 ≡ 0) (sym e) refl
 
-flags_two : (interface name flags nonce request : ℕ) (payload : List ℕ) → flags ≡ 2
-    → number32 (message (plain_head interface name flags nonce request) payload) 16 ≡ 2
+flags_two : (moment : Option ℤ) (interface name flags nonce request : ℕ) (payload : List ℕ) → flags ≡ 2
+    → number32 (message (plain_head moment interface name flags nonce request) payload) 16 ≡ 2
 unfolding number32 bytes32 bytes64
-flags_two interface name flags nonce request payload e =
-    subst (λ (f : ℕ). number32 (message (plain_head interface name f nonce request) payload) 16 ≡ 2) (sym e) refl
+flags_two None interface name flags nonce request payload e =
+    subst (λ (f : ℕ). number32 (message (plain_head None interface name f nonce request) payload) 16 ≡ 2) (sym e) refl
+flags_two (Some moment) interface name flags nonce request payload e =
+    subst (λ (f : ℕ). number32 (message (plain_head (Some moment) interface name f nonce request) payload) 16 ≡ 2) (sym e) refl
 
 sealed_light : (schema : Schema) (target : Target) (parameters : Tree) (head : machine.Head) → head.ids ≡ [] → target.side ≡ Response
     → is_asking (sealed schema target parameters head) ≡ false
@@ -149,11 +153,11 @@ sealed_light schema target parameters head none side = go (method_of schema targ
     go : (o : Option MethodRow) → method_of schema target ≡ o → is_asking (sealed schema target parameters head) ≡ false
     go None e =
         by_number 0
-        (flags_zero head.id target.method (flags_for (method_of schema target) target) 0 head.request (payload_for schema target parameters)
+        (flags_zero head.moment head.id target.method (flags_for (method_of schema target) target) 0 head.request (payload_for schema target parameters)
         (ap (λ (o : Option MethodRow). flags_for o target) e)) refl
     go (Some row) e =
         by_number 2
-        (flags_two head.id target.method (flags_for (method_of schema target) target) 0 head.request (payload_for schema target parameters)
+        (flags_two head.moment head.id target.method (flags_for (method_of schema target) target) 0 head.request (payload_for schema target parameters)
         (ap (λ (o : Option MethodRow). flags_for o target) e ∙ ap (λ (s : MessageSide). flags_of s row.response) side)) refl
 
 -- a response without ids asks for no response
@@ -225,12 +229,20 @@ query_one schema bytes = go ((wire_of schema).header bytes)
     go (Ok h) = by (h.id == CONTROL_ID)
     go (Err fault) = omega arith
 
+kind_said : (c : Control) → query_of (control_said (written_control c)) ≡ query_of c
+unfolding number32 bytes32 bytes64
+kind_said (says.Closed id) = refl
+kind_said (says.Query id) = refl
+kind_said (says.Version id v) = refl
+kind_said (says.Require id v) = refl
+kind_said (says.Flush k) = refl
+
 said_few : (schema : Schema) (c : Control) → query_said ((wire_of schema).says (written_control c)) ≤ query_of c
 unfolding wire_of
 said_few schema c = go (first_failed (control_marks (written_control c)))
   where
-    go : (o : Option Fault) → query_said (closing_said (unless_fault o (control_id (written_control c)))) ≤ query_of c
-    go None = omega arith
+    go : (o : Option Fault) → query_said (unless_fault o (control_said (written_control c))) ≤ query_of c
+    go None = omega (arith, kind_said c)
     go (Some fault) = omega arith
 
 -- no control but a query is read as one
@@ -322,15 +334,58 @@ some_read i is h payload small =
     let read : length (ids_read bytes) ≡ k % 2 ^ 32 = rw (version, pointer, some, count) (from_length bytes (q + 8) (k % 2 ^ 32)) in
     omega (arith, read)
 
+-- nor has one with a moment
+timed_read : (moment : ℤ) (i : ℕ) (is : List ℕ) (h : Head) (payload : List ℕ) → length payload ≤ MAX_PAYLOAD_BYTES
+    → length (ids_read (front (Some moment) (i ∷ is) h (length payload) ++ (payload ++ back_of (i ∷ is)))) ≤ length (i ∷ is)
+unfolding bytes16 bytes32 bytes64
+timed_read moment i is h payload small =
+    let n = length payload in
+    let k = length (i ∷ is) in
+    let request = written_request (is_plain h.flags) h.request in
+    let behind : List ℕ = bytes64 (16 + n) ++ moment_bytes moment in
+    let pointers : List ℕ = bytes64 24 ++ behind in
+    let rest : List ℕ = bytes64 request ++ pointers in
+    let basics : List ℕ = basic HEADER_BYTES_3 3 h in
+    let front : List ℕ = basics ++ rest in
+    let pad : List ℕ = zeros (rounded8 (4 * k) - 4 * k) in
+    let back : List ℕ = bytes32 (8 + 4 * k) ++ (bytes32 k ++ (id_bytes (i ∷ is) ++ pad)) in
+    let bytes : List ℕ = front ++ (payload ++ back) in
+    let there = in_front front (payload ++ back) in
+    let r4 = Holds-right bytes 0 (bytes32 HEADER_BYTES_3)
+    (bytes32 3 ++ (bytes32 h.interface ++ (bytes32 h.name ++ (bytes32 h.flags ++ bytes32 h.nonce)))) (Holds-left bytes 0 basics rest there) in
+    let version : number32 bytes 4 ≡ 3 = number32_is bytes 4 3 (omega arith) (Holds-left bytes 4 (bytes32 3)
+    (bytes32 h.interface ++ (bytes32 h.name ++ (bytes32 h.flags ++ bytes32 h.nonce))) r4) in
+    let r24 = Holds-right bytes 0 basics rest there in
+    let r32 = Holds-right bytes 24 (bytes64 request) pointers r24 in
+    let r40 = Holds-right bytes 32 (bytes64 24) behind r32 in
+    let pointer : number64 bytes 40 ≡ 16 + n =
+    number64_is bytes 40 (16 + n) (omega (arith, small)) (Holds-left bytes 40 (bytes64 (16 + n)) (moment_bytes moment) r40) in
+    let q : ℕ = 40 + (16 + n) in
+    let place : 56 + n ≡ q = omega arith in
+    let at_ids : Holds bytes q back = subst (λ x. Holds bytes x back) place (in_back front payload back) in
+    let second = Holds-right bytes q (bytes32 (8 + 4 * k)) (bytes32 k ++ (id_bytes (i ∷ is) ++ pad)) at_ids in
+    let count : number32 bytes (q + 4) ≡ k % 2 ^ 32 =
+    number32_low bytes (q + 4) k (Holds-left bytes (q + 4) (bytes32 k) (id_bytes (i ∷ is) ++ pad) second) in
+    let some : (16 + n == 0) ≡ false = grind (arith, nat_tests) in
+    let read : length (ids_read bytes) ≡ k % 2 ^ 32 = rw (version, pointer, some, count) (from_length bytes (q + 8) (k % 2 ^ 32)) in
+    omega (arith, read)
+
+-- without ids none are read
 none_read : (b : Bool) (h : Head) (payload : List ℕ) → length (ids_read (plain_front b h ++ (payload ++ []))) ≤ 0
 unfolding number32 bytes32 bytes64
 none_read true h payload = omega arith
 none_read false h payload = omega arith
 
-by_ids : (is : List ℕ) (h : Head) (payload : List ℕ) → length payload ≤ MAX_PAYLOAD_BYTES
-    → length (ids_read (front None is h (length payload) ++ (payload ++ back_of is))) ≤ length is
-by_ids [] h payload small = none_read (is_plain h.flags) h payload
-by_ids (i ∷ is) h payload small = some_read i is h payload small
+timed_none : (moment : ℤ) (h : Head) (payload : List ℕ) → length (ids_read (front (Some moment) [] h (length payload) ++ (payload ++ []))) ≤ 0
+unfolding number32 number64 bytes32 bytes64
+timed_none moment h payload = omega arith
+
+by_ids : (moment : Option ℤ) (is : List ℕ) (h : Head) (payload : List ℕ) → length payload ≤ MAX_PAYLOAD_BYTES
+    → length (ids_read (front moment is h (length payload) ++ (payload ++ back_of is))) ≤ length is
+by_ids None [] h payload small = none_read (is_plain h.flags) h payload
+by_ids None (i ∷ is) h payload small = some_read i is h payload small
+by_ids (Some moment) [] h payload small = timed_none moment h payload
+by_ids (Some moment) (i ∷ is) h payload small = timed_read moment i is h payload small
 
 pub sealed_carries : (schema : Schema) (target : Target) (parameters : Tree) (head : machine.Head)
     → length (payload_for schema target parameters) ≤ MAX_PAYLOAD_BYTES
@@ -340,14 +395,14 @@ sealed_carries schema target parameters head small =
     omega (
       arith,
       carries_read schema (sealed schema target parameters head),
-      by_ids head.ids
+      by_ids head.moment head.ids
           (record {
             interface = head.id;
             name = target.method;
             flags = flags_for (method_of schema target) target;
             nonce = 0;
             request = head.request;
-            moment = None;
+            moment = head.moment;
             ids = head.ids;
           })
           (payload_for schema target parameters) small,

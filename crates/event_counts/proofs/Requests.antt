@@ -17,8 +17,8 @@ use Rattle.bind_model.specs.declared.asked.Closing.TheVariants as closings
 use Rattle.bind_model.specs.declared.endpoint.Endpoint.{Endpoint}
 use Rattle.bind_model.specs.declared.endpoint.ResponderId.{ResponderId}
 use Rattle.bind_model.specs.declared.event.Event.{Event}
-use Rattle.bind_model.specs.declared.control.Control.{Control as ControlType}
-use Rattle.bind_model.specs.declared.control.Control.TheVariants as says
+use Rattle.control_bytes.specs.declared.control.Control.{Control as ControlType}
+use Rattle.control_bytes.specs.declared.control.Control.TheVariants as says
 use Rattle.bind_model.specs.declared.told.Noted.TheVariants as noted
 use Rattle.handle_table.specs.Things.{same_end}
 use Rattle.std.specs.Prelude.{Some, None}

@@ -11,7 +11,7 @@ use Rattle.bind_model.specs.declared.asked.Asked.TheVariants.{Close, Take}
 use Rattle.bind_model.specs.declared.asked.Closing.{Closing}
 use Rattle.bind_model.specs.declared.asked.Closing.TheVariants as closings
 use Rattle.bind_model.specs.declared.event.Event.{Event}
-use Rattle.bind_model.specs.declared.control.Control.TheVariants as says
+use Rattle.control_bytes.specs.declared.control.Control.TheVariants as says
 use Rattle.bind_model.specs.declared.told.Noted.TheVariants as noted
 use Rattle.bind_model.specs.declared.told.Got.{Got}
 use Rattle.bind_model.specs.declared.told.Told.{Told}

@@ -5,8 +5,8 @@ use Rattle.bind_model.specs.declared.asked.Asked.{Asked}
 use Rattle.bind_model.specs.declared.asked.Asked.TheVariants.{Raw, Notify}
 use Rattle.bind_model.specs.declared.asked.Notice.{Notice}
 use Rattle.bind_model.specs.declared.asked.Notice.TheVariants.{Query, Require, Flush}
-use Rattle.bind_model.specs.declared.control.Control.{Control}
-use Rattle.bind_model.specs.declared.control.Control.TheVariants as controls
+use Rattle.control_bytes.specs.declared.control.Control.{Control}
+use Rattle.control_bytes.specs.declared.control.Control.TheVariants as controls
 use Rattle.mj_base.specs.declared.fault.Fault.{Fault}
 use Rattle.wire_model.specs.HeaderMarks.{CONTROL_ID}
 use Rattle.bind_model.specs.declared.event.Event.{Event}

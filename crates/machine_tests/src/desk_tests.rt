@@ -11,7 +11,7 @@ use bind_core::{Alone, Core};
 use bind_model::{Command, PendingList, Received, Reply, Stepper, ToClose, Why};
 use handle_table::Handles;
 use mj_base::{EndId, Items, SeqId, Text};
-use mj_schema::{InterfaceRow, MethodRow, Schema, StructRow, VersionRow};
+use mj_schema::{DefinitionRow, InterfaceRow, MethodRow, RowSort, Schema, StructRow, VersionRow};
 use remote_receiver::{Answered, BoxedJob, Callback, Desk, Job, Note, Promise};
 use response_map::Key;
 use std::alloc::{AllocError, Global};
@@ -71,8 +71,27 @@ fn one_method(alloc: Global) -> Result<InterfaceRow, AllocError>
     Ok(InterfaceRow {
         name: Text::from_str(alloc, "t.P")?,
         methods: Items::from_vec(vec![in alloc; ask]?),
+        version: 0,
     })
 }
+
+/// The row of the interface.
+const INTERFACE: DefinitionRow = DefinitionRow {
+    sort: RowSort::Interface,
+    number: 0,
+};
+
+/// The row of the struct of its method's parameters.
+const REQUEST: DefinitionRow = DefinitionRow {
+    sort: RowSort::Struct,
+    number: 0,
+};
+
+/// The row of the struct of the response.
+const RESPONSE: DefinitionRow = DefinitionRow {
+    sort: RowSort::Struct,
+    number: 1,
+};
 
 /// The schema of `module t; interface P { Ask() => (); };`.
 fn schema_of(alloc: Global) -> Result<Schema, AllocError> {
@@ -84,7 +103,7 @@ fn schema_of(alloc: Global) -> Result<Schema, AllocError> {
         enums: Items::new(alloc),
         interfaces: Items::from_vec(vec![in alloc; one_method(alloc)?]?),
         consts: Items::new(alloc),
-        order: Items::new(alloc),
+        order: Items::from_vec(vec![in alloc; INTERFACE, REQUEST, RESPONSE]?),
     })
 }
 
@@ -254,6 +273,7 @@ fn answered<C: Job<P>, P: Stepper>(
         pendings,
         responder,
         gone: _,
+        moment: _,
     } = taken(rt, desk, alloc, to);
     let items = handles.into_vec();
     if !items.is_empty() {

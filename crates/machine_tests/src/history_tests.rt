@@ -9,7 +9,7 @@ use bind_model::{
 use call_script::{Fate, Note, render};
 use handle_table::{Thing, TokenId};
 use mj_base::{EndId, Items, SeqId, Text};
-use mj_schema::{InterfaceRow, MethodRow, Schema, StructRow, VersionRow};
+use mj_schema::{DefinitionRow, InterfaceRow, MethodRow, RowSort, Schema, StructRow, VersionRow};
 use std::alloc::{AllocError, Global};
 use std::test::Fail;
 use wire_encoder::EndpointSide;
@@ -100,8 +100,21 @@ fn one_method(alloc: Global) -> Result<InterfaceRow, AllocError>
     Ok(InterfaceRow {
         name: Text::from_str(alloc, "t.P")?,
         methods: Items::from_vec(vec![in alloc; method]?),
+        version: 0,
     })
 }
+
+/// The row of the interface.
+const INTERFACE: DefinitionRow = DefinitionRow {
+    sort: RowSort::Interface,
+    number: 0,
+};
+
+/// The row of the struct of its method's parameters.
+const REQUEST: DefinitionRow = DefinitionRow {
+    sort: RowSort::Struct,
+    number: 0,
+};
 
 /// The schema of `module t; interface P { Ping(); };`.
 pub(crate) fn schema_of(alloc: Global) -> Result<Schema, AllocError> {
@@ -111,7 +124,7 @@ pub(crate) fn schema_of(alloc: Global) -> Result<Schema, AllocError> {
         enums: Items::new(alloc),
         interfaces: Items::from_vec(vec![in alloc; one_method(alloc)?]?),
         consts: Items::new(alloc),
-        order: Items::new(alloc),
+        order: Items::from_vec(vec![in alloc; INTERFACE, REQUEST]?),
     })
 }
 

@@ -7,18 +7,18 @@ use crate::pendings::is_local;
 use bind_model::{
     Asked, Closing, Endpoint, EndpointName, Event, Got, Noted, PendingId, State, Told,
 };
+use control_bytes::Control;
 use handle_table::Thing;
 use mj_base::{EndId, SeqId};
 use mj_schema::Schema;
 use std::alloc::{AllocError, Global};
 use wire_encoder::EndpointSide;
 
-/// What a message says: bytes that were written, or, where the machine emitted it, that the peer of the
-/// endpoint of an id is closed.
+/// What a message says: bytes that were written, or, where the machine emitted it, a control.
 #[derive(Clone, Copy)]
 pub enum Text<'a> {
     Bytes(&'a [u8]),
-    Control(u32),
+    Control(Control),
 }
 
 /// A message, and the end that it is for.
@@ -117,7 +117,7 @@ impl<'a> Mail<'a> {
         }
     }
 
-    /// Adds that an event bound an endpoint, or learned that its peer is closed.
+    /// Adds that an event bound an endpoint, learned that its peer is closed, or was asked for a version.
     fn bind(&mut self, event: &Event) -> Result<(), AllocError> {
         match (&event.told, &event.asked) {
             (Told::Bound(end), Asked::Bind(_, side, interface)) => {
@@ -131,6 +131,9 @@ impl<'a> Mail<'a> {
             }
             (Told::Control(Noted::Closed(id)), Asked::Take(end)) => {
                 self.set_peer_closed(*end, *id)
+            }
+            (Told::Control(Noted::Queried(id, Some(version))), Asked::Take(end)) => {
+                self.tell(*end, *id, Control::Version(*id, *version))
             }
             _ => Ok(()),
         }
@@ -152,9 +155,8 @@ impl<'a> Mail<'a> {
         )
     }
 
-    /// Tells the peer of an endpoint that it is closed, unless its end is gone or the peer endpoint is known
-    /// to be closed.
-    fn tell(&mut self, end: EndId, id: u32) -> Result<(), AllocError> {
+    /// Tells the peer of an endpoint this, unless its end is gone or the peer endpoint is known to be closed.
+    fn tell(&mut self, end: EndId, id: u32, control: Control) -> Result<(), AllocError> {
         let to = peer(self.past, end);
         let is_known = self
             .endpoint(end, id)
@@ -165,7 +167,7 @@ impl<'a> Mail<'a> {
         Ok(
             self.letters.push(Letter {
                 to,
-                text: Text::Control(id),
+                text: Text::Control(control),
                 handles: &[],
             })?,
         )
@@ -202,7 +204,7 @@ impl<'a> Mail<'a> {
     /// Closes an endpoint, and tells its peer where that is to be told.
     fn close(&mut self, end: EndId, id: u32, is_told: bool) -> Result<(), AllocError> {
         if is_told {
-            self.tell(end, id)?;
+            self.tell(end, id, Control::Closed(id))?;
         }
         self.set_state(end, id, State::Closed)
     }
@@ -223,7 +225,7 @@ impl<'a> Mail<'a> {
             let Entry { id, endpoint } = *entry;
             self.set(end, id, endpoint)?;
             if endpoint.state == State::Closed {
-                self.tell(end, id)?;
+                self.tell(end, id, Control::Closed(id))?;
             }
         }
         Ok(())

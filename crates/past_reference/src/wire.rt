@@ -5,8 +5,9 @@ ghost use Rattle.std.specs.Prelude.{IfSome};
 ghost use Rattle.wire_encoder.specs.Prepared.{HasTarget};
 
 use crate::values::copied;
-use bind_model::{Endpoint, Outgoing};
-use message_header::{CONTROL_ID, read_control, read_header};
+use bind_model::{Endpoint, Outgoing, State};
+use control_bytes::{Control, read_control};
+use message_header::{CONTROL_ID, read_header};
 use message_validator::check;
 use mj_base::{Fault, FaultKind};
 use mj_schema::Schema;
@@ -21,14 +22,14 @@ pub struct Content {
     pub target: Target,
     pub request: u64,
     pub parameters: Value,
+    pub moment: Option<i64>,
 }
 
-/// Whom a message is for: the endpoint of an id, or the machine, which is told that the peer of an endpoint is
-/// closed.
+/// Whom a message is for: the endpoint of an id, or the machine, which a control speaks to.
 #[derive(Clone, Copy)]
 pub enum Whom {
     For(u32),
-    Closed(u32),
+    Machine(Control),
 }
 
 /// Whom the bytes of a message are for, which came with so many handles, or their first fault. A control has none.
@@ -37,14 +38,14 @@ pub fn meant_for(bytes: &[u8], handles: usize) -> Result<Whom, Fault> {
     if header.interface_id != CONTROL_ID {
         return Ok(Whom::For(header.interface_id));
     }
-    let id = read_control(bytes, &header)?;
+    let control = read_control(bytes, &header)?;
     if handles != 0 {
         return Err(Fault {
             kind: FaultKind::IllegalHandle,
             at: 0,
         });
     }
-    Ok(Whom::Closed(id))
+    Ok(Whom::Machine(control))
 }
 
 /// What a message of these bytes stands for at an endpoint, or its first fault.
@@ -74,7 +75,20 @@ pub fn stands(
             },
             request: checked.request,
             parameters: decode(alloc, &checked)?,
+            moment: checked.moment,
         })),
+    }
+}
+
+/// The version of an endpoint that is a receiver and isn't closed.
+pub fn version_at(schema: &Schema, endpoint: Option<Endpoint>) -> Option<u32> {
+    let found = endpoint?;
+    if found.side != EndpointSide::Receiver || found.state == State::Closed {
+        return None;
+    }
+    match schema.interfaces.as_slice().get(found.interface as usize) {
+        Some(row) => Some(row.version),
+        None => Some(0),
     }
 }
 

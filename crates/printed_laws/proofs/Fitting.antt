@@ -1,6 +1,8 @@
--- What a script's run sends fits its methods: it was prepared, and the ordinals of methods are numbers of 32 bits.
-use Rattle.std.proofs.Common.{◌∙◌, ℕ, ◌+◌, ◌<◌, ◌^◌, List, [], ◌∷◌, Option, Some, None, reverse, sym, ap, subst, arith}
+-- What a script's run sends fits its methods: it was prepared, and the ordinals of methods are numbers of 32 bits, as versions are.
+use Rattle.std.proofs.Common.{◌≡◌, ◌∙◌, ℕ, ◌+◌, ◌<◌, ◌^◌, List, [], ◌∷◌, Option, Some, None, reverse, refl, sym, ap, subst, arith}
 use Rattle.std.specs.List.{AllByRecursion}
+use Rattle.std.specs.Option.{option_map_or}
+use Rattle.std.specs.Prelude.{slice_get}
 use Rattle.mj_schema.specs.declared.rows.InterfaceRow.{InterfaceRow}
 use Rattle.mj_schema.specs.declared.rows.MethodRow.{MethodRow}
 use Rattle.mj_schema.specs.declared.schema.Schema.{Schema}
@@ -15,7 +17,7 @@ use Rattle.const_eval.specs.declared.consts.Consts.{Consts}
 use Rattle.draft_rows.specs.declared.counts.Counts.{Counts}
 use Rattle.draft_rows.specs.declared.counts.FileRows.{FileRows}
 use Rattle.draft_rows.specs.declared.draft.Draft.{Draft}
-use Rattle.kind_scope.specs.Scopes.{Scope, around}
+use Rattle.kind_scope.specs.Scopes.{Scope, around, inside}
 use Rattle.kind_scope.specs.Members.{held, ordinal_at}
 use Rattle.draft_rows.specs.RowCounts.{structs_of, methods_in, no_rows, rows_of}
 use Rattle.draft_rows.specs.Rows.{method_rows}
@@ -37,7 +39,9 @@ use Rattle.call_script.specs.Script.{IsScriptOf}
 use Rattle.call_script.specs.declared.script.Script.{Script}
 use Rattle.script_run.specs.OfScript.{OfScript}
 use Rattle.printed_laws.specs.Fitting.{AsksFit, AllFit}
-use Rattle.printed_laws.proofs.ValueScript.{AllAskSaid, AsksSaid, IsSending, script_asks}
+use Rattle.printed_laws.proofs.SmallVersions.{version_small}
+use Rattle.printed_laws.proofs.SmallWireOf.{HasSmallVersions}
+use Rattle.printed_laws.proofs.ValueScript.{AllAskSaid, AsksSaid, Sends, script_asks}
 use Rattle.printed_laws.proofs.ValueSent.{HasStruct, PassedIsEncodable, has_struct}
 use Rattle.printed_laws.proofs.WordMeanings.{method_there}
 
@@ -47,9 +51,9 @@ use Rattle.printed_laws.proofs.WordMeanings.{method_there}
 abbrev IsSmall : MethodRow → Type 0
 IsSmall method = method.ordinal < 2 ^ 32
 
--- those of an interface are
+-- those of an interface are, and so is its version
 abbrev AreSmall : InterfaceRow → Type 0
-AreSmall row = AllByRecursion IsSmall row.methods
+AreSmall row = AllByRecursion IsSmall row.methods × (row.version < 2 ^ 32)
 
 -- those of all interfaces of tables are
 abbrev HasSmall : Draft → Type 0
@@ -71,7 +75,8 @@ methods_small next first (m ∷ ms) small = (
 
 item_small : (rows : List FileRows) (scope : Scope) (counts : Counts) (full : List ℕ) (attributes : List Attribute) (item : DefinitionItem)
     → HasSmall (draft_of_item rows scope counts full attributes item)
-item_small rows scope counts full attributes (items.Interface item) = (methods_small 0 counts.structs (methods_in item.members) (omega arith), tt)
+item_small rows scope counts full attributes (items.Interface item) =
+    ((methods_small 0 counts.structs (methods_in item.members) (omega arith), version_small (inside scope full) item.members), tt)
 item_small rows scope counts full attributes (items.Struct item) = tt
 item_small rows scope counts full attributes (items.Union item) = tt
 item_small rows scope counts full attributes (items.Enum item) = tt
@@ -85,12 +90,20 @@ tables_small files order names consts =
     (λ number among counts d of. item_small rows (enclosed (around names consts number None) d.enclosing) counts d.full d.attributes d.item)
     no_rows
 
--- the schema of files has ordinals of 32 bits
+-- the schema of files has ordinals and versions of 32 bits
 pub ordinals_of_files : (sources : List Source) (schema : Schema) → IsSchemaOfFiles sources schema → AllByRecursion AreSmall schema.interfaces
 ordinals_of_files sources schema is =
     let t = is.tables.tables in
     let same = is.layout.interfaces ∙ ap (λ (draft : Draft). draft.interfaces) t.are in
     subst (AllByRecursion AreSmall) (sym same) (tables_small is.tables.files t.order t.names.files t.consts)
+
+-- so the version of each number is one
+pub versions_of_files : (sources : List Source) (schema : Schema) → IsSchemaOfFiles sources schema → HasSmallVersions schema
+versions_of_files sources schema is interface = go (slice_get schema.interfaces interface) refl
+  where
+    go : (o : Option InterfaceRow) → slice_get schema.interfaces interface ≡ o → option_map_or (λ (row : InterfaceRow). row.version) o 0 < 2 ^ 32
+    go None e = omega arith
+    go (Some row) e = let small = at_each AreSmall schema.interfaces interface row (ordinals_of_files sources schema is) e in small.1
 
 -- ## What is sent
 
@@ -99,14 +112,15 @@ module _ (schema : Schema) (small : AllByRecursion AreSmall schema.interfaces) w
   method_small target number has =
       let m = method_there schema.interfaces target.interface target.method has.method has.found in
       let row = at_each AreSmall schema.interfaces target.interface m.row small m.at in
-      subst (λ (n : ℕ). n < 2 ^ 32) m.is (each_at IsSmall m.row.methods has.method row m.among)
+      subst (λ (n : ℕ). n < 2 ^ 32) m.is (each_at IsSmall m.row.methods has.method row.0 m.among)
 
-  sending_fits : (side : MessageSide) (s : Outgoing) → IsSending schema side s.target s.parameters → FitsMethod schema s
-  sending_fits side s is = record {
+  sending_fits : (side : MessageSide) (s : Outgoing) → Sends schema side s → FitsMethod schema s
+  sending_fits side s (is, moment) = record {
     met = is.met;
     passes = is.passes;
     short = is.short;
     method = method_small s.target is.number (has_struct schema s.target is.number is.parameters);
+    moment = moment;
   }
 
   asked_fits : (asked : Asked) → AsksSaid schema asked → AsksFit schema asked

@@ -22,6 +22,7 @@ mod SmallFaults
 mod SmallRows
 mod SmallPlaces
 mod SmallWireOf
+mod SmallVersions
 mod OwnEvents
 mod SmallRun
 pub mod Printable
@@ -31,14 +32,6 @@ pub mod ValueGot
 mod ValueTurns
 pub mod ValueScript
 pub mod ValueSaid
-pub mod ValueDefaults
-pub mod ValueRows
-pub mod ValueNumbers
-pub mod ValueMembers
-pub mod ValueFilled
-pub mod ValueStrings
-pub mod ValueTexts
-pub mod ValueFiles
 pub mod ReadBack
 pub mod Runs
 pub mod Fitting

@@ -25,13 +25,14 @@ use Rattle.printed_laws.proofs.SmallLists.{all_reversed, all_back, all_of}
 use Rattle.printed_laws.proofs.SmallMail.{all_made, small_past}
 use Rattle.printed_laws.proofs.SmallNotes.{notes_small, left_small}
 use Rattle.printed_laws.proofs.SmallReplies.{IsSmallPast}
+use Rattle.printed_laws.proofs.SmallFaults.{HasLowSlots}
 use Rattle.printed_laws.proofs.SmallRows.{low_slots}
 use Rattle.printed_laws.proofs.SmallRun.{run_small}
 use Rattle.printed_laws.proofs.SmallSaid.{IsSmallAsked, IsSmallClosing, IsSmallResponder, IsSmallEvent}
 use Rattle.printed_laws.proofs.SmallScript.{small_script}
 use Rattle.printed_laws.proofs.SmallThings.{IsGotMessage, all_handed, all_gone, told_said}
 use Rattle.printed_laws.proofs.SmallWire.{BecomeBytes}
-use Rattle.printed_laws.proofs.SmallWireOf.{small_wire}
+use Rattle.printed_laws.proofs.SmallWireOf.{small_wire, HasSmallVersions}
 use Rattle.script_run.specs.OfScript.{OfScript}
 
 -- the messages and interfaces that an asked command names are ones that a text can say
@@ -99,16 +100,17 @@ module _ (schema : Schema) where
   events_said k (event ∷ events) few a = (omega (arith, few), a.0, events_said (k + 1) events (omega (arith, few)) a.1)
 
 -- the history of a script's run can be printed where its messages can
-pub printable : (schema : Schema) (bytes : List ℕ) (script : Script) (order : ℕ) (history : List Event) → IsScriptOf schema bytes script
+pub printable : (schema : Schema) → HasSmallVersions schema → (bytes : List ℕ) (script : Script) (order : ℕ) (history : List Event)
+    → IsScriptOf schema bytes script
     → Legal (wire_of schema) script.seqs history → OfScript schema script order history → length history ≤ MAX_EVENTS
     → AllByRecursion (λ (event : Event). Says schema event.asked event.told) history
     → IsPrintable schema (said history (callbacks script.seqs history) (left script.seqs (reverse history)))
-printable schema bytes script order history is h of few m =
+printable schema versions bytes script order history is h of few m =
     let short : length history ≤ 16777216 = few in
     let most : script.seqs ≤ 16 = is.count.1 in
     let some : script.seqs < 2 ^ 32 = omega (arith, most) in
     let back : length (reverse history) < 2 ^ 30 = omega (arith, short, length-reverse history) in
-    let low = low_slots schema in
+    let low : HasLowSlots schema × HasSmallVersions schema = (low_slots schema, versions) in
     let small : AreAll (IsSmallEvent (BecomeBytes schema)) (reverse history) =
     run_small schema low script order (small_script schema bytes script is) some (reverse history) of h back in
     let past : IsSmallPast (wire_of schema) (reverse history) =

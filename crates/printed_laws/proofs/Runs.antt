@@ -21,11 +21,12 @@ use Rattle.history_reader.specs.Printable.{IsPrintable}
 use Rattle.history_reader.specs.Texts.{Tells}
 use Rattle.history_reader.specs.Whole as texts
 use Rattle.script_run.specs.OfScript.{OfScript}
+use Rattle.message_laws.proofs.FilledSchemas.{filled}
 use Rattle.printed_laws.specs.Runs.{run_said, run_text}
+use Rattle.printed_laws.proofs.Fitting.{versions_of_files}
 use Rattle.printed_laws.proofs.Printable.{Says, SaysAsked, printable}
 use Rattle.printed_laws.proofs.ReadBack.{just_said}
 use Rattle.printed_laws.proofs.SmallThings.{IsGotMessage}
-use Rattle.printed_laws.proofs.ValueFiles.{filled_of_files}
 use Rattle.printed_laws.proofs.ValueSaid.{AsksMessage, HasMessages, Means, TellsMessage, script_messages}
 use Rattle.printed_laws.proofs.ValueScript.{AllAskSaid, AsksSaid, script_asks, turned}
 use Rattle.printed_laws.proofs.ValueSent.{PassedIsEncodable}
@@ -91,11 +92,11 @@ pub printable_run : PassedIsEncodable → (sources : List Source) (schema : Sche
 printable_run law sources schema bytes script order history compiled read lawful of few =
     let plain = names_of_files sources schema compiled in
     let asked = script_asks law schema bytes script order (reverse history) read of in
-    let messages = script_messages schema (means schema plain) law (filled_of_files sources schema compiled) script.seqs bytes script order (reverse history)
+    let messages = script_messages schema (means schema plain) law (filled schema) script.seqs bytes script order (reverse history)
     lawful read of in
     let back : AllByRecursion (SaysEvent schema plain) (reverse (reverse history)) =
     turned (SaysEvent schema plain) (reverse history) (all_say schema plain (reverse history) asked messages) in
-    printable schema bytes script order history read lawful of few
+    printable schema (versions_of_files sources schema compiled) bytes script order history read lawful of few
     (subst (AllByRecursion (SaysEvent schema plain)) (reverse-reverse history) back)
 
 -- its text says it, and nothing else

@@ -18,8 +18,8 @@ use Rattle.wire_model.specs.declared.target.Target.{Target}
 use Rattle.bind_model.specs.declared.asked.Asked.{Asked}
 use Rattle.bind_model.specs.declared.asked.Asked.TheVariants.{Bind, Associate, Attach, Call, Answer, Raw, Take, Close}
 use Rattle.bind_model.specs.declared.asked.Closing.TheVariants as closings
-use Rattle.bind_model.specs.declared.control.Control.{Control as ControlType}
-use Rattle.bind_model.specs.declared.control.Control.TheVariants as controls
+use Rattle.control_bytes.specs.declared.control.Control.{Control as ControlType}
+use Rattle.control_bytes.specs.declared.control.Control.TheVariants as controls
 use Rattle.bind_model.specs.declared.endpoint.Endpoint.{Endpoint}
 use Rattle.bind_model.specs.declared.endpoint.State.TheVariants as states
 use Rattle.bind_model.specs.declared.event.Event.{Event}

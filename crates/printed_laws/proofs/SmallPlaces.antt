@@ -11,7 +11,7 @@ use Rattle.mj_schema.specs.declared.rows.MethodRow.{MethodRow}
 use Rattle.mj_schema.specs.declared.schema.Schema.{Schema}
 use Rattle.bounds_claims.specs.Runs.{first_fault, run, step}
 use Rattle.bounds_claims.specs.declared.claims.Claims.{Claims}
-use Rattle.message_header.specs.Controls.{control_id, control_marks}
+use Rattle.control_bytes.specs.Controls.{control_marks, control_said}
 use Rattle.message_header.specs.FirstFailed.{first_failed}
 use Rattle.message_header.proofs.Facts.{ordered}
 use Rattle.message_header.proofs.Fine.{AreTests, header_tests, passing_is_fine}
@@ -25,9 +25,8 @@ use Rattle.wire_model.specs.Stands.{IsFine}
 use Rattle.wire_model.specs.Tight.{MAX_DEPTH}
 use Rattle.wire_model.specs.declared.target.Expected.{Expected}
 use Rattle.wire_model.specs.declared.target.MessageSide.{MessageSide}
-use Rattle.bind_model.specs.declared.control.Control.{Control}
 use Rattle.bind_model.specs.Wire.{Header}
-use Rattle.bind_model.specs.WireOf.{closed_id_in, closing_said, content_in, header_in, stands_in, struct_named, unless_fault}
+use Rattle.bind_model.specs.WireOf.{content_in, header_in, says_in, stands_in, struct_named, unless_fault}
 use Rattle.history_reader.specs.Printable.{IsWide, AreBytes}
 use Rattle.printed_laws.proofs.SmallFaults.{HasLowSlots, visit_near}
 use Rattle.printed_laws.proofs.SmallRuns.{IsEnded, IsNear, near_none, near_both, near_test}
@@ -155,18 +154,12 @@ module _ (bytes : List ℕ) (are : AreBytes bytes) where
         (λ b. placed_test _ _ p _ (omega (arith, low))
         (λ c. placed_test _ _ p _ (omega (arith, low))
         (λ d. placed_test _ _ p _ (omega (arith, low))
-        (λ e. placed_test _ _ (p + 8) _ (omega (arith, low))
-        (λ f. placed_test _ _ (p + 12) _ (omega (arith, low)) (λ g. placed_none)))))))
+        (λ e. placed_test _ _ p _ (omega (arith, low))
+        (λ f. placed_test _ _ (p + 8) _ (omega (arith, low))
+        (λ g. placed_test _ _ (p + 12) _ (omega (arith, low)) (λ h. placed_none))))))))
 
-    closed_placed : (f : Fault) → closed_id_in bytes ≡ Err f → IsWide f.at
-    closed_placed f e = control_placed.placed f (fault_is (first_failed (control_marks bytes)) (control_id bytes) f e)
-
-    pub says_placed : (f : Fault) → closing_said (closed_id_in bytes) ≡ Err f → IsWide f.at
-    says_placed f e = go (closed_id_in bytes) refl e
-      where
-        go : (o : Result ℕ Fault) → closed_id_in bytes ≡ o → ◌≡◌ {A = Result Control Fault} (closing_said o) (Err f) → IsWide f.at
-        go (Ok id) g h = absurd cc
-        go (Err fault) g h = let same : fault ≡ f = cc in subst (λ (at : Fault). IsWide at.at) same (closed_placed fault g)
+    pub says_placed : (f : Fault) → says_in bytes ≡ Err f → IsWide f.at
+    says_placed f e = control_placed.placed f (fault_is (first_failed (control_marks bytes)) (control_said bytes) f e)
 
     module _ (schema : Schema) (low : HasLowSlots schema) where
       parameter_near : (side : MessageSide) (method : MethodRow) (o : Option ℕ) → IsNear (payload_end bytes) (parameter_marks schema side bytes method o)

@@ -23,10 +23,10 @@ use Rattle.printed_laws.proofs.SmallSaid.{IsSmallAsked, IsSmallTold, IsSmallEven
 use Rattle.printed_laws.proofs.SmallScript.{IsSmallScript}
 use Rattle.printed_laws.proofs.SmallThings.{all_handed}
 use Rattle.printed_laws.proofs.SmallWire.{BecomeBytes}
-use Rattle.printed_laws.proofs.SmallWireOf.{small_wire}
+use Rattle.printed_laws.proofs.SmallWireOf.{small_wire, HasSmallVersions}
 use Rattle.script_run.specs.OfScript.{Next, GoesOn, IsPart, PastOfScript, next_join, next_of, next_take}
 
-module _ (schema : Schema) (low : HasLowSlots schema) (seqs : ℕ) (some : seqs < 2 ^ 32) where
+module _ (schema : Schema) (low : HasLowSlots schema × HasSmallVersions schema) (seqs : ℕ) (some : seqs < 2 ^ 32) where
   abbrev wire : Wire
   wire = wire_of schema
 
@@ -90,7 +90,7 @@ module _ (schema : Schema) (low : HasLowSlots schema) (seqs : ℕ) (some : seqs 
       let asked = subst (If (IsSmallAsked (BecomeBytes schema))) (newest seqs next event middle asks h.0) (step event.seq middle h.2 rest) in
       (event_small event (middle ++ before) h (omega (arith, few)) rest asked, rest)
 
-module _ (schema : Schema) (low : HasLowSlots schema) (script : Script) (order : ℕ) (s : IsSmallScript (IsPrepared schema) script)
+module _ (schema : Schema) (low : HasLowSlots schema × HasSmallVersions schema) (script : Script) (order : ℕ) (s : IsSmallScript (IsPrepared schema) script)
     (some : script.seqs < 2 ^ 32) where
   abbrev own_wire : Wire
   own_wire = wire_of schema

@@ -1,13 +1,14 @@
 -- Messages that are written are bytes, and what is read off bytes has its width.
 use Rattle.std.proofs.lemmas.List.{length-append}
-use Rattle.std.proofs.Common.{◌≡◌, ◌<◌, ◌≤◌, ℕ, zero, suc, ◌+◌, ◌-◌, ◌*◌, ◌/◌, ◌^◌, Bool, true, false, List, [], ◌∷◌, ◌++◌, length, refl, ap, subst, arith}
-use Rattle.std.specs.Int.{cast_unsigned, w64}
-use Rattle.std.specs.Prelude.{ℤ, ◌==◌, nat_lt, Option, Some, None, Result, Ok, Err, slice_index, if◌then◌else◌}
+use Rattle.std.proofs.Math.Facts.{sfits_to_z}
+use Rattle.std.proofs.Common.{◌≡◌, ◌<◌, ◌≤◌, ℕ, pos, negsuc, zero, suc, ◌+◌, ◌-◌, ◌*◌, ◌/◌, ◌^◌, Bool, true, false, List, [], ◌∷◌, ◌++◌, length, refl, ap, subst, arith}
+use Rattle.std.specs.Int.{cast_signed, cast_unsigned, w64}
+use Rattle.std.specs.Prelude.{FitsSigned, ℤ, ◌==◌, nat_lt, Option, Some, None, Ok, slice_index, if◌then◌else◌}
 use Rattle.mj_base.specs.Bytes.{rounded8}
 use Rattle.mj_base.specs.declared.fault.Fault.{Fault}
 use Rattle.mj_schema.specs.declared.schema.Schema.{Schema}
 use Rattle.bounds_claims.specs.Runs.{first_fault}
-use Rattle.message_header.specs.Controls.{control_id, control_marks}
+use Rattle.control_bytes.specs.Controls.{control_by, control_marks, control_said, second_read}
 use Rattle.message_header.specs.FirstFailed.{first_failed}
 use Rattle.message_validator.specs.Before.{before_payload}
 use Rattle.wire_encoder.specs.Prepared.{payload_for, verdict}
@@ -15,16 +16,16 @@ use Rattle.wire_model.specs.Bytes.{bytes32, bytes64, number32, number64}
 use Rattle.wire_model.specs.Cells.{zeros}
 use Rattle.wire_model.specs.Expected.{message_marks}
 use Rattle.wire_model.specs.HeaderMarks.{header_marks, HEADER_BYTES, HEADER_BYTES_1, HEADER_BYTES_2, HEADER_BYTES_3}
-use Rattle.wire_model.specs.Message.{front, ids_distance, moment_bytes}
+use Rattle.wire_model.specs.Message.{front, ids_distance, moment_bytes, moment_read}
 use Rattle.wire_model.specs.Message.{Head, basic, front_of, back_of, id_bytes, ids_from, ids_read, is_plain, message, payload_start, plain_front, request_read, written_request}
 use Rattle.wire_model.specs.Trees.{Tree}
 use Rattle.wire_model.specs.declared.target.Expected.{Expected}
 use Rattle.wire_model.specs.declared.target.Target.{Target}
-use Rattle.bind_model.specs.declared.control.Control.{Control}
-use Rattle.bind_model.specs.declared.control.Control.TheVariants.{Closed}
+use Rattle.control_bytes.specs.declared.control.Control.{Control}
+use Rattle.control_bytes.specs.declared.control.Control.TheVariants.{Closed, Query, Version, Require, Flush}
 use Rattle.bind_model.specs.Wire.{Header, Content}
-use Rattle.bind_model.specs.WireOf.{header_in, closed_id_in, closing_said, content_in, endpoints_met, stands_in, struct_named, unless_fault}
-use Rattle.history_reader.specs.Printable.{IsSmall, IsWide, IsMoment, AreAll, AreBytes}
+use Rattle.bind_model.specs.WireOf.{header_in, says_in, content_in, endpoints_met, stands_in, struct_named, unless_fault}
+use Rattle.history_reader.specs.Printable.{IsSmall, IsWide, IsLong, IsMoment, AreAll, AreBytes}
 use Rattle.printed_laws.proofs.SmallLists.{all_both}
 use Rattle.printed_laws.proofs.SmallSaid.{IsFine, IsSmallControl}
 
@@ -227,17 +228,45 @@ header_small bytes h fine e =
       subst (λ (g : Header). AreAll IsSmall g.ids) same (read_small bytes fine.0),
     )
 
-closed_small : (bytes : List ℕ) (id : ℕ) → IsFine bytes → closed_id_in bytes ≡ Ok id → IsSmall id
-closed_small bytes id fine e = subst IsSmall (answer_is (first_failed (control_marks bytes)) (control_id bytes) id e)
-    (number32_small bytes fine.0 (payload_start bytes + 12))
-
--- what is said is that an endpoint is closed
-pub says_small : (bytes : List ℕ) (c : Control) → IsFine bytes → closing_said (closed_id_in bytes) ≡ Ok c → IsSmallControl c
-says_small bytes c fine e = go (closed_id_in bytes) refl e
+-- the second number of a control
+second_small : (bytes : List ℕ) → AreBytes bytes → (p : ℕ) → IsSmall (second_read bytes p)
+second_small bytes a p = go (number32 bytes p == 24)
   where
-    go : (o : Result ℕ Fault) → closed_id_in bytes ≡ o → closing_said o ≡ Ok c → IsSmallControl c
-    go (Ok id) f h = let same : Closed id ≡ c = cc in subst IsSmallControl same (closed_small bytes id fine f)
-    go (Err fault) f h = absurd cc
+    go : (b : Bool) → IsSmall (if b then number32 bytes (p + 16) else 0)
+    go true = number32_small bytes a (p + 16)
+    go false = omega arith
+
+-- the control of a kind with these numbers
+control_small : (kind n second : ℕ) → IsSmall n → IsSmall second → IsSmallControl (control_by kind n second)
+control_small kind n second a b = go (kind == 1) (kind == 2) (kind == 3) (kind == 4)
+  where
+    go : (closed query version require : Bool) → IsSmallControl (if closed then Closed n else (if query then Query n else
+        (if version then Version n second else (if require then Require n second else Flush n))))
+    go true query version require = a
+    go false true version require = a
+    go false false true require = (a, b)
+    go false false false true = (a, b)
+    go false false false false = a
+
+-- what a control says has numbers of 32 bits
+pub says_small : (bytes : List ℕ) (c : Control) → IsFine bytes → says_in bytes ≡ Ok c → IsSmallControl c
+says_small bytes c fine e =
+    let p = payload_start bytes in
+    subst IsSmallControl (answer_is (first_failed (control_marks bytes)) (control_said bytes) c e)
+    (control_small (number32 bytes (p + 8)) (number32 bytes (p + 12)) (second_read bytes p)
+    (number32_small bytes fine.0 (p + 12)) (second_small bytes fine.0 p))
+
+-- a moment has 64 bits
+long_of : (z : ℤ) → FitsSigned w64 z → IsLong z
+long_of (pos n) fits = fits.sfits
+long_of (negsuc n) fits = fits.sfits
+
+moment_small : (bytes : List ℕ) → AreBytes bytes → IsMoment (moment_read bytes)
+moment_small bytes a = go (nat_lt (number32 bytes 4) 3)
+  where
+    go : (old : Bool) → IsMoment (if old then None else Some (cast_signed w64 (number64 bytes 48)))
+    go true = tt
+    go false = long_of (cast_signed w64 (number64 bytes 48)) (sfits_to_z (record { fits = number64_wide bytes a 48 }))
 
 pub stands_small : (schema : Schema) (expected : Expected) (bytes : List ℕ) (n : ℕ) (c : Content) → IsFine bytes → stands_in schema expected bytes n ≡ Ok c
     → IsSmall c.target.method × IsWide c.request × IsMoment c.moment
@@ -246,7 +275,7 @@ stands_small schema expected bytes n c fine e =
     (content_in schema expected bytes (struct_named schema expected bytes)) c e in (
       subst (λ (d : Content). IsSmall d.target.method) same (number32_small bytes fine.0 12),
       subst (λ (d : Content). IsWide d.request) same (request_wide bytes fine.0),
-      subst (λ (d : Content). IsMoment d.moment) same tt,
+      subst (λ (d : Content). IsMoment d.moment) same (moment_small bytes fine.0),
     )
 
 -- parameters that become bytes, not too many, and that name no more endpoints than a message carries

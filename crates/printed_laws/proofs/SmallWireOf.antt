@@ -5,10 +5,10 @@ use Rattle.mj_schema.specs.declared.schema.Schema.{Schema}
 use Rattle.wire_encoder.specs.Prepared.{flags_for, method_of, payload_for}
 use Rattle.wire_model.specs.Bytes.{bytes32}
 use Rattle.wire_model.specs.HeaderMarks.{CONTROL_ID}
-use Rattle.bind_model.specs.ControlBytes.{long_control, short_control}
-use Rattle.bind_model.specs.declared.control.Control.{Control}
-use Rattle.bind_model.specs.declared.control.Control.TheVariants.{Closed, Query, Version, Require, Flush}
-use Rattle.bind_model.specs.WireOf.{wire_of, comes_to, written_control}
+use Rattle.control_bytes.specs.Controls.{long_control, short_control, written_control}
+use Rattle.control_bytes.specs.declared.control.Control.{Control}
+use Rattle.control_bytes.specs.declared.control.Control.TheVariants.{Closed, Query, Version, Require, Flush}
+use Rattle.bind_model.specs.WireOf.{version_in, wire_of, comes_to}
 use Rattle.printed_laws.proofs.SmallFaults.{HasLowSlots}
 use Rattle.printed_laws.proofs.SmallPlaces.{header_placed, says_placed, stands_placed}
 use Rattle.printed_laws.proofs.SmallSaid.{IsFine, IsSmallWire}
@@ -45,9 +45,13 @@ control_fine (Version id v) = long_fine 3 id v
 control_fine (Require id v) = long_fine 4 id v
 control_fine (Flush k) = short_fine 5 k
 
-pub small_wire : (schema : Schema) → HasLowSlots schema → IsSmallWire (BecomeBytes schema) (wire_of schema)
+-- the versions of interfaces are numbers of 32 bits
+abbrev pub HasSmallVersions : Schema → Type 0
+HasSmallVersions schema = (interface : ℕ) → version_in schema interface < 2 ^ 32
+
+pub small_wire : (schema : Schema) → HasLowSlots schema × HasSmallVersions schema → IsSmallWire (BecomeBytes schema) (wire_of schema)
 unfolding wire_of
-small_wire schema low = record {
+small_wire schema (low, versions) = record {
   wants = λ target parameters a. a.2;
   sealed = λ target parameters head a few. message_fine
       (record {
@@ -56,7 +60,7 @@ small_wire schema low = record {
         flags = flags_for (method_of schema target) target;
         nonce = 0;
         request = head.request;
-        moment = None;
+        moment = head.moment;
         ids = head.ids;
       })
       (payload_for schema target parameters) few a.0 a.1;
@@ -64,7 +68,7 @@ small_wire schema low = record {
   header = header_small;
   says = says_small;
   stands = λ side interface bytes n c fine e. stands_small schema (record { interface = interface; side = comes_to side }) bytes n c fine e;
-  version = λ interface. omega arith;
+  version = versions;
   header_fault = λ bytes f fine e. header_placed bytes fine.0 f e;
   says_fault = λ bytes h f fine headed e. says_placed bytes fine.0 fine.1 h headed f e;
   stands_fault = λ side interface bytes h n f fine headed e.

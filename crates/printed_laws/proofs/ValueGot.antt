@@ -17,7 +17,7 @@ use Rattle.wire_model.specs.declared.target.Expected.{Expected}
 use Rattle.wire_model.specs.declared.target.MessageSide.{MessageSide}
 use Rattle.handle_table.specs.declared.thing.Thing.{Thing}
 use Rattle.handle_table.specs.Things.{same_end}
-use Rattle.message_header.specs.Controls.{CONTROL_HEAD}
+use Rattle.control_bytes.specs.Controls.{CONTROL_HEAD, long_control, short_control, written_control}
 use Rattle.message_validator.proofs.WholeMessage.{message_run, stand}
 use Rattle.message_pipe.specs.declared.message.Message.{Message}
 use Rattle.same_messages.proofs.Fine.{fine_right}
@@ -27,12 +27,11 @@ use Rattle.bind_model.specs.Machine.{Endpoints, peer, is_gone, is_local, is_peer
 use Rattle.bind_model.specs.Machine.{endpoint_at, unread}
 use Rattle.bind_model.specs.Replies.{legal}
 use Rattle.bind_model.specs.Wire.{Wire, Content}
-use Rattle.bind_model.specs.WireOf.{comes_to, content_in, stands_in, struct_named, unless_fault, wire_of, written_control}
+use Rattle.bind_model.specs.WireOf.{comes_to, content_in, stands_in, struct_named, unless_fault, wire_of}
 use Rattle.bind_model.specs.declared.asked.Asked.{Asked}
 use Rattle.bind_model.specs.declared.asked.Asked.TheVariants.{Raw}
-use Rattle.bind_model.specs.ControlBytes.{long_control, short_control}
-use Rattle.bind_model.specs.declared.control.Control.{Control}
-use Rattle.bind_model.specs.declared.control.Control.TheVariants as says
+use Rattle.control_bytes.specs.declared.control.Control.{Control}
+use Rattle.control_bytes.specs.declared.control.Control.TheVariants as says
 use Rattle.bind_model.specs.declared.event.Event.{Event}
 use Rattle.bind_model.specs.declared.told.Noted.TheVariants as noted
 use Rattle.bind_model.specs.declared.told.Got.{Got}

@@ -75,8 +75,8 @@ module _ (schema : Schema) (means : Means schema) where
   asked_said (asks.Bind x side interface) is = tt
   asked_said (asks.Associate x side interface) is = tt
   asked_said (asks.Attach p t) is = tt
-  asked_said (asks.Call y id o) is = sending_said Request o.target o.parameters is
-  asked_said (asks.Answer r o) is = sending_said Response o.target o.parameters is
+  asked_said (asks.Call y id o) is = sending_said Request o.target o.parameters is.0
+  asked_said (asks.Answer r o) is = sending_said Response o.target o.parameters is.0
   asked_said (asks.Raw x bytes handles) is = tt
   asked_said (asks.Take x) is = tt
   asked_said (asks.Close closing) is = tt

@@ -1,6 +1,7 @@
 -- What the events of a script call and answer is a value of its method's struct, and all that they send is bytes.
 use Rattle.std.proofs.Common.{◌≡◌, ◌<◌, ◌≤◌, ◌^◌, ℕ, suc, Bool, true, false, List, [], ◌∷◌, ◌++◌, length, Option, Some, None, Ok, refl, sym, ap, subst}
-use Rattle.std.specs.Prelude.{reverse, slice_get, is_some, if◌then◌else◌, option_and_then}
+use Rattle.std.specs.Int.{w64}
+use Rattle.std.specs.Prelude.{FitsSigned, IfSome, reverse, slice_get, is_some, if◌then◌else◌, option_and_then}
 use Rattle.std.specs.List.{AllByRecursion}
 use Rattle.std.specs.Option.{option_map}
 use Rattle.std.proofs.lemmas.List.{reverse-append}
@@ -72,10 +73,14 @@ pub record IsSending (schema : Schema) (side : MessageSide) (target : Target) (t
 abbrev pub IsNamedInterface : Schema → ℕ → Type 0
 IsNamedInterface schema n = (word : List ℕ) × (interface_named schema.interfaces word ≡ Some n)
 
--- what an event calls or answers is such a value, what it binds or makes an endpoint as is named, and what it writes raw is bytes
+-- what is sent is such a value, and its moment has 64 bits
+abbrev pub Sends : Schema → MessageSide → Outgoing → Type 0
+Sends schema side o = IsSending schema side o.target o.parameters × IfSome o.moment (FitsSigned w64)
+
+-- what an event calls or answers is sent so, what it binds or makes an endpoint as is named, and what it writes raw is bytes
 abbrev pub AsksSaid : Schema → Asked → Type 0
-AsksSaid schema (asks.Call y id o) = IsSending schema Request o.target o.parameters
-AsksSaid schema (asks.Answer r o) = IsSending schema Response o.target o.parameters
+AsksSaid schema (asks.Call y id o) = Sends schema Request o
+AsksSaid schema (asks.Answer r o) = Sends schema Response o
 AsksSaid schema (asks.Bind x side interface) = IsNamedInterface schema interface
 AsksSaid schema (asks.Associate x side interface) = IsNamedInterface schema interface
 AsksSaid schema (asks.Raw x bytes handles) = AreBytes bytes
@@ -205,7 +210,7 @@ module _ (law : PassedIsEncodable) (schema : Schema) where
     of_call id p said None things pendings = tt
     of_call id p said (Some y) None pendings = tt
     of_call id p said (Some y) (Some xs) None = tt
-    of_call id p said (Some y) (Some xs) (Some ps) = said
+    of_call id p said (Some y) (Some xs) (Some ps) = (said, tt)
 
     of_answer : (p : Prepared) → IsSending schema Response p.target (view p.value) → (o : Option ResponderId) (things : Option (List Thing))
         (pendings : Option (List PendingId))
@@ -214,7 +219,7 @@ module _ (law : PassedIsEncodable) (schema : Schema) where
     of_answer p said None things pendings = tt
     of_answer p said (Some r) None pendings = tt
     of_answer p said (Some r) (Some xs) None = tt
-    of_answer p said (Some r) (Some xs) (Some ps) = said
+    of_answer p said (Some r) (Some xs) (Some ps) = (said, tt)
 
     of_raw : (bytes : List ℕ) → AreBytes bytes → (twice : Bool) (o : Option Thing) (things : Option (List Thing))
         → AsksSaid schema (or_skip n (if twice then None else option_and_then
@@ -267,7 +272,7 @@ module _ (law : PassedIsEncodable) (schema : Schema) where
 
   module _ (wire : Wire) (script : Script) (replies : AllByRecursion ReplySaid script.autos) (lines : AllByRecursion LineSaid script.lines) where
     of_reply : (past : List Event) (d : Due) → due wire script.autos past ≡ Some d → AsksSaid schema (replied d)
-    of_reply past (r, reply) found = due_in ReplySaid wire script.autos past r reply replies found
+    of_reply past (r, reply) found = (due_in ReplySaid wire script.autos past r reply replies found, tt)
 
     of_join : (own : List Event) (seq : SeqId) (asked : Asked) → next_join script own ≡ Some (seq, asked) → AsksSaid schema asked
     of_join own seq asked e = go (slice_get (joins_of script) (length own)) refl e
@@ -359,7 +364,7 @@ module _ (schema : Schema) where
         flags = flags_for (method_of schema target) target;
         nonce = 0;
         request = head.request;
-        moment = None;
+        moment = head.moment;
         ids = head.ids;
       }) (payload_for schema target t)
       (subst (λ (o : Option ℕ). AreBytes (emit schema false (kind_for o) t)) (sym is.parameters)
@@ -368,10 +373,11 @@ module _ (schema : Schema) where
   bytes_step : (seqs : ℕ) (past : List Event) (seq : SeqId) {asked : Asked} {told : Told} → Outcome (wire_of schema) seqs past seq asked told
       → AsksSaid schema asked → SendsBytes told asked
   bytes_step seqs past seq (calls {id = id} {s = s} {request = request} r o ps mk e w b) is =
-      subst AreBytes (sym b) (sealed_bytes Request s.target s.parameters (record { id = id; request = request; ids = ids_of s.pendings; moment = s.moment }) is)
+      subst AreBytes (sym b)
+      (sealed_bytes Request s.target s.parameters (record { id = id; request = request; ids = ids_of s.pendings; moment = s.moment }) is.0)
   bytes_step seqs past seq (answers {q = q} {s = s} {request = request} r o rs ps e w b) is =
       subst AreBytes (sym b)
-      (sealed_bytes Response s.target s.parameters (record { id = q.id; request = request; ids = ids_of s.pendings; moment = s.moment }) is)
+      (sealed_bytes Response s.target s.parameters (record { id = q.id; request = request; ids = ids_of s.pendings; moment = s.moment }) is.0)
   bytes_step seqs past seq (writes o w) is = is
   bytes_step seqs past seq (joins t j p q) is = tt
   bytes_step seqs past seq mints is = tt

@@ -10,7 +10,6 @@ ghost use Rattle.bind_model.specs.WireOf.{wire_of};
 ghost use Rattle.bind_model.specs.declared.event.Event.{Event};
 ghost use Rattle.mojom_compile.specs.Schemas.{IsSchemaOfFiles};
 ghost use Rattle.mojom_compile.specs.declared.source.Source.{Source};
-ghost use Rattle.message_laws.specs.Filled.{IsFilledSchema};
 ghost use Rattle.call_script.specs.Script.{IsScriptOf};
 ghost use Rattle.call_script.specs.declared.script.Script.{Script};
 ghost use Rattle.history_reader.specs.Printable.{IsPrintable};
@@ -46,8 +45,8 @@ pub fn runs_are_read_back()
 }
 
 /// What the calls and answers of such a run are to send was prepared, and so fits its method: its parameters
-/// pass all checks, in few bytes, and the method's ordinal is a number of 32 bits. This is a law and does
-/// nothing: it calls the law that it rests on.
+/// pass all checks, in few bytes, the method's ordinal is a number of 32 bits, and its moment one of 64. This is
+/// a law and does nothing: it calls the law that it rests on.
 pub fn runs_send_what_fits()
     ensures { (sources : List Source) (schema : Schema) (bytes : List ℕ) (script : Script) (order : ℕ) (history : List Event)
         → IsSchemaOfFiles sources schema → IsScriptOf schema bytes script
@@ -55,9 +54,3 @@ pub fn runs_send_what_fits()
 {
     passed_is_encodable();
 }
-
-/// By the schema of files, what a version of a struct lacks reads as a value of its kind: so what is decoded
-/// by it has a text that is read back. This is a law and does nothing.
-pub fn schemas_of_files_are_filled()
-    ensures { (sources : List Source) (schema : Schema) → IsSchemaOfFiles sources schema → IsFilledSchema schema }
-{}

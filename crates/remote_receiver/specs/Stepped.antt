@@ -28,6 +28,7 @@ abbrev pub given_by : {C : Type 0} → Asked → Told → Option C → Option (K
 given_by (Call end id outgoing) (Sent request bytes) (Some job) = Some (record { end = end; id = id; request = request }, job)
 given_by asked told job = None
 
+-- the job that was given with this step, under its request
 abbrev pub given : {C : Type 0} → Step C → Option (Key × C)
 given step = given_by step.asked step.told step.job
 
@@ -39,6 +40,7 @@ answered end g = record { end = end; id = g.id; request = g.request; method = g.
 abbrev pub key_of : Answered → Key
 key_of got = record { end = got.end; id = got.id; request = got.request }
 
+-- two requests are one: of one endpoint, under one number
 abbrev pub same_key : Key → Key → Bool
 same_key a b = is_of_endpoint a.end a.id b && (a.request == b.request)
 

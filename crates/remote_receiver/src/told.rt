@@ -53,6 +53,7 @@ fn hear_got<C: Job<P>, P: Stepper>(
         pendings,
         responder,
         gone,
+        moment,
     } = received;
     let got = Answered {
         end,
@@ -78,6 +79,7 @@ fn hear_got<C: Job<P>, P: Stepper>(
         pendings,
         responder,
         gone,
+        moment,
     }
 }
 

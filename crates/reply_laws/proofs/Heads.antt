@@ -4,9 +4,9 @@ use Rattle.std.specs.Prelude.{Option, Some, None}
 use Rattle.wire_model.specs.Bytes.{bytes32, bytes64, number32, number64}
 use Rattle.wire_model.specs.HeaderMarks.{CONTROL_ID}
 use Rattle.wire_model.specs.Message.{Head, is_plain, plain_front, front, back_of, message, request_read}
-use Rattle.bind_model.specs.WireOf.{written_control}
-use Rattle.bind_model.specs.declared.control.Control.{Control}
-use Rattle.bind_model.specs.declared.control.Control.TheVariants as says
+use Rattle.control_bytes.specs.Controls.{written_control}
+use Rattle.control_bytes.specs.declared.control.Control.{Control}
+use Rattle.control_bytes.specs.declared.control.Control.TheVariants as says
 
 -- the four bytes of a number
 digits : (n : ℕ) → n % 256 + 2 ^ 8 * (n / 256 % 256) + 2 ^ 16 * (n / 65536 % 256) + 2 ^ 24 * (n / 16777216 % 256) ≡ n % 2 ^ 32

@@ -25,7 +25,7 @@ use Rattle.bounds_claims.specs.Runs.{run, step, first_fault, ◌>>=◌}
 use Rattle.bounds_claims.specs.declared.claims.Claims.{Claims}
 use Rattle.bounds_claims.proofs.Steps.{run_append}
 use Rattle.message_validator.specs.Before.{before_payload}
-use Rattle.bind_model.specs.declared.control.Control.{Control}
+use Rattle.control_bytes.specs.declared.control.Control.{Control}
 use Rattle.bind_model.specs.Replies.{is_response}
 use Rattle.bind_model.specs.Wire.{Content, Head, Header}
 use Rattle.bind_model.specs.WireOf.{wire_of, comes_to, content_in, has_response, stands_in, struct_named, unless_fault}
@@ -134,7 +134,7 @@ head_for schema target head = record {
   flags = flags_for (method_of schema target) target;
   nonce = 0;
   request = head.request;
-  moment = None;
+  moment = head.moment;
   ids = head.ids;
 }
 

@@ -11,7 +11,7 @@ use Rattle.wire_model.specs.Emit.{emit}
 use Rattle.wire_model.specs.Expected.{flags_of, struct_of}
 use Rattle.wire_model.specs.HeaderMarks.{expects, responds}
 use Rattle.wire_model.specs.Message as messages
-use Rattle.wire_model.specs.Message.{AreIds, IsHead, message, payload_start}
+use Rattle.wire_model.specs.Message.{AreIds, IsHead, message, moment_read, payload_start}
 use Rattle.wire_model.specs.Tight.{IsEncodable, MAX_PAYLOAD_BYTES, MessageStandsFor, payload_of, tight_message, value_of}
 use Rattle.wire_model.specs.Trees.{Endpoint, EndpointRemote, Fields, Flag, Handle, Items, Member, Null, Pairs, Remote, Text, Tree, Trees, Unknown, Whole, more, none}
 use Rattle.wire_model.specs.declared.target.MessageSide.{MessageSide}
@@ -153,7 +153,7 @@ module _ (passed : Passed) (schema : Schema) (past : List Event) (s : Outgoing) 
         flags = f.small;
         nonce = omega arith;
         request = low;
-        moment = tt;
+        moment = fits.moment;
         one_way = f.one_way;
         ids = named;
         few = omega (arith, most);
@@ -177,12 +177,15 @@ module _ (passed : Passed) (schema : Schema) (past : List Event) (s : Outgoing) 
       ∙ stands.stands.means
       ∙ sym whole.value
 
--- what was sealed stands for its value at an endpoint of its interface and side
+  moment_is : moment_read bytes ≡ s.moment
+  moment_is = ap moment_read tight ∙ stands.heads.moment
+
+-- what was sealed stands for its value, at its moment, at an endpoint of its interface and side
 pub same_value : Passed → (schema : Schema) (past : List Event) (s : Outgoing) (id request : ℕ) (bytes : List ℕ)
     → bytes ≡ (wire_of schema).sealed s.target s.parameters (record { id = id; request = request; ids = ids_of s.pendings; moment = s.moment })
     → id < 2 ^ 32 → request < 2 ^ 64 → AreIds (ids_of s.pendings) → tokens_right (wire_of schema) past s ≡ true → FitsMethod schema s
     → (side : EndpointSide) (interface : ℕ) (c : Content) → Stood schema side interface bytes c → interface ≡ s.target.interface
-    → comes_to side ≡ s.target.side → (c.target ≡ s.target) × (c.parameters ≡ s.parameters)
+    → comes_to side ≡ s.target.side → (c.target ≡ s.target) × (c.parameters ≡ s.parameters) × (c.moment ≡ s.moment)
 same_value passed schema past s id request bytes is small low named tokens fits side interface c q at comes =
     let head : Head = record { id = id; request = request; ids = ids_of s.pendings; moment = s.moment } in
     let name : number32 bytes 12 ≡ s.target.method = method_read schema s.target s.parameters head bytes is fits.method in
@@ -196,4 +199,8 @@ same_value passed schema past s id request bytes is small low named tokens fits 
     ∙ (ap (λ (side : MessageSide). struct_of side q.row) (sym comes) ∙ q.struct) in
     let got : c.target ≡ record { interface = interface; method = number32 bytes 12; side = comes_to side } = ap (λ (x : Content). x.target) q.content in
     let read : c.parameters ≡ value_of schema bytes (payload_start bytes) q.number = ap (λ (x : Content). x.parameters) q.content in
-    (got ∙ target, read ∙ value_is passed schema past s id request bytes is small low named tokens fits q.number struct)
+    let timed : c.moment ≡ moment_read bytes = ap (λ (x : Content). x.moment) q.content in (
+      got ∙ target,
+      read ∙ value_is passed schema past s id request bytes is small low named tokens fits q.number struct,
+      timed ∙ moment_is passed schema past s id request bytes is small low named tokens fits q.number struct,
+    )

@@ -16,8 +16,8 @@ use wire_encoder::laws::passed_is_encodable;
 /// What a take gets was sent by its peer, on a pipe on which nothing was written raw: a request by a call
 /// from the endpoint of that id, under that number, and a response by an answer of the responder that an
 /// earlier take there handed out with the request of that id and number. Where what was sent fits its
-/// method, as what is prepared does, and the endpoint here is of its interface, the value that is got is
-/// the value that was sent. The history has at most as many events as a core keeps. This is a law and
+/// method, as what is prepared does, and the endpoint here is of its interface, the value that is got and
+/// its moment are those that were sent. The history has at most as many events as a core keeps. This is a law and
 /// does nothing: it calls the law that it rests on.
 pub fn all_own()
     ensures { (schema : Schema) (seqs : ℕ) (past : List Event) → legal (wire_of schema) seqs past → length past ≤ MAX_EVENTS → AllOwn schema past }
@@ -34,9 +34,10 @@ pub fn all_first()
     passed_is_encodable();
 }
 
-/// Where nothing was written raw to an end, a flush that is consumed there was written by its peer, and all
-/// that was written before it was consumed before. This is a law and does nothing.
+/// Where nothing was written raw to an end, a flush that is consumed there was written by its peer, under that
+/// number and behind as many messages as were consumed there before: so all that was written before it was
+/// consumed. The history has at most as many events as a core keeps. This is a law and does nothing.
 #[tactic(auto, using(crate::proofs::Behind::all_behind))]
 pub fn all_behind()
-    ensures { (schema : Schema) (seqs : ℕ) (past : List Event) → legal (wire_of schema) seqs past → AllBehind (wire_of schema) past }
+    ensures { (schema : Schema) (seqs : ℕ) (past : List Event) → legal (wire_of schema) seqs past → length past ≤ MAX_EVENTS → AllBehind (wire_of schema) past }
 {}

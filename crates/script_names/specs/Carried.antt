@@ -47,6 +47,7 @@ things_back (Wrote handle) = handle ∷ []
 things_back (No why command) = things_with command
 things_back reply = []
 
+-- for how many pendings that come back there is to be room
 abbrev pub halves_back : Reply → ℕ
 halves_back (Associated pending) = 1
 halves_back (No why command) = length (halves_with command)

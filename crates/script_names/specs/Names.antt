@@ -62,10 +62,11 @@ abbrev pub set_by : Option Line → List NameId
 set_by None = []
 set_by (Some line) = sets line.command
 
--- of the names in a list those that stand for ends and tokens, whose handles go with a message; pendings go with it under the others
+-- of the names in a list those that stand for ends and tokens, whose handles go with a message
 abbrev pub things_named : (NameId → Option Thing) → List NameId → List NameId
 things_named stands list = filter (λ (n : NameId). is_some (stands n)) list
 
+-- of the names in a list the others, whose pendings go with a message
 abbrev pub pendings_named : (NameId → Option Thing) → List NameId → List NameId
 pendings_named stands list = filter (λ (n : NameId). not (is_some (stands n))) list
 

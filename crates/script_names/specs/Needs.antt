@@ -17,19 +17,23 @@ needed command = None
 
 -- of the names in a command's list those whose handles it needs, and those whose pendings
 module _ (is_thing : NameId → Bool) where
+  -- whether the handle of a name is needed, or else whether its pending is
   abbrev pub chosen : Bool → NameId → Bool
   chosen true n = is_thing n
   chosen false n = not (is_thing n)
 
+  -- of these names those whose handles are needed, or else those whose pendings are
   abbrev pub selected : Bool → List NameId → List NameId
   selected stand names = filter (λ (n : NameId). chosen stand n) names
 
+  -- the names in a command's list whose handles it needs: all of them where it writes bytes
   abbrev pub handles_needed : Command → List NameId
   handles_needed (Call n id prepared names) = filter is_thing names
   handles_needed (Answer n prepared names) = filter is_thing names
   handles_needed (Raw n bytes names) = names
   handles_needed command = []
 
+  -- the names in a command's list whose pendings it needs
   abbrev pub pendings_needed : Command → List NameId
   pendings_needed (Call n id prepared names) = filter (λ n. not (is_thing n)) names
   pendings_needed (Answer n prepared names) = filter (λ n. not (is_thing n)) names

@@ -16,12 +16,13 @@ pub record SameHeld (old new : Rooms) : Type 0 where
 abbrev pub HasPlaces : ℕ → Rooms → Type 0
 HasPlaces count rooms = count + vec_len rooms.kept ≤ vec_capacity rooms.kept
 
--- room for what may come back of a command, and with a reply
+-- room for so many handles and pendings without names, and for a responder
 pub record HasRoom (things halves : ℕ) (rooms : Rooms) : Type 0 where
   pub handles : things + vec_len rooms.handles.others ≤ vec_capacity rooms.handles.others
   pub pendings : halves + vec_len rooms.pendings.others ≤ vec_capacity rooms.pendings.others
   pub responders : 1 + vec_len rooms.responders.others ≤ vec_capacity rooms.responders.others
 
+-- room for what may come back of a command
 abbrev pub HasRoomFor : Command → Rooms → Type 0
 HasRoomFor command rooms = HasRoom (length (things_with command)) (halves_room command) rooms
 
@@ -29,5 +30,6 @@ HasRoomFor command rooms = HasRoom (length (things_with command)) (halves_room c
 abbrev pub HasRoomBack : Command → Rooms → Type 0
 HasRoomBack command rooms = HasRoom (length (things_with command)) (length (halves_with command)) rooms
 
+-- room for what comes back with a reply
 abbrev pub HasRoomBehind : Reply → Rooms → Type 0
 HasRoomBehind reply rooms = HasRoom (length (things_back reply)) (halves_back reply) rooms

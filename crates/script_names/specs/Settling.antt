@@ -19,10 +19,12 @@ use Rattle.script_names.specs.Tables.{filled_one, given, left_by, taken_from}
 
 -- ## Where what goes with a command was held
 
+-- the name that goes by itself, as a list
 abbrev pub listed : Option NameId → List NameId
 listed None = []
 listed (Some n) = n ∷ []
 
+-- what is there, as a list
 abbrev pub list_of : {X : Type 0} → Option X → List X
 list_of None = []
 list_of (Some x) = x ∷ []
@@ -87,11 +89,13 @@ pub record SpendsAs (stands : NameId → Option Thing) (line : LineCommand) (nam
 module _ (names : Names) where
   -- ## Once a reply is settled
 
+  -- what names stand for then: those that the line sets stand for what came, in order
   abbrev pub settled_stands : Reply → List (Option Thing) → List (Option Thing)
   settled_stands (Made handles) table = given names.sets.items handles table
   settled_stands (Got g) table = given names.sets.items g.handles table
   settled_stands reply table = table
 
+  -- the handles under names then: those that came, and those that come back from what was refused or written
   abbrev pub settled_handles : Reply → List (Option Thing) → List (Option Thing)
   settled_handles (Made handles) table = given names.sets.items handles table
   settled_handles (Got g) table = given names.sets.items g.handles table
@@ -99,6 +103,7 @@ module _ (names : Names) where
   settled_handles (No why command) table = given (handles_under names.one names.handles.items names.pendings.items command) (things_with command) table
   settled_handles reply table = table
 
+  -- the pendings under names then: those that came go by the names behind those of the handles
   abbrev pub settled_pendings : Reply → List (Option Half) → List (Option Half)
   settled_pendings (Associated pending) table = filled_one (slice_get names.sets.items 0) pending table
   settled_pendings (Got g) table = given (drop (length g.handles) names.sets.items) g.pendings table
@@ -110,10 +115,12 @@ module _ (names : Names) where
   place_for true count = None
   place_for false count = slice_get names.sets.items count
 
+  -- a responder under this name, where there are both
   abbrev pub held_under : Option NameId → Option ResponderId → List (Option ResponderId) → List (Option ResponderId)
   held_under name None table = table
   held_under name (Some r) table = filled_one name r table
 
+  -- the responders under names then: one that came goes by the name behind those of handles and pendings
   abbrev pub settled_responders : Bool → Reply → List (Option ResponderId) → List (Option ResponderId)
   settled_responders is_due (Got g) table = held_under (place_for is_due (length g.handles + length g.pendings)) g.responder table
   settled_responders is_due (No why command) table =

@@ -35,6 +35,7 @@ module _ {X : Type 0} where
   left_by table [] = table
   left_by table (n ∷ names) = left_by (emptied table n) names
 
+  -- the table then, where all of them held something; else it stays
   abbrev pub left_where : Option (List X) → List (Option X) → List NameId → List (Option X)
   left_where None table names = table
   left_where (Some things) table names = left_by table names

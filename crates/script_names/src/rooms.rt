@@ -144,6 +144,7 @@ impl Rooms {
             pendings,
             responder,
             gone: _,
+            moment: _,
         } = got;
         let sets = names.sets.as_slice();
         let behind = after(sets, handles.as_slice().len());

@@ -15,10 +15,11 @@ use Rattle.script_run.specs.declared.plain.Plain.{Plain}
 
 -- ## Callbacks
 
--- the callback of a script's call, and what it promises
+-- the callback of a script's call, which keeps nothing
 abbrev pub plain : Plain
 plain = record {}
 
+-- what such a callback promises: its note is 0
 abbrev pub AnswersZero : Plain → Answered → ℕ → Type 0
 AnswersZero job got note = note ≡ 0
 
@@ -49,6 +50,7 @@ pub record Seen : Type 0 where
   pub me : SeqId
   pub events : List Event
 
+-- all of this of a stepper, by what tells each part of it
 abbrev pub seen_by : {P : Type 0} → (P → Schema) → (P → ℕ) → (P → Bool) → (P → SeqId) → (P → List Event) → P → Seen
 seen_by schema seqs alone me events p = record { schema = schema p; seqs = seqs p; alone = alone p; me = me p; events = events p }
 

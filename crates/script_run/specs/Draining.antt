@@ -59,6 +59,7 @@ pub record DrainedAll (schema : Schema) (script : Script) (before : List Event) 
   pub part : IsPart (next_take (wire_of schema) script.autos before) before (past_in drained.core)
   pub notes : IfOk drained.notes (λ notes. notes ≡ callbacks script.seqs drained.core.events)
 
+-- it is a whole drain, where it wasn't cut off
 abbrev pub DrainedOf : Schema → Script → List Event → Drained → Type 0
 DrainedOf schema script before drained = IfNone drained.cut (DrainedAll schema script before drained)
 

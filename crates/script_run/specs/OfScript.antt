@@ -22,11 +22,12 @@ use Rattle.script_run.specs.Order.{InTurns, joins_of, lines_of, turn}
 
 -- ## Parts of a history
 
--- each of these events, the newest first, asks what is next behind those before it, and behind all there is no next
+-- each of these events, the newest first, asks what is next behind those before it
 abbrev pub AsksNext : (List Event → Option Asked) → List Event → Type 0
 AsksNext next [] = Unit {0}
 AsksNext next (event ∷ own) = (next own ≡ Some event.asked) × AsksNext next own
 
+-- each does, and behind all of them there is no next
 pub record AsksAll (next : List Event → Option Asked) (own : List Event) : Type 0 where
   pub asks : AsksNext next own
   pub over : next own ≡ None
@@ -35,6 +36,7 @@ pub record AsksAll (next : List Event → Option Asked) (own : List Event) : Typ
 abbrev pub Next : Type 0
 Next = SeqId × Asked
 
+-- each of these events, the newest first, is of the sequence that asks next, and asks what is next
 abbrev pub GoesOn : (List Event → Option Next) → List Event → Type 0
 GoesOn next [] = Unit {0}
 GoesOn next (event ∷ own) = (next own ≡ Some (event.seq, event.asked)) × GoesOn next own

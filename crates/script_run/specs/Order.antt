@@ -15,6 +15,7 @@ use Rattle.script_names.specs.Names.{is_seq}
 
 -- ## The lines of a sequence
 
+-- a command that joins two sequences
 abbrev pub is_join : Command → Bool
 is_join (Join other first second) = true
 is_join command = false

@@ -1,5 +1,4 @@
 -- What is found at the front of an end's mail.
-use Rattle.bind_model.specs.declared.told.Noted.TheVariants as noted
 use Rattle.std.specs.Prelude.{ℕ, ◌≡◌, ◌*◌, ◌&&◌, ◌||◌, not, Bool, true, false, List, [], length, map, filter, Option, Some, None, Ok}
 use Rattle.mj_base.specs.declared.header.Header.{Header as Read}
 use Rattle.mj_base.specs.declared.ids.EndId.{EndId}
@@ -10,6 +9,8 @@ use Rattle.bind_model.specs.declared.endpoint.Endpoint.{Endpoint}
 use Rattle.bind_model.specs.declared.endpoint.State.{State}
 use Rattle.bind_model.specs.declared.endpoint.State.TheVariants as states
 use Rattle.bind_model.specs.declared.event.Event.{Event}
+use Rattle.bind_model.specs.declared.told.Noted.{Noted}
+use Rattle.bind_model.specs.declared.told.Noted.TheVariants as noted
 use Rattle.bind_model.specs.declared.told.Told.{Told}
 use Rattle.bind_model.specs.declared.told.Told.TheVariants as tells
 use Rattle.wire_model.specs.Message.{ids_read}
@@ -75,15 +76,21 @@ pub record IsGot (wire : Wire) (past : List Event) (y : EndId) (a : Arrived) (to
     handles = a.named;
     pendings = pendings_at y (pending_ids a.admitted.entries.items);
     gone = goes_behind wire past y a.left;
-    moment = None;
+    moment = a.moment;
   })
+
+-- what a control says that neither closes an endpoint nor asks for a version that there is
+abbrev pub IsSilent : Noted → Type 0
+IsSilent (noted.Closed id) = ⊥
+IsSilent (noted.Queried id (Some v)) = ⊥
+IsSilent c = Unit {0}
 
 -- a take at y is told what was found there
 abbrev pub Tells : Wire → List Event → EndId → Found → Told → Type 0
 Tells wire past y (Nothing why) told = told ≡ tells.No why
 Tells wire past y (Bad why) told = told ≡ bad wire past y why
 Tells wire past y (Dropped id a) told = IsDropped wire past y id a told
-Tells wire past y (Control id) told = told ≡ tells.Control (noted.Closed id)
+Tells wire past y (Control c) told = told ≡ tells.Control c
 Tells wire past y (Value a) told = IsGot wire past y a told
 
 -- whether a message of this side, for the endpoint of an id at an end, is a response that nobody waits for

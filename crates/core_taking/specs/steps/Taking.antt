@@ -10,6 +10,7 @@ use Rattle.message_pipe.specs.Mail.{front_of}
 use Rattle.message_pipe.specs.declared.message.Message.{Message}
 use Rattle.bind_model.specs.Replies.{pendings_at}
 use Rattle.bind_model.specs.declared.endpoint.Endpoint.{Endpoint}
+use Rattle.bind_model.specs.declared.told.Got.{Got}
 use Rattle.bind_model.specs.declared.told.Why.{Why}
 use Rattle.bind_model.specs.declared.told.Why.TheVariants.{NoName, Disconnected, Empty, PeerClosed}
 use Rattle.core_state.specs.Routers.{Routers, found_at}
@@ -41,18 +42,22 @@ pub record LieThere (pipes : Contents) (things : List Thing) : Type 0 where
   pub once : is_distinct things ≡ true
   pub kept : (z : Thing) → has things z ≡ true → is_kept (place_of pipes.table z) ≡ true
 
+-- what arrived at y as it is noted, with the things that go
+abbrev pub noted_as : EndId → Arrived → List Thing → Got
+noted_as y a gone = record {
+  id = a.id;
+  target = a.target;
+  parameters = a.parameters;
+  request = a.request;
+  handles = a.named;
+  pendings = pendings_at y (pending_ids a.admitted.entries.items);
+  gone = gone;
+  moment = a.moment;
+}
+
 -- all that a message at y brings was made
 pub record IsBrought (pipes : Contents) (y : EndId) (a : Arrived) (b : Brings) : Type 0 where
-  pub noted : b.noted ≡ record {
-    id = a.id;
-    target = a.target;
-    parameters = a.parameters;
-    request = a.request;
-    handles = a.named;
-    pendings = pendings_at y (pending_ids a.admitted.entries.items);
-    gone = b.gone;
-    moment = None;
-  }
+  pub noted : b.noted ≡ noted_as y a b.gone
   pub gone : b.gone ≡ spread (carried_in pipes.ends (Some y)) pipes.made a.left
   pub things : b.things ≡ a.named
   pub empty : b.room.items ≡ []

@@ -46,6 +46,7 @@ module _ {C : Type 0} where
   AfterEnds (All end) old new = Dropped (is_of_end end) old new
   AfterEnds (One end id) old new = Dropped (is_of_endpoint end id) old new
 
+  -- the jobs of what was closed are dropped, where it was; else nothing changes
   abbrev pub AfterClose : Option Ends → Told → Kept C → Kept C → Type 0
   AfterClose (Some ends) (Closed gone) old new = AfterEnds ends old new
   AfterClose ends told old new = new ≡ old
@@ -63,6 +64,7 @@ module _ {C : Type 0} (promises : C → Answered → ℕ → Type 0) where
   Noted got None old new = new ≡ old
   Noted got (Some w) old new = (note : ℕ) × promises w.job got note × (new ≡ slice_set old w.at (record { key = key_of got; ran = true; note = note }))
 
+  -- the job that waits for a response waits no more, and runs
   abbrev pub Heard : Answered → Kept C → Kept C → Type 0
   Heard got old new = (new.waiting ≡ remove old.waiting (key_of got)) × Noted got (get old.waiting (key_of got)) old.notes new.notes
 
@@ -71,10 +73,12 @@ module _ {C : Type 0} (promises : C → Answered → ℕ → Type 0) where
   HeardIf true got old new = Heard got old new
   HeardIf false got old new = new ≡ old
 
+  -- what a take got is heard, where it is a response
   abbrev pub AfterGot : EndId → Told → Kept C → Kept C → Type 0
   AfterGot end (Taken g) old new = HeardIf (is_response g.target.side) (answered end g) old new
   AfterGot end told old new = new ≡ old
 
+  -- after a take: a response was heard, or an end was seen
   abbrev pub AfterTake : EndId → Told → Kept C → Kept C → Type 0
   AfterTake end (Taken g) old new = AfterGot end (Taken g) old new
   AfterTake end told old new = AfterEnd end told old new

@@ -16,21 +16,27 @@ use Rattle.script_names.specs.declared.rooms.Rooms.{Rooms}
 use Rattle.script_names.specs.Asking.{closed_of, or_skip}
 use Rattle.script_names.specs.Settling.{Took}
 
+-- to bind what is held, or to skip the line of this number
 abbrev pub bound : ℕ → EndpointSide → ℕ → Option Thing → Asked
 bound number side interface thing = or_skip number (option_map (λ (x : Thing). asks.Bind x side interface) thing)
 
+-- to associate an endpoint with the end that is meant, or to skip the line of this number
 abbrev pub associated : ℕ → EndpointSide → ℕ → Option EndId → Asked
 associated number side interface end = or_skip number (option_map (λ (y : EndId). asks.Associate y side interface) end)
 
+-- to attach the pending that is held, or to skip the line of this number
 abbrev pub attached : ℕ → SeqId → Option PendingId → Asked
 attached number seq pending = or_skip number (option_map (λ (p : PendingId). asks.Attach p seq) pending)
 
+-- to take at the end that is meant, or to skip the line of this number
 abbrev pub taken : ℕ → Option EndId → Asked
 taken number end = or_skip number (option_map asks.Take end)
 
+-- to close what is held, or to skip the line of this number
 abbrev pub shut : ℕ → Option Thing → Option PendingId → Option ResponderId → Asked
 shut number thing pending responder = or_skip number (closed_of thing pending responder)
 
+-- to close the endpoint of this id at the end that is meant, or to skip the line of this number
 abbrev pub shut_at : ℕ → ℕ → Option EndId → Asked
 shut_at number id end = or_skip number (option_map (λ (y : EndId). asks.Close (closings.Endpoint y id)) end)
 

@@ -31,6 +31,7 @@ abbrev pub left_if : {X : Type 0} → Bool → List (Option X) → List NameId �
 left_if true table names = left_by table names
 left_if false table names = table
 
+-- what is held under the names of a line's list was taken, or nothing was; all else stays
 pub record TookTokens (taken : Bool) (names : Names) (old new : Rooms) : Type 0 where
   pub handles : new.handles.named.items ≡ left_if taken old.handles.named.items names.handles.items
   pub pendings : new.pendings.named.items ≡ left_if taken old.pendings.named.items names.pendings.items
@@ -48,10 +49,12 @@ abbrev pub sent : Prepared → Names → Rooms → Option Outgoing
 sent prepared names rooms =
     option_map (λ (tokens : List Thing × List Half). outgoing prepared tokens.0 (names_of tokens.1)) (tokens_of names rooms)
 
+-- to call with them from the endpoint of this id at the end that is meant, or to skip the line of this number
 abbrev pub called : ℕ → Option EndId → ℕ → Prepared → Names → Rooms → Asked
 called number end id prepared names rooms = or_skip number
     (option_and_then (λ (y : EndId). option_map (λ (out : Outgoing). asks.Call y id out) (sent prepared names rooms)) end)
 
+-- to answer with them by the responder that is held, or to skip the line of this number
 abbrev pub answered : ℕ → Option ResponderId → Prepared → Names → Rooms → Asked
 answered number responder prepared names rooms = or_skip number
     (option_and_then (λ (r : ResponderId). option_map (λ (out : Outgoing). asks.Answer r out) (sent prepared names rooms)) responder)

@@ -36,10 +36,11 @@ pub record CutTake (script : Script) (seq : SeqId) (end : EndId) (before after :
   pub kept : Kept Plain
   pub cut : CutIn script.autos (asks.Take end) (seat_of before seq) (seat_of after seq) kept
 
--- how far the turn of a take came
+-- how far the turn of a take came, at the desk
 abbrev pub CameTaking : Script → EndId → Seen → Seen → Type 0
 CameTaking script end before after = IsLater before after × CameTo script.autos (asks.Take end) before after
 
+-- how far it came between these two, in a history that is legal
 pub record PartTake (script : Script) (seq : SeqId) (end : EndId) (before after : Play) : Type 0 where
   pub legal : Legal (wire_of after.schema) after.seqs after.events
   pub came : CameTaking script end (seat_of before seq) (seat_of after seq)

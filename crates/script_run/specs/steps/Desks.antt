@@ -38,6 +38,7 @@ use Rattle.script_run.specs.declared.plain.Plain.{Plain}
 
 -- ## One command
 
+-- a desk saw this command and its reply between these two
 abbrev pub SawAt : Seen → Seen → Command → Reply → Type 0
 SawAt before after command reply =
     Saw before.schema before.seqs before.alone before.me before.events after.events command reply

@@ -86,5 +86,6 @@ pub record PlayedAll (schema : Schema) (script : Script) (order : ℕ) (drained 
   pub whole : OfScript schema script order drained.core.events
   pub notes : IfOk drained.notes (λ notes. notes ≡ callbacks script.seqs drained.core.events)
 
+-- it is a whole run, where it wasn't cut off
 abbrev pub Played : Schema → Script → ℕ → Drained → Type 0
 Played schema script order drained = IfNone drained.cut (PlayedAll schema script order drained)

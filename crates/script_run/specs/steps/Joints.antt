@@ -24,14 +24,16 @@ abbrev pub ComesOf : (ℕ → Rooms → Rooms → Type 0) → List Rooms → Lis
 ComesOf how old new =
     (k : ℕ) (after : Rooms) → slice_get new k ≡ Some after → (before : Rooms) × (slice_get old k ≡ Some before) × how k before after
 
+-- so does each, and there are as many as before
 pub record Come (how : ℕ → Rooms → Rooms → Type 0) (old new : List Rooms) : Type 0 where
   pub count : length new ≡ length old
   pub each : ComesOf how old new
 
--- in the room of a sequence there is a place for so many handles without names
+-- in a room there is a place for so many handles without names
 abbrev pub HasSpace : ℕ → Rooms → Type 0
 HasSpace count room = count + vec_len room.handles.others ≤ vec_capacity room.handles.others
 
+-- in the room of a sequence there is such a place
 abbrev pub HasSpaceAt : ℕ → SeqId → List Rooms → Type 0
 HasSpaceAt count s rooms = (room : Rooms) → slice_get rooms s.0 ≡ Some room → HasSpace count room
 

@@ -1,5 +1,5 @@
 use Rattle.std.proofs.Common.{refl, ap, ◌∙◌}
-use Rattle.wire_model.specs.Message.{payload_start, request_read}
+use Rattle.wire_model.specs.Message.{moment_read, payload_start, request_read}
 use Rattle.wire_model.specs.Tight.{value_of}
 use Rattle.wire_model.specs.Trees.{view}
 use Rattle.bind_model.specs.WireOf.{content_in}
@@ -16,4 +16,4 @@ returns c = λ wire past y arriving.
     (c.new.ensures ∙ c.requires.value) (checked.asked ∙ ap request_read c.requires.bytes)
     (c.in_ok-named.ensures.named ∙ picked_same (view c.args.value) value c.as_slice.result.now m.handles c.requires.value c.as_slice.ensures)
     (c.in_ok-named.ensures.left ∙ unpicked_same (view c.args.value) value c.as_slice.result.now m.handles c.requires.value c.as_slice.ensures)
-    refl
+    (checked.timed ∙ ap moment_read c.requires.bytes)

@@ -32,7 +32,7 @@ returns-then-header c =
     let fine : IsFine (header_marks m.bytes) = subst (λ (bytes : List ℕ). IsFine (header_marks bytes)) same (c.in-Ok.ensures.exactly.0 refl) in
     let said : header ≡ header_said m.bytes = c.in-Ok.ensures.said ∙ ap (λ (bytes : List ℕ). header_said bytes) same in
     obeys (wire_of schema) past c.args.seq c.args.end m (header_of m header) (header_reads schema m.bytes header fine said) c.if-header.true
-    c.control.result (c.control.ensures schema past c.args.end m (sym same) (sym c.len.ensures))
+    c.control.result (c.control.ensures m (sym same) (sym c.len.ensures))
 
 pub deliver-requires-clause-few : goal.deliver-requires-clause-few
 deliver-requires-clause-few c = handles_fit c.args.state.now c.requires.holds c.args.end c.args.message.now c.requires.front

@@ -74,7 +74,7 @@ returns-clause-flushes_numbered c = rw (← c.self.view_is) (flushes_numbered (w
 
 pub returns-clause-all_behind : goal.returns-clause-all_behind
 returns-clause-all_behind c = rw (← c.self.view_is) (all_behind (schema_of c.self.inside.state) c.self.inside.state.seqs
-    (past_of c.self.inside.state) c.self.invariant.holds.legal)
+    (past_of c.self.inside.state) c.self.invariant.holds.legal (few_past c.self.inside.state c.self.invariant.holds))
 
 pub returns-clause-data_in_order : goal.returns-clause-data_in_order
 returns-clause-data_in_order c = rw (← c.self.view_is) (data_in_order (wire_in c.self.inside.state) c.self.inside.state.seqs
