@@ -197,6 +197,7 @@ pub record IsAuto (schema : Schema) (asker : ℕ) (method word : List ℕ) (repl
   pub handles : reply.prepared.handles ≡ 0
   pub endpoints : reply.prepared.endpoints.items ≡ []
 
+-- the automatic reply that a form adds, where it is a form of one
 abbrev pub IsReply : Schema → Form → AutoReply → Type 0
 IsReply schema (Auto seq method word) reply = IsAuto schema seq method word reply
 IsReply schema form reply = ⊥
@@ -206,16 +207,18 @@ pub data Part : Type 0 where
   OfLine : Line → Part
   OfReply : AutoReply → Part
 
+-- the part that a form adds to a script, behind these forms
 abbrev pub IsPart : Schema → List Form → Form → Part → Type 0
 IsPart schema past form (OfLine line) = IsLine schema past form line
 IsPart schema past form (OfReply reply) = IsReply schema form reply
 
--- the lines of parts, and the automatic replies, both in order
+-- the lines of parts, in order
 abbrev pub lines_in : List Part → List Line
 lines_in [] = []
 lines_in (OfLine line ∷ parts) = line ∷ lines_in parts
 lines_in (OfReply reply ∷ parts) = lines_in parts
 
+-- the automatic replies of parts, in order
 abbrev pub replies_in : List Part → List AutoReply
 replies_in [] = []
 replies_in (OfLine line ∷ parts) = replies_in parts

@@ -18,3 +18,4 @@ pub use history_text::{Fate, Note, render};
 pub use reading::read_script;
 pub use script::{AutoReply, Command, Line, MAX_SEQUENCES, NameId, Script};
 pub use script_error::{LineRefusal, ScriptError};
+pub use targets::{split_word, target_in};

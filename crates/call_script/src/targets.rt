@@ -44,7 +44,7 @@ fn method_named<'a>(methods: &'a [MethodRow], name: &[u8]) -> Option<&'a MethodR
 }
 
 /// A message of the method of a name in the interface of a number.
-fn target_in(schema: &Schema, side: MessageSide, name: &[u8], interface: u32) -> Option<Target>
+pub fn target_in(schema: &Schema, side: MessageSide, name: &[u8], interface: u32) -> Option<Target>
     ensures { result ≡ target_in schema.now side name.now interface }
 {
     let method = method_named(methods_of(schema, interface), name)?;
@@ -81,7 +81,7 @@ fn last_dot(word: &[u8]) -> Option<usize>
 
 /// All before the last dot of a word, and the rest.
 #[tactic(auto, using(crate::proofs::Dots::dot_within))]
-fn split_word(word: &[u8]) -> Option<(&[u8], &[u8])>
+pub fn split_word(word: &[u8]) -> Option<(&[u8], &[u8])>
     ensures { option_map (λ parts. (parts.0.now, parts.1.now)) result ≡ split_word word.now }
 {
     match last_dot(word) {

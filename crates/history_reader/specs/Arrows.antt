@@ -16,5 +16,6 @@ asks what = as_value (λ u. what) arrow
 unfoldable pub arrow_behind : Lang (Unit {0})
 arrow_behind = letters (codes "-> ") tt
 
+-- what was asked, and the arrow without its first blank
 abbrev pub asks_behind : Asked → Lang Asked
 asks_behind what = as_value (λ u. what) arrow_behind

@@ -41,17 +41,19 @@ command_words =
     ∷ (commands.Flow flows.BeginPut, codes "begin-put") ∷ (commands.Flow flows.EndPut, codes "end-put") ∷ (commands.Flow flows.BeginGet, codes "begin-get")
     ∷ (commands.Flow flows.EndGet, codes "end-get") ∷ (commands.Skip, codes "skip") ∷ []
 
--- a sort of token, and a side of an endpoint
+-- a sort of token
 unfoldable pub sort : Lang TokenSort
 sort = keyword ((SharedBuffer, codes "shared_buffer") ∷ (Platform, codes "platform") ∷ [])
 
+-- a side of an endpoint
 unfoldable pub side : Lang EndpointSide
 side = keyword ((Remote, codes "remote") ∷ (Receiver, codes "receiver") ∷ [])
 
--- behind the word of each command
+-- behind `join`: the other sequence
 unfoldable pub join : Lang Asked
 join = blank ▸ sequence then λ t. asks (askeds.Join t)
 
+-- behind `mint`: a sort of token
 unfoldable pub mint : Lang Asked
 mint = blank ▸ sort then λ s. asks (askeds.Mint s)
 
@@ -59,34 +61,43 @@ mint = blank ▸ sort then λ s. asks (askeds.Mint s)
 unfoldable pub role : Names → Lang (EndpointSide × ℕ)
 role names = blank ▸ side then λ s. blank ▸ as_value (λ n. (s, n)) (interface names)
 
+-- behind `bind`: a handle, and a side of an interface
 unfoldable pub bind : Names → Lang Asked
 bind names = blank ▸ thing then λ x. role names then λ r. asks (askeds.Bind x r.0 r.1)
 
+-- behind `associate`: an end, and a side of an interface
 unfoldable pub associate : Names → Lang Asked
 associate names = blank ▸ end then λ x. role names then λ r. asks (askeds.Associate x r.0 r.1)
 
+-- behind `attach`: a pending endpoint, and the sequence that it is bound on
 unfoldable pub attach : Lang Asked
 attach = blank ▸ pending then λ p. blank ▸ sequence then λ t. asks (askeds.Attach p t)
 
--- a call and an answer at a moment, which stands before them
+-- behind `call`: an endpoint, and a request, at this moment where there is one
 unfoldable pub call : Schema → Names → Option ℤ → Lang Asked
 call schema names at = blank ▸ endpoint then λ p. blank ▸ outgoing schema names Request at then λ o. asks (askeds.Call p.0 p.1 o)
 
+-- behind `call-at`: a moment, and then as behind `call`
 unfoldable pub call_at : Schema → Names → Lang Asked
 call_at schema names = blank ▸ moment then λ at. call schema names (Some at)
 
+-- behind `answer`: a responder, and a response, at this moment where there is one
 unfoldable pub answer : Schema → Names → Option ℤ → Lang Asked
 answer schema names at = blank ▸ responder then λ r. blank ▸ outgoing schema names Response at then λ o. asks (askeds.Answer r o)
 
+-- behind `answer-at`: a moment, and then as behind `answer`
 unfoldable pub answer_at : Schema → Names → Lang Asked
 answer_at schema names = blank ▸ moment then λ at. answer schema names (Some at)
 
+-- behind `raw`: a handle, bytes, and the handles that go with them
 unfoldable pub raw : Lang Asked
 raw = blank ▸ thing then λ x. blank ▸ hex blank then λ bytes. things then λ handles. asks (askeds.Raw x bytes handles)
 
+-- behind `take`: an end
 unfoldable pub take : Lang Asked
 take = blank ▸ end then λ x. asks (askeds.Take x)
 
+-- behind `skip`: the number of a line
 unfoldable pub skip : Lang Asked
 skip = blank ▸ index then λ n. asks (askeds.Skip n)
 
@@ -101,9 +112,11 @@ closing =
     (choice (λ b. b == letter_p) (pending then λ p. asks (askeds.Close (closings.Pending p)))
     (choice (λ b. b == letter_r) (responder then λ r. asks (askeds.Close (closings.Responder r))) (end then closing_at)))
 
+-- behind `close`: what is closed
 unfoldable pub close : Lang Asked
 close = blank ▸ closing
 
+-- what stands behind the word of each command, up to the arrow and with it
 abbrev pub asked_after : Schema → Names → CommandWord → Lang Asked
 asked_after schema names commands.Pipe = asks askeds.Pipe
 asked_after schema names commands.Join = join

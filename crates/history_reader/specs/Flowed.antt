@@ -11,22 +11,27 @@ use Rattle.history_reader.specs.Reasons.{line}
 use Rattle.history_reader.specs.declared.flowed.FlowedWord.{FlowedWord}
 use Rattle.history_reader.specs.declared.flowed.FlowedWord.TheVariants as words
 
--- behind the word of each
+-- behind `put`: a token, and how many bytes were put
 unfoldable pub put_count : Lang Told
 put_count = blank ▸ token then λ t. blank ▸ line (λ n. tells.Flowed t (floweds.Put n)) index
 
+-- behind `got-bytes`: a token, and the bytes
 unfoldable pub got_bytes : Lang Told
 got_bytes = blank ▸ token then λ t. blank ▸ as_value (λ bytes. tells.Flowed t (floweds.Bytes bytes)) (hex line_end)
 
+-- behind `space`: a token, and for how many bytes there is space
 unfoldable pub space : Lang Told
 space = blank ▸ token then λ t. blank ▸ line (λ n. tells.Flowed t (floweds.Space n)) index
 
+-- behind `view`: a token, and the bytes that are shown
 unfoldable pub view : Lang Told
 view = blank ▸ token then λ t. blank ▸ as_value (λ bytes. tells.Flowed t (floweds.View bytes)) (hex line_end)
 
+-- behind `ended`: a token
 unfoldable pub ended : Lang Told
 ended = blank ▸ line (λ t. tells.Flowed t floweds.Ended) token
 
+-- what stands behind the word of each reply about data pipes
 abbrev pub flowed_after : FlowedWord → Lang Told
 flowed_after words.Put = put_count
 flowed_after words.Bytes = got_bytes

@@ -17,22 +17,27 @@ use Rattle.history_reader.specs.declared.noted.NotifiedWord.TheVariants as notic
 unfoldable pub version_or_none : Lang (Option ℕ)
 version_or_none = choice (λ b. b == dash) (closed dash None) (as_value Some index)
 
--- behind the word of each control that was consumed
+-- behind `control`: the id of an endpoint whose peer is closed
 unfoldable pub control : Lang Told
 control = blank ▸ line (λ id. tells.Control (noteds.Closed id)) index
 
+-- behind `queried`: the id of an endpoint, and the version that was told, or none
 unfoldable pub queried : Lang Told
 queried = blank ▸ index then λ id. blank ▸ line (λ v. tells.Control (noteds.Queried id v)) version_or_none
 
+-- behind `version`: the id of an endpoint, and its version
 unfoldable pub version : Lang Told
 version = blank ▸ index then λ id. blank ▸ line (λ v. tells.Control (noteds.Version id v)) index
 
+-- behind `required`: the id of an endpoint, and the version that was required
 unfoldable pub required : Lang Told
 required = blank ▸ index then λ id. blank ▸ line (λ v. tells.Control (noteds.Required id v)) index
 
+-- behind `flushed`: the number of the flush
 unfoldable pub flushed : Lang Told
 flushed = blank ▸ line (λ k. tells.Control (noteds.Flushed k)) index
 
+-- what stands behind the word of each control that was consumed
 abbrev pub noted_after : NotedWord → Lang Told
 noted_after notes.Closed = control
 noted_after notes.Queried = queried
@@ -40,10 +45,11 @@ noted_after notes.Version = version
 noted_after notes.Required = required
 noted_after notes.Flushed = flushed
 
--- behind the word of each control that was written
+-- behind `flushing`: the number of the flush
 unfoldable pub flushing : Lang Told
 flushing = blank ▸ line (λ k. tells.Notified (notifieds.Flushing k)) index
 
+-- what stands behind the word of each control that was written
 abbrev pub notified_after : NotifiedWord → Lang Told
 notified_after notices.Asking = closed line_end (tells.Notified notifieds.Asking)
 notified_after notices.Requiring = closed line_end (tells.Notified notifieds.Requiring)

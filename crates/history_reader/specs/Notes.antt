@@ -14,6 +14,7 @@ use Rattle.line_parts.specs.Ids.{wide, sequence, endpoint}
 unfoldable pub fate : Lang Fate
 fate = keyword ((Ran, codes "ran") ∷ (Dropped, codes "dropped") ∷ [])
 
+-- the callback of a request of an endpoint, and what became of it
 abbrev pub note_of : SeqId → EndId × ℕ → ℕ → Fate → Note
 note_of seq (x, id) request became = record { seq = seq; end = x; id = id; request = request; fate = became }
 

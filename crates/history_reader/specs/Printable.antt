@@ -31,17 +31,20 @@ use Rattle.history_reader.specs.declared.printed.Printed.{Printed}
 pub use Rattle.line_parts.specs.Printable.{IsSmall, IsWide, IsLong, IsMoment, IsSequence, IsEnd, IsToken, IsThing, IsPending, IsResponder}
 pub use Rattle.line_parts.specs.Printable.{AreAll, AreBytes, IsInterface, IsMessage, IsOutgoing}
 
+-- what is closed, by numbers of their widths
 abbrev pub IsClosing : Closing → Type 0
 IsClosing (closings.Handle x) = IsThing x
 IsClosing (closings.Pending p) = IsPending p
 IsClosing (closings.Responder r) = IsResponder r
 IsClosing (closings.Endpoint x id) = IsEnd x × IsSmall id
 
+-- a control that is to be written, by numbers of 32 bits
 abbrev pub IsNotice : Notice → Type 0
 IsNotice (notices.Query id) = IsSmall id
 IsNotice (notices.Require id version) = IsSmall id × IsSmall version
 IsNotice notices.Flush = Unit {0}
 
+-- a command about a data pipe, by bytes and numbers of 32 bits
 abbrev pub IsFlow : Flow → Type 0
 IsFlow (flows.Put bytes all) = AreBytes bytes
 IsFlow (flows.Get n all) = IsSmall n
@@ -50,6 +53,7 @@ IsFlow (flows.EndPut bytes) = AreBytes bytes
 IsFlow flows.BeginGet = Unit {0}
 IsFlow (flows.EndGet n) = IsSmall n
 
+-- a command, by numbers of their widths, and by names and values that are the schema's
 abbrev pub IsAsked : Schema → Asked → Type 0
 IsAsked schema askeds.Pipe = Unit {0}
 IsAsked schema (askeds.Join t) = IsSequence t
@@ -68,12 +72,14 @@ IsAsked schema (askeds.Data size) = IsSmall size
 IsAsked schema (askeds.Flow x flow) = IsThing x × IsFlow flow
 IsAsked schema (askeds.Skip line) = IsSmall line
 
+-- why a message is bad, by numbers of their widths
 abbrev pub IsBadWhy : BadWhy → Type 0
 IsBadWhy (bads.Message fault) = IsWide fault.at
 IsBadWhy (bads.Unasked request) = IsWide request
 IsBadWhy (bads.StrangeId id) = IsSmall id
 IsBadWhy (bads.TooOld version) = IsSmall version
 
+-- why a command is refused, by numbers of 32 bits
 abbrev pub IsWhy : Why → Type 0
 IsWhy (whys.Unbound id) = IsSmall id
 IsWhy (whys.Elsewhere t) = IsSequence t
@@ -84,6 +90,7 @@ IsWhy (whys.Busy t) = IsToken t
 IsWhy (whys.Short n) = IsSmall n
 IsWhy _ = Unit {0}
 
+-- what a take got, by numbers of their widths, and by a method and a value that are the schema's
 abbrev pub IsGot : Schema → Got → Type 0
 IsGot schema g =
     IsSmall g.id × IsMessage schema g.target.side g.target g.parameters × IsWide g.request
@@ -94,6 +101,7 @@ abbrev pub IsVersion : Option ℕ → Type 0
 IsVersion None = Unit {0}
 IsVersion (Some version) = IsSmall version
 
+-- a control that was consumed, by numbers of 32 bits
 abbrev pub IsNoted : Noted → Type 0
 IsNoted (noteds.Closed id) = IsSmall id
 IsNoted (noteds.Queried id version) = IsSmall id × IsVersion version
@@ -101,11 +109,13 @@ IsNoted (noteds.Version id version) = IsSmall id × IsSmall version
 IsNoted (noteds.Required id version) = IsSmall id × IsSmall version
 IsNoted (noteds.Flushed flush) = IsSmall flush
 
+-- a control that was written, by numbers of 32 bits
 abbrev pub IsNotified : Notified → Type 0
 IsNotified notifieds.Asking = Unit {0}
 IsNotified notifieds.Requiring = Unit {0}
 IsNotified (notifieds.Flushing flush) = IsSmall flush
 
+-- a reply about a data pipe, by bytes and numbers of 32 bits
 abbrev pub IsFlowed : Flowed → Type 0
 IsFlowed (floweds.Put n) = IsSmall n
 IsFlowed (floweds.Bytes bytes) = AreBytes bytes
@@ -113,6 +123,7 @@ IsFlowed (floweds.Space n) = IsSmall n
 IsFlowed (floweds.View bytes) = AreBytes bytes
 IsFlowed floweds.Ended = Unit {0}
 
+-- a reply, by numbers of their widths, and by names and values that are the schema's
 abbrev pub IsTold : Schema → Told → Type 0
 IsTold schema (tells.Made things) = AreAll IsThing things
 IsTold schema (tells.Bound x) = IsEnd x
@@ -131,6 +142,7 @@ IsTold schema (tells.Flowed t flowed) = IsToken t × IsFlowed flowed
 IsTold schema tells.Skipped = Unit {0}
 IsTold schema (tells.No why) = IsWhy why
 
+-- an event whose sequence, command and reply the text can say
 abbrev pub IsEvent : Schema → Event → Type 0
 IsEvent schema event = IsSequence event.seq × IsAsked schema event.asked × IsTold schema event.told
 

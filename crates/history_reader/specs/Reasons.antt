@@ -65,18 +65,21 @@ unfoldable pub why_after : WhyWord → Lang Told
 why_after (Plain why) = closed line_end (tells.No why)
 why_after (Of part) = blank ▸ part_after part
 
+-- a refusal behind its word: why, and the line's end
 unfoldable pub refusal : Lang Told
 refusal = blank ▸ keyword why_words then why_after
 
--- why a message is bad
+-- a fault at a place, as why a message is bad
 abbrev pub fault_at : FaultKind → ℕ → BadWhy
 fault_at kind at = bads.Message (record { kind = kind; at = at })
 
+-- what stands behind the word of why a message is bad
 unfoldable pub bad_after : BadWord → Lang BadWhy
 bad_after (Fault kind) = blank ▸ as_value (fault_at kind) wide
 bad_after Unasked = blank ▸ as_value bads.Unasked wide
 bad_after StrangeId = blank ▸ as_value bads.StrangeId index
 bad_after TooOld = blank ▸ as_value bads.TooOld index
 
+-- why a message is bad
 unfoldable pub bad : Lang BadWhy
 bad = keyword bad_words then bad_after

@@ -43,7 +43,7 @@ reply_words =
 unfoldable pub message_side : Lang MessageSide
 message_side = keyword ((Request, codes "request") ∷ (Response, codes "response") ∷ [])
 
--- the lists of what a take got at a moment: handles, pending endpoints, and what is gone
+-- what a take got at a moment, of all its parts
 abbrev pub got_of : Option ℤ → ℕ → Target × Tree → ℕ → List Thing → List PendingId → List Thing → Told
 got_of at id (target, v) request handles pendings gone = tells.Taken (record {
   id = id;
@@ -56,6 +56,7 @@ got_of at id (target, v) request handles pendings gone = tells.Taken (record {
   moment = at;
 })
 
+-- the lists of what a take got: handles, pending endpoints, and what is gone, and the line's end
 unfoldable pub got_lists : Option ℤ → ℕ → Target × Tree → ℕ → Lang Told
 got_lists at id m request = things then λ handles. blank ▸ pendings then λ ps. blank ▸ line (got_of at id m request handles ps) things
 
@@ -64,37 +65,47 @@ unfoldable pub got : Schema → Names → Option ℤ → Lang Told
 got schema names at = blank ▸ message_side then λ side. blank ▸ index then λ id. blank ▸ message schema names side then λ m.
     wide then λ request. blank ▸ got_lists at id m request
 
+-- behind `got-at`: a moment, and then as behind `got`
 unfoldable pub got_at : Schema → Names → Lang Told
 got_at schema names = blank ▸ moment then λ at. got schema names (Some at)
 
--- behind the word of each reply
+-- behind `made`: what was made
 unfoldable pub made : Lang Told
 made = blank ▸ line tells.Made things
 
+-- behind `bound`: an end
 unfoldable pub bound : Lang Told
 bound = blank ▸ line tells.Bound end
 
+-- behind `associated`: a pending endpoint
 unfoldable pub associated : Lang Told
 associated = blank ▸ line tells.Associated pending
 
+-- behind `attached`: the id of an endpoint
 unfoldable pub attached : Lang Told
 attached = blank ▸ line tells.Attached index
 
+-- behind `sent`: the id of the request, and the bytes
 unfoldable pub sent : Lang Told
 sent = blank ▸ wide then λ request. blank ▸ as_value (tells.Sent request) (hex line_end)
 
+-- behind `wrote`: an end
 unfoldable pub wrote : Lang Told
 wrote = blank ▸ line tells.Wrote end
 
+-- behind `dropped`: the id that the message was for, and what went with it
 unfoldable pub dropped : Lang Told
 dropped = blank ▸ index then λ id. blank ▸ line (tells.Dropped id) things
 
+-- behind `bad`: why, and what is gone
 unfoldable pub bad_reply : Lang Told
 bad_reply = blank ▸ bad then λ why. blank ▸ line (tells.Bad why) things
 
+-- behind `closed`: what is gone
 unfoldable pub gone_reply : Lang Told
 gone_reply = blank ▸ line tells.Closed things
 
+-- what stands behind the word of each reply, up to the line's end and with it
 abbrev pub told_after : Schema → Names → ReplyWord → Lang Told
 told_after schema names replies.Made = made
 told_after schema names replies.Bound = bound

@@ -19,6 +19,7 @@ use Rattle.history_reader.specs.Notes.{note_line}
 use Rattle.line_parts.specs.declared.names.Names.{Names}
 use Rattle.history_reader.specs.declared.printed.Printed.{Printed}
 
+-- the event of a sequence, by what was asked and what was told
 abbrev pub event_of : SeqId → Asked → Told → Event
 event_of seq asked told = record { seq = seq; asked = asked; told = told }
 
@@ -27,6 +28,7 @@ abbrev pub number_if : Bool → ℕ → Lang (Unit {0})
 number_if true k = word (decimal k)
 number_if false k = never tt
 
+-- this number of an event, where it has 64 bits
 unfoldable pub event_number : ℕ → Lang (Unit {0})
 event_number k = number_if (nat_lt k (2 ^ 64)) k
 
@@ -47,6 +49,7 @@ done_after left = word (codes "one") then λ u. blank ▸ wide then λ count. cl
 unfoldable pub tail : Lang (List Thing × ℕ)
 tail = many letter_d left_line then done_after
 
+-- what the lines behind those of callbacks begin with
 abbrev pub begins_tail : ℕ → Bool
 begins_tail b = (b == letter_l) || (b == letter_d)
 
@@ -54,6 +57,7 @@ begins_tail b = (b == letter_l) || (b == letter_d)
 unfoldable pub behind : Lang (List Note × (List Thing × ℕ))
 behind = series begins_tail (λ (u : Unit {0}). note_line) (λ (u : Unit {0}) (note : Note). u) tail tt
 
+-- what the lines behind those of events begin with
 abbrev pub begins_behind : ℕ → Bool
 begins_behind b = ((b == letter_c) || (b == letter_l)) || (b == letter_d)
 
@@ -61,6 +65,7 @@ begins_behind b = ((b == letter_c) || (b == letter_l)) || (b == letter_d)
 abbrev pub printed_of : List Event × (List Note × (List Thing × ℕ)) → Printed
 printed_of (events, (notes, (left, count))) = record { events = events; notes = notes; left = left; count = count }
 
+-- the texts of histories over a schema whose names are these
 unfoldable pub history_with : Schema → Names → Lang Printed
 history_with schema names = as_value printed_of (series begins_behind (event_line schema names) (λ k event. k + 1) behind 0)
 

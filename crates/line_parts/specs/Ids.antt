@@ -23,17 +23,19 @@ moment = integer (2 ^ 63) (2 ^ 63 - 1)
 abbrev pub sequence : Lang SeqId
 sequence = as_value (λ n. record { 0 = n }) index
 
--- an end
+-- the end of these two numbers
 abbrev pub end_of : ℕ → ℕ → EndId
 end_of seq serial = record { seq = seq; serial = serial }
 
+-- an end, as in `e0.1`
 unfoldable pub end : Lang EndId
 end = letter_e ▸ index then λ seq. dot ▸ as_value (end_of seq) index
 
--- a token
+-- the token of these two numbers
 abbrev pub token_of : ℕ → ℕ → TokenId
 token_of seq serial = record { seq = seq; serial = serial }
 
+-- a token, as in `t0.1`
 unfoldable pub token : Lang TokenId
 token = letter_t ▸ index then λ seq. dot ▸ as_value (token_of seq) index
 
@@ -45,10 +47,11 @@ thing = choice (λ b. b == letter_e) (as_value End end) (as_value Token token)
 unfoldable pub endpoint : Lang (EndId × ℕ)
 endpoint = end then λ x. hash ▸ as_value (λ id. (x, id)) index
 
--- a pending endpoint
+-- the pending endpoint of an end and an id there
 abbrev pub pending_of : EndId × ℕ → PendingId
 pending_of (x, id) = record { end = x; id = id }
 
+-- a pending endpoint, as in `pe0.1#2`
 unfoldable pub pending : Lang PendingId
 pending = letter_p ▸ as_value pending_of endpoint
 
@@ -56,5 +59,6 @@ pending = letter_p ▸ as_value pending_of endpoint
 abbrev pub responder_of : EndId × ℕ → ℕ → ℕ → ResponderId
 responder_of (x, id) request method = record { end = x; id = id; request = request; interface = 0; method = method }
 
+-- a responder, as in `re0.1#0@1.0`
 unfoldable pub responder : Lang ResponderId
 responder = letter_r ▸ endpoint then λ p. at_sign ▸ wide then λ request. dot ▸ as_value (responder_of p request) index

@@ -29,15 +29,17 @@ unfoldable pub item : Bool → Lang Item
 item true = as_value Pending pending
 item false = choice (λ b. b == letter_p) (as_value Pending pending) (as_value Handle thing)
 
--- the handles of items, and the pending endpoints
+-- what the handle of an item is of, where the item is one
 abbrev pub handle_in : Item → List Thing
 handle_in (Handle x) = x ∷ []
 handle_in (Pending p) = []
 
+-- the pending endpoint that an item is, where it is one
 abbrev pub pending_in : Item → List PendingId
 pending_in (Handle x) = []
 pending_in (Pending p) = p ∷ []
 
+-- what the handles of items are of, and their pending endpoints, each in order
 abbrev pub parted : List Item → List Thing × List PendingId
 parted items = (flat_map handle_in items, flat_map pending_in items)
 

@@ -19,10 +19,11 @@ use Rattle.history_text.specs.History.{parameters_text}
 use Rattle.history_text.specs.Names.{interface_name, method_text}
 use Rattle.line_parts.specs.Names.{names_of, messages_of, meaning}
 
--- a number of 32 bits, and one of 64
+-- a number of 32 bits
 abbrev pub IsSmall : ℕ → Type 0
 IsSmall n = n < 2 ^ 32
 
+-- a number of 64 bits
 abbrev pub IsWide : ℕ → Type 0
 IsWide n = n < 2 ^ 64
 
@@ -36,19 +37,24 @@ abbrev pub IsMoment : Option ℤ → Type 0
 IsMoment None = Unit {0}
 IsMoment (Some moment) = IsLong moment
 
+-- a sequence whose number has 32 bits
 abbrev pub IsSequence : SeqId → Type 0
 IsSequence seq = IsSmall seq.0
 
+-- an end of a message pipe: its sequence and its number there have 32 bits
 abbrev pub IsEnd : EndId → Type 0
 IsEnd x = IsSmall x.seq × IsSmall x.serial
 
+-- a token: its sequence and its number there have 32 bits
 abbrev pub IsToken : TokenId → Type 0
 IsToken t = IsSmall t.seq × IsSmall t.serial
 
+-- an end or a token, whose numbers have 32 bits
 abbrev pub IsThing : Thing → Type 0
 IsThing (End x) = IsEnd x
 IsThing (Token t) = IsToken t
 
+-- a pending endpoint: the numbers of its end and its id have 32 bits
 abbrev pub IsPending : PendingId → Type 0
 IsPending p = IsEnd p.end × IsSmall p.id
 
@@ -61,6 +67,7 @@ abbrev pub AreAll : {A : Type 0} → (A → Type 0) → List A → Type 0
 AreAll Is [] = Unit {0}
 AreAll Is (x ∷ xs) = Is x × AreAll Is xs
 
+-- numbers that bytes can be, all of them
 abbrev pub AreBytes : List ℕ → Type 0
 AreBytes bytes = AreAll (λ (b : ℕ). b < 256) bytes
 
@@ -75,6 +82,7 @@ pub record IsMessage (schema : Schema) (side : MessageSide) (target : Target) (p
       (record { target = target; parameters = number })
   pub spells : Spells (value schema 512 (StructKind number false)) parameters (parameters_text schema target parameters)
 
+-- what is sent: a message of this side, and handles, pending endpoints and a moment whose numbers are of their widths
 abbrev pub IsOutgoing : Schema → MessageSide → Outgoing → Type 0
 IsOutgoing schema side o =
     IsMessage schema side o.target o.parameters × AreAll IsThing o.handles × AreAll IsPending o.pendings × IsMoment o.moment

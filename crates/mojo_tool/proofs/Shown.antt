@@ -21,8 +21,11 @@ use Rattle.message_validator.proofs.Answered.{ended}
 use Rattle.wire_model.specs.Marks.{Mark}
 use Rattle.message_validator.specs.declared.validate.Checked.{Checked}
 use Rattle.value_text.specs.Spelling.{spell}
+use Rattle.message_laws.specs.Filled.{AreBytes}
+use Rattle.message_laws.proofs.FilledSchemas.{filled}
+use Rattle.message_laws.proofs.OfItsKind.{read_back}
 use Rattle.mojo_tool.specs.Lines.{shown_line}
-use Rattle.mojo_tool.specs.Work.{Work, BadHex, Faulty, Decodes, Judged, Judging, IsShown, Unhexing, parameters_kind}
+use Rattle.mojo_tool.specs.Work.{Work, BadHex, Faulty, Decodes, Judged, Judging, IsReadBack, IsShown, Unhexing, parameters_kind}
 use Rattle.mojo_tool.specs.steps.Messages.{IsTextOfWork}
 use Rattle.mojo_tool.proofs.Messages.{work_text}
 
@@ -59,6 +62,20 @@ pub struct_is : (named : Option MethodRow) (take : MethodRow → Option ℕ) (me
 struct_is None take method number named all = absurd cc
 struct_is (Some found) take method number named all = let e : found ≡ method = cc in subst (λ (m : MethodRow). take m ≡ Some number) e all
 
+-- the struct that a message names, by the method that was found
+pub struct_by : (named : Option MethodRow) (take : MethodRow → Option ℕ) (method : MethodRow) (number : ℕ) → named ≡ Some method
+    → take method ≡ Some number → option_and_then take named ≡ Some number
+struct_by None take method number named one = absurd cc
+struct_by (Some found) take method number named one =
+    let e : found ≡ method = cc in subst (λ (m : MethodRow). take m ≡ Some number) (sym e) one
+
+-- the text of the value of a message that stands is read back, by the law of all messages
+pub text_read : (schema : Schema) (expected : Expected) (bytes : List ℕ) (number : ℕ)
+    → option_and_then (struct_of expected.side) (method_named schema expected bytes) ≡ Some number → (handles : ℕ) → AreBytes bytes
+    → Stands schema expected bytes handles → IsReadBack schema number (value_of schema bytes (payload_start bytes) number)
+text_read schema expected bytes number named handles small stands read told =
+    read_back schema expected bytes handles number read (filled schema) small stands named told
+
 -- the text of a message that was checked
 pub shown_value : (v : Checked) (name : List ℕ) (method : MethodRow) (kind : KindTree) (tree : Tree) (text line : List ℕ)
     → Some method ≡ method_in v.schema.now.interfaces v.expected.interface v.method
@@ -78,6 +95,7 @@ shown_value v name method kind tree text line found decoded kinded spelled whole
         parameters = struct_is (method_named v.schema.now v.expected v.bytes.now) (struct_of v.expected.side) method v.number named v.parameters;
         whole = ap (λ (request : ℕ). Decodes name method.name request text) v.asked
             ∙ ap (Decodes name method.name (request_read v.bytes.now)) said;
+        reads = text_read v.schema.now v.expected v.bytes.now v.number v.parameters;
       };
       text_of = whole;
     }

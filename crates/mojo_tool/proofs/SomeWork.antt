@@ -50,6 +50,7 @@ use Rattle.mojo_tool.specs.Work.{Preparing, Writing}
 use Rattle.mojo_tool.specs.Work.{Finding, Encoding, Unhexing, IsShown, Judged, Judging, Showing, Decoding, IsWork, unchecked, flaw_at, head_of}
 use Rattle.mojo_tool.specs.Work.{MAX_BRACKETS, parameters_kind, without_line_end}
 use Rattle.mojo_tool.specs.Complete.{HaveTooManyRows, ComesToScript}
+use Rattle.mojo_tool.proofs.Shown.{struct_by, text_read}
 
 -- a work is asked for, or this holds
 abbrev Some_or : Type 0 → (Work → Type 0) → Type 0
@@ -159,7 +160,14 @@ shown_some Else schema expected name bytes fine =
     taken method None is of f = absurd (let e = f.0 in cc)
     taken method (Some number) is of f = inl (
       Decodes name method.name (request_read bytes) (spell schema (parameters_kind number) (value_of schema bytes (payload_start bytes) number)),
-      record { method = method; number = number; named = is; parameters = of; whole = refl },
+      record {
+        method = method;
+        number = number;
+        named = is;
+        parameters = of;
+        whole = refl;
+        reads = text_read schema expected bytes number (struct_by (method_named schema expected bytes) (struct_of expected.side) method number is of);
+      },
     )
 
     named : (method : Option MethodRow) → method_named schema expected bytes ≡ method → IsFine (method_marks schema expected.side bytes method)

@@ -31,6 +31,8 @@ use Rattle.wire_model.specs.Trees.{Tree}
 use Rattle.mj_base.specs.declared.fault.Fault.{Fault}
 use Rattle.wire_model.specs.declared.target.Expected.{Expected}
 use Rattle.wire_model.specs.declared.target.Target.{Target}
+use Rattle.wire_model.specs.declared.value.Value.{Value}
+use Rattle.message_laws.specs.Filled.{AreBytes}
 use Rattle.bounds_claims.specs.Runs.{first_fault}
 use Rattle.message_validator.specs.Before.{before_payload}
 use Rattle.wire_encoder.specs.FirstFailed.{Met, Refusal}
@@ -42,6 +44,8 @@ use Rattle.wire_encoder.specs.declared.refusal.PrepareError.TheVariants as unfit
 use Rattle.byte_rules.specs.Judged.{Spells, IsBad}
 use Rattle.value_text.specs.Rules.{value}
 use Rattle.value_text.specs.Spelling.{spell}
+use Rattle.value_text.specs.Texts.{Tells, ReadsBack}
+use Rattle.value_text.specs.declared.text_error.TextError.{TextError}
 use Rattle.call_script.specs.Targets.{message_named}
 use Rattle.mojo_tool.specs.Targets.{side_of, expected_of}
 
@@ -269,7 +273,13 @@ abbrev pub Unhexing : (List ℕ → Work → Type 0) → Result (List ℕ) FromH
 Unhexing next (Ok bytes) work = next bytes work
 Unhexing next (Err error) work = work ≡ BadHex
 
--- a message that stands is shown: its method and the struct of its parameters are the ones that it names
+-- whatever a reading of a value's text answers, it is this value, unless memory runs out
+abbrev pub IsReadBack : Schema → ℕ → Tree → Type 0
+IsReadBack schema number tree = (read : Result Value TextError)
+    → Tells (value schema MAX_BRACKETS (parameters_kind number)) (spell schema (parameters_kind number) tree) read → ReadsBack tree read
+
+-- a message that stands is shown: its method and the struct of its parameters are the ones that it names, and the text of its value is read back
+-- as that value, where all the numbers of the message are bytes
 pub record IsShown (schema : Schema) (expected : Expected) (name bytes : List ℕ) (work : Work) : Type 0 where
   pub method : MethodRow
   pub number : ℕ
@@ -277,6 +287,8 @@ pub record IsShown (schema : Schema) (expected : Expected) (name bytes : List �
   pub parameters : struct_of expected.side method ≡ Some number
   pub whole : work ≡ Decodes name method.name (request_read bytes)
       (spell schema (parameters_kind number) (value_of schema bytes (payload_start bytes) number))
+  pub reads : (handles : ℕ) → AreBytes bytes → Stands schema expected bytes handles
+      → IsReadBack schema number (value_of schema bytes (payload_start bytes) number)
 
 -- a message without a fault stands and is shown; else its first fault is said
 abbrev pub Judged : Schema → Expected → List ℕ → ℕ → List ℕ → Option Fault → Work → Type 0

@@ -1,16 +1,15 @@
 //! The interface and the method that words name.
 
-ghost use Rattle.std.specs.Prelude.{◌≡◌, ◌<◌, ◌^◌, length, option_map};
-ghost use Rattle.std.specs.Option.{option_copied};
+ghost use Rattle.std.specs.Prelude.{◌≡◌, ◌<◌, ◌^◌, length};
 ghost use Rattle.mj_schema.specs.Lookups.{interface_named};
 ghost use Rattle.wire_encoder.specs.Prepared.{parameters_of};
-ghost use Rattle.call_script.specs.Targets.{methods_of, method_named, target_in, target_named, message_named};
-ghost use Rattle.call_script.specs.Targets.{later_dot, last_dot, split_word, target_between};
+ghost use Rattle.call_script.specs.Targets.{target_named, message_named, target_between};
 ghost use Rattle.mojo_tool.specs.Targets.{side_of};
 ghost use Rattle.mojo_tool.specs.Work.{parameters_kind};
 
+use call_script::{split_word, target_in};
 use command_line::Side;
-use mj_schema::{InterfaceRow, Kind, KindNode, MethodRow, Schema};
+use mj_schema::{InterfaceRow, Kind, KindNode, Schema};
 use wire_model::{MessageSide, Target};
 
 /// Which message of a method the words mean.
@@ -33,37 +32,6 @@ pub fn parameters_kind(number: u32) -> Kind
     })
 }
 
-/// The methods of the interface of a number.
-fn methods_of(schema: &Schema, interface: u32) -> &[MethodRow]
-    ensures { result.now ≡ methods_of schema.now interface }
-{
-    match schema.interfaces.as_slice().get(interface as usize) {
-        Some(row) => row.methods.as_slice(),
-        None => &[],
-    }
-}
-
-/// The method of a name among these.
-fn method_named<'a>(methods: &'a [MethodRow], name: &[u8]) -> Option<&'a MethodRow>
-    ensures { option_copied result ≡ method_named methods.now name.now }
-{
-    methods
-        .iter()
-        .find(|method| method.name.as_str().as_bytes() == name)
-}
-
-/// A message of the method of a name in the interface of a number.
-fn target_in(schema: &Schema, side: MessageSide, name: &[u8], interface: u32) -> Option<Target>
-    ensures { result ≡ target_in schema.now side name.now interface }
-{
-    let method = method_named(methods_of(schema, interface), name)?;
-    Some(Target {
-        interface,
-        method: method.ordinal,
-        side,
-    })
-}
-
 /// The number of the interface whose full name has these bytes, which are a part of a word.
 fn interface_named(interfaces: &[InterfaceRow], name: &[u8]) -> Option<u32>
     requires { length interfaces.now < 2 ^ 32 }
@@ -75,41 +43,6 @@ fn interface_named(interfaces: &[InterfaceRow], name: &[u8]) -> Option<u32>
         }
     }
     None
-}
-
-/// The place of the last dot, where one byte more is looked at.
-fn later_dot(word: &[u8], place: usize, before: Option<usize>) -> Option<usize>
-    requires { place < length word.now }
-    ensures { result ≡ later_dot word.now place before }
-{
-    if word[place] == b'.' {
-        Some(place)
-    } else {
-        before
-    }
-}
-
-/// The place of the last dot of a word.
-#[tactic(auto, using(call_script::proofs::Dots::dot_more))]
-fn last_dot(word: &[u8]) -> Option<usize>
-    ensures { result ≡ last_dot word.now (length word.now) }
-{
-    let mut last = None;
-    for place in 0..word.len() {
-        last = later_dot(word, place, last);
-    }
-    last
-}
-
-/// All before the last dot of a word, and the rest.
-#[tactic(auto, using(call_script::proofs::Dots::dot_within))]
-fn split_word(word: &[u8]) -> Option<(&[u8], &[u8])>
-    ensures { option_map (λ parts. (parts.0.now, parts.1.now)) result ≡ split_word word.now }
-{
-    match last_dot(word) {
-        Some(place) => Some((&word[..place], &word[place + 1..])),
-        None => None,
-    }
 }
 
 /// A message of the method of a name in the interface of a full name.

@@ -59,6 +59,7 @@ AreFound names own seq words (Some ids) =
     (list_all (is_set names seq) words ≡ true) × AreNamed (names ++ own) ids (map (meant names seq) words)
 AreFound names own seq words None = list_all (is_set names seq) words ≡ false
 
+-- the same where a table has the names, the line's own behind the first so many
 abbrev pub FindsAll : Scope → List (List ℕ) → Option (List NameId) → Type 0
 FindsAll scope words found = (names own : List (List ℕ)) → IsTable scope.table.now (names ++ own) → scope.count ≡ length names
     → AreFound names own scope.seq words found
@@ -70,6 +71,7 @@ Named scope name (Err (stops.Refused refusals.UnknownName)) = FindsNone scope na
 Named scope name (Err (stops.Refused _)) = ⊥
 Named scope name (Err stops.Memory) = Unit {0}
 
+-- the numbers of all the names that are meant in a line of a sequence, or why there are none
 abbrev pub AllNamed : Scope → List (List ℕ) → Result (List NameId) Stop → Type 0
 AllNamed scope words (Ok ids) = FindsAll scope words (Some ids)
 AllNamed scope words (Err (stops.Refused refusals.UnknownName)) = FindsAll scope words None

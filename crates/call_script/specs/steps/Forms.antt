@@ -10,7 +10,7 @@ use Rattle.call_script.specs.Forms.{Said, Form, Join, Auto, Of, Pipe, Mint, Bind
 use Rattle.call_script.specs.Forms.{IsSaid, IsForm, sequences, said_sequences, AreThere}
 use Rattle.call_script.specs.Forms.{said_words, form_words, sort_word, side_word}
 
--- forms without where their words lie
+-- what is said to a sequence, without where its words lie
 abbrev pub said_view : WrittenSaid → Said
 said_view (saids.Pipe first second) = Pipe first.now second.now
 said_view (saids.Mint sort name) = Mint sort name.now
@@ -24,6 +24,7 @@ said_view (saids.Raw end bytes tokens) = Raw end.now bytes.now (map (λ word. wo
 said_view (saids.CloseToken token) = CloseToken token.now
 said_view (saids.CloseEndpoint end id) = CloseEndpoint end.now id
 
+-- a form, without where its words lie
 abbrev pub form_view : WrittenForm → Form
 form_view (forms.Join seq other first second) = Join seq other first.now second.now
 form_view (forms.Auto seq method value) = Auto seq method.now value.now
@@ -34,11 +35,12 @@ abbrev pub SpellsSequence : ℕ → (ℕ → List ℕ) → List ℕ → Option �
 SpellsSequence seqs text word (Some n) = (word ≡ text n) × (n < seqs)
 SpellsSequence seqs text word None = (n : ℕ) → n < seqs → word ≡ text n → ⊥
 
--- the sort of token and the side of an endpoint of this word
+-- the sort of token of this word, or none where it is the word of none
 abbrev pub SpellsSort : List ℕ → Option TokenSort → Type 0
 SpellsSort word (Some sort) = word ≡ sort_word sort
 SpellsSort word None = (sort : TokenSort) → word ≡ sort_word sort → ⊥
 
+-- the side of an endpoint of this word, or none where it is the word of none
 abbrev pub SpellsSide : List ℕ → Option EndpointSide → Type 0
 SpellsSide word (Some side) = word ≡ side_word side
 SpellsSide word None = (side : EndpointSide) → word ≡ side_word side → ⊥

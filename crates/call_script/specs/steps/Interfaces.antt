@@ -15,5 +15,6 @@ IsNoted old new name number = (q : List ℕ) → get_by_text new q ≡ option_or
 abbrev pub AreNumbered : {Y S : Type 0} → IndexMap (String Y) ℕ S → List InterfaceRow → Type 0
 AreNumbered numbers interfaces = (q : List ℕ) → get_by_text numbers q ≡ interface_named interfaces q
 
+-- a schema with the numbers of its interfaces by their names
 abbrev pub IsIndexed : IndexedSchema → Type 0
 IsIndexed indexed = AreNumbered indexed.numbers indexed.schema.now.interfaces

@@ -43,19 +43,21 @@ AddsOwn old new seq words done =
 abbrev pub Sets : NameTable → NameTable → Form → Bool → Type 0
 Sets old new form done = Extends old new (λ names. sets_again names form) (sets form) done
 
--- a text among the first so many, by its number; it isn't there
+-- a text among the first so many, by its number
 abbrev pub HasAt : NameTable → ℕ → List ℕ → NameId → Type 0
 HasAt table count text id = (names own : List (List ℕ)) → IsTable table (names ++ own) → count ≡ length names
     → (has_name names text ≡ true) × IsNamed (names ++ own) id text
 
+-- a text isn't among the first so many
 abbrev pub HasNone : NameTable → ℕ → List ℕ → Type 0
 HasNone table count text = (names own : List (List ℕ)) → IsTable table (names ++ own) → count ≡ length names → has_name names text ≡ false
 
--- the name that is meant in a line of a sequence, by its number; it isn't there
+-- the name that is meant in a line of a sequence, by its number
 abbrev pub FindsAt : Scope → List ℕ → NameId → Type 0
 FindsAt scope name id = (names own : List (List ℕ)) → IsTable scope.table.now (names ++ own) → scope.count ≡ length names
     → (is_set names scope.seq name ≡ true) × IsNamed (names ++ own) id (meant names scope.seq name)
 
+-- the name that is meant in a line of a sequence isn't set
 abbrev pub FindsNone : Scope → List ℕ → Type 0
 FindsNone scope name = (names own : List (List ℕ)) → IsTable scope.table.now (names ++ own) → scope.count ≡ length names
     → is_set names scope.seq name ≡ false

@@ -8,10 +8,11 @@ abbrev pub SpellsNumber : List ℕ → Option ℕ → Type 0
 SpellsNumber word (Some n) = word ≡ decimal n
 SpellsNumber word None = (n : ℕ) → n < 2 ^ 32 → word ≡ decimal n → ⊥
 
--- the endpoint of this spelling, where there is one
+-- an endpoint, by the name of its end and its id, in this spelling
 abbrev pub IsEndpoint : List ℕ → List ℕ → ℕ → Type 0
 IsEndpoint word name id = (word ≡ endpoint_word name id) × (is_name name ≡ true) × (id < 2 ^ 32)
 
+-- no endpoint has this spelling
 abbrev pub NoEndpoint : List ℕ → Type 0
 NoEndpoint word = (name : List ℕ) (id : ℕ) → IsEndpoint word name id → ⊥
 

@@ -16,6 +16,7 @@ gathered add front read = read >>= λ x. Ok ((add front x.0.0, x.0.1), x.1)
 abbrev pub add_items : List Thing × List PendingId → List Item → List Thing × List PendingId
 add_items (handles, pendings) items = (handles ++ flat_map handle_in items, pendings ++ flat_map pending_in items)
 
+-- what was gathered before, with the items that are still read
 abbrev pub with_items : List Thing × List PendingId → Read (List Item × Unit {0}) → Read (List Thing × List PendingId)
 with_items front read = read >>= λ x. Ok (add_items front x.0.0, x.1)
 

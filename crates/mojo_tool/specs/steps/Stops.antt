@@ -33,6 +33,7 @@ NotFetched before now name (ReadFault other) =
     (other.now ≡ name) × Rose before.faults now.faults × IsLost before.held name before.faults_on_present now.faults_on_present
 NotFetched before now name NoMemory = Unit {0}
 
+-- a fault of the files was counted, and the name isn't there, or a fault on a name that is there was counted
 pub record FaultOfFiles (before now : FilesState) (ask : List Named → Work → Type 0) (name : List ℕ) : Type 0 where
   pub rose : Rose before.faults now.faults
   pub failed : ReadFailed before.held ask name before.faults_on_present now.faults_on_present
