@@ -1,13 +1,12 @@
-//! Times the packing of structs, the reading and printing of files, their check, messages, data pipes, and runs,
-//! in processor time.
+//! Times the packing of structs, data pipes, the message of a file, and the run of a script, in processor time.
+//! `tools/time_program` makes the files.
 #![tactic(auto)]
 
-mod checking;
 mod data;
+mod files;
 mod packing;
-mod reading;
 mod running;
-mod schemas;
+mod sealing;
 mod timing;
 mod wire;
 
@@ -17,19 +16,17 @@ use std::time::CpuClock;
 use std::{env, io};
 
 /// Times what the first word asks for.
-fn run<R: Print + Env + AllocGlobal + CpuClock>(rt: &R) -> io::Result<()> {
+fn run<R: std::rt::Files + Env + Print + AllocGlobal + CpuClock>(rt: &R) -> io::Result<()> {
     for what in env::args(rt)?.skip(1) {
         match what.as_str() {
-            "checking" => return checking::time_all(rt),
             "data" => return data::time_all(rt),
             "packing" => return packing::time_all(rt),
-            "reading" => return reading::time_all(rt),
-            "wire" => return wire::time_all(rt),
-            "run" => return running::time_all(rt),
+            "wire" => return wire::time_files(rt),
+            "run" => return running::time_files(rt),
             _ => {}
         }
     }
-    println!(rt; "usage: benchmarks packing | reading | checking | wire | data | run")
+    println!(rt; "usage: benchmarks packing | data | wire MOJOM MESSAGE | run MOJOM SCRIPT")
 }
 
 fn main(rt: HostRuntime) -> io::Result<()> {

@@ -4,30 +4,30 @@ ghost use Rattle.std.specs.Prelude.{◌≤◌, IfSome};
 ghost use Rattle.std.specs.Arc.{arc_value};
 ghost use Rattle.call_script.specs.Sound.{IsScript};
 
-mod scripts;
-
-use crate::running::scripts::{FILE, Shape};
-use crate::schemas::schema_of;
-use crate::timing::{ROUNDS, least, now};
-use call_script::{Script, read_script, render};
-use mj_base::limits::{MAX_FILE_BYTES, MAX_SCRIPT_LINES};
+use crate::files::schema_at;
+use crate::timing::{ROUNDS, least, nanoseconds_each, now};
+use call_script::{Script, read_script};
+use check_files::bytes_of;
+use history_text::render;
+use mj_base::limits::MAX_FILE_BYTES;
 use mj_schema::Schema;
 use script_run::{Ran, run_alone};
 use std::alloc::Global;
-use std::io;
+use std::env::Env;
 use std::io::Print;
 use std::sync::Arc;
 use std::time::{CpuClock, Duration};
+use std::{env, io};
 
 /// The order of the runs: each script has one sequence, so it changes nothing.
 const ORDER: u64 = 0;
 
 /// The script of a text; none where a line is refused, or where no file has room for it.
-fn script_of(alloc: Global, schema: &Schema, text: &str) -> Option<Script>
+fn script_of(alloc: Global, schema: &Schema, text: &[u8]) -> Option<Script>
     ensures script { IfSome result (IsScript schema.now) }
     ensures short { IfSome result (λ script. script.bytes ≤ MAX_FILE_BYTES) }
 {
-    match read_script(alloc, schema, text.as_bytes()) {
+    match read_script(alloc, schema, text) {
         Ok(script) if script.bytes as u64 <= MAX_FILE_BYTES => Some(script),
         Ok(_) | Err(_) => None,
     }
@@ -51,7 +51,7 @@ fn ran_of(alloc: Global, schema: &Arc<Schema>, script: &Script) -> Option<Ran>
 fn time_read<R: AllocGlobal + CpuClock>(
     rt: &R,
     schema: &Schema,
-    text: &str,
+    text: &[u8],
 ) -> io::Result<Option<Duration>> {
     let mut best = None;
     for _ in 0..ROUNDS {
@@ -101,14 +101,6 @@ fn time_render<R: AllocGlobal + CpuClock>(
     Ok(best)
 }
 
-/// The nanoseconds of one of so many events.
-fn nanoseconds_each(best: Option<Duration>, events: usize) -> u128 {
-    best.unwrap_or(Duration::ZERO)
-        .as_nanos()
-        .checked_div(events as u128)
-        .unwrap_or(0)
-}
-
 /// The least times of the three steps.
 #[derive(Clone, Copy)]
 struct Times {
@@ -118,70 +110,53 @@ struct Times {
 }
 
 /// Prints what an event takes, and how many events a second that makes.
-fn show<R: Print>(
-    rt: &R,
-    shape: Shape,
-    lines: usize,
-    events: usize,
-    times: Times,
-) -> io::Result<()> {
+fn show<R: Print>(rt: &R, lines: usize, events: u64, times: Times) -> io::Result<()> {
     let read = nanoseconds_each(times.read, events);
     let run = nanoseconds_each(times.run, events);
     let rendered = nanoseconds_each(times.rendered, events);
     let each = read.saturating_add(run).saturating_add(rendered);
     println!(rt;
-        "{}: {lines} lines, {events} events: read in {read} ns an event, run in {run}, written in {rendered}: {} events a second",
-        shape.name(),
+        "{lines} lines, {events} events: read in {read} ns an event, run in {run}, written in {rendered}: {} events a second",
         1_000_000_000u128.checked_div(each).unwrap_or(0)
     )
 }
 
-/// Prints how long the script of a shape takes, of so many lines at most.
+/// Prints how long the script of a text takes.
 fn time<R: Print + AllocGlobal + CpuClock>(
     rt: &R,
     schema: &Arc<Schema>,
-    shape: Shape,
-    most: u32,
+    text: &[u8],
 ) -> io::Result<()> {
     let alloc = rt.alloc();
-    let text = shape.text(alloc, most)?;
-    let Some(script) = script_of(alloc, schema, text.as_str()) else {
-        return println!(rt; "{}: the script is refused", shape.name());
+    let Some(script) = script_of(alloc, schema, text) else {
+        return println!(rt; "the script is refused");
     };
     let Some(ran) = ran_of(alloc, schema, &script) else {
-        return println!(rt; "{}: no memory for the run", shape.name());
+        return println!(rt; "no memory for the run");
     };
     let times = Times {
-        read: time_read(rt, schema, text.as_str())?,
+        read: time_read(rt, schema, text)?,
         run: time_run(rt, schema, &script)?,
         rendered: time_render(rt, schema, &ran)?,
     };
     let lines = script.lines.len().saturating_add(1);
-    show(rt, shape, lines, ran.history.len(), times)
+    show(rt, lines, ran.history.len() as u64, times)
 }
 
-/// Times scripts of 1,000, 10,000 and 40,000 lines of three shapes, three of about as many as a file has room
-/// for, one of associated endpoints in two sizes, and one of raw messages of the most lines.
-pub fn time_all<R: Print + AllocGlobal + CpuClock>(rt: &R) -> io::Result<()> {
-    let alloc = rt.alloc();
-    let Some(schema) = schema_of(alloc, FILE)? else {
-        return println!(rt; "no schema of the scripts");
+/// Times the script of the second file that the words name, over the schema of the first.
+pub fn time_files<R: std::rt::Files + Env + Print + AllocGlobal + CpuClock>(
+    rt: &R,
+) -> io::Result<()> {
+    let mut words = env::args(rt)?.skip(2);
+    let (Some(mojom), Some(name)) = (words.next(), words.next()) else {
+        return println!(rt; "usage: benchmarks run MOJOM SCRIPT");
     };
-    let schema = Arc::new(alloc, schema)?;
-    for shape in [Shape::Calls, Shape::Pipes, Shape::Moves] {
-        for most in [1000, 10_000, 40_000] {
-            time(rt, &schema, shape, most)?;
-        }
-    }
-    for (shape, most) in [
-        (Shape::ManyPipes, 38_000),
-        (Shape::Nested, 36_010),
-        (Shape::Unread, 34_000),
-    ] {
-        time(rt, &schema, shape, most)?;
-    }
-    for most in [10_000, 40_000] {
-        time(rt, &schema, Shape::Endpoints, most)?;
-    }
-    time(rt, &schema, Shape::Raw, MAX_SCRIPT_LINES as u32)
+    let Some(schema) = schema_at(rt, mojom.as_str())? else {
+        return println!(rt; "{mojom}: no schema");
+    };
+    let Some(text) = bytes_of(rt, name.as_str(), MAX_FILE_BYTES) else {
+        return println!(rt; "{name}: it can't be read");
+    };
+    let schema = Arc::new(rt.alloc(), schema)?;
+    time(rt, &schema, &text)
 }

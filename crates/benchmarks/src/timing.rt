@@ -20,11 +20,10 @@ pub fn now<R: CpuClock>(rt: &R) -> io::Result<Duration> {
     Ok(rt.thread_cpu_time()?)
 }
 
-/// The picoseconds of one of so many.
-pub fn picoseconds_each(best: Option<Duration>, count: u64) -> u128 {
-    let nanoseconds = best.unwrap_or(Duration::ZERO).as_nanos();
-    nanoseconds
-        .saturating_mul(1000)
+/// The nanoseconds of one of so many.
+pub fn nanoseconds_each(best: Option<Duration>, count: u64) -> u128 {
+    best.unwrap_or(Duration::ZERO)
+        .as_nanos()
         .checked_div(u128::from(count))
         .unwrap_or(0)
 }

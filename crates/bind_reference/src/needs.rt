@@ -3,9 +3,9 @@
 use crate::names::{Held, Names};
 use bind_model::{Asked, Closing, Outgoing, Parameters, PendingId};
 use call_script::{Command, NameId};
+use core_state::copy_value;
 use handle_table::Thing;
-use mj_base::{Items, SeqId};
-use past_reference::values::copied;
+use mj_base::{EndId, Items, SeqId};
 use std::alloc::{AllocError, Global};
 use wire_encoder::Prepared;
 
@@ -18,7 +18,7 @@ pub fn outgoing(
 ) -> Result<Outgoing, AllocError> {
     Ok(Outgoing {
         target: prepared.target,
-        parameters: Parameters::new(copied(alloc, &prepared.value)?),
+        parameters: Parameters::new(copy_value(alloc, &prepared.value)?),
         handles: Items::from_vec(handles),
         pendings: Items::from_vec(pendings),
         moment: None,
@@ -77,6 +77,28 @@ fn select(
     Ok(all)
 }
 
+/// The things whose handles a sequence holds under those of some names that stand for ends and tokens.
+fn handles_in(
+    alloc: Global,
+    names: &Names<'_>,
+    seq: SeqId,
+    list: &[NameId],
+) -> Result<Option<Vec<Thing>>, AllocError> {
+    let things = select(alloc, names, list, true)?;
+    all_handles(alloc, names, seq, &things)
+}
+
+/// The pendings that a sequence holds under those of some names that don't.
+fn pendings_in(
+    alloc: Global,
+    names: &Names<'_>,
+    seq: SeqId,
+    list: &[NameId],
+) -> Result<Option<Vec<PendingId>>, AllocError> {
+    let others = select(alloc, names, list, false)?;
+    all_pendings(alloc, names, seq, &others)
+}
+
 /// What is sent with what a sequence holds under these names.
 fn sent_with(
     alloc: Global,
@@ -85,14 +107,10 @@ fn sent_with(
     prepared: &Prepared,
     list: &[NameId],
 ) -> Result<Option<Outgoing>, AllocError> {
-    let (things, others) = (
-        select(alloc, names, list, true)?,
-        select(alloc, names, list, false)?,
-    );
-    let (Some(handles), Some(pendings)) = (
-        all_handles(alloc, names, seq, &things)?,
-        all_pendings(alloc, names, seq, &others)?,
-    ) else {
+    let Some(handles) = handles_in(alloc, names, seq, list)? else {
+        return Ok(None);
+    };
+    let Some(pendings) = pendings_in(alloc, names, seq, list)? else {
         return Ok(None);
     };
     Ok(Some(outgoing(alloc, prepared, handles, pendings)?))
@@ -107,19 +125,21 @@ fn sending_asks(
 ) -> Result<Option<Asked>, AllocError> {
     match command {
         Command::Call(name, id, prepared, list) => {
-            let sent = sent_with(alloc, names, seq, prepared, list.as_slice())?;
-            match (names.end(*name), sent) {
-                (Some(end), Some(sent)) => Ok(Some(Asked::Call(end, *id, sent))),
-                _ => Ok(None),
+            let Some(end) = names.end(*name) else {
+                return Ok(None);
+            };
+            match sent_with(alloc, names, seq, prepared, list.as_slice())? {
+                Some(sent) => Ok(Some(Asked::Call(end, *id, sent))),
+                None => Ok(None),
             }
         }
         Command::Answer(name, prepared, list) => {
-            let sent = sent_with(alloc, names, seq, prepared, list.as_slice())?;
-            match (names.held(alloc, seq, *name)?, sent) {
-                (Some(Held::Responder(responder)), Some(sent)) => {
-                    Ok(Some(Asked::Answer(responder, sent)))
-                }
-                _ => Ok(None),
+            let Some(Held::Responder(responder)) = names.held(alloc, seq, *name)? else {
+                return Ok(None);
+            };
+            match sent_with(alloc, names, seq, prepared, list.as_slice())? {
+                Some(sent) => Ok(Some(Asked::Answer(responder, sent))),
+                None => Ok(None),
             }
         }
         _ => Ok(None),
@@ -135,15 +155,15 @@ fn raw_asks(
     bytes: &Items<u8>,
     list: &[NameId],
 ) -> Result<Option<Asked>, AllocError> {
-    let (Some(Held::Thing(thing)), Some(things)) = (
-        names.held(alloc, seq, name)?,
-        all_handles(alloc, names, seq, list)?,
-    ) else {
+    let Some(Held::Thing(thing)) = names.held(alloc, seq, name)? else {
         return Ok(None);
     };
     if list.contains(&name) {
         return Ok(None);
     }
+    let Some(things) = all_handles(alloc, names, seq, list)? else {
+        return Ok(None);
+    };
     let bytes = bytes.copy(alloc)?;
     Ok(Some(Asked::Raw(thing, bytes, Items::from_vec(things))))
 }
@@ -169,6 +189,18 @@ fn spending_asks(held: Option<Held>, command: &Command) -> Option<Asked> {
     }
 }
 
+/// What a command asks at the end that its name stands for.
+fn end_asks(end: EndId, command: &Command) -> Option<Asked> {
+    match command {
+        Command::Associate(_, side, interface, _) => {
+            Some(Asked::Associate(end, *side, *interface))
+        }
+        Command::Take(_, _) => Some(Asked::Take(end)),
+        Command::CloseEndpoint(_, id) => Some(Asked::Close(Closing::Endpoint(end, *id))),
+        _ => None,
+    }
+}
+
 /// What a command of a sequence asks, where all that it needs is there.
 pub fn asks(
     alloc: Global,
@@ -183,22 +215,17 @@ pub fn asks(
         Command::Bind(name, _, _) | Command::Attach(name, _) | Command::CloseToken(name) => {
             Ok(spending_asks(names.held(alloc, seq, *name)?, command))
         }
-        Command::Associate(name, side, interface, _) => Ok(
-            names
-                .end(*name)
-                .map(|end| Asked::Associate(end, *side, *interface)),
-        ),
+        Command::Associate(name, _, _, _)
+        | Command::Take(name, _)
+        | Command::CloseEndpoint(name, _) => match names.end(*name) {
+            Some(end) => Ok(end_asks(end, command)),
+            None => Ok(None),
+        },
         Command::Call(_, _, _, _) | Command::Answer(_, _, _) => {
             sending_asks(alloc, names, seq, command)
         }
-        Command::Take(name, _) => Ok(names.end(*name).map(|end| Asked::Take(end))),
         Command::Raw(name, bytes, list) => {
             raw_asks(alloc, names, seq, *name, bytes, list.as_slice())
         }
-        Command::CloseEndpoint(name, id) => Ok(
-            names
-                .end(*name)
-                .map(|end| Asked::Close(Closing::Endpoint(end, *id))),
-        ),
     }
 }

@@ -9,8 +9,8 @@ use crate::replying::reply_to;
 use crate::turns::ready;
 use bind_model::{Asked, Event};
 use call_script::{Line, Script};
+use mj_base::SeqId;
 use mj_base::limits::MAX_EVENTS;
-use mj_base::{Items, SeqId};
 use mj_schema::Schema;
 use past_reference::responders::handed;
 use std::alloc::{AllocError, Global};
@@ -44,24 +44,30 @@ fn ask(
     Ok(())
 }
 
-/// The automatic reply to what the newest event got, and the sequence that gives it.
-fn automatic(
+/// Adds the event of the automatic reply to what the newest event got, where it has one.
+fn reply_on(
     alloc: Global,
     schema: &Schema,
     script: &Script,
-    past: &[Event],
-) -> Result<Option<(SeqId, Asked)>, AllocError> {
-    let Some(event) = past.last() else {
-        return Ok(None);
+    events: &mut Vec<Event>,
+) -> Result<(), AllocError> {
+    let Some(event) = events.as_slice().last() else {
+        return Ok(());
     };
-    let (Some(reply), Some(responder)) = (
-        reply_to(script.autos.as_slice(), event),
-        handed(schema, event),
-    ) else {
-        return Ok(None);
+    let (seq, responder) = (event.seq, handed(schema, event));
+    let (Some(reply), Some(responder)) = (reply_to(script.autos.as_slice(), event), responder)
+    else {
+        return Ok(());
     };
     let sent = outgoing(alloc, &reply.prepared, Vec::new(alloc), Vec::new(alloc))?;
-    Ok(Some((event.seq, Asked::Answer(responder, sent))))
+    ask(
+        alloc,
+        schema,
+        script,
+        events,
+        seq,
+        Asked::Answer(responder, sent),
+    )
 }
 
 /// Adds the event of a command, and that of an automatic reply to what it got.
@@ -74,10 +80,7 @@ fn ask_on(
     asked: Asked,
 ) -> Result<(), AllocError> {
     ask(alloc, schema, script, events, seq, asked)?;
-    match automatic(alloc, schema, script, events)? {
-        Some((seq, reply)) => ask(alloc, schema, script, events, seq, reply),
-        None => Ok(()),
-    }
+    reply_on(alloc, schema, script, events)
 }
 
 /// Adds the event of a line, and that of an automatic reply to what it got.

@@ -51,15 +51,16 @@ fn picked(
     Ok(picked)
 }
 
-/// The pendings of the ids that got parameters name, in order.
+/// The pendings of the ids of a message that got parameters name, in order.
 fn pendings_of(
     alloc: Global,
     schema: &Schema,
     end: EndId,
-    ids: &[u32],
+    letter: Letter<'_>,
     content: &Content,
 ) -> Result<Vec<PendingId>, AllocError> {
     let mut pendings = Vec::new(alloc);
+    let ids = ids_in(alloc, letter)?;
     let named = endpoints_named(alloc, schema, content.target, &content.parameters)?;
     for (k, id) in ids.iter().enumerate() {
         if named.iter().any(|one| one.place as usize == k) {
@@ -67,6 +68,17 @@ fn pendings_of(
         }
     }
     Ok(pendings)
+}
+
+/// The things of a message whose places got parameters name, or the others.
+fn things_of(
+    alloc: Global,
+    letter: Letter<'_>,
+    content: &Content,
+    wanted: bool,
+) -> Result<Vec<Thing>, AllocError> {
+    let named = handles_named(alloc, &content.parameters)?;
+    picked(alloc, &named, letter.handles, wanted)
 }
 
 /// What is told of a message that stands: what it stands for, the things and the endpoints that its parameters
@@ -80,12 +92,10 @@ fn accept(
     letter: Letter<'_>,
     content: Content,
 ) -> Result<Told, AllocError> {
-    let ids = ids_in(alloc, letter)?;
-    let pendings = pendings_of(alloc, schema, end, &ids, &content)?;
-    let named = handles_named(alloc, &content.parameters)?;
-    let handles = picked(alloc, &named, letter.handles, true)?;
-    let others = picked(alloc, &named, letter.handles, false)?;
-    let gone = goes(alloc, mail, Some(end), others)?;
+    let gone = things_of(alloc, letter, &content, false)?;
+    let gone = goes(alloc, mail, Some(end), gone)?;
+    let handles = things_of(alloc, letter, &content, true)?;
+    let pendings = pendings_of(alloc, schema, end, letter, &content)?;
     let Content {
         target,
         request,
@@ -230,7 +240,7 @@ pub fn took(
     if is_gone(mail.past, Thing::End(end)) {
         return Ok(Told::No(Why::Disconnected));
     }
-    match mail.unread(alloc, end)?.first().copied() {
+    match mail.oldest(alloc, end)? {
         Some(letter) => headed(alloc, schema, mail, seq, end, letter),
         None if is_gone(mail.past, Thing::End(peer(mail.past, end))) => {
             Ok(Told::No(Why::PeerClosed))

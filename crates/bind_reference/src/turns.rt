@@ -20,8 +20,7 @@ fn on_of(endpoint: Option<Endpoint>) -> Option<SeqId> {
 
 /// The endpoint that the oldest unread message at an end is for, where its header says one.
 fn meant(alloc: Global, mail: &Mail<'_>, end: EndId) -> Result<Option<u32>, AllocError> {
-    let letters = mail.unread(alloc, end)?;
-    let Some(letter) = letters.first() else {
+    let Some(letter) = mail.oldest(alloc, end)? else {
         return Ok(None);
     };
     let Text::Bytes(bytes) = letter.text else {

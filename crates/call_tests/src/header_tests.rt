@@ -30,6 +30,21 @@ const CARRYING: [u32; 20] = [
     0,
 ];
 
+/// Places of that message, the number that stands there in another, and the first test that fails of it.
+const REFUSED: [(usize, u32, FaultKind, u64); 11] = [
+    (0, 7, FaultKind::UnexpectedStructHeader, 0),
+    (0, 81, FaultKind::IllegalMemoryRange, 0),
+    (4, 3, FaultKind::MessageHeaderInvalidFlags, 16),
+    (8, 0, FaultKind::UnexpectedNullPointer, 32),
+    (8, 17, FaultKind::MisalignedObject, 49),
+    (8, 8, FaultKind::IllegalMemoryRange, 40),
+    (9, 1, FaultKind::IllegalPointer, 32),
+    (10, 8, FaultKind::IllegalMemoryRange, 48),
+    (10, 16, FaultKind::UnexpectedArrayHeader, 56),
+    (17, 2, FaultKind::UnexpectedArrayHeader, 64),
+    (18, 0, FaultKind::IllegalInterfaceId, 72),
+];
+
 /// The bytes of numbers.
 fn bytes_of(alloc: Global, numbers: &[u32]) -> Result<Vec<u8>, AllocError> {
     let mut bytes = Vec::new(alloc);
@@ -113,20 +128,10 @@ fn a_header_with_a_moment_is_written_and_read(rt: HostRuntime) -> Result<(), Fai
 #[test]
 fn the_first_test_that_fails_is_told(rt: HostRuntime) -> Result<(), Fail> {
     let alloc = rt.alloc();
-    let start = is_refused(alloc, 0, 7, FaultKind::UnexpectedStructHeader, 0)?
-        && is_refused(alloc, 0, 81, FaultKind::IllegalMemoryRange, 0)?
-        && is_refused(alloc, 4, 3, FaultKind::MessageHeaderInvalidFlags, 16)?;
-    assert!(rt; start);
-    let payload = is_refused(alloc, 8, 0, FaultKind::UnexpectedNullPointer, 32)?
-        && is_refused(alloc, 8, 17, FaultKind::MisalignedObject, 49)?
-        && is_refused(alloc, 8, 8, FaultKind::IllegalMemoryRange, 40)?
-        && is_refused(alloc, 9, 1, FaultKind::IllegalPointer, 32)?;
-    assert!(rt; payload);
-    let ids = is_refused(alloc, 10, 8, FaultKind::IllegalMemoryRange, 48)?
-        && is_refused(alloc, 10, 16, FaultKind::UnexpectedArrayHeader, 56)?
-        && is_refused(alloc, 17, 2, FaultKind::UnexpectedArrayHeader, 64)?
-        && is_refused(alloc, 18, 0, FaultKind::IllegalInterfaceId, 72)?;
-    assert!(rt; ids);
+    for (place, number, kind, at) in REFUSED {
+        let refused = is_refused(alloc, place, number, kind, at)?;
+        assert!(rt; refused);
+    }
     Ok(())
 }
 

@@ -1,23 +1,17 @@
-//! The ids that ends make, requests until they end, and what is found at messages.
+//! The ids that ends make, requests until they end, and endpoints until they are bound.
 
 ghost use Rattle.std.specs.Prelude.{◌≡◌, Some, IfOk};
 ghost use Rattle.endpoint_router.specs.Rows.{row_at, row_of};
 
 use bind_model::{Endpoint, State};
-use endpoint_router::{Next, Router, Row};
-use handle_table::{Thing, TokenId};
-use message_pipe::Message;
-use mj_base::{Fault, FaultKind, Items, SeqId, push_le32};
+use endpoint_router::{Router, Row};
+use mj_base::SeqId;
 use std::alloc::Global;
 use std::process::Abort;
 use std::test::Fail;
 use wire_encoder::EndpointSide;
 
 const ONLY: SeqId = SeqId(0);
-
-const OTHER: SeqId = SeqId(1);
-
-const TOKEN: Thing = Thing::Token(TokenId { seq: 0, serial: 0 });
 
 /// A remote that is bound.
 const REMOTE: Endpoint = Endpoint {
@@ -50,31 +44,6 @@ const WANTS: [(u32, u64, u32, bool); 5] = [
     (0, 1, 8, false),
     (0, 3, 7, false),
     (1, 1, 7, false),
-];
-
-/// The numbers of a control that tells of endpoint 5.
-const CONTROL: [u32; 10] = [24, 0, 0xffff_ffff, 0, 0, 0, 16, 0, 1, 5];
-
-/// The numbers of a request to endpoint 1.
-const REQUEST: [u32; 10] = [24, 0, 1, 0, 0, 0, 16, 0, 0, 0];
-
-/// Messages by their numbers, whether they have a handle, and what is found at them where no endpoint
-/// is there.
-const FOUND: [([u32; 10], bool, Next); 3] = [
-    (
-        CONTROL,
-        false,
-        Next::Control(bind_model::Control::Closed(5)),
-    ),
-    (
-        CONTROL,
-        true,
-        Next::Bad(Fault {
-            kind: FaultKind::IllegalHandle,
-            at: 0,
-        }),
-    ),
-    (REQUEST, false, Next::Dropped(1)),
 ];
 
 /// An end with this endpoint 0.
@@ -143,53 +112,14 @@ fn a_request_waits_until_it_ends(rt: HostRuntime) -> Result<(), Fail> {
     Ok(())
 }
 
-/// A message of numbers, with a handle or without.
-fn message(alloc: Global, numbers: &[u32], has_handle: bool) -> Result<Message, Fail> {
-    let mut bytes = Vec::new(alloc);
-    for number in numbers {
-        push_le32(&mut bytes, *number)?;
-    }
-    let mut handles = Vec::new(alloc);
-    if has_handle {
-        handles.push(TOKEN)?;
-    }
-    Ok(Message {
-        bytes: Items::from_vec(bytes),
-        handles: Items::from_vec(handles),
-        emitted: false,
-    })
-}
-
-/// What is found at messages where no endpoint is there.
-fn is_found(rt: &impl Abort, alloc: Global, router: &Router) -> Result<(), Fail> {
-    let fault = Fault {
-        kind: FaultKind::IllegalMemoryRange,
-        at: 0,
-    };
-    assert_eq!(rt;
-        router.next_for(ONLY, &message(alloc, &[], false)?),
-        Next::Bad(fault)
-    );
-    for (numbers, has_handle, next) in FOUND.as_slice() {
-        let message = message(alloc, numbers, *has_handle)?;
-        assert_eq!(rt; router.next_for(ONLY, &message), *next);
-    }
-    Ok(())
-}
-
 #[test]
-fn what_is_found_goes_by_the_message_and_its_endpoint(rt: HostRuntime) -> Result<(), Fail> {
+fn an_endpoint_waits_until_it_is_attached(rt: HostRuntime) -> Result<(), Fail> {
     let alloc = rt.alloc();
-    let asks = message(alloc, &REQUEST, false)?;
     let mut router = Router::new(alloc);
-    is_found(&rt, alloc, &router)?;
     router.reserve(1)?;
     router.enter(1, Row::new(alloc, PENDING));
-    assert_eq!(rt; router.next_for(ONLY, &asks), Next::Unbound(1));
     router.attach(1, ONLY);
-    assert_eq!(rt; router.next_for(ONLY, &asks), Next::Check(1));
-    assert_eq!(rt; router.next_for(OTHER, &asks), Next::Elsewhere(ONLY));
+    assert_eq!(rt; router.endpoint(1), Some(RECEIVER));
     router.detach(1);
-    assert_eq!(rt; router.next_for(ONLY, &asks), Next::Dropped(1));
     Ok(())
 }

@@ -8,7 +8,7 @@ use crate::moves::{Turn, Walk};
 use crate::play::command_of;
 use crate::tally::Tally;
 use bind_core::Core;
-use bind_model::Refused;
+use bind_model::{Event, Refused};
 use bind_reference::{answer, are_same_told, left, ready};
 use handle_table::Ended;
 use mj_base::SeqId;
@@ -50,6 +50,13 @@ fn play(
     Ok(true)
 }
 
+/// Whether what isn't gone of a core is what the events leave.
+fn has_left(core: &Core, alloc: Global, events: &[Event]) -> Result<bool, AllocError> {
+    let found = core.left(alloc)?;
+    let wanted = left(alloc, SEQUENCES, events)?;
+    Ok(found == wanted)
+}
+
 /// Compares the newest reply of a core, to the turn of a place, which end is ready then, and what isn't gone, with what the events say.
 fn compare(
     core: &Core,
@@ -62,10 +69,10 @@ fn compare(
     let Some((event, past)) = events.split_last() else {
         return Ok(());
     };
+    let is_ready = core.ready() == ready(alloc, schema, events)?;
+    let is_left = has_left(core, alloc, events)?;
     let wanted = answer(alloc, schema, SEQUENCES, past, event.seq, &event.asked)?;
     let is_told = are_same_told(alloc, &event.told, &wanted)?;
-    let is_ready = core.ready() == ready(alloc, schema, events)?;
-    let is_left = core.left(alloc)? == left(alloc, SEQUENCES, events)?;
     tally.add_step(turn, &event.told, &wanted, is_told && is_ready && is_left)
 }
 

@@ -6,15 +6,11 @@ mod kinds;
 mod layout;
 
 use crate::layout::Wanted;
-use mj_io::{Fetched, Files, RealFiles};
-use std::alloc::Global;
+use check_files::{MOST_BYTES, bytes_of};
 use std::env::Env;
 use std::io::Print;
 use std::process::ExitCode;
 use std::{env, io};
-
-/// The bytes that a file of layouts has at most.
-const MOST_BYTES: u64 = 1_048_576;
 
 /// How many layouts went which way.
 #[derive(Clone, Copy, Default)]
@@ -43,21 +39,11 @@ fn compare<R: Print + AllocGlobal>(rt: &R, text: &str, tally: &mut Tally) -> io:
     Ok(())
 }
 
-/// The bytes of a file; none where it can't be read.
-fn bytes_of<F: Files>(alloc: Global, files: &mut F, name: &str) -> Option<Vec<u8>> {
-    let mut bytes = Vec::new(alloc);
-    match files.fetch(alloc, name, MOST_BYTES, &mut bytes) {
-        Ok(Fetched::Whole) => Some(bytes),
-        Ok(Fetched::Longer) | Err(_) => None,
-    }
-}
-
 /// Compares the layouts of each file that the words name.
 fn run_files<R: std::rt::Files + Env + Print + AllocGlobal>(rt: &R) -> io::Result<Tally> {
-    let mut files = RealFiles::new(rt);
     let mut tally = Tally::default();
     for name in env::args(rt)?.skip(1) {
-        let bytes = bytes_of(rt.alloc(), &mut files, name.as_str());
+        let bytes = bytes_of(rt, name.as_str(), MOST_BYTES);
         match bytes.as_ref().map(|bytes| str::from_utf8(bytes.as_slice())) {
             Some(Ok(text)) => compare(rt, text, &mut tally)?,
             _ => {

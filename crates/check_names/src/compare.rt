@@ -70,13 +70,13 @@ pub fn compare(alloc: Global, sources: &[Source]) -> Result<Outcome, AllocError>
             })
         }
         Answer::Listed { listing, defaults } => {
-            let listing = listing.as_str();
-            let defaults = defaults.as_str();
-            let text = format!(in alloc; "{listing}{defaults}")?;
+            let mut text = listing;
+            text.push_str(defaults.as_str())?;
+            let difference = difference(alloc, sources, files, text.as_str())?;
             Ok(Outcome {
                 word: None,
                 answer: String::from_str(alloc, "listed")?,
-                difference: difference(alloc, sources, files, text.as_str())?,
+                difference,
             })
         }
     }

@@ -17,15 +17,11 @@ use crate::case::{Case, take_line};
 use crate::compare::compare;
 use crate::made::{made_sources, made_text};
 use crate::tally::Tally;
-use mj_io::{Fetched, Files, RealFiles};
-use std::alloc::Global;
+use check_files::{MOST_BYTES, bytes_of};
 use std::env::Env;
 use std::io::Print;
 use std::process::ExitCode;
 use std::{env, io};
-
-/// The bytes that a file of cases has at most.
-const MOST_BYTES: u64 = 1_048_576;
 
 /// Compares the files of a case, and prints what is wrong.
 fn compare_case<R: Print + AllocGlobal>(rt: &R, case: &Case, tally: &mut Tally) -> io::Result<()> {
@@ -86,23 +82,13 @@ fn compare_made<R: Print + AllocGlobal>(rt: &R, count: u64, tally: &mut Tally) -
     Ok(())
 }
 
-/// The bytes of a file; none where it can't be read.
-fn bytes_of<F: Files>(alloc: Global, files: &mut F, name: &str) -> Option<Vec<u8>> {
-    let mut bytes = Vec::new(alloc);
-    match files.fetch(alloc, name, MOST_BYTES, &mut bytes) {
-        Ok(Fetched::Whole) => Some(bytes),
-        Ok(Fetched::Longer) | Err(_) => None,
-    }
-}
-
 /// Compares the cases of a file.
 fn compare_file<R: std::rt::Files + Print + AllocGlobal>(
     rt: &R,
     name: &str,
     tally: &mut Tally,
 ) -> io::Result<()> {
-    let mut files = RealFiles::new(rt);
-    let bytes = bytes_of(rt.alloc(), &mut files, name);
+    let bytes = bytes_of(rt, name, MOST_BYTES);
     match bytes.as_ref().map(|bytes| str::from_utf8(bytes.as_slice())) {
         Some(Ok(text)) => compare_cases(rt, text, tally),
         _ => {

@@ -1,7 +1,7 @@
 //! What became of the callbacks of a history, by the rule alone.
 
 use bind_model::{Asked, Event, Told};
-use call_script::{Fate, Note};
+use history_text::{Fate, Note};
 use mj_base::SeqId;
 use std::alloc::{AllocError, Global};
 use wire_model::MessageSide;

@@ -10,17 +10,13 @@ mod walk;
 use crate::played::Played;
 use crate::tally::Tally;
 use crate::walk::{Walk, walks};
-use mj_io::{Fetched, Files, RealFiles};
+use check_files::{MOST_BYTES, bytes_of};
 use mj_schema::Schema;
-use std::alloc::Global;
 use std::env::Env;
 use std::io::Print;
 use std::process::ExitCode;
 use std::sync::Arc;
 use std::{env, io};
-
-/// The bytes that a file of walks has at most.
-const MOST_BYTES: u64 = 1_048_576;
 
 /// Compares the run of a text in an order, if it is a script. The first run of a walk that differs is printed.
 fn compare<R: Print + AllocGlobal>(
@@ -112,21 +108,11 @@ fn compare_walks<R: Print + AllocGlobal>(rt: &R, text: &str, total: &mut Tally) 
     Ok(())
 }
 
-/// The bytes of a file; none where it can't be read.
-fn bytes_of<F: Files>(alloc: Global, files: &mut F, name: &str) -> Option<Vec<u8>> {
-    let mut bytes = Vec::new(alloc);
-    match files.fetch(alloc, name, MOST_BYTES, &mut bytes) {
-        Ok(Fetched::Whole) => Some(bytes),
-        Ok(Fetched::Longer) | Err(_) => None,
-    }
-}
-
 /// Compares the walks of each file that the words name.
 fn run_files<R: std::rt::Files + Env + Print + AllocGlobal>(rt: &R) -> io::Result<Tally> {
-    let mut files = RealFiles::new(rt);
     let mut tally = Tally::new(rt.alloc());
     for name in env::args(rt)?.skip(1) {
-        let bytes = bytes_of(rt.alloc(), &mut files, name.as_str());
+        let bytes = bytes_of(rt, name.as_str(), MOST_BYTES);
         match bytes.as_ref().map(|bytes| str::from_utf8(bytes.as_slice())) {
             Some(Ok(text)) => compare_walks(rt, text, &mut tally)?,
             _ => {

@@ -48,7 +48,7 @@ impl Case {
 }
 
 /// Why a file of cases was not read.
-#[derive(Clone, Copy, Debug, PartialEq, Eq, Error)]
+#[derive(Clone, Copy, Debug, Error)]
 pub enum CaseError {
     #[error("it is not there, or too long")]
     NoFile,

@@ -2,7 +2,8 @@
 
 use crate::case::Case;
 use bind_model::History;
-use call_script::{read_history, render};
+use history_reader::read_history;
+use history_text::render;
 use mj_base::{Items, Text};
 use mj_io::NamedFile;
 use mj_schema::Schema;

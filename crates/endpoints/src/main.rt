@@ -10,8 +10,8 @@ mod play;
 
 use crate::examples::{Example, examples};
 use crate::play::history_of;
+use check_files::{MOST_BYTES, bytes_of};
 use mj_base::{Items, Text};
-use mj_io::{Fetched, Files, RealFiles};
 use mj_schema::Schema;
 use mojom_compile::{Source, compile};
 use std::alloc::{AllocError, Global};
@@ -19,18 +19,6 @@ use std::env::Env;
 use std::io::Print;
 use std::sync::Arc;
 use std::{env, io};
-
-/// The bytes that a file has at most.
-const MOST_BYTES: u64 = 1_048_576;
-
-/// The bytes of a file; none where it can't be read.
-fn bytes_of<F: Files>(alloc: Global, files: &mut F, name: &str) -> Option<Vec<u8>> {
-    let mut bytes = Vec::new(alloc);
-    match files.fetch(alloc, name, MOST_BYTES, &mut bytes) {
-        Ok(Fetched::Whole) => Some(bytes),
-        Ok(Fetched::Longer) | Err(_) => None,
-    }
-}
 
 /// The schema of a file's bytes; none where it is refused.
 fn schema_of(alloc: Global, name: &str, bytes: Vec<u8>) -> Result<Option<Schema>, AllocError> {
@@ -58,13 +46,12 @@ fn print_all<R: Print + AllocGlobal>(
 
 /// Does the examples of the second file that the words name, over the schema of the first.
 fn run<R: std::rt::Files + Env + Print + AllocGlobal>(rt: &R) -> io::Result<()> {
-    let mut files = RealFiles::new(rt);
     let mut words = env::args(rt)?.skip(1);
     let (Some(mojom), Some(name)) = (words.next(), words.next()) else {
         return println!(rt; "usage: endpoints MOJOM EXAMPLES");
     };
-    let definitions = bytes_of(rt.alloc(), &mut files, mojom.as_str());
-    let text = bytes_of(rt.alloc(), &mut files, name.as_str());
+    let definitions = bytes_of(rt, mojom.as_str(), MOST_BYTES);
+    let text = bytes_of(rt, name.as_str(), MOST_BYTES);
     let (Some(definitions), Some(text)) = (definitions, text) else {
         return println!(rt; "a file can't be read");
     };

@@ -20,7 +20,7 @@ fn add_thing(
     found: Found<'_>,
 ) -> Result<(), AllocError> {
     let name = thing.name;
-    if found == Found::Circular {
+    if matches!(found, Found::Circular) {
         let text = name.text.as_str();
         return add_reason(alloc, reasons, name.span.start, Word::CircularConst, text);
     }
@@ -111,7 +111,7 @@ fn add_list(
     here: Here<'_>,
     list: &MemberList<'_>,
 ) -> Result<(), AllocError> {
-    if list.sort != ListSort::Enumerators {
+    if !matches!(list.sort, ListSort::Enumerators) {
         add_ordinals(alloc, reasons, &list.members)?;
     }
     for member in &list.members {

@@ -7,16 +7,16 @@ use names_reference::{Found, Given, ListSort, Member, MemberList, lists_of, valu
 use std::alloc::{AllocError, Global};
 use std::str;
 
-/// A value: a string as it is, in quotes.
-fn plain_text(alloc: Global, found: Found<'_>) -> Result<String, AllocError> {
+/// Adds a value, and the end of its line: a string as it is, in quotes.
+fn push_plain(text: &mut String, found: Found<'_>) -> Result<(), AllocError> {
     match found {
         Found::Text(bytes) => {
-            let text = str::from_utf8(bytes).unwrap_or("?");
-            format!(in alloc; "\"{text}\"")
+            let plain = str::from_utf8(bytes).unwrap_or("?");
+            write!(text, "\"{plain}\"\n")
         }
-        Found::Bool(value) => format!(in alloc; "{value}"),
-        Found::Number(number) => format!(in alloc; "{number}"),
-        Found::Float | Found::Circular | Found::Nothing => String::from_str(alloc, "?"),
+        Found::Bool(value) => write!(text, "{value}\n"),
+        Found::Number(number) => write!(text, "{number}\n"),
+        Found::Float | Found::Circular | Found::Nothing => text.push_str("?\n"),
     }
 }
 
@@ -31,11 +31,10 @@ fn push_field(
     let Some(written) = member.default else {
         return Ok(());
     };
-    let found = plain_text(alloc, found_at(alloc, here, written)?)?;
-    let found = found.as_str();
     let full = list.full.as_str();
     let name = member.name.text.as_str();
-    text.push_str(format!(in alloc; "{full}.{name} = {found}\n")?.as_str())
+    write!(text, "{full}.{name} = ")?;
+    push_plain(text, found_at(alloc, here, written)?)
 }
 
 /// Adds the defaults of a struct's fields, along their ordinals.
@@ -80,9 +79,8 @@ fn push_enum(
         let outer = thing.enclosing.as_ref().map_or("", |outer| outer.as_str());
         let is_of_enum = thing.is_enumerator && thing.file == here.file && outer == full;
         if is_of_enum && thing.name.text.as_str() == name {
-            let found = plain_text(alloc, value(alloc, here.given, number)?)?;
-            let found = found.as_str();
-            text.push_str(format!(in alloc; "{full} = {found}\n")?.as_str())?;
+            write!(text, "{full} = ")?;
+            push_plain(text, value(alloc, here.given, number)?)?;
         }
     }
     Ok(())

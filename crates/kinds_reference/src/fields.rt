@@ -104,30 +104,50 @@ fn push_field(
 ) -> Result<(), AllocError> {
     let (field, place) = draft;
     let name = member.name.text.as_str();
-    text.push_str(format!(in alloc; "  field {ordinal} {name} ")?.as_str())?;
+    write!(text, "  field {ordinal} {name} ")?;
     if let Some(kind) = member.kind {
         push_type(alloc, text, here, kind)?;
     }
     let Place { offset, bit, flag } = *place;
     let version = field.min_version;
-    text.push_str(format!(in alloc; " {offset} {bit} {version}")?.as_str())?;
+    write!(text, " {offset} {bit} {version}")?;
     if let Some(Flag { offset, bit }) = flag {
-        text.push_str(format!(in alloc; " flag {offset} {bit}")?.as_str())?;
+        write!(text, " flag {offset} {bit}")?;
     }
     text.push_str("\n")
 }
 
 /// Adds the lines of versions.
-fn push_versions(alloc: Global, text: &mut String, rows: &[VersionRow]) -> Result<(), AllocError> {
+fn push_versions(text: &mut String, rows: &[VersionRow]) -> Result<(), AllocError> {
     for row in rows {
         let VersionRow {
             version,
             fields,
             bytes,
         } = *row;
-        text.push_str(format!(in alloc; "  version {version} {fields} {bytes}\n")?.as_str())?;
+        write!(text, "  version {version} {fields} {bytes}\n")?;
     }
     Ok(())
+}
+
+/// Adds the lines of the fields and versions of a struct, whose members lie along these places in the list.
+fn push_laid_out(
+    alloc: Global,
+    text: &mut String,
+    here: Here<'_>,
+    members: &[Member<'_>],
+    along: &[usize],
+    drafts: &[DraftField],
+) -> Result<(), AllocError> {
+    let places = layout::places(alloc, drafts)?;
+    for (ordinal, draft) in drafts.iter().zip(&places).enumerate() {
+        let member = along.get(ordinal).and_then(|place| members.get(*place));
+        if let Some(member) = member {
+            push_field(alloc, text, here, ordinal, member, draft)?;
+        }
+    }
+    let rows = layout::version_rows(alloc, drafts, &places)?;
+    push_versions(text, &rows)
 }
 
 /// Adds the lines of a struct, or of the parameters of a method, along their ordinals.
@@ -137,19 +157,9 @@ pub fn push_struct(
     here: Here<'_>,
     list: &MemberList<'_>,
 ) -> Result<(), AllocError> {
+    let full = list.full.as_str();
+    write!(text, "struct {full}\n")?;
     let along = places_along(alloc, &ordinals_of(alloc, &list.members)?)?;
     let drafts = drafts(alloc, here, &list.members, &along)?;
-    let places = layout::places(alloc, &drafts)?;
-    let full = list.full.as_str();
-    text.push_str(format!(in alloc; "struct {full}\n")?.as_str())?;
-    for (ordinal, draft) in drafts.iter().zip(&places).enumerate() {
-        let member = along
-            .get(ordinal)
-            .and_then(|place| list.members.get(*place));
-        if let Some(member) = member {
-            push_field(alloc, text, here, ordinal, member, draft)?;
-        }
-    }
-    let rows = layout::version_rows(alloc, &drafts, &places)?;
-    push_versions(alloc, text, &rows)
+    push_laid_out(alloc, text, here, &list.members, &along, &drafts)
 }

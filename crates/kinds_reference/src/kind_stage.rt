@@ -31,38 +31,32 @@ fn can_be_null(sort: Sort) -> bool {
     !is_plain(sort) && !is_float(sort)
 }
 
-/// Adds what is wrong with a type within the type of what has this identifier.
-fn add_part(
-    alloc: Global,
-    reasons: &mut Vec<Reason>,
-    here: Here<'_>,
-    name: &Identifier,
-    part: &Part<'_>,
-) -> Result<(), AllocError> {
-    let sort = sort_of(alloc, here, &part.node.base)?;
+/// The first that is wrong with a type of a sort within another, or with the whole; nothing where it can stand there.
+fn wrong_part(part: &Part<'_>, sort: Sort) -> Option<Word> {
+    let is_key = matches!(part.stand, Stand::Key);
     let is_key_kind = is_plain(sort) || matches!(sort, Sort::Basic(Basic::Text));
     if is_float(sort) {
-        add_at(alloc, reasons, Word::FloatField, name)?;
+        return Some(Word::FloatField);
     }
-    if part.stand == Stand::Key && !is_key_kind {
-        add_at(alloc, reasons, Word::BadMapKey, name)?;
+    if is_key && !is_key_kind {
+        return Some(Word::BadMapKey);
     }
-    if part.stand == Stand::Key && part.node.nullable {
-        add_at(alloc, reasons, Word::NullableKey, name)?;
+    if is_key && part.node.nullable {
+        return Some(Word::NullableKey);
     }
-    if part.stand == Stand::Other && part.node.nullable && is_plain(sort) {
-        add_at(alloc, reasons, Word::BadNullable, name)?;
+    if matches!(part.stand, Stand::Other) && part.node.nullable && is_plain(sort) {
+        return Some(Word::BadNullable);
     }
     match &part.node.base {
         BaseNode::Array {
             count: Some(count),
             ..
-        } if count.value == 0 => add_at(alloc, reasons, Word::ZeroLengthArray, name),
-        _ => Ok(()),
+        } if count.value == 0 => Some(Word::ZeroLengthArray),
+        _ => None,
     }
 }
 
-/// Adds what is wrong with the type of what has this identifier.
+/// Adds what is wrong with the type of what has this identifier: of each type in it the word that is answered first.
 fn add_type(
     alloc: Global,
     reasons: &mut Vec<Reason>,
@@ -72,7 +66,10 @@ fn add_type(
     stand: Stand,
 ) -> Result<(), AllocError> {
     for part in &parts_of(alloc, kind, stand)? {
-        add_part(alloc, reasons, here, name, part)?;
+        let sort = sort_of(alloc, here, &part.node.base)?;
+        if let Some(word) = wrong_part(part, sort) {
+            add_at(alloc, reasons, word, name)?;
+        }
     }
     Ok(())
 }

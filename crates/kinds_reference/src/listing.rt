@@ -28,11 +28,11 @@ fn push_union(
     word: &str,
 ) -> Result<(), AllocError> {
     let full = list.full.as_str();
-    text.push_str(format!(in alloc; "union {full}{word}\n")?.as_str())?;
+    write!(text, "union {full}{word}\n")?;
     let tags = ordinals_of(alloc, &list.members)?;
     for (member, tag) in list.members.iter().zip(&tags) {
         let name = member.name.text.as_str();
-        text.push_str(format!(in alloc; "  field {tag} {name} ")?.as_str())?;
+        write!(text, "  field {tag} {name} ")?;
         if let Some(kind) = member.kind {
             push_type(alloc, text, here, kind)?;
         }
@@ -50,13 +50,13 @@ fn push_enum(
     word: &str,
 ) -> Result<(), AllocError> {
     let full = list.full.as_str();
-    text.push_str(format!(in alloc; "enum {full}{word}\n")?.as_str())?;
+    write!(text, "enum {full}{word}\n")?;
     for (number, thing) in here.given.things.iter().enumerate() {
         let outer = thing.enclosing.as_ref().map_or("", |outer| outer.as_str());
         if thing.is_enumerator && thing.file == here.file && outer == full {
             let name = thing.name.text.as_str();
-            text.push_str(format!(in alloc; "  value {name} ")?.as_str())?;
-            push_found(alloc, text, value(alloc, here.given, number)?)?;
+            write!(text, "  value {name} ")?;
+            push_found(text, value(alloc, here.given, number)?)?;
             text.push_str("\n")?;
         }
     }
@@ -70,11 +70,11 @@ fn push_interface(
     list: &MemberList<'_>,
 ) -> Result<(), AllocError> {
     let full = list.full.as_str();
-    text.push_str(format!(in alloc; "interface {full}\n")?.as_str())?;
+    write!(text, "interface {full}\n")?;
     let ordinals = ordinals_of(alloc, &list.members)?;
     for (member, ordinal) in list.members.iter().zip(&ordinals) {
         let name = member.name.text.as_str();
-        text.push_str(format!(in alloc; "  method {ordinal} {name}\n")?.as_str())?;
+        write!(text, "  method {ordinal} {name}\n")?;
     }
     Ok(())
 }
@@ -91,10 +91,10 @@ fn push_const(
     };
     let name = definition.full(alloc)?;
     let full = name.as_str();
-    text.push_str(format!(in alloc; "const {full} ")?.as_str())?;
+    write!(text, "const {full} ")?;
     push_type(alloc, text, here, item.kind.node())?;
     text.push_str(" ")?;
-    push_found(alloc, text, found_at(alloc, here, &item.value)?)?;
+    push_found(text, found_at(alloc, here, &item.value)?)?;
     text.push_str("\n")
 }
 

@@ -4,7 +4,7 @@ use mojom_ast::{BaseNode, TypeNode};
 use std::alloc::{AllocError, Global};
 
 /// Where a type stands.
-#[derive(Clone, Copy, PartialEq, Eq)]
+#[derive(Clone, Copy)]
 pub enum Stand {
     /// As that of a field of a struct or of a parameter.
     Field,

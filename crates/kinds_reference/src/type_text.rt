@@ -56,12 +56,23 @@ fn pending_word(sort: PendingSort) -> &'static str {
 }
 
 /// Adds the length of an array, where it has one.
-fn push_length(alloc: Global, text: &mut String, count: &Option<Number>) -> Result<(), AllocError> {
+fn push_length(text: &mut String, count: &Option<Number>) -> Result<(), AllocError> {
     let Some(count) = count else {
         return Ok(());
     };
     let number = count.value;
-    text.push_str(format!(in alloc; ", {number}")?.as_str())
+    write!(text, ", {number}")
+}
+
+/// What stands behind all that a type is made of.
+fn end_of(node: &TypeNode) -> &'static str {
+    let has_parts = !matches!(&node.base, BaseNode::Name(_) | BaseNode::Handle(_));
+    match (has_parts, node.nullable) {
+        (true, true) => ">?",
+        (true, false) => ">",
+        (false, true) => "?",
+        (false, false) => "",
+    }
 }
 
 /// Adds a type, with full names.
@@ -77,51 +88,53 @@ pub fn push_type(
         BaseNode::Array { of, count } => {
             text.push_str("array<")?;
             push_type(alloc, text, here, of)?;
-            push_length(alloc, text, count)?;
-            text.push_str(">")?;
+            push_length(text, count)?;
         }
         BaseNode::Map { key, value } => {
             text.push_str("map<")?;
             push_type(alloc, text, here, key)?;
             text.push_str(", ")?;
             push_type(alloc, text, here, value)?;
-            text.push_str(">")?;
         }
         BaseNode::Handle(sort) => text.push_str(handle_word(*sort))?,
         BaseNode::Pending { sort, interface } => {
             text.push_str(pending_word(*sort))?;
             push_meant(alloc, text, here, interface)?;
-            text.push_str(">")?;
         }
     }
-    if node.nullable {
-        text.push_str("?")?;
+    text.push_str(end_of(node))
+}
+
+/// How a character is written in quotes that isn't written as it is.
+fn escape_of(letter: char) -> Option<&'static str> {
+    match letter {
+        '"' => Some("\\\""),
+        '\\' => Some("\\\\"),
+        '\n' => Some("\\n"),
+        '\t' => Some("\\t"),
+        _ => None,
     }
-    Ok(())
 }
 
 /// Adds a string in quotes.
 fn push_quoted(text: &mut String, bytes: &[u8]) -> Result<(), AllocError> {
     text.push_str("\"")?;
     for letter in str::from_utf8(bytes).unwrap_or("?").chars() {
-        match letter {
-            '"' => text.push_str("\\\"")?,
-            '\\' => text.push_str("\\\\")?,
-            '\n' => text.push_str("\\n")?,
-            '\t' => text.push_str("\\t")?,
-            other => text.push(other)?,
+        match escape_of(letter) {
+            Some(escape) => text.push_str(escape)?,
+            None => text.push(letter)?,
         }
     }
     text.push_str("\"")
 }
 
 /// Adds a value.
-pub fn push_found(alloc: Global, text: &mut String, found: Found<'_>) -> Result<(), AllocError> {
+pub fn push_found(text: &mut String, found: Found<'_>) -> Result<(), AllocError> {
     match found {
         Found::Text(bytes) => push_quoted(text, bytes),
         Found::Bool(true) => text.push_str("true"),
         Found::Bool(false) => text.push_str("false"),
-        Found::Number(number) => text.push_str(format!(in alloc; "{number}")?.as_str()),
+        Found::Number(number) => write!(text, "{number}"),
         Found::Float | Found::Circular | Found::Nothing => text.push_str("?"),
     }
 }

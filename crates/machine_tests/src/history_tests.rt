@@ -6,8 +6,8 @@ ghost use Rattle.mj_schema.specs.Layout.{IsLaidOut};
 use bind_model::{
     Asked, BadWhy, Closing, Event, Got, History, Noted, Outgoing, Parameters, PendingId, Told, Why,
 };
-use call_script::{Fate, Note, render};
 use handle_table::{Thing, TokenId};
+use history_text::{Fate, Note, render};
 use mj_base::{EndId, Items, SeqId, Text};
 use mj_schema::{DefinitionRow, InterfaceRow, MethodRow, RowSort, Schema, StructRow, VersionRow};
 use std::alloc::{AllocError, Global};
@@ -136,38 +136,54 @@ fn pendings(alloc: Global) -> Result<Items<PendingId>, AllocError> {
     Ok(Items::from_vec(vec![in alloc; Q]?))
 }
 
-/// An event of a sequence.
-fn event(seq: u32, asked: Asked, told: Told) -> Event {
-    Event {
-        seq: SeqId(seq),
-        asked,
-        told,
+/// The sequences of the events of `ENDPOINT`.
+const ENDPOINT_SEQS: [u32; 8] = [0, 1, 1, 1, 1, 0, 0, 2];
+
+/// What the event of this number of `ENDPOINT` asks.
+fn endpoint_asked(number: usize) -> Asked {
+    match number {
+        0 => Asked::Associate(X, EndpointSide::Remote, 0),
+        1 => Asked::Attach(Q, SeqId(2)),
+        2 | 3 | 4 => Asked::Take(Y),
+        5 | 6 => Asked::Take(X),
+        _ => Asked::Close(Closing::Endpoint(Y, Q.id)),
     }
+}
+
+/// What the event of this number of `ENDPOINT` tells.
+fn endpoint_told(alloc: Global, number: usize) -> Result<Told, AllocError> {
+    Ok(match number {
+        0 => Told::Associated(Q),
+        1 => Told::Attached(Q.id),
+        2 => Told::No(Why::Unbound(Q.id)),
+        3 => Told::No(Why::Elsewhere(SeqId(2))),
+        4 => Told::Dropped(Q.id, things(alloc, &[T])?),
+        5 => Told::Control(Noted::Closed(Q.id)),
+        6 => Told::Bad(BadWhy::Unasked(1), things(alloc, &[Thing::End(X)])?),
+        _ => Told::Closed(Items::new(alloc)),
+    })
+}
+
+/// Adds an event of a sequence.
+fn push_event(
+    events: &mut Vec<Event>,
+    seq: u32,
+    asked: Asked,
+    told: Told,
+) -> Result<(), AllocError> {
+    let seq = SeqId(seq);
+    events.push(Event { seq, asked, told })?;
+    Ok(())
 }
 
 /// The events of `ENDPOINT`.
 fn endpoint_events(alloc: Global) -> Result<Vec<Event>, AllocError> {
-    let token = things(alloc, &[T])?;
-    let end = things(alloc, &[Thing::End(X)])?;
-    let none = Items::new(alloc);
-    Ok(vec![in alloc;
-        event(
-            0,
-            Asked::Associate(X, EndpointSide::Remote, 0),
-            Told::Associated(Q)
-        ),
-        event(1, Asked::Attach(Q, SeqId(2)), Told::Attached(Q.id)),
-        event(1, Asked::Take(Y), Told::No(Why::Unbound(Q.id))),
-        event(1, Asked::Take(Y), Told::No(Why::Elsewhere(SeqId(2)))),
-        event(1, Asked::Take(Y), Told::Dropped(Q.id, token)),
-        event(0, Asked::Take(X), Told::Control(Noted::Closed(Q.id))),
-        event(0, Asked::Take(X), Told::Bad(BadWhy::Unasked(1), end)),
-        event(
-            2,
-            Asked::Close(Closing::Endpoint(Y, Q.id)),
-            Told::Closed(none)
-        ),
-    ]?)
+    let mut events = Vec::new(alloc);
+    for (number, seq) in ENDPOINT_SEQS.as_slice().iter().enumerate() {
+        let told = endpoint_told(alloc, number)?;
+        push_event(&mut events, *seq, endpoint_asked(number), told)?;
+    }
+    Ok(events)
 }
 
 /// A ping that carries an end, a token and an endpoint.
@@ -204,19 +220,29 @@ fn got_carried(alloc: Global) -> Result<Told, AllocError> {
     }))
 }
 
-/// The events of `CARRIED`.
-fn carried_events(alloc: Global) -> Result<Vec<Event>, AllocError> {
-    let call = carried(alloc)?;
-    let got = got_carried(alloc)?;
+/// Adds the raw messages of `CARRIED`.
+fn push_raw(alloc: Global, events: &mut Vec<Event>) -> Result<(), AllocError> {
     let bytes = Items::from_vec(vec![in alloc; 0x0a, 0xff]?);
     let token = things(alloc, &[T])?;
+    push_event(
+        events,
+        0,
+        Asked::Raw(Thing::End(X), bytes, token),
+        Told::Wrote(X),
+    )?;
     let nothing = Asked::Raw(Thing::End(X), Items::new(alloc), Items::new(alloc));
-    Ok(vec![in alloc;
-        event(0, call, Told::No(Why::SelfSend)),
-        event(2, Asked::Take(X), got),
-        event(0, Asked::Raw(Thing::End(X), bytes, token), Told::Wrote(X)),
-        event(0, nothing, Told::No(Why::Full)),
-    ]?)
+    push_event(events, 0, nothing, Told::No(Why::Full))
+}
+
+/// The events of `CARRIED`.
+fn carried_events(alloc: Global) -> Result<Vec<Event>, AllocError> {
+    let mut events = Vec::new(alloc);
+    let call = carried(alloc)?;
+    push_event(&mut events, 0, call, Told::No(Why::SelfSend))?;
+    let got = got_carried(alloc)?;
+    push_event(&mut events, 2, Asked::Take(X), got)?;
+    push_raw(alloc, &mut events)?;
+    Ok(events)
 }
 
 /// The end of a number of a sequence.
@@ -236,12 +262,19 @@ fn note(seq: u32, end: EndId, id: u32, request: u64, fate: Fate) -> Note {
 }
 
 #[test]
-fn each_event_has_its_text(rt: HostRuntime) -> Result<(), Fail> {
+fn what_comes_of_an_endpoint_has_its_text(rt: HostRuntime) -> Result<(), Fail> {
     let alloc = rt.alloc();
     let schema = schema_of(alloc)?;
     let history = History::from_items(Items::from_vec(endpoint_events(alloc)?));
     let text = render(alloc, &schema, &history, &[], &[T])?;
     assert_eq!(rt; text.as_slice(), ENDPOINT.as_bytes());
+    Ok(())
+}
+
+#[test]
+fn what_carries_an_endpoint_has_its_text(rt: HostRuntime) -> Result<(), Fail> {
+    let alloc = rt.alloc();
+    let schema = schema_of(alloc)?;
     let history = History::from_items(Items::from_vec(carried_events(alloc)?));
     let text = render(alloc, &schema, &history, &[], &[T])?;
     assert_eq!(rt; text.as_slice(), CARRIED.as_bytes());

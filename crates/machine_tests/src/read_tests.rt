@@ -2,7 +2,8 @@
 
 use crate::history_tests::{CALLBACKS, CARRIED, ENDPOINT, schema_of};
 use bind_model::History;
-use call_script::{read_history, render};
+use history_reader::read_history;
+use history_text::render;
 use std::test::Fail;
 use value_text::TextError;
 

@@ -9,7 +9,7 @@ use mojom_files::{DefinitionView, ItemView, within};
 use std::alloc::{AllocError, Global};
 
 /// What a list has.
-#[derive(Clone, Copy, Debug, PartialEq, Eq)]
+#[derive(Clone, Copy)]
 pub enum ListSort {
     Fields,
     UnionFields,
@@ -26,7 +26,7 @@ pub struct Member<'a> {
     /// Its type: enumerators and methods have none.
     pub kind: Option<&'a TypeNode>,
     pub ordinal: Option<Number>,
-    /// Its default, where one is written; enumerators have none.
+    /// Its default, or the value of an enumerator, where one is written.
     pub default: Option<&'a Value>,
 }
 
@@ -82,7 +82,7 @@ fn enumerators(alloc: Global, item: &Enum) -> Result<Vec<Member<'_>>, AllocError
             attributes: one.attributes.as_slice(),
             kind: None,
             ordinal: None,
-            default: None,
+            default: one.value.as_ref(),
         })?;
     }
     Ok(members)
@@ -164,20 +164,39 @@ fn add_methods<'a>(
     Ok(())
 }
 
-/// Adds the list of a definition itself; a constant has none.
+/// What the list of a definition itself has; a constant has none.
+fn own_sort(item: ItemView<'_>) -> Option<ListSort> {
+    match item {
+        ItemView::Struct(_) => Some(ListSort::Fields),
+        ItemView::Union(_) => Some(ListSort::UnionFields),
+        ItemView::Enum(_) => Some(ListSort::Enumerators),
+        ItemView::Interface(_) => Some(ListSort::Methods),
+        ItemView::Const(_) => None,
+    }
+}
+
+/// The members of the list of a definition itself.
+fn own_members<'a>(alloc: Global, item: ItemView<'a>) -> Result<Vec<Member<'a>>, AllocError> {
+    match item {
+        ItemView::Struct(item) => fields(alloc, item),
+        ItemView::Union(item) => union_fields(alloc, item),
+        ItemView::Enum(item) => enumerators(alloc, item),
+        ItemView::Interface(item) => methods(alloc, item),
+        ItemView::Const(_) => Ok(Vec::new(alloc)),
+    }
+}
+
+/// Adds the list of a definition itself.
 fn add_own<'a>(
     alloc: Global,
     lists: &mut Vec<MemberList<'a>>,
     definition: &DefinitionView<'a>,
 ) -> Result<(), AllocError> {
-    let (sort, members) = match definition.item() {
-        ItemView::Struct(item) => (ListSort::Fields, fields(alloc, item)?),
-        ItemView::Union(item) => (ListSort::UnionFields, union_fields(alloc, item)?),
-        ItemView::Enum(item) => (ListSort::Enumerators, enumerators(alloc, item)?),
-        ItemView::Interface(item) => (ListSort::Methods, methods(alloc, item)?),
-        ItemView::Const(_) => return Ok(()),
+    let Some(sort) = own_sort(definition.item()) else {
+        return Ok(());
     };
     let full = definition.full(alloc)?;
+    let members = own_members(alloc, definition.item())?;
     lists.push(MemberList {
         sort,
         head: definition.name(),

@@ -3,7 +3,7 @@
 use std::alloc::{AllocError, Global};
 
 /// What is refused, in the order in which reasons at one place are answered.
-#[derive(Clone, Copy, Debug, PartialEq, Eq)]
+#[derive(Clone, Copy, PartialEq, Eq)]
 pub enum Word {
     NoFile,
     CircularImport,

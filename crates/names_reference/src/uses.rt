@@ -1,17 +1,15 @@
 //! The names that are used.
 
 use crate::look_up::Given;
+use crate::members::{Member, lists_of};
 use crate::things::basic_of;
 use mj_base::Text;
-use mojom_ast::{
-    Attribute, BaseNode, Enumerator, InterfaceItem, InterfaceMember, Name, Parameter, StructItem,
-    StructMember, UnionField, Value,
-};
+use mojom_ast::{Attribute, BaseNode, Name, Value};
 use mojom_files::{DefinitionView, ItemView, NamedFile, definitions};
 use std::alloc::{AllocError, Global};
 
 /// What a name has to mean where it is used.
-#[derive(Clone, Copy, Debug, PartialEq, Eq)]
+#[derive(Clone, Copy)]
 pub enum Wanted {
     /// A struct, a union or an enum.
     Type,
@@ -70,78 +68,34 @@ fn add_attributes<'a>(
     Ok(())
 }
 
-/// Adds the names of parameters.
-fn add_parameters<'a>(
-    names: &mut Names<'a>,
-    parameters: &'a [Parameter],
-) -> Result<(), AllocError> {
-    for parameter in parameters {
-        add_attributes(names, parameter.attributes.as_slice())?;
-        add_type(names, &parameter.kind.node().base)?;
+/// Adds the names of a member: in its attributes, its type and its value.
+fn add_member<'a>(names: &mut Names<'a>, member: Member<'a>) -> Result<(), AllocError> {
+    add_attributes(names, member.attributes)?;
+    if let Some(kind) = member.kind {
+        add_type(names, &kind.base)?;
     }
-    Ok(())
+    add_value(names, member.default)
 }
 
-/// Adds the names of a struct's fields.
-fn add_fields<'a>(names: &mut Names<'a>, members: &'a [StructMember]) -> Result<(), AllocError> {
+/// Adds the names of the members of a list.
+fn add_members<'a>(names: &mut Names<'a>, members: &[Member<'a>]) -> Result<(), AllocError> {
     for member in members {
-        if let StructItem::Field(field) = &member.item {
-            add_attributes(names, member.attributes.as_slice())?;
-            add_type(names, &field.kind.node().base)?;
-            add_value(names, field.default.as_ref())?;
-        }
-    }
-    Ok(())
-}
-
-/// Adds the names of an interface's methods.
-fn add_methods<'a>(
-    names: &mut Names<'a>,
-    members: &'a [InterfaceMember],
-) -> Result<(), AllocError> {
-    for member in members {
-        if let InterfaceItem::Method(method) = &member.item {
-            add_attributes(names, member.attributes.as_slice())?;
-            add_parameters(names, method.request.as_slice())?;
-            if let Some(response) = &method.response {
-                add_parameters(names, response.as_slice())?;
-            }
-        }
-    }
-    Ok(())
-}
-
-/// Adds the names of a union's fields.
-fn add_union<'a>(names: &mut Names<'a>, fields: &'a [UnionField]) -> Result<(), AllocError> {
-    for field in fields {
-        add_attributes(names, field.attributes.as_slice())?;
-        add_type(names, &field.kind.node().base)?;
-    }
-    Ok(())
-}
-
-/// Adds the names of enumerators.
-fn add_enumerators<'a>(
-    names: &mut Names<'a>,
-    enumerators: &'a [Enumerator],
-) -> Result<(), AllocError> {
-    for enumerator in enumerators {
-        add_attributes(names, enumerator.attributes.as_slice())?;
-        add_value(names, enumerator.value.as_ref())?;
+        add_member(names, *member)?;
     }
     Ok(())
 }
 
 /// Adds the names that stand in a definition which encloses them. Constants and enums in it are
 /// definitions of their own.
-fn add_inside<'a>(names: &mut Names<'a>, item: ItemView<'a>) -> Result<(), AllocError> {
-    match item {
-        ItemView::Struct(item) => add_fields(names, item.members.as_slice()),
-        ItemView::Union(item) => add_union(names, item.fields.as_slice()),
-        ItemView::Enum(item) => add_enumerators(names, item.enumerators.as_slice()),
-        ItemView::Interface(item) => add_methods(names, item.members.as_slice()),
-        ItemView::Const(_) => Ok(()),
+fn add_inside<'a>(
+    alloc: Global,
+    names: &mut Names<'a>,
+    definition: &DefinitionView<'a>,
+) -> Result<(), AllocError> {
+    for list in &lists_of(alloc, definition)? {
+        add_members(names, &list.members)?;
     }
+    Ok(())
 }
 
 /// Adds the uses of a definition: what encloses it encloses the attributes before it, and what stands in a
@@ -159,7 +113,7 @@ fn add_uses<'a>(
         add_value(&mut names, Some(&item.value))?;
     }
     let outside = names.len();
-    add_inside(&mut names, definition.item())?;
+    add_inside(alloc, &mut names, definition)?;
     for (number, (name, wanted)) in names.iter().enumerate() {
         let enclosing = if number < outside {
             definition.enclosing(alloc)?

@@ -7,7 +7,7 @@ use mojom_ast::Value;
 use std::alloc::{AllocError, Global};
 
 /// What a thing means.
-#[derive(Clone, Copy, Debug, PartialEq, Eq)]
+#[derive(Clone, Copy, PartialEq, Eq)]
 pub enum Found<'a> {
     Text(&'a [u8]),
     Bool(bool),

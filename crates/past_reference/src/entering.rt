@@ -83,7 +83,7 @@ pub fn entries(
     named: &[Named],
 ) -> Result<Vec<Entry>, AllocError> {
     let mut entries = Vec::new(alloc);
-    let Some(letter) = mail.unread(alloc, end)?.first().copied() else {
+    let Some(letter) = mail.oldest(alloc, end)? else {
         return Ok(entries);
     };
     let ids = ids_in(alloc, letter)?;

@@ -92,6 +92,12 @@ impl<'a> Mail<'a> {
         Ok(left)
     }
 
+    /// The oldest unread message at an end.
+    pub fn oldest(&self, alloc: Global, end: EndId) -> Result<Option<Letter<'a>>, AllocError> {
+        let unread = self.unread(alloc, end)?;
+        Ok(unread.first().copied())
+    }
+
     /// Adds what an event does.
     fn add(&mut self, alloc: Global, schema: &Schema, event: &'a Event) -> Result<(), AllocError> {
         match (&event.told, &event.asked) {

@@ -1,52 +1,7 @@
-//! Values: copies, and the indexes of handles that they name.
+//! The indexes of handles that values name.
 
 use std::alloc::{AllocError, Global};
 use wire_model::Value;
-
-/// The same value.
-#[cycle(copies)]
-pub fn copied(alloc: Global, value: &Value) -> Result<Value, AllocError> {
-    match value {
-        Value::Bool(flag) => Ok(Value::Bool(*flag)),
-        Value::Whole(number) => Ok(Value::Whole(*number)),
-        Value::Text(text) => Ok(Value::Text(Vec::from_slice(alloc, text.as_slice())?)),
-        Value::List(items) => Ok(Value::List(all_copied(alloc, items)?)),
-        Value::Map { keys, values } => Ok(Value::Map {
-            keys: all_copied(alloc, keys)?,
-            values: all_copied(alloc, values)?,
-        }),
-        Value::Struct(fields) => Ok(Value::Struct(all_copied(alloc, fields)?)),
-        Value::Union { tag, value } => {
-            let held = copied(alloc, value)?;
-            Ok(Value::Union {
-                tag: *tag,
-                value: Box::new(alloc, held)?,
-            })
-        }
-        Value::Unknown(tag) => Ok(Value::Unknown(*tag)),
-        Value::Handle(index) => Ok(Value::Handle(*index)),
-        Value::Remote { index, version } => Ok(Value::Remote {
-            index: *index,
-            version: *version,
-        }),
-        Value::Endpoint(index) => Ok(Value::Endpoint(*index)),
-        Value::EndpointRemote { index, version } => Ok(Value::EndpointRemote {
-            index: *index,
-            version: *version,
-        }),
-        Value::Null => Ok(Value::Null),
-    }
-}
-
-/// The same values.
-#[cycle(copies)]
-fn all_copied(alloc: Global, values: &[Value]) -> Result<Vec<Value>, AllocError> {
-    let mut copies = Vec::new(alloc);
-    for value in values {
-        copies.push(copied(alloc, value)?)?;
-    }
-    Ok(copies)
-}
 
 /// Adds the indexes of handles that a value names.
 #[cycle(names)]

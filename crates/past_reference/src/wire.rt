@@ -4,9 +4,9 @@
 ghost use Rattle.std.specs.Prelude.{IfSome};
 ghost use Rattle.wire_encoder.specs.Prepared.{HasTarget};
 
-use crate::values::copied;
 use bind_model::{Endpoint, Outgoing, State};
 use control_bytes::{Control, read_control};
+use core_state::copy_value;
 use message_header::{CONTROL_ID, read_header};
 use message_validator::check;
 use mj_base::{Fault, FaultKind};
@@ -114,14 +114,20 @@ fn known(schema: &Schema, target: Target) -> Option<Target>
     }
 }
 
-/// Adds a number of 32 bits.
-fn push32(out: &mut Vec<u8>, number: u32) -> Result<(), AllocError> {
-    out.extend_from_slice(&number.to_le_bytes())
+/// Adds numbers of 32 bits.
+fn push32(out: &mut Vec<u8>, numbers: &[u32]) -> Result<(), AllocError> {
+    for number in numbers {
+        out.extend_from_slice(&number.to_le_bytes())?;
+    }
+    Ok(())
 }
 
-/// Adds a number of 64 bits.
-fn push64(out: &mut Vec<u8>, number: u64) -> Result<(), AllocError> {
-    out.extend_from_slice(&number.to_le_bytes())
+/// Adds numbers of 64 bits.
+fn push64(out: &mut Vec<u8>, numbers: &[u64]) -> Result<(), AllocError> {
+    for number in numbers {
+        out.extend_from_slice(&number.to_le_bytes())?;
+    }
+    Ok(())
 }
 
 /// The version and the size of the header of a message with these flags and so many ids.
@@ -145,20 +151,14 @@ fn push_header(
     ids: usize,
 ) -> Result<(), AllocError> {
     let (version, size) = version_of(prepared.flags, ids);
-    push32(out, size)?;
-    push32(out, version)?;
-    push32(out, id)?;
-    push32(out, prepared.target.method)?;
-    push32(out, prepared.flags)?;
-    push32(out, 0)?;
-    if version >= 1 {
-        push64(out, request)?;
+    let method = prepared.target.method;
+    push32(out, &[size, version, id, method, prepared.flags, 0])?;
+    let behind = (prepared.payload.len() as u64).saturating_add(8);
+    match version {
+        0 => Ok(()),
+        1 => push64(out, &[request]),
+        _ => push64(out, &[request, 16, behind]),
     }
-    if version >= 2 {
-        push64(out, 16)?;
-        push64(out, (prepared.payload.len() as u64).saturating_add(8))?;
-    }
-    Ok(())
 }
 
 /// Adds the array of ids, where there are some.
@@ -167,13 +167,10 @@ fn push_ids(out: &mut Vec<u8>, ids: &[u32]) -> Result<(), AllocError> {
         return Ok(());
     }
     let count = u32::try_from(ids.len()).unwrap_or(u32::MAX);
-    push32(out, count.saturating_mul(4).saturating_add(8))?;
-    push32(out, count)?;
-    for id in ids {
-        push32(out, *id)?;
-    }
+    push32(out, &[count.saturating_mul(4).saturating_add(8), count])?;
+    push32(out, ids)?;
     if count % 2 == 1 {
-        push32(out, 0)?;
+        push32(out, &[0])?;
     }
     Ok(())
 }
@@ -208,7 +205,7 @@ pub fn sealed(
     let Some(target) = known(schema, outgoing.target) else {
         return Ok(Vec::new(alloc));
     };
-    let value = copied(alloc, outgoing.parameters.value())?;
+    let value = copy_value(alloc, outgoing.parameters.value())?;
     match prepare(alloc, schema, target, value) {
         Ok(prepared) => joined(alloc, &prepared, id, request, outgoing),
         Err((error, _value)) => match error {

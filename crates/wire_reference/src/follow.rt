@@ -139,30 +139,26 @@ fn add_elements<'a>(
     Ok(())
 }
 
-/// The parts of a node, in order.
-fn parts_of<'a>(
-    alloc: Global,
+/// Adds the parts of a node, in order.
+fn add_parts<'a>(
     schema: &'a Schema,
     bytes: &[u8],
     node: Node<'a>,
-) -> Result<Vec<Node<'a>>, AllocError> {
-    let mut parts = Vec::new(alloc);
+    parts: &mut Vec<Node<'a>>,
+) -> Result<(), AllocError> {
     match node.what {
-        What::Struct(row) => add_fields(bytes, node, row, &mut parts)?,
-        What::Array { of, .. } => add_elements(bytes, node, of, &mut parts)?,
+        What::Struct(row) => add_fields(bytes, node, row, parts),
+        What::Array { of, .. } => add_elements(bytes, node, of, parts),
         What::Map { key, value } if has_room(bytes, node.at, 16) => {
-            let keys = node.at.saturating_add(8);
-            let values = node.at.saturating_add(16);
-            parts.push(Node::new(What::List(key), keys, node.depth))?;
-            parts.push(Node::new(What::List(value), values, node.depth))?;
+            let keys = Node::new(What::List(key), node.at.saturating_add(8), node.depth);
+            let values = Node::new(What::List(value), node.at.saturating_add(16), node.depth);
+            parts.extend_from_slice(&[keys, values])
         }
-        _ => {
-            if let Some(part) = part(schema, bytes, node) {
-                parts.push(part)?;
-            }
-        }
+        _ => match part(schema, bytes, node) {
+            Some(part) => parts.extend_from_slice(&[part]),
+            None => Ok(()),
+        },
     }
-    Ok(parts)
 }
 
 /// The nodes of the struct that starts at a place, which is the first of them. The parts of a node stand
@@ -180,10 +176,9 @@ pub fn follow<'a>(
         let Some(node) = nodes.get(place).copied() else {
             return Ok(Some(nodes));
         };
-        let parts = parts_of(alloc, schema, bytes, node)?;
         let first = nodes.len();
-        let count = parts.len();
-        nodes.extend_from_slice(parts.as_slice())?;
+        add_parts(schema, bytes, node, &mut nodes)?;
+        let count = nodes.len().saturating_sub(first);
         if let Some(node) = nodes.get_mut(place) {
             node.first = first;
             node.parts = count;

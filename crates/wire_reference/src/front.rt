@@ -75,18 +75,17 @@ pub fn header_tests(alloc: Global, bytes: &[u8]) -> Result<Vec<Test>, AllocError
     let size = number32(bytes, 0);
     let version = number32(bytes, 4);
     let flags = number32(bytes, 16) % 4;
-    let struct_header = FaultKind::UnexpectedStructHeader;
     let fits = header_fits(version, size);
     let has_request = version > 0 || flags == 0;
     let mut tests = Vec::new(alloc);
-    tests.push(Test::Range { at: 0, len: 8 })?;
-    tests.push(Test::new(size >= 8, struct_header, 0))?;
-    tests.push(Test::Range { at: 0, len: size })?;
-    tests.push(Test::new(fits, struct_header, 0))?;
-    let both = FaultKind::MessageHeaderInvalidFlags;
-    tests.push(Test::new(flags != 3, both, 16))?;
-    let missing = FaultKind::MessageHeaderMissingRequestId;
-    tests.push(Test::new(has_request, missing, 16))?;
+    tests.extend_from_slice(&[
+        Test::Range { at: 0, len: 8 },
+        Test::new(size >= 8, FaultKind::UnexpectedStructHeader, 0),
+        Test::Range { at: 0, len: size },
+        Test::new(fits, FaultKind::UnexpectedStructHeader, 0),
+        Test::new(flags != 3, FaultKind::MessageHeaderInvalidFlags, 16),
+        Test::new(has_request, FaultKind::MessageHeaderMissingRequestId, 16),
+    ])?;
     if version >= 2 {
         add_payload(bytes, size, &mut tests)?;
     }
@@ -97,13 +96,14 @@ pub fn header_tests(alloc: Global, bytes: &[u8]) -> Result<Vec<Test>, AllocError
 fn add_payload(bytes: &[u8], size: u64, tests: &mut Vec<Test>) -> Result<(), AllocError> {
     let distance = number64(bytes, 32);
     let start = distance.saturating_add(32);
-    let is_there = distance != 0;
-    tests.push(Test::new(is_there, FaultKind::UnexpectedNullPointer, 32))?;
     let is_near = distance <= MOST_DISTANCE;
-    tests.push(Test::new(is_near, FaultKind::IllegalPointer, 32))?;
-    tests.push(Test::new(start % 8 == 0, FaultKind::MisalignedObject, start))?;
     let is_within = start >= size && are_there(bytes, start, 0);
-    tests.push(Test::new(is_within, FaultKind::IllegalMemoryRange, start))?;
+    tests.extend_from_slice(&[
+        Test::new(distance != 0, FaultKind::UnexpectedNullPointer, 32),
+        Test::new(is_near, FaultKind::IllegalPointer, 32),
+        Test::new(start % 8 == 0, FaultKind::MisalignedObject, start),
+        Test::new(is_within, FaultKind::IllegalMemoryRange, start),
+    ])?;
     if number64(bytes, 40) == 0 {
         return Ok(());
     }
@@ -115,16 +115,18 @@ fn add_ids(bytes: &[u8], start: u64, tests: &mut Vec<Test>) -> Result<(), AllocE
     let distance = number64(bytes, 40);
     let list = distance.saturating_add(40);
     let is_near = distance <= MOST_DISTANCE;
-    tests.push(Test::new(is_near, FaultKind::IllegalPointer, 40))?;
-    tests.push(Test::new(list % 8 == 0, FaultKind::MisalignedObject, list))?;
     let is_behind = list >= start.saturating_add(8) && are_there(bytes, list, 8);
-    tests.push(Test::new(is_behind, FaultKind::IllegalMemoryRange, list))?;
     let size = number32(bytes, list);
     let count = number32(bytes, list.saturating_add(4));
     let has_room = size >= count.saturating_mul(4).saturating_add(8);
-    tests.push(Test::new(has_room, FaultKind::UnexpectedArrayHeader, list))?;
     let is_whole = are_there(bytes, list, size);
-    tests.push(Test::new(is_whole, FaultKind::IllegalMemoryRange, list))?;
+    tests.extend_from_slice(&[
+        Test::new(is_near, FaultKind::IllegalPointer, 40),
+        Test::new(list % 8 == 0, FaultKind::MisalignedObject, list),
+        Test::new(is_behind, FaultKind::IllegalMemoryRange, list),
+        Test::new(has_room, FaultKind::UnexpectedArrayHeader, list),
+        Test::new(is_whole, FaultKind::IllegalMemoryRange, list),
+    ])?;
     if has_room && is_whole {
         add_each_id(bytes, list.saturating_add(8), count, tests)?;
     }

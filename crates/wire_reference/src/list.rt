@@ -82,7 +82,8 @@ fn add_cell(
     Ok(())
 }
 
-/// Adds the tests of the header of an object which has room for so much behind its two numbers.
+/// Adds the tests of the header of an object which has room for so much behind its two numbers: of an array its count
+/// comes before the room of the whole, of a struct its version behind that.
 fn add_header(
     bytes: &[u8],
     at: u64,
@@ -92,16 +93,19 @@ fn add_header(
     tests: &mut Vec<Test>,
 ) -> Result<(), AllocError> {
     let len = number32(bytes, at);
-    tests.push(Test::new(at % 8 == 0, FaultKind::MisalignedObject, at))?;
-    tests.push(Test::Range { at, len: 8 })?;
-    tests.push(Test::new(len >= extra.saturating_add(8), kind, at))?;
-    if kind == FaultKind::UnexpectedArrayHeader {
-        tests.push(Test::new(fine, kind, at))?;
-    }
-    tests.push(Test::Range { at, len })?;
-    if kind == FaultKind::UnexpectedStructHeader {
-        tests.push(Test::new(fine, kind, at))?;
-    }
+    tests.extend_from_slice(&[
+        Test::new(at % 8 == 0, FaultKind::MisalignedObject, at),
+        Test::Range { at, len: 8 },
+        Test::new(len >= extra.saturating_add(8), kind, at),
+    ])?;
+    let whole = Test::Range { at, len };
+    let right = Test::new(fine, kind, at);
+    let both = if kind == FaultKind::UnexpectedArrayHeader {
+        [right, whole]
+    } else {
+        [whole, right]
+    };
+    tests.extend_from_slice(&both)?;
     let end = at.saturating_add(len);
     tests.push(Test::Claim { end })?;
     Ok(())
@@ -173,11 +177,12 @@ pub fn text_at(bytes: &[u8], at: u64) -> &[u8] {
 
 /// Adds the tests of a union behind a pointer, which has 16 bytes whatever its size says.
 fn add_pointed_union(at: u64, tests: &mut Vec<Test>) -> Result<(), AllocError> {
-    tests.push(Test::new(at % 8 == 0, FaultKind::MisalignedObject, at))?;
-    tests.push(Test::Range { at, len: 16 })?;
     let end = at.saturating_add(16);
-    tests.push(Test::Claim { end })?;
-    Ok(())
+    tests.extend_from_slice(&[
+        Test::new(at % 8 == 0, FaultKind::MisalignedObject, at),
+        Test::Range { at, len: 16 },
+        Test::Claim { end },
+    ])
 }
 
 /// Adds the tests of a node that come before those of its parts.

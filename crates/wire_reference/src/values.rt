@@ -65,20 +65,22 @@ fn union_value(
     }
 }
 
-/// The value of a slot that holds no union, whose pointer leads to this.
-fn cell_value(bytes: &[u8], node: Node<'_>, kind: &KindNode, target: Option<Value>) -> Value {
+/// The value of a slot that holds neither a union nor a pointer; none of one that does.
+fn cell_value(bytes: &[u8], node: Node<'_>, kind: &KindNode) -> Option<Value> {
     match kind {
-        KindNode::Bool { .. } => Value::Bool(bit_at(bytes, node.at, node.bit)),
+        KindNode::Bool { .. } => Some(Value::Bool(bit_at(bytes, node.at, node.bit))),
         KindNode::Int { width, signed, .. } => {
-            Value::Whole(whole_at(bytes, node.at, *width, *signed))
+            Some(Value::Whole(whole_at(bytes, node.at, *width, *signed)))
         }
-        KindNode::Enum { .. } => Value::Whole(whole_at(bytes, node.at, Width::Bits32, true)),
+        KindNode::Enum { .. } => {
+            Some(Value::Whole(whole_at(bytes, node.at, Width::Bits32, true)))
+        }
         KindNode::Handle { .. }
         | KindNode::Remote { .. }
         | KindNode::Receiver { .. }
         | KindNode::AssociatedRemote { .. }
-        | KindNode::AssociatedReceiver { .. } => index_at(bytes, node.at, kind),
-        _ => target.unwrap_or(Value::Null),
+        | KindNode::AssociatedReceiver { .. } => Some(index_at(bytes, node.at, kind)),
+        _ => None,
     }
 }
 
@@ -153,7 +155,10 @@ fn value_of(
         }
         What::Slot(kind) | What::Held(kind) => {
             let mut targets = parts;
-            Ok(cell_value(bytes, node, kind, targets.pop()))
+            match cell_value(bytes, node, kind) {
+                Some(value) => Ok(value),
+                None => Ok(targets.pop().unwrap_or(Value::Null)),
+            }
         }
         What::List(_) | What::Union(_) | What::Nothing => {
             let mut targets = parts;

@@ -5,6 +5,7 @@ use crate::follow::follow;
 use crate::front::{Bounds, bounds_of, flags_test, header_tests, method_of, parameters};
 use crate::judge::{Limits, first_fault};
 use crate::list::tests_of;
+use crate::nodes::Node;
 use crate::rows::struct_of;
 use crate::values::root_value;
 use mj_base::{Fault, FaultKind};
@@ -64,6 +65,24 @@ fn parameters_row<'a>(
     }
 }
 
+/// The first fault of the tree of a payload.
+fn payload_fault(
+    alloc: Global,
+    schema: &Schema,
+    bytes: &[u8],
+    nodes: &[Node<'_>],
+    bounds: Bounds,
+    handles: u32,
+) -> Result<Option<Fault>, AllocError> {
+    let tests = tests_of(alloc, schema, bytes, nodes)?;
+    let limits = Limits {
+        end: bounds.end,
+        handles: u64::from(handles),
+        ids: bounds.ids,
+    };
+    Ok(first_fault(&tests, bounds.start, limits))
+}
+
 /// What a payload stands for, or its first fault.
 fn read_payload(
     alloc: Global,
@@ -76,13 +95,7 @@ fn read_payload(
     let Some(nodes) = follow(alloc, schema, bytes, bounds.start, row)? else {
         return Ok(Outcome::TooLarge);
     };
-    let tests = tests_of(alloc, schema, bytes, &nodes)?;
-    let limits = Limits {
-        end: bounds.end,
-        handles: u64::from(handles),
-        ids: bounds.ids,
-    };
-    if let Some(fault) = first_fault(&tests, bounds.start, limits) {
+    if let Some(fault) = payload_fault(alloc, schema, bytes, &nodes, bounds, handles)? {
         return Ok(Outcome::Refused(fault));
     }
     Ok(Outcome::Message(Message {
