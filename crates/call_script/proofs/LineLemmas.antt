@@ -15,7 +15,7 @@ use Rattle.call_script.specs.declared.additions.Part.{Part as WrittenPart}
 use Rattle.call_script.specs.declared.additions.Part.TheVariants as parts
 use Rattle.call_script.specs.declared.reading.Reader.{Reader}
 use Rattle.call_script.specs.Forms.{Form, Auto, IsForm, form_words, is_setup, sequences, AreThere, sets, answers}
-use Rattle.call_script.specs.Script.{is_placed, names_set, methods_answered, line_number, sets_again, doubles, finds, knows}
+use Rattle.call_script.specs.Script.{is_placed, names_set, methods_answered, line_number, doubles, finds, knows}
 use Rattle.call_script.specs.Script.{IsFormOf, IsReply, IsTaken, IsRefused}
 use Rattle.call_script.specs.Script.{Part, OfLine, OfReply, lines_in, replies_in}
 use Rattle.call_script.specs.steps.Names.{IsTable, Adds, Sets}
@@ -152,17 +152,6 @@ module _ (schema : Schema) (seqs : ℕ) (old : Reader) (form : Form) (sound : Is
     (read : HasRead schema seqs old past) (placed : is_placed past form ≡ true) where
   has_form : IsFormOf seqs past (form_words form) form
   has_form = record { sound = sound; there = there; placed = placed; spelled = refl }
-
-  pub named_again : (table : NameTable) → Sets old.names table form false → IsRefused schema seqs past (form_words form) DoubleName
-  named_again table again = let twice = again (names_set past) read.table in (form, has_form, rw twice refl)
-
-  pub answered_again : (table : NameTable) → Adds old.methods table (answers form) false → IsRefused schema seqs past (form_words form) DoubleName
-  answered_again table again =
-      let twice = again (methods_answered past) read.methods in (form, has_form, rw twice (either (sets_again (names_set past) form)))
-    where
-      either : (a : Bool) → (a || true) ≡ true
-      either true = refl
-      either false = refl
 
   refused_with : (table methods : NameTable) (count : ℕ) (why : LineRefusal) → IsNoted old table methods form count
       → Gives schema (names_set past) form (Err (stops.Refused why)) → IsRefused schema seqs past (form_words form) why

@@ -22,6 +22,7 @@ use Rattle.call_script.specs.Same.{SamePrepared}
 use Rattle.call_script.specs.Script.{parameters_rule, names_set, IsValueOf, IsReason, HasNoValue, WantsTokens, IsNoBareValue, Asks, IsAuto, IsPart}
 use Rattle.call_script.specs.Script.{Part, OfLine, OfReply}
 
+-- the tree that was read, or any
 abbrev tree_in : Read Tree → Tree
 tree_in (Ok x) = x.0
 tree_in (Err n) = Null
@@ -111,6 +112,7 @@ abbrev target_in : Option (Target × ℕ) → Target → Target
 target_in None other = other
 target_in (Some found) other = found.0
 
+-- the number that was found, or any
 abbrev number_in : Option (Target × ℕ) → ℕ
 number_in None = 0
 number_in (Some found) = found.1

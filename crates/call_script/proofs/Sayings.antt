@@ -14,6 +14,7 @@ abbrev rest : {A : Type 0} → List A → List A
 rest [] = []
 rest (x ∷ xs) = xs
 
+-- the first word, or none
 abbrev head : List (List ℕ) → List ℕ
 head [] = []
 head (x ∷ xs) = x
@@ -50,6 +51,7 @@ pipe_only words (Associate x s i p) h e = absurd (apart _ _ _ _ refl e)
 pipe_only words (Attach x n) h e = absurd (apart _ _ _ _ refl e)
 pipe_only words (Raw x b ts) h e = absurd (apart _ _ _ _ refl e)
 
+-- words that ask for a token of a sort
 pub record IsMint (words : List (List ℕ)) (said : Said) : Type 0 where
   pub sort : TokenSort
   pub name : List ℕ
@@ -70,6 +72,7 @@ mint_only words (Associate x s i p) h e = absurd (apart _ _ _ _ refl e)
 mint_only words (Attach x n) h e = absurd (apart _ _ _ _ refl e)
 mint_only words (Raw x b ts) h e = absurd (apart _ _ _ _ refl e)
 
+-- words that bind an end as a side of an interface
 pub record IsBind (words : List (List ℕ)) (said : Said) : Type 0 where
   pub end : List ℕ
   pub side : EndpointSide
@@ -92,6 +95,7 @@ bind_only words (Associate x s i p) h e = absurd (apart _ _ _ _ refl e)
 bind_only words (Attach x n) h e = absurd (apart _ _ _ _ refl e)
 bind_only words (Raw x b ts) h e = absurd (apart _ _ _ _ refl e)
 
+-- words that take at an end, with names for what comes
 pub record IsTake (words : List (List ℕ)) (said : Said) : Type 0 where
   pub end : List ℕ
   pub names : List (List ℕ)
@@ -113,6 +117,7 @@ take_only words (Associate x s i p) h e = absurd (apart _ _ _ _ refl e)
 take_only words (Attach x n) h e = absurd (apart _ _ _ _ refl e)
 take_only words (Raw x b ts) h e = absurd (apart _ _ _ _ refl e)
 
+-- words that call a method at an endpoint, with tokens
 pub record IsCall (words : List (List ℕ)) (said : Said) : Type 0 where
   pub end : List ℕ
   pub id : ℕ
@@ -153,6 +158,7 @@ call_only words (Associate x s i p) h e = absurd (apart _ _ _ _ refl e)
 call_only words (Attach x n) h e = absurd (apart _ _ _ _ refl e)
 call_only words (Raw x b ts) h e = absurd (apart _ _ _ _ refl e)
 
+-- words that answer a responder, with tokens
 pub record IsAnswer (words : List (List ℕ)) (said : Said) : Type 0 where
   pub responder : List ℕ
   pub method : List ℕ
@@ -207,6 +213,7 @@ close_only words (Associate x s i p) h e = absurd (apart _ _ _ _ refl e)
 close_only words (Attach x n) h e = absurd (apart _ _ _ _ refl e)
 close_only words (Raw x b ts) h e = absurd (apart _ _ _ _ refl e)
 
+-- words that make an associated endpoint, with a name for the pending one
 pub record IsAssociate (words : List (List ℕ)) (said : Said) : Type 0 where
   pub end : List ℕ
   pub side : EndpointSide
@@ -241,6 +248,7 @@ associate_only words (Raw x b ts) h e = absurd (apart _ _ _ _ refl e)
 associate_only words (CloseToken x) h e = absurd (apart _ _ _ _ refl e)
 associate_only words (CloseEndpoint x n) h e = absurd (apart _ _ _ _ refl e)
 
+-- words that attach a pending endpoint to a sequence
 pub record IsAttach (words : List (List ℕ)) (said : Said) : Type 0 where
   pub pending : List ℕ
   pub seq : ℕ
@@ -261,6 +269,7 @@ attach_only words (Raw x b ts) h e = absurd (apart _ _ _ _ refl e)
 attach_only words (CloseToken x) h e = absurd (apart _ _ _ _ refl e)
 attach_only words (CloseEndpoint x n) h e = absurd (apart _ _ _ _ refl e)
 
+-- words that write bytes at an end, with tokens
 pub record IsRaw (words : List (List ℕ)) (said : Said) : Type 0 where
   pub end : List ℕ
   pub bytes : List ℕ

@@ -20,10 +20,12 @@ use Rattle.call_script.proofs.LoopLemmas.{forms_more}
 
 -- ## The letters of words
 
+-- how many letters words have in all
 abbrev pub letters : List (List ℕ) → ℕ
 letters [] = 0
 letters (word ∷ words) = length word + letters words
 
+-- how many those of all lines have
 abbrev pub all_letters : List (List (List ℕ)) → ℕ
 all_letters [] = 0
 all_letters (words ∷ lines) = letters words + all_letters lines

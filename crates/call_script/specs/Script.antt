@@ -106,7 +106,7 @@ is_set names seq name = has_name names (meant names seq name)
 abbrev pub knows : Schema → List (List ℕ) → Form → Bool
 knows schema names form = finds schema form && list_all (is_set names (seq_of form)) (needs form)
 
--- the texts of a method's parameters: a struct of this number, with 512 brackets open at once at most
+-- the texts of a method's parameters: a struct of this number, with so many brackets open at once at most as a text may have
 abbrev pub parameters_rule : Schema → ℕ → Lang Tree
 parameters_rule schema number = value schema 512 (StructKind number false)
 

@@ -13,8 +13,6 @@ mod script;
 mod script_error;
 mod targets;
 
-pub use history_reader::{Printed, read_history};
-pub use history_text::{Fate, Note, render};
 pub use reading::read_script;
 pub use script::{AutoReply, Command, Line, MAX_SEQUENCES, NameId, Script};
 pub use script_error::{LineRefusal, ScriptError};

@@ -22,6 +22,7 @@ texts_arrow : HasTexts (Is (λ (u : Unit {0}). u ≡ tt) (λ (u : Unit {0}). arr
 unfolding arrow
 texts_arrow = texts_before blank (texts_before dash (texts_before 62 (texts_closed blank tt)))
 
+-- just this is asked, and the text is the arrow
 abbrev pub Only : Asked → Asked → List ℕ → Type 0
 Only what a w = (a ≡ what) × (w ≡ arrow_text)
 
@@ -37,6 +38,7 @@ texts_arrow_behind : HasTexts (Is (λ (u : Unit {0}). u ≡ tt) (λ (u : Unit {0
 unfolding arrow_behind
 texts_arrow_behind = texts_before dash (texts_before 62 (texts_closed blank tt))
 
+-- just this is asked, and the text is the arrow without its first blank
 abbrev OnlyBehind : Asked → Asked → List ℕ → Type 0
 OnlyBehind what a w = (a ≡ what) × (w ≡ behind_text)
 
@@ -46,9 +48,11 @@ texts_asks_behind what = texts_value (λ u. what) (λ (a : Asked). a ≡ what) (
 
 -- of one part, behind a blank
 module _ {X : Type 0} {ok : X → Type 0} {text : X → List ℕ} {one : Lang X} (make : X → Asked) (o : HasTexts (Is ok text) one) where
+  -- a command of one part, and its text
   abbrev pub Flat1 : Asked → List ℕ → Type 0
   Flat1 a w = (x : X) × ok x × (a ≡ make x) × (w ≡ blank ∷ (text x ++ arrow_text))
 
+  -- the same as it is read: a blank, the part, the arrow
   abbrev Deep1 : Asked → List ℕ → Type 0
   Deep1 a w = (v : List ℕ) × ((x : X) × ok x × (u : List ℕ) × Only (make x) a u × (v ≡ text x ++ u)) × (w ≡ blank ∷ v)
 
@@ -69,12 +73,15 @@ regroup c one two t = record { from = t.from; to = t.to }
 -- of two parts, the first behind a blank
 module _ {X Y : Type 0} {ok : X → Type 0} {text : X → List ℕ} {fine : Y → Type 0} {spelled : Y → List ℕ} {one : Lang X} {two : Lang Y} (make : X → Y → Asked)
     (o : HasTexts (Is ok text) one) (t : HasTexts (Is fine spelled) two) where
+  -- a command of two parts, and its text
   abbrev pub Flat2 : Asked → List ℕ → Type 0
   Flat2 a w = (x : X) × (y : Y) × ok x × fine y × (a ≡ make x y) × (w ≡ blank ∷ (text x ++ (spelled y ++ arrow_text)))
 
+  -- the second part behind the first
   abbrev Inner : X → Asked → List ℕ → Type 0
   Inner x a u = (y : Y) × fine y × (v : List ℕ) × Only (make x y) a v × (u ≡ spelled y ++ v)
 
+  -- the same as it is read: a blank, a part, the other, the arrow
   abbrev Deep2 : Asked → List ℕ → Type 0
   Deep2 a w = (v : List ℕ) × ((x : X) × ok x × (u : List ℕ) × Inner x a u × (v ≡ text x ++ u)) × (w ≡ blank ∷ v)
 
@@ -110,13 +117,16 @@ module _ {X Y : Type 0} {ok : X → Type 0} {text : X → List ℕ} {fine : Y �
 
 -- of a thing and bytes
 module _ (make : Thing → List ℕ → Asked) where
+  -- a command of a thing and bytes, and its text
   abbrev pub FlatBytes : Asked → List ℕ → Type 0
   FlatBytes a w = (x : Thing) × (bytes : List ℕ) × IsThing x × AreBytes bytes × (a ≡ make x bytes)
       × (w ≡ blank ∷ (thing_text x ++ ((blank ∷ (hex_text bytes ++ blank ∷ [])) ++ behind_text)))
 
+  -- the bytes behind the thing
   abbrev InBytes : Thing → Asked → List ℕ → Type 0
   InBytes x a u = (bytes : List ℕ) × AreBytes bytes × (t : List ℕ) × OnlyBehind (make x bytes) a t × (u ≡ (blank ∷ (hex_text bytes ++ blank ∷ [])) ++ t)
 
+  -- the same as it is read: a blank, the thing, the bytes, the rest of the arrow
   abbrev DeepBytes : Asked → List ℕ → Type 0
   DeepBytes a w = (v : List ℕ) × ((x : Thing) × IsThing x × (u : List ℕ) × InBytes x a u × (v ≡ thing_text x ++ u)) × (w ≡ blank ∷ v)
 

@@ -31,6 +31,7 @@ use Rattle.history_reader.specs.declared.notices.NoticeWord.TheVariants as notic
 use Rattle.history_reader.proofs.AskedForms.{arrow_text, behind_text}
 use Rattle.history_reader.proofs.AtTexts.{has_moment, behind_at}
 
+-- the text of the word of a command
 abbrev pub command_text : CommandWord → List ℕ
 command_text commands.Pipe = codes "pipe"
 command_text commands.Join = codes "join"
@@ -89,6 +90,7 @@ all_commands (commands.Flow moves.BeginGet) = among_at command_words 24 ((comman
 all_commands (commands.Flow moves.EndGet) = among_at command_words 25 ((commands.Flow moves.EndGet), codes "end-get") refl
 all_commands commands.Skip = among_at command_words 26 (commands.Skip, codes "skip") refl
 
+-- the list of words has each with its text
 abbrev pub each_command : AreAll (λ (entry : CommandWord × List ℕ). entry.1 ≡ command_text entry.0) command_words
 each_command = (
   refl,
@@ -155,6 +157,7 @@ notice_word (notes.Query id) = notices.Query
 notice_word (notes.Require id version) = notices.Require
 notice_word notes.Flush = notices.Flush
 
+-- the word of a command about a data pipe
 abbrev pub flow_word : Flow → FlowWord
 flow_word (flows.Put bytes all) = moves.Put all
 flow_word (flows.Get n all) = moves.Get all
@@ -163,6 +166,7 @@ flow_word (flows.EndPut bytes) = moves.EndPut
 flow_word flows.BeginGet = moves.BeginGet
 flow_word (flows.EndGet n) = moves.EndGet
 
+-- the word of a command
 abbrev pub word_of : Asked → CommandWord
 word_of askeds.Pipe = commands.Pipe
 word_of (askeds.Join t) = commands.Join
@@ -187,6 +191,7 @@ notice_after x (notes.Query id) = blank ∷ (endpoint_text x id ++ arrow_text)
 notice_after x (notes.Require id version) = blank ∷ (endpoint_text x id ++ ((blank ∷ decimal version) ++ arrow_text))
 notice_after x notes.Flush = blank ∷ (end_text x ++ arrow_text)
 
+-- the text behind the word of a command about a data pipe
 abbrev flow_after : Thing → Flow → List ℕ
 flow_after x (flows.Put bytes all) = blank ∷ (thing_text x ++ ((blank ∷ (hex_text bytes ++ blank ∷ [])) ++ behind_text))
 flow_after x (flows.Get n all) = blank ∷ (thing_text x ++ ((blank ∷ decimal n) ++ arrow_text))
@@ -208,6 +213,7 @@ answer_word (Some moment) rest = refl
 
 -- what is asked, by the word and what stands behind it
 module _ (schema : Schema) where
+  -- the text behind the word of a command
   abbrev pub after : Asked → List ℕ
   after askeds.Pipe = arrow_text
   after (askeds.Join t) = blank ∷ (decimal t.0 ++ arrow_text)

@@ -3,6 +3,7 @@ use Rattle.std.proofs.Common.{◌≡◌, ℕ, ℤ, ◌++◌, ◌∷◌, List, Op
 use Rattle.std.specs.Fmt.{signed_decimal}
 use Rattle.line_parts.specs.Signs.{blank}
 
+-- whether there is a moment
 abbrev pub has_moment : Option ℤ → Bool
 has_moment None = false
 has_moment (Some moment) = true

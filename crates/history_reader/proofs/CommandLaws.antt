@@ -118,6 +118,7 @@ good_skip = good_before blank (good_then _ good_index (λ n. good_asks (askeds.S
 blank_no_hash : Apart (λ b. b == blank) (λ b. b == hash)
 blank_no_hash b e = grind (arith, nat_tests)
 
+-- what may follow an end that is closed: an id there, or the arrow
 abbrev closing_starts : ℕ → Bool
 closing_starts = with_starts (λ b. b == hash) (λ b. b == blank)
 

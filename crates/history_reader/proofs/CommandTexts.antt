@@ -60,6 +60,7 @@ texts_sort : HasTexts (Is (λ (s : TokenSort). Unit {0}) sort_word) sort
 unfolding sort
 texts_sort = texts_keyword sort_word sorts (refl, (refl, tt)) all_sorts
 
+-- the words of the two sides
 abbrev sides : List (EndpointSide × List ℕ)
 sides = (Remote, codes "remote") ∷ (Receiver, codes "receiver") ∷ []
 
@@ -77,6 +78,7 @@ module _ (schema : Schema) where
   abbrev call_rest : EndId → ℕ → Outgoing → List ℕ
   call_rest x id o = blank ∷ (endpoint_text x id ++ ((blank ∷ outgoing_text schema o) ++ arrow_text))
 
+  -- the text behind the word of an answer
   abbrev answer_rest : ResponderId → Outgoing → List ℕ
   answer_rest r o = blank ∷ (responder_text r ++ ((blank ∷ outgoing_text schema o) ++ arrow_text))
 
@@ -164,6 +166,7 @@ module _ (schema : Schema) where
 
   -- a call at a moment
   module _ (at : Option ℤ) where
+    -- a call, and its text
     abbrev Calls : Asked → List ℕ → Type 0
     Calls a w = Flat2 (λ p o. askeds.Call p.0 p.1 o) texts_endpoint (texts_before blank (texts_outgoing schema Request at)) a w
 
@@ -171,6 +174,7 @@ module _ (schema : Schema) where
     unfolding call
     texts_calls = texts_apart (λ p o. askeds.Call p.0 p.1 o) texts_endpoint (texts_outgoing schema Request at)
 
+    -- an answer, and its text
     abbrev Answers : Asked → List ℕ → Type 0
     Answers a w = Flat2 askeds.Answer texts_responder (texts_before blank (texts_outgoing schema Response at)) a w
 
@@ -298,9 +302,11 @@ module _ (schema : Schema) where
   abbrev One : {X : Type 0} → (X → Type 0) → (X → List ℕ) → (X → Closing) → Asked → List ℕ → Type 0
   One {X} ok text make a w = (x : X) × ok x × (u : List ℕ) × Only (askeds.Close (make x)) a u × (w ≡ text x ++ u)
 
+  -- the endpoint of an id at this end is closed
   abbrev Id : EndId → Asked → List ℕ → Type 0
   Id x a w = (v : List ℕ) × One IsSmall decimal (λ id. closings.Endpoint x id) a v × (w ≡ hash ∷ v)
 
+  -- an end is closed, or an endpoint there
   abbrev AtEnd : Asked → List ℕ → Type 0
   AtEnd a w = (x : EndId) × IsEnd x × (u : List ℕ) × (Id x a u ⊎ Only (askeds.Close (closings.Handle (End x))) a u) × (w ≡ end_text x ++ u)
 
@@ -309,15 +315,19 @@ module _ (schema : Schema) where
   texts_closing_at x = texts_either _ (texts_behind hash (texts_chain texts_index (λ id k. texts_asks (askeds.Close (closings.Endpoint x id)))))
       (texts_asks (askeds.Close (closings.Handle (End x))))
 
+  -- a token is closed
   abbrev OfToken : Asked → List ℕ → Type 0
   OfToken = One IsToken (λ t. thing_text (Token t)) (λ t. closings.Handle (Token t))
 
+  -- a pending endpoint is closed
   abbrev OfPending : Asked → List ℕ → Type 0
   OfPending = One IsPending pending_text closings.Pending
 
+  -- a responder is closed
   abbrev OfResponder : Asked → List ℕ → Type 0
   OfResponder = One IsResponder responder_text closings.Responder
 
+  -- one of these is closed
   abbrev Any : Asked → List ℕ → Type 0
   Any a w = OfToken a w ⊎ (OfPending a w ⊎ (OfResponder a w ⊎ AtEnd a w))
 
@@ -410,6 +420,7 @@ module _ (schema : Schema) where
   texts_after (commands.Flow word) = texts_flow_after schema word
   texts_after commands.Skip = texts_skip
 
+  -- a command that can be printed, by its word and what stands behind it
   abbrev Worded : Asked → List ℕ → Type 0
   Worded a w = (word : CommandWord) × Unit {0} × ((word_of a ≡ word) × IsAsked schema a) × (w ≡ command_text word ++ after schema a)
 

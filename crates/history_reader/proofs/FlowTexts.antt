@@ -39,6 +39,7 @@ module _ (schema : Schema) where
           (x, bytes, h.0.1.0, h.0.1.1, ap (λ (full : Bool). puts full x bytes) same, h.1)
       to _ w h = absurd (let e = h.0.0 in cc)
 
+  -- what is asked by getting so many bytes
   abbrev gets : Bool → Thing → ℕ → Asked
   gets all x n = askeds.Flow x (flows.Get n all)
 

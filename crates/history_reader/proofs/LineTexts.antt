@@ -10,6 +10,7 @@ use Rattle.line_parts.proofs.BothWays.{HasTexts, Is, texts_as, texts_closed, tex
 use Rattle.line_parts.proofs.HexTexts.{texts_hex}
 use Rattle.history_reader.specs.Reasons.{line}
 
+-- just this is told, and the line ends
 abbrev pub Ends : Told → Told → List ℕ → Type 0
 Ends what a w = (a ≡ what) × (w ≡ line_end ∷ [])
 
@@ -18,9 +19,11 @@ texts_ends what = texts_closed line_end what
 
 -- of one part, and the line's end
 module _ {X : Type 0} {ok : X → Type 0} {text : X → List ℕ} {one : Lang X} (tell : X → Told) (o : HasTexts (Is ok text) one) where
+  -- a reply of one part, and its text
   abbrev pub Line : Told → List ℕ → Type 0
   Line a w = (x : X) × ok x × (a ≡ tell x) × (w ≡ text x ++ line_end ∷ [])
 
+  -- the same behind a blank
   abbrev pub Line1 : Told → List ℕ → Type 0
   Line1 a w = (x : X) × ok x × (a ≡ tell x) × (w ≡ blank ∷ (text x ++ line_end ∷ []))
 
@@ -35,6 +38,7 @@ module _ {X : Type 0} {ok : X → Type 0} {text : X → List ℕ} {one : Lang X}
 -- of two
 module _ {X Y : Type 0} {ok : X → Type 0} {text : X → List ℕ} {fine : Y → Type 0} {spelled : Y → List ℕ} {one : Lang X} {two : Lang Y} (tell : X → Y → Told)
     (o : HasTexts (Is ok text) one) (t : HasTexts (Is fine spelled) two) where
+  -- a reply of two parts, and its text
   abbrev pub Line2 : Told → List ℕ → Type 0
   Line2 a w = (x : X) × (y : Y) × ok x × fine y × (a ≡ tell x y) × (w ≡ blank ∷ (text x ++ blank ∷ (spelled y ++ line_end ∷ [])))
 
@@ -46,12 +50,15 @@ module _ {X Y : Type 0} {ok : X → Type 0} {text : X → List ℕ} {fine : Y �
 
 -- of one part and bytes
 module _ {X : Type 0} {ok : X → Type 0} {text : X → List ℕ} {one : Lang X} (tell : X → List ℕ → Told) (o : HasTexts (Is ok text) one) where
+  -- a reply of a part and bytes, and its text
   abbrev pub LineBytes : Told → List ℕ → Type 0
   LineBytes a w = (x : X) × (bytes : List ℕ) × ok x × AreBytes bytes × (a ≡ tell x bytes) × (w ≡ blank ∷ (text x ++ blank ∷ (hex_text bytes ++ line_end ∷ [])))
 
+  -- the bytes behind the part
   abbrev Bytes : X → Told → List ℕ → Type 0
   Bytes x a t = (bytes : List ℕ) × Is AreBytes (λ bytes. hex_text bytes ++ line_end ∷ []) bytes t × (tell x bytes ≡ a)
 
+  -- the same as it is read: a blank, the part, a blank, the bytes
   abbrev Deep : Told → List ℕ → Type 0
   Deep a w = (v : List ℕ) × ((x : X) × ok x × (u : List ℕ) × ((t : List ℕ) × Bytes x a t × (u ≡ blank ∷ t)) × (v ≡ text x ++ u)) × (w ≡ blank ∷ v)
 

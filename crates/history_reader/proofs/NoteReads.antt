@@ -9,9 +9,11 @@ use Rattle.history_reader.specs.Whole.{begins_tail, tail, behind}
 use Rattle.history_reader.specs.steps.Reading.{with_notes}
 use Rattle.line_parts.proofs.SeriesReads as series
 
+-- a line of a callback
 abbrev one : Unit {0} → Lang Note
 one u = note_line
 
+-- nothing is kept from line to line
 abbrev next : Unit {0} → Note → Unit {0}
 next u note = u
 

@@ -19,6 +19,7 @@ use Rattle.line_parts.proofs.BothWays.{HasTexts, Is, texts_closed, texts_before,
 use Rattle.line_parts.proofs.KeywordTexts.{texts_keyword, texts_word}
 use Rattle.line_parts.proofs.IdTexts.{IsEndpoint, texts_wide, texts_sequence, texts_endpoint}
 
+-- the words of what became of a callback
 abbrev fates : List (Fate × List ℕ)
 fates = (Ran, codes "ran") ∷ (Dropped, codes "dropped") ∷ []
 
@@ -69,6 +70,7 @@ endpoint_behind : (seq : SeqId) → HasTexts (Is (λ (n : Note). IsEndpoint (n.e
 endpoint_behind seq = texts_fine (λ n h. (h.0, h.1.0, h.1.2)) (λ n h. (h.0, (h.1, refl, h.2))) (λ n h. refl)
     (texts_before blank (texts_then (λ (n : Note). (n.end, n.id)) (λ p n h. h.1) texts_endpoint (request_behind seq)))
 
+-- the text of a callback behind its word
 abbrev of_sequence : Note → List ℕ
 of_sequence n = blank ∷ (decimal n.seq.0 ++ of_endpoint n)
 

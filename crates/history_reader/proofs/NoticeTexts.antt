@@ -24,6 +24,7 @@ use Rattle.history_reader.proofs.AskedWords.{Of, made}
 abbrev wait_text : EndId × ℕ → List ℕ
 wait_text p = end_text p.0 ++ blank ∷ decimal p.1
 
+-- an end and the number of a flush, of their widths
 abbrev IsWait : EndId × ℕ → Type 0
 IsWait p = IsEnd p.0 × IsSmall p.1
 

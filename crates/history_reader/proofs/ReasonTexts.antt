@@ -63,6 +63,7 @@ all_bads (Fault faults.UnknownEnumValue) = among_at bad_words 19 (Fault faults.U
 all_bads (Fault faults.MaxRecursionDepth) = among_at bad_words 20 (Fault faults.MaxRecursionDepth, fault_word faults.MaxRecursionDepth) refl
 all_bads (Fault faults.BadUtf8) = among_at bad_words 21 (Fault faults.BadUtf8, fault_word faults.BadUtf8) refl
 
+-- the list of words has each with its text
 abbrev each_bad : AreAll (λ (entry : BadWord × List ℕ). entry.1 ≡ bad_word_text entry.0) bad_words
 each_bad = (
   refl,
@@ -123,18 +124,21 @@ each_bad = (
   ),
 )
 
+-- the word of what is bad
 abbrev bad_of : BadWhy → BadWord
 bad_of (bads.Message fault) = Fault fault.kind
 bad_of (bads.Unasked request) = Unasked
 bad_of (bads.StrangeId id) = StrangeId
 bad_of (bads.TooOld version) = TooOld
 
+-- the number behind it
 abbrev bad_rest : BadWhy → List ℕ
 bad_rest (bads.Message fault) = decimal fault.at
 bad_rest (bads.Unasked request) = decimal request
 bad_rest (bads.StrangeId id) = decimal id
 bad_rest (bads.TooOld version) = decimal version
 
+-- what is bad by this word, of its width
 abbrev OfBad : BadWord → BadWhy → Type 0
 OfBad word why = (bad_of why ≡ word) × IsBadWhy why
 
@@ -185,10 +189,12 @@ part_text parts.BadSize = codes "bad-size"
 part_text parts.Busy = codes "busy"
 part_text parts.Short = codes "short"
 
+-- the text of the word of a refusal
 abbrev why_word_text : WhyWord → List ℕ
 why_word_text (Plain why) = why_text why
 why_word_text (Of part) = part_text part
 
+-- the list of words has each with its text
 abbrev each_why : AreAll (λ (entry : WhyWord × List ℕ). entry.1 ≡ why_word_text entry.0) why_words
 each_why = (
   refl,
@@ -249,6 +255,7 @@ each_why = (
   ),
 )
 
+-- the word of a refusal
 abbrev why_of : Why → WhyWord
 why_of (whys.Unbound id) = Of parts.Unbound
 why_of (whys.Elsewhere t) = Of parts.Elsewhere
@@ -264,6 +271,7 @@ abbrev IsPlain : WhyWord → Type 0
 IsPlain (Plain why) = (why_of why ≡ Plain why) × IsWhy why
 IsPlain (Of part) = Unit {0}
 
+-- the list has a plain word only for a refusal without a part
 abbrev each_plain : AreAll (λ (entry : WhyWord × List ℕ). IsPlain entry.0) why_words
 each_plain = (
   (refl, tt),
@@ -338,10 +346,12 @@ said_by (whys.Busy t) = token_text t
 said_by (whys.Short n) = decimal n
 said_by why = []
 
+-- the text behind the word of a refusal
 abbrev rest_by : WhyWord → Why → List ℕ
 rest_by (Plain y) why = line_end ∷ []
 rest_by (Of part) why = blank ∷ (said_by why ++ line_end ∷ [])
 
+-- the same by the refusal alone
 abbrev why_rest : Why → List ℕ
 why_rest why = rest_by (why_of why) why
 
@@ -415,6 +425,7 @@ texts_part_after parts.Busy = texts_as (λ a w h. (whys.Busy h.0, refl, h.1, h.2
 texts_part_after parts.Short = texts_as (λ a w h. (whys.Short h.0, refl, h.1, h.2, h.3)) (λ a w h. short_in a w h.0 h.1 h.2 h.3 h.4)
     (texts_line (λ n. tells.No (whys.Short n)) texts_index)
 
+-- a refusal with a part, behind a blank
 abbrev Parted : WhyPart → Told → List ℕ → Type 0
 Parted part a w = (v : List ℕ) × OfPart part a v × (w ≡ blank ∷ v)
 
@@ -440,9 +451,11 @@ why_whole (whys.Busy t) = refl
 why_whole (whys.Short n) = refl
 why_whole _ = refl
 
+-- a refusal, and its text
 abbrev pub No : Told → List ℕ → Type 0
 No a w = (why : Why) × IsWhy why × (a ≡ tells.No why) × (w ≡ blank ∷ (why_text why ++ line_end ∷ []))
 
+-- the same as it is read: a blank, the word, what stands behind it
 abbrev Refused : Told → List ℕ → Type 0
 Refused a w = (v : List ℕ) × ((word : WhyWord) × IsAmong (word, why_word_text word) why_words × (u : List ℕ) × OfNo word a u × (v ≡ why_word_text word ++ u))
     × (w ≡ blank ∷ v)

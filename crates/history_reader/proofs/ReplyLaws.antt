@@ -170,6 +170,7 @@ good_gone_reply = good_before blank (in_line tells.Closed good_things)
 digit_no_dash : Apart is_digit (λ b. b == dash)
 digit_no_dash b e = grind (arith, nat_tests)
 
+-- what a version begins with, or none
 abbrev version_starts : ℕ → Bool
 version_starts = with_starts (λ b. b == dash) is_digit
 

@@ -150,6 +150,7 @@ module _ (schema : Schema) where
 
   -- what a take got at a moment
   module _ (at : Option ℤ) where
+    -- what was got, by three lists: the handles, the pending endpoints and what went
     abbrev Lists3 : ℕ → Target × Tree → ℕ → Told → List ℕ → Type 0
     Lists3 id m request a w = (handles : List Thing) × AreAll IsThing handles × (v : List ℕ)
         × ((u : List ℕ) × ((ps : List PendingId) × AreAll IsPending ps × (t : List ℕ)
@@ -160,17 +161,21 @@ module _ (schema : Schema) where
     texts_got_lists id m request = texts_chain texts_things (λ handles k. texts_behind blank (texts_chain texts_pendings
         (λ ps l. texts_line1 (got_of at id m request handles ps) texts_things)))
 
+    -- the number of the request, and the lists
     abbrev Requested : ℕ → Target × Tree → Told → List ℕ → Type 0
     Requested id m a w = (request : ℕ) × IsWide request × (v : List ℕ) × ((u : List ℕ) × Lists3 id m request a u × (v ≡ blank ∷ u))
         × (w ≡ decimal request ++ v)
 
+    -- the message, and the rest
     abbrev Received : MessageSide → ℕ → Told → List ℕ → Type 0
     Received side id a w = (m : Target × Tree) × IsMessage schema side m.0 m.1 × (v : List ℕ) × Requested id m a v
         × (w ≡ (message_text schema m.0 m.1 ++ blank ∷ []) ++ v)
 
+    -- the id, and the rest
     abbrev Numbered : MessageSide → Told → List ℕ → Type 0
     Numbered side a w = (id : ℕ) × IsSmall id × (v : List ℕ) × ((u : List ℕ) × Received side id a u × (v ≡ blank ∷ u)) × (w ≡ decimal id ++ v)
 
+    -- the word of the message's side, and the rest
     abbrev Sided : Told → List ℕ → Type 0
     Sided a w = (v : List ℕ) × ((side : MessageSide) × Unit {0} × (u : List ℕ) × ((t : List ℕ) × Numbered side a t × (u ≡ blank ∷ t))
         × (v ≡ message_word side ++ u)) × (w ≡ blank ∷ v)
@@ -186,9 +191,11 @@ module _ (schema : Schema) where
         IsSmall g.id × IsMessage schema g.target.side g.target g.parameters × IsWide g.request
         × AreAll IsThing g.handles × AreAll IsPending g.pendings × AreAll IsThing g.gone × (g.moment ≡ at)
 
+    -- what was got, and its text
     abbrev Gotten : Told → List ℕ → Type 0
     Gotten a w = (g : Got) × IsGotten g × (a ≡ tells.Taken g) × (w ≡ got_after schema g)
 
+    -- what was got, by its parts
     abbrev got_with : ℕ → Target × Tree → ℕ → List Thing → List PendingId → List Thing → Got
     got_with id m request handles pendings gone = record {
       id = id;
@@ -273,6 +280,7 @@ module _ (schema : Schema) where
           subst (Gotten None (tells.Taken g)) (sym (h.1 ∙ ap (λ (m : Option ℤ). behind_at m (got_after schema g)) e)) (taken_to None g e h.0.1)
       to _ w h = absurd (let e = h.0.0 in cc)
 
+  -- what was got with a moment
   abbrev GotAt : Told → List ℕ → Type 0
   GotAt a w = (v : List ℕ) × ((z : ℤ) × IsLong z × (u : List ℕ) × Gotten (Some z) a u × (v ≡ signed_decimal z ++ u)) × (w ≡ blank ∷ v)
 
@@ -312,6 +320,7 @@ module _ (schema : Schema) where
   texts_after replies.Skipped = texts_skipped
   texts_after replies.No = texts_no
 
+  -- a reply that can be printed, by its word and what stands behind it
   abbrev Worded : Told → List ℕ → Type 0
   Worded a w = (word : ReplyWord) × Unit {0} × ((reply_of a ≡ word) × IsTold schema a) × (w ≡ reply_text word ++ after schema a)
 

@@ -32,6 +32,7 @@ use Rattle.history_reader.specs.declared.replies.ReplyWord.{ReplyWord}
 use Rattle.history_reader.specs.declared.replies.ReplyWord.TheVariants as replies
 use Rattle.history_reader.proofs.AtTexts.{has_moment, behind_at}
 
+-- the text of the word of a reply
 abbrev pub reply_text : ReplyWord → List ℕ
 reply_text replies.Made = codes "made"
 reply_text replies.Bound = codes "bound"
@@ -90,6 +91,7 @@ all_replies (replies.Flowed moves.Ended) = among_at reply_words 24 ((replies.Flo
 all_replies replies.Skipped = among_at reply_words 25 (replies.Skipped, codes "skipped") refl
 all_replies replies.No = among_at reply_words 26 (replies.No, codes "no") refl
 
+-- the list of words has each with its text
 abbrev pub each_reply : AreAll (λ (entry : ReplyWord × List ℕ). entry.1 ≡ reply_text entry.0) reply_words
 each_reply = (
   refl,
@@ -158,11 +160,13 @@ noted_word (noteds.Version id version) = notes.Version
 noted_word (noteds.Required id version) = notes.Required
 noted_word (noteds.Flushed flush) = notes.Flushed
 
+-- the word of a control that was written
 abbrev pub notified_word : Notified → NotifiedWord
 notified_word notifieds.Asking = notices.Asking
 notified_word notifieds.Requiring = notices.Requiring
 notified_word (notifieds.Flushing flush) = notices.Flushing
 
+-- the word of a reply about a data pipe
 abbrev pub flowed_word : Flowed → FlowedWord
 flowed_word (floweds.Put n) = moves.Put
 flowed_word (floweds.Bytes bytes) = moves.Bytes
@@ -170,6 +174,7 @@ flowed_word (floweds.Space n) = moves.Space
 flowed_word (floweds.View bytes) = moves.View
 flowed_word floweds.Ended = moves.Ended
 
+-- the word of a reply
 abbrev pub reply_of : Told → ReplyWord
 reply_of (tells.Made xs) = replies.Made
 reply_of (tells.Bound x) = replies.Bound
@@ -196,11 +201,13 @@ noted_after (noteds.Version id version) = blank ∷ (decimal id ++ blank ∷ (de
 noted_after (noteds.Required id version) = blank ∷ (decimal id ++ blank ∷ (decimal version ++ line_end ∷ []))
 noted_after (noteds.Flushed flush) = blank ∷ (decimal flush ++ line_end ∷ [])
 
+-- the text behind the word of a control that was written
 abbrev notified_after : Notified → List ℕ
 notified_after notifieds.Asking = line_end ∷ []
 notified_after notifieds.Requiring = line_end ∷ []
 notified_after (notifieds.Flushing flush) = blank ∷ (decimal flush ++ line_end ∷ [])
 
+-- the text behind the word of a reply about a data pipe
 abbrev flowed_after : TokenId → Flowed → List ℕ
 flowed_after t (floweds.Put n) = blank ∷ (token_text t ++ blank ∷ (decimal n ++ line_end ∷ []))
 flowed_after t (floweds.Bytes bytes) = blank ∷ (token_text t ++ blank ∷ (hex_text bytes ++ line_end ∷ []))
@@ -220,9 +227,11 @@ module _ (schema : Schema) where
   got_rest g = message_word g.target.side ++ blank ∷ (decimal g.id ++ blank ∷ ((message_text schema g.target g.parameters ++ blank ∷ [])
       ++ (decimal g.request ++ blank ∷ (things_text g.handles ++ blank ∷ (pendings_text g.pendings ++ blank ∷ (things_text g.gone ++ line_end ∷ []))))))
 
+  -- the text behind the word of what was got
   abbrev pub got_after : Got → List ℕ
   got_after g = blank ∷ got_rest g
 
+  -- the text behind the word of a reply
   abbrev pub after : Told → List ℕ
   after (tells.Made xs) = blank ∷ (things_text xs ++ line_end ∷ [])
   after (tells.Bound x) = blank ∷ (end_text x ++ line_end ∷ [])

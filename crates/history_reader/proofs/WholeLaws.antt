@@ -91,6 +91,7 @@ good_behind = good_wider begins_behind nothing
 digit_no_behind : Apart is_digit begins_behind
 digit_no_behind b e = grind (arith, nat_tests)
 
+-- what a history begins with, or what stands behind its events
 abbrev pub history_starts : ℕ → Bool
 history_starts = with_starts begins_behind is_digit
 

@@ -17,9 +17,11 @@ use Rattle.line_parts.specs.declared.names.Names.{Names}
 use Rattle.history_reader.specs.declared.printed.Printed.{Printed}
 use Rattle.line_parts.proofs.SeriesReads as series
 
+-- events are numbered
 abbrev next : ℕ → Event → ℕ
 next k event = k + 1
 
+-- what stands behind the events: callbacks, what is left, and the count
 abbrev Behind : Type 0
 Behind = List Note × (List Thing × ℕ)
 

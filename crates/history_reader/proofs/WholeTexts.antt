@@ -86,6 +86,7 @@ unfolding whole.left_line
 texts_left_line = texts_fine (λ x h. h.1.0) (λ x h. (tt, (h, refl))) (λ x h. refl) (texts_then (λ (x : Thing). tt) (λ u x h. refl) (texts_word (codes "left"))
     (λ u. texts_before blank (texts_then (λ (x : Thing). x) (λ x y h. h) texts_thing (λ x. texts_closed line_end x))))
 
+-- what is left, and the count
 abbrev Tail : Type 0
 Tail = List Thing × ℕ
 
@@ -95,9 +96,11 @@ count_behind left = texts_fine (λ t h. (h.1.0, ap (λ (t : Tail). t.0) h.1.1)) 
     (texts_then (λ (t : Tail). tt) (λ u t h. refl) (texts_word (codes "one"))
     (λ u. texts_before blank (texts_then (λ (t : Tail). t.1) (λ n t h. ap (λ (t : Tail). t.1) h) texts_wide (λ count. texts_closed line_end (left, count)))))
 
+-- they are of their widths
 abbrev IsTail : Tail → Type 0
 IsTail t = AreAll IsThing t.0 × IsWide t.1
 
+-- their text
 abbrev tail_text : Tail → List ℕ
 tail_text t = flat_map left_line t.0 ++ done_line t.1
 
@@ -111,12 +114,15 @@ texts_tail = texts_fine (λ t h. (h.0, h.1.0)) (λ t h. (h.0, (h.1, refl)))
 abbrev callback : Unit {0} → Lang Note
 callback u = notes.note_line
 
+-- nothing is kept from line to line
 abbrev same : Unit {0} → Note → Unit {0}
 same u note = u
 
+-- callbacks one after the other
 abbrev Notes : Unit {0} → List Note → Type 0
 Notes = series.Run begins_tail callback same tail (λ u. texts_note_line) texts_tail
 
+-- their text
 abbrev notes_text : Unit {0} → List Note → List ℕ
 notes_text = series.run begins_tail callback same tail (λ u. texts_note_line) texts_tail
 
@@ -132,12 +138,15 @@ notes_of : (ns : List Note) → AreAll IsNote ns → Notes tt ns
 notes_of [] h = tt
 notes_of (n ∷ ns) h = (h.0, notes_of ns h.1)
 
+-- callbacks, and what stands behind them
 abbrev Behind : Type 0
 Behind = List Note × Tail
 
+-- they are of their widths
 abbrev IsBehind : Behind → Type 0
 IsBehind b = AreAll IsNote b.0 × IsTail b.1
 
+-- their text
 abbrev behind_text : Behind → List ℕ
 behind_text b = flat_map note_line b.0 ++ tail_text b.1
 
@@ -148,12 +157,15 @@ texts_behind = texts_fine (λ b h. (all_notes b.0 h.0, h.1)) (λ b h. (notes_of 
     (series.texts_series begins_tail callback same tail (λ u. texts_note_line) texts_tail tt)
 
 module _ (schema : Schema) where
+  -- events are numbered
   abbrev next : ℕ → Event → ℕ
   next k event = k + 1
 
+  -- events one after the other
   abbrev Run : ℕ → List Event → Type 0
   Run = series.Run begins_behind (whole.event_line schema (names_of schema)) next behind (texts_event schema) texts_behind
 
+  -- their text
   abbrev run : ℕ → List Event → List ℕ
   run = series.run begins_behind (whole.event_line schema (names_of schema)) next behind (texts_event schema) texts_behind
 

@@ -27,6 +27,7 @@ pub refused : (one : Lang Tree) (bytes : List ℕ) (e : TextError) (at : ℕ) �
 refused one bytes e at is told = subst (λ (e : TextError). Tells one bytes (Err e)) is told
 
 module _ (schema : Schema) (kind : KindTree) where
+  -- the texts of the kind
   abbrev one : Lang Tree
   one = value schema 512 kind
 

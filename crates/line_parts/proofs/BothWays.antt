@@ -7,6 +7,7 @@ use Rattle.byte_rules.proofs.Shown.{Shown, shown_value, shown_then, shown_before
 use Rattle.byte_rules.proofs.Shown.{shown_more, shown_many}
 use Rattle.line_parts.specs.Printable.{AreAll}
 
+-- a rule that reads just these values from just these texts
 pub record HasTexts {A : Type 0} (R : A → List ℕ → Type 0) (one : Lang A) : Type 1 where
   pub from : Parts R one
   pub to : (x : A) (w : List ℕ) → R x w → Shown one x w
@@ -68,6 +69,7 @@ texts_value {A} {B} {ok} {text} {one} g fine spelled there same back t = record 
 -- one, and then what its value asks for
 module _ {A B : Type 0} {ok : A → Type 0} {text : A → List ℕ} {one : Lang A} {two : A → Lang B} {fine : A → B → Type 0} {spelled : A → B → List ℕ}
     (o : HasTexts (Is ok text) one) (s : (x : A) → ok x → HasTexts (Is (fine x) (spelled x)) (two x)) where
+  -- a value with its text, and one that goes by it with its own
   abbrev Followed : B → List ℕ → Type 0
   Followed y w = (x : A) × ok x × fine x y × (w ≡ text x ++ spelled x y)
 
@@ -94,6 +96,7 @@ module _ {A B : Type 0} {ok : A → Type 0} {text : A → List ℕ} {one : Lang 
 -- the same where the second has other texts
 module _ {A B : Type 0} {ok : A → Type 0} {text : A → List ℕ} {one : Lang A} {two : A → Lang B} {R : A → B → List ℕ → Type 0}
     (o : HasTexts (Is ok text) one) (s : (x : A) → ok x → HasTexts (R x) (two x)) where
+  -- a value with its text, and what stands in a relation to it behind
   abbrev pub Chain : B → List ℕ → Type 0
   Chain y w = (x : A) × ok x × (v : List ℕ) × R x y v × (w ≡ text x ++ v)
 
@@ -120,6 +123,7 @@ module _ {A B : Type 0} {ok : A → Type 0} {text : A → List ℕ} {one : Lang 
 -- the same where both have other texts
 module _ {A B : Type 0} {R : A → List ℕ → Type 0} {Q : A → B → List ℕ → Type 0} {one : Lang A} {two : A → Lang B}
     (o : HasTexts R one) (s : (x : A) (v : List ℕ) → R x v → HasTexts (Q x) (two x)) where
+  -- two that stand in relations to their texts, one behind the other
   abbrev pub Link : B → List ℕ → Type 0
   Link y w = (x : A) × (v : List ℕ) × (u : List ℕ) × R x v × Q x y u × (w ≡ v ++ u)
 
@@ -187,6 +191,7 @@ texts_fine there back same t = texts_as (λ x w h. (there x h.0, h.1 ∙ same x 
 
 -- however many, and the byte that ends them
 module _ {A : Type 0} {ok : A → Type 0} {text : A → List ℕ} {one : Lang A} (c : ℕ) (t : HasTexts (Is ok text) one) where
+  -- the texts of all, and the byte that ends them
   abbrev spelled : List A → List ℕ
   spelled xs = flat_map text xs ++ c ∷ []
 

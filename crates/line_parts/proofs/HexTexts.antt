@@ -30,6 +30,7 @@ below (suc n) test d h lt = of (d == n) refl (below n test d (both_right (test n
     of true e rest = ap test (eqb-true d n e) ∙ both_left (test n) (all_below n test) h
     of false e rest = rest (grind (arith, nat_tests))
 
+-- the digit of a number below 16
 abbrev digit : ℕ → ℕ
 digit d = slice_index lower_digits d
 
@@ -37,6 +38,7 @@ digit d = slice_index lower_digits d
 abbrev is_own : ℕ → Bool
 is_own d = is_hex (digit d) && (hex_value (digit d) == d)
 
+-- a digit in hexadecimal is the one of its number
 abbrev has_own : ℕ → Bool
 has_own a = not (is_hex a) || ((digit (hex_value a) == a) && nat_lt (hex_value a) 16)
 
@@ -72,6 +74,7 @@ worth a h =
 abbrev two : ℕ → List ℕ
 two b = digit (b / 16) ∷ digit (b % 16) ∷ []
 
+-- the second digit of a byte
 abbrev Low : ℕ → ℕ → Type 0
 Low high b = (low : ℕ) × (is_hex low ≡ true) × (16 * hex_value high + hex_value low ≡ b)
 
@@ -81,6 +84,7 @@ texts_low high = texts_value (λ low. 16 * hex_value high + hex_value low) (Low 
     let r : (16 * hex_value high + hex_value low) % 16 ≡ hex_value low = omega (arith, small) in
     ap (λ (d : ℕ). digit d ∷ []) r ∙ ap (λ (a : ℕ). a ∷ []) w.0) (λ b h. (h.0, h.1, h.2)) (texts_byte is_hex)
 
+-- both digits of a byte
 abbrev Both : ℕ → List ℕ → Type 0
 Both b w = (high : ℕ) × (is_hex high ≡ true) × Low high b × (w ≡ high ∷ digit (b % 16) ∷ [])
 
@@ -115,6 +119,7 @@ texts_pair = texts_as pair_from pair_to (texts_follow (texts_byte is_hex) (λ hi
 
 -- some bytes, and the byte that ends them
 module _ (c : ℕ) where
+  -- the text of all bytes but the first
   abbrev rest_of : List ℕ → List ℕ
   rest_of [] = []
   rest_of (b ∷ bs) = flat_map two bs ++ c ∷ []
@@ -123,10 +128,12 @@ module _ (c : ℕ) where
   texts_rest b = texts_value (λ bs. b ∷ bs) (λ (bytes : List ℕ). (bs : List ℕ) × AreBytes bs × (b ∷ bs ≡ bytes)) rest_of (λ bs h. (bs, h, refl)) (λ bs h. refl)
       (λ bytes h. (h.0, h.1, h.2)) (texts_many c texts_pair)
 
+  -- bytes of which there is one at least
   abbrev Some : List ℕ → Type 0
   Some [] = ⊥
   Some (b ∷ bs) = (b < 256) × AreBytes bs
 
+  -- the text of bytes, and the byte that ends it
   abbrev body : List ℕ → List ℕ
   body bytes = hex_text bytes ++ c ∷ []
 
@@ -135,6 +142,7 @@ module _ (c : ℕ) where
   pairs [] = refl
   pairs (b ∷ bs) = ap (λ (l : List ℕ). digit (b / 16) ∷ digit (b % 16) ∷ l) (pairs bs)
 
+  -- a first byte, and those behind it
   abbrev Begun : List ℕ → List ℕ → Type 0
   Begun bytes w = (b : ℕ) × (b < 256) × ((bs : List ℕ) × AreBytes bs × (b ∷ bs ≡ bytes)) × (w ≡ two b ++ rest_of bytes)
 

@@ -46,6 +46,7 @@ good_token = good_before letter_t (good_then _ good_index (λ seq. good_before d
 t_no_e : Apart (λ b. b == letter_t) (λ b. b == letter_e)
 t_no_e b e = grind (arith, nat_tests)
 
+-- what the name of a thing begins with
 abbrev pub thing_starts : ℕ → Bool
 thing_starts = with_starts (λ b. b == letter_e) (λ b. b == letter_t)
 

@@ -26,6 +26,7 @@ abbrev IsBelow : ℤ → Type 0
 IsBelow (pos n) = ⊥
 IsBelow (negsuc n) = n < 2 ^ 63
 
+-- no sign stands before it
 abbrev IsAbove : ℤ → Type 0
 IsAbove (pos n) = n < 2 ^ 63
 IsAbove (negsuc n) = ⊥
@@ -35,9 +36,11 @@ abbrev size_of : ℤ → ℕ
 size_of (pos n) = n
 size_of (negsuc n) = suc n
 
+-- the digits behind the sign
 abbrev below_text : ℤ → List ℕ
 below_text z = decimal (size_of z)
 
+-- the size of a number below 0
 abbrev IsSize : ℕ → Type 0
 IsSize n = (1 ≤ n) × (n ≤ 2 ^ 63)
 
@@ -111,6 +114,7 @@ abbrev OfEnd : Thing → Type 0
 OfEnd (End x) = IsEnd x
 OfEnd (Token t) = ⊥
 
+-- a token of its widths
 abbrev OfToken : Thing → Type 0
 OfToken (End x) = ⊥
 OfToken (Token t) = IsToken t
@@ -143,6 +147,7 @@ id_at : (x : EndId) → HasTexts (Is (λ (p : EndId × ℕ). (p.0 ≡ x) × IsSm
 id_at x = texts_before hash (texts_value (λ id. (x, id)) (λ (p : EndId × ℕ). (p.0 ≡ x) × IsSmall p.1) (λ (p : EndId × ℕ). decimal p.1)
     (λ n h. (refl, h)) (λ n h. refl) (λ p h. (p.1, h.1, ap (λ (y : EndId). (y, p.1)) (sym h.0))) texts_index)
 
+-- an end and an id of their widths
 abbrev pub IsEndpoint : EndId × ℕ → Type 0
 IsEndpoint p = IsEnd p.0 × IsSmall p.1
 
@@ -173,6 +178,7 @@ method_of p request = texts_before dot (texts_value (responder_of p request)
           ∙ ap (λ (i : ℕ). record { end = r.end; id = r.id; request = r.request; interface = i; method = r.method }) (sym h.2),
     )
 
+-- the responder of a request at this endpoint
 abbrev IsBehind : EndId × ℕ → ResponderId → Type 0
 IsBehind p r = IsWide r.request × (r.request ≡ r.request) × ((r.end, r.id) ≡ p) × (r.interface ≡ 0) × IsSmall r.method
 

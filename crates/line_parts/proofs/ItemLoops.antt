@@ -13,15 +13,19 @@ use Rattle.line_parts.specs.declared.items.Item.{Item}
 use Rattle.line_parts.proofs.ItemReads.{Lists, none_added, one_added, pushed, alone_err, closed_items, unclosed_items}
 use Rattle.line_parts.proofs.SeriesLoops as loops
 
+-- the bracket that ends the items
 abbrev ends : ℕ → Bool
 ends b = b == closes
 
+-- an item behind a comma
 abbrev one : Bool → Lang Item
 one seen = comma ▸ item seen
 
+-- whether a pending endpoint has come
 abbrev next : Bool → Item → Bool
 next seen x = is_pending x
 
+-- the closing bracket
 abbrev last : Lang (Unit {0})
 last = closed closes tt
 
@@ -29,6 +33,7 @@ last = closed closes tt
 abbrev pub going : Lists → ℕ → Bool → List ℕ → Read (Lists × Unit {0})
 going front n seen ts = gathered add_items front ((at_most ends one next last n seen).read ts)
 
+-- the items before and those that the bytes have
 abbrev pub total : Lists → Bool → List ℕ → Read (Lists × Unit {0})
 total before start bytes = gathered add_items before ((more_items start).read bytes)
 

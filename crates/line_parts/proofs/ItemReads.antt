@@ -25,6 +25,7 @@ module _ {A B : Type 0} (parts : A → List B) where
 pub both : {A B : Type 0} {a c : A} {b d : B} → a ≡ c → b ≡ d → ◌≡◌ {A = A × B} (a, b) (c, d)
 both {A} {B} {a} {c} {b} {d} e f = ap (λ (x : A). (x, b)) e ∙ ap (λ (y : B). (c, y)) f
 
+-- handles, and pending endpoints
 abbrev pub Lists : Type 0
 Lists = List Thing × List PendingId
 
@@ -52,6 +53,7 @@ alone_err (stops.Left n) front r f = alone front r ∙ ap (λ (r : Read (Lists �
 abbrev at_close : Read ℕ → Read (Unit {0})
 at_close close = close >>= λ x. Ok (tt, x.1)
 
+-- the lists, where the bracket closes them
 abbrev pub ending : Lists → Read ℕ → Read (Lists × Unit {0})
 ending handles close = at_close close >>= λ y. Ok ((handles, y.0), y.1)
 

@@ -27,11 +27,12 @@ same [] (b ∷ w) = false
 same (a ∷ v) [] = false
 same (a ∷ v) (b ∷ w) = if a == b then same v w else false
 
--- no two words are the same
+-- a word is none of these
 abbrev pub unlike : List ℕ → List (List ℕ) → Bool
 unlike w [] = true
 unlike w (v ∷ vs) = not (same w v) && unlike w vs
 
+-- no two of these are the same
 abbrev pub all_unlike : List (List ℕ) → Bool
 all_unlike [] = true
 all_unlike (w ∷ ws) = unlike w ws && all_unlike ws
@@ -98,6 +99,7 @@ good_table S (first ∷ rest) some unlike letters = good_keyword S first rest un
 pub apart_blank : Apart (λ b. b == blank) is_letter
 apart_blank b e = grind (arith, nat_tests)
 
+-- a blank or the end of the line ends a word
 abbrev pub ends_word : ℕ → Bool
 ends_word b = (b == blank) || (b == line_end)
 

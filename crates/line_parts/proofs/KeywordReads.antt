@@ -53,6 +53,7 @@ within_on {T} word bs v near new is le = subst (λ (near : Near T). near.0 ≤ l
 
 -- rows that have a value and a word
 module _ {R T : Type 0} (value : R → T) (text : R → List ℕ) where
+  -- the values of rows with their texts
   abbrev pub entries : List R → List (T × List ℕ)
   entries rows = map (λ (row : R). (value row, text row)) rows
 

@@ -44,6 +44,7 @@ unfolding item
 good_item true = good_wider item_starts is_digit (good_value Pending good_pending) p_is_item (λ b e. e)
 good_item false = good_choice (good_value Pending good_pending) (good_value Handle good_thing) thing_no_p
 
+-- what may follow an item: the bracket or a comma
 abbrev more_starts : ℕ → Bool
 more_starts = with_starts (λ b. b == closes) (λ b. b == comma)
 
@@ -73,6 +74,7 @@ good_pair = good_then _ (good_byte is_hex) (λ high. good_value (λ (low : ℕ).
 hex_no_dash : Apart is_hex (λ b. b == dash)
 hex_no_dash b e = grind (arith, nat_tests)
 
+-- what bytes begin with: a dash or a digit
 abbrev pub hex_starts : ℕ → Bool
 hex_starts = with_starts (λ b. b == dash) is_hex
 

@@ -24,12 +24,14 @@ module _ {A : Type 0} {ok : A → Type 0} {text : A → List ℕ} {one : Lang A}
   Some [] = ⊥
   Some (x ∷ xs) = ok x × AreAll ok xs
 
+  -- items behind commas, up to the bracket
   abbrev more : Lang (List A)
   more = many closes (44 ▸ one)
 
   texts_more : HasTexts (Is (AreAll ok) behind) more
   texts_more = texts_many closes (texts_before 44 t)
 
+  -- the text behind the first item
   abbrev after : List A → List ℕ
   after [] = []
   after (x ∷ xs) = behind xs
@@ -38,6 +40,7 @@ module _ {A : Type 0} {ok : A → Type 0} {text : A → List ℕ} {one : Lang A}
   texts_after x = texts_value (λ ys. x ∷ ys) (λ (xs : List A). (ys : List A) × (xs ≡ x ∷ ys) × AreAll ok ys) after (λ ys h. (ys, refl, h)) (λ ys h. refl)
       (λ xs h. (h.0, h.2, sym h.1)) texts_more
 
+  -- a first item, and those behind it
   abbrev Begun : List A → List ℕ → Type 0
   Begun xs w = (x : A) × ok x × ((ys : List A) × (xs ≡ x ∷ ys) × AreAll ok ys) × (w ≡ text x ++ after xs)
 

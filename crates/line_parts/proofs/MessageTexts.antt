@@ -39,16 +39,20 @@ use Rattle.line_parts.proofs.NameTexts.{message_named, means_by, texts_meaning}
 use Rattle.line_parts.proofs.TokenTexts.{texts_tokens}
 
 module _ (schema : Schema) (kind : KindTree) where
+  -- the texts of the kind
   abbrev one : Lang Tree
   one = value schema 512 kind
 
+  -- the text of a value, and a blank
   abbrev text : Tree → List ℕ
   text v = spell schema kind v ++ blank ∷ []
 
+  -- the value that was read, or another
   abbrev value_in : Tree → Read Tree → Tree
   value_in other (Ok x) = x.0
   value_in other (Err n) = other
 
+  -- the bytes that are left
   abbrev rest_in : Read Tree → List ℕ
   rest_in (Ok x) = x.1
   rest_in (Err n) = []
@@ -62,6 +66,7 @@ module _ (schema : Schema) (kind : KindTree) where
       of (Ok (y, rest)) e t = subst (λ (l : List ℕ). Shown one v l) (sym (t.1 ∙ ap (λ (l : List ℕ). t.0 ++ l) (ap rest_in e) ∙ append-nil t.0))
           (subst (λ (x : Tree). Shown one x t.0) (ap (value_in v) e) t.2)
 
+  -- a blank behind the value, and what follows
   abbrev Next : (Tree → List ℕ → Type 0) → Tree → List ℕ → Type 0
   Next K v p = (closed blank v).followed Whole K p
 
@@ -110,6 +115,7 @@ module _ (schema : Schema) (kind : KindTree) where
 abbrev Parameters : Schema → Message → Target × Tree → Type 0
 Parameters schema m p = (p.0 ≡ m.target) × Spells (value schema 512 (StructKind m.parameters false)) p.1 (spell schema (StructKind m.parameters false) p.1)
 
+-- the text of parameters between blanks
 abbrev parameters_spelled : Schema → Message → Target × Tree → List ℕ
 parameters_spelled schema m p = blank ∷ (spell schema (StructKind m.parameters false) p.1 ++ blank ∷ [])
 
@@ -125,6 +131,7 @@ some_of {A} x y e = ap of e
     of (Some z) = z
     of None = x
 
+-- parameters of the message that was found
 abbrev Found : Schema → Option Message → Target × Tree → List ℕ → Type 0
 Found schema found p w = (m : Message) × (found ≡ Some m) × Is (Parameters schema m) (parameters_spelled schema m) p w
 
@@ -136,18 +143,22 @@ texts_found schema other m found e = subst (λ (o : Option Message). HasTexts (F
     (texts_of schema m))
 
 module _ (schema : Schema) (side : MessageSide) where
+  -- the words of messages of the side
   abbrev entries : List (Entry Message)
   entries = messages_of (names_of schema) side
 
+  -- the word of a message
   abbrev word_of : Message → List ℕ
   word_of m = method_text schema m.target.interface m.target.method
 
+  -- a message that its word means
   abbrev Means : Option Message → List ℕ → Type 0
   Means found w = (m : Message) × (found ≡ Some m) × (meaning entries (word_of m) ≡ Some m) × (w ≡ word_of m)
 
   texts_word : HasTexts Means (named entries)
   texts_word = texts_meaning entries word_of (λ e i. (message_named schema side e i).text)
 
+  -- the word of a message, and its parameters
   abbrev Linked : Target × Tree → List ℕ → Type 0
   Linked p w = (found : Option Message) × (v : List ℕ) × (u : List ℕ) × Means found v × Found schema found p u × (w ≡ v ++ u)
 
@@ -159,6 +170,7 @@ module _ (schema : Schema) (side : MessageSide) where
       subst (λ (m : Message). parameters_of schema m.target ≡ Some m.parameters) k.value (message_named schema side k.entry k.among).parameters in
       ap kind_for own
 
+  -- the text of a message, and a blank
   abbrev whole : Target × Tree → List ℕ
   whole p = message_text schema p.0 p.1 ++ blank ∷ []
 
@@ -228,9 +240,11 @@ module _ (schema : Schema) (side : MessageSide) where
 
   -- with what goes with it, at a moment
   module _ (moment : Option ℤ) where
+    -- what is sent for this message, with handles and endpoints of their widths
     abbrev With : Target × Tree → Outgoing → Type 0
     With m o = ((o.target, o.parameters) ≡ m) × AreAll IsThing o.handles × AreAll IsPending o.pendings × (o.moment ≡ moment)
 
+    -- the text of what goes with it
     abbrev tokens_of : Outgoing → List ℕ
     tokens_of o = tokens_text o.handles o.pendings
 

@@ -54,6 +54,7 @@ interfaces_end rows i words total le so_far =
     sym (append-nil words) ∙ ap (λ (rs : List InterfaceRow). words ++ that_are_words (interfaces_from i rs)) (sym (none_at rows i le)) ∙ so_far
 
 module _ (side : MessageSide) where
+  -- the message of a method, where it has the side
   abbrev pub of_method : ℕ → List ℕ → MethodRow → List (Entry Message)
   of_method n name method = message_in side n name method (struct_of side method)
 

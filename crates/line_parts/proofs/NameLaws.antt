@@ -27,6 +27,7 @@ blank_apart b e = grind (arith, nat_tests)
 abbrev pub are_words : {A : Type 0} → List (Entry A) → Bool
 are_words entries = list_all is_word (texts entries)
 
+-- all words of a schema are words
 pub record AreWords (names : Names) : Type 0 where
   pub interfaces : are_words names.interfaces ≡ true
   pub requests : are_words names.requests ≡ true

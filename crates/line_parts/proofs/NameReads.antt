@@ -21,6 +21,7 @@ in_front (a ∷ w) (b ∷ bs) e = of (a == b) refl e (λ k. in_front w bs k)
     of false s e on = absurd (omega (arith, e))
 
 module _ (bs : List ℕ) where
+  -- the word that was found stands in front of the bytes
   abbrev IsFront : Near (List ℕ) → Type 0
   IsFront (n, None) = Unit {0}
   IsFront (n, Some w) = w ≡ take n bs

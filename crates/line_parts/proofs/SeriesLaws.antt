@@ -29,9 +29,11 @@ module _ {S A B : Type 0} (ends first more1 more2 : ℕ → Bool) (one : S → L
   abbrev end : Lang (List A × B)
   end = as_value (λ (y : B). ([], y)) last
 
+  -- so many more behind this one
   abbrev goes_with : ℕ → S → A → Lang (List A × B)
   goes_with n s x = as_value (in_front x) (upto n (next s x))
 
+  -- one, and so many more
   abbrev going : ℕ → S → Lang (List A × B)
   going n s = one s then goes_with n s
 

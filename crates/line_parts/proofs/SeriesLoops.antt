@@ -10,6 +10,7 @@ use Rattle.line_parts.specs.steps.Reading.{gathered}
 module _ {S A B F : Type 0} (add : F → List A → F) (nothing : (front : F) → add front [] ≡ front)
     (one_more : (front : F) (x : A) (xs : List A) → add front (x ∷ xs) ≡ add (add front (x ∷ [])) xs)
     (ends : ℕ → Bool) (one : S → Lang A) (next : S → A → S) (last : Lang B) where
+  -- at most so many
   abbrev upto : ℕ → S → Lang (List A × B)
   upto n s = at_most ends one next last n s
 

@@ -10,15 +10,19 @@ use Rattle.line_parts.specs.steps.Reading.{gathered}
 use Rattle.line_parts.proofs.SeriesLoops as loops
 
 module _ {S A B : Type 0} (ends : ℕ → Bool) (one : S → Lang A) (next : S → A → S) (last : Lang B) (start : S) (bytes : List ℕ) where
+  -- some behind those in front
   abbrev add : List A → List A → List A
   add front xs = front ++ xs
 
+  -- none more change nothing
   abbrev nothing : (front : List A) → add front [] ≡ front
   nothing front = append-nil front
 
+  -- one more stands before the rest
   abbrev one_more : (front : List A) (x : A) (xs : List A) → add front (x ∷ xs) ≡ add (add front (x ∷ [])) xs
   one_more front x xs = sym (append_assoc front (x ∷ []) xs)
 
+  -- what the bytes read as in all
   abbrev pub all : Read (List A × B)
   all = (series ends one next last start).read bytes
 

@@ -18,9 +18,11 @@ module _ {S A B : Type 0} (ends : ℕ → Bool) (one : S → Lang A) (next : S �
   run s [] = []
   run s (x ∷ xs) = text s x ++ run (next s x) xs
 
+  -- each is fine where it stands, and so is what ends them
   abbrev Fine : S → List A × B → Type 0
   Fine s r = Run s r.0 × fine r.1
 
+  -- the text of all, and of what ends them
   abbrev spell : S → List A × B → List ℕ
   spell s r = run s r.0 ++ spelled r.1
 

@@ -17,14 +17,17 @@ use Rattle.line_parts.proofs.IdTexts.{texts_thing, texts_pending}
 use Rattle.line_parts.proofs.ItemReads.{both}
 use Rattle.line_parts.proofs.SeriesTexts as series
 
+-- the text of an item
 abbrev item_text : Item → List ℕ
 item_text (Handle x) = thing_text x
 item_text (Pending p) = pending_text p
 
+-- a handle of its widths
 abbrev OfHandle : Item → Type 0
 OfHandle (Handle x) = IsThing x
 OfHandle (Pending p) = ⊥
 
+-- a pending endpoint of its widths
 abbrev OfPending : Item → Type 0
 OfPending (Handle x) = ⊥
 OfPending (Pending p) = IsPending p
@@ -67,9 +70,11 @@ abbrev Run : Bool → List Item → Type 0
 Run seen [] = Unit {0}
 Run seen (i ∷ is) = Ok seen i × Run (is_pending i) is
 
+-- the text of items behind commas
 abbrev behind : List Item → List ℕ
 behind is = flat_map (λ (i : Item). 44 ∷ item_text i) is
 
+-- whether a pending endpoint has come
 abbrev next : Bool → Item → Bool
 next seen i = is_pending i
 
@@ -80,6 +85,7 @@ last = closed closes tt
 texts_last : HasTexts (Is (λ (u : Unit {0}). u ≡ tt) (λ (u : Unit {0}). closes ∷ [])) last
 texts_last = texts_closed closes tt
 
+-- the bracket that ends the items
 abbrev pub ends : ℕ → Bool
 ends b = b == closes
 
@@ -108,6 +114,7 @@ texts_more seen = texts_fine (λ r h. same_run seen r.0 h.0) (λ r h. (run_same 
 abbrev Lists : Type 0
 Lists = List Thing × List PendingId
 
+-- the items of two lists, handles first
 abbrev items_of : Lists → List Item
 items_of (handles, pendings) = map Handle handles ++ map Pending pendings
 
@@ -152,10 +159,12 @@ abbrev body : List Item → List ℕ
 body [] = closes ∷ []
 body (i ∷ is) = item_text i ++ (behind is ++ closes ∷ [])
 
+-- the text behind the first item
 abbrev after : List Item → List ℕ
 after [] = []
 after (i ∷ is) = behind is ++ closes ∷ []
 
+-- items that go by the first one, parted into these lists
 abbrev Follows : Item → Lists → Type 0
 Follows i l = (is : List Item) × Run (is_pending i) is × (parted (i ∷ is) ≡ l)
 
@@ -169,9 +178,11 @@ abbrev Some : List Item → Type 0
 Some [] = ⊥
 Some (i ∷ is) = Unit {0}
 
+-- both lists are of their widths
 abbrev AreFine : Lists → Type 0
 AreFine l = AreAll IsThing l.0 × AreAll IsPending l.1
 
+-- a first item, and those behind it
 abbrev Begun : Lists → List ℕ → Type 0
 Begun l w = (i : Item) × Ok false i × Follows i l × (w ≡ item_text i ++ after (items_of l))
 

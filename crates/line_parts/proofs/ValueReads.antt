@@ -76,6 +76,7 @@ module _ {A : Type 0} {S more : ℕ → Bool} (one : Lang A) (g : Good S more on
   abbrev Ahead : A → List ℕ → A → List ℕ → Type 0
   Ahead x r v rest = (rest ≡ c ∷ r) × (v ≡ x)
 
+  -- the first byte, or the one that follows
   abbrev head : List ℕ → ℕ
   head [] = c
   head (b ∷ bs) = b
@@ -83,10 +84,12 @@ module _ {A : Type 0} {S more : ℕ → Bool} (one : Lang A) (g : Good S more on
   free_ahead : (x : A) (r : List ℕ) → Free more (Ahead x r)
   free_ahead x r v t ts k = subst (λ (b : ℕ). more b ≡ false) (ap head (sym k.0)) stops_at
 
+  -- the value that was read, or another
   abbrev value_or : A → Read A → A
   value_or x (Ok z) = z.0
   value_or x (Err n) = x
 
+  -- the bytes that are left
   abbrev rest_in : Read A → List ℕ
   rest_in (Ok z) = z.1
   rest_in (Err n) = []

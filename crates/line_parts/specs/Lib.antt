@@ -6,4 +6,5 @@ pub mod Ids
 pub mod Lists
 pub mod Messages
 pub mod Printable
+pub mod Schemas
 pub mod steps

@@ -17,7 +17,7 @@ use Rattle.line_parts.specs.Lists.{tokens}
 use Rattle.line_parts.specs.declared.names.Message.{Message}
 use Rattle.line_parts.specs.declared.names.Names.{Names}
 
--- a value of a kind, of which 512 brackets may be open at once, and a blank
+-- a value of a kind, with no more brackets open at once than a text may have, and a blank
 unfoldable pub value_and_blank : Schema → KindTree → Lang Tree
 value_and_blank schema kind = value schema 512 kind then λ v. closed blank v
 

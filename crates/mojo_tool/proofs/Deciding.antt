@@ -21,6 +21,7 @@ use Rattle.mojo_tool.proofs.Fetching.{schema_leads}
 use Rattle.mojo_tool.proofs.Messages.{later, text_later, stops_at, both_pass, found_leads, unknown_leads}
 
 module _ (words : EncodeWords) (schema : Schema) where
+  -- the file of the value is fetched, and then its message is written
   abbrev value_of : List Named → Target × ℕ → Work → Type 0
   value_of files found w = Fetching files words.value (Writing schema found) w
 
@@ -69,9 +70,11 @@ module _ (words : EncodeWords) (schema : Schema) where
   has_message (Some files) found have e = (schema, have, subst IsSome (sym e) refl)
 
 module _ (words : DecodeWords) (schema : Schema) where
+  -- what a message is expected to be for, by its interface
   abbrev expected : ℕ → Expected
   expected interface = expected_of interface (side_of words.side)
 
+  -- the file of the message is fetched, and then its value is shown
   abbrev message_of : List Named → ℕ → Work → Type 0
   message_of files interface w = Fetching files words.message (Showing schema (expected interface) words.interface words.handles) w
 

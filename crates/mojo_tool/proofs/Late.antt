@@ -23,7 +23,7 @@ reading_late schema order bytes work (inr a) = subst IsOfAll (sym a.3) tt
 sealing_late : (schema : Schema) (target : Target) (tree : Tree) (r : Result Met Refusal) (work : Work) → Sealing schema target tree r work → IsOfAll work
 sealing_late schema target tree (Err wrong) work a = subst IsOfAll (sym a) tt
 sealing_late schema target tree (Ok met) work (inl a) = subst IsOfAll (sym a.1) tt
-sealing_late schema target tree (Ok met) work (inr a) = subst IsOfAll (sym a.1) tt
+sealing_late schema target tree (Ok met) work (inr a) = subst IsOfAll (sym a.whole) tt
 
 valuing_late : (schema : Schema) (number : ℕ) (next : Tree → Work → Type 0) (text : List ℕ) (work : Work) → ((tree : Tree) → next tree work → IsOfAll work)
     → Valuing schema number next text work → IsOfAll work

@@ -91,9 +91,9 @@ sealing : (schema : Schema) (target : Target) (tree : Tree) (r : Result Met Refu
     → Sealing schema target tree r v → w ≡ v
 sealing schema target tree (Err wrong) w v a b = a ∙ sym b
 sealing schema target tree (Ok met) w v (inl a) (inl b) = a.1 ∙ sym b.1
-sealing schema target tree (Ok met) w v (inl a) (inr b) = absurd (omega (arith, a.0, b.0))
-sealing schema target tree (Ok met) w v (inr a) (inl b) = absurd (omega (arith, a.0, b.0))
-sealing schema target tree (Ok met) w v (inr a) (inr b) = a.1 ∙ sym b.1
+sealing schema target tree (Ok met) w v (inl a) (inr b) = absurd (omega (arith, a.0, b.short))
+sealing schema target tree (Ok met) w v (inr a) (inl b) = absurd (omega (arith, a.short, b.0))
+sealing schema target tree (Ok met) w v (inr a) (inr b) = a.whole ∙ sym b.whole
 
 valuing : (schema : Schema) (number : ℕ) (next : Tree → Work → Type 0) (text : List ℕ) (w v : Work) → ((tree : Tree) → next tree w → next tree v → w ≡ v)
     → Valuing schema number next text w → Valuing schema number next text v → w ≡ v

@@ -1,5 +1,5 @@
 -- What a run leaves is the text of its script.
-use Rattle.std.proofs.Common.{◌≡◌, ◌≤◌, ℕ, List, length, reverse, Ok, sym, ap, ◌∙◌, subst}
+use Rattle.std.proofs.Common.{◌≡◌, ◌≤◌, ℕ, List, [], ◌∷◌, length, reverse, Ok, sym, ap, ◌∙◌, subst}
 use Rattle.std.proofs.lemmas.List.{length-reverse}
 use Rattle.mj_base.specs.declared.limits.TheConstants.{MAX_EVENTS}
 use Rattle.mj_schema.specs.declared.schema.Schema.{Schema}
@@ -12,7 +12,10 @@ use Rattle.bind_model.proofs.Fresh.{one_place}
 use Rattle.bind_model.proofs.Responses.{own_responses, in_order, all_stand}
 use Rattle.bind_model.proofs.OriginLemmas.{have_writers}
 use Rattle.bind_model.specs.Left.{left}
-use Rattle.mojom_compile.specs.Schemas.{IsSchemaOfFiles}
+use Rattle.mojom_ast.specs.declared.file.File.{File}
+use Rattle.mojom_files.specs.declared.named_file.NamedFile.{NamedFile}
+use Rattle.mojom_compile.specs.Compiled.{IsParsed}
+use Rattle.mojom_compile.specs.Schemas.{AreTreesOf, IsSchemaOfFiles}
 use Rattle.mojom_compile.specs.declared.source.Source.{Source}
 use Rattle.call_script.specs.Script.{IsScriptOf}
 use Rattle.call_script.specs.declared.script.Script.{Script}
@@ -25,11 +28,14 @@ use Rattle.history_text.specs.History.{history_text}
 use Rattle.history_text.specs.declared.notes.Note.{Note}
 use Rattle.history_reader.specs.Texts.{Tells}
 use Rattle.history_reader.specs.Whole as texts
-use Rattle.printed_laws.specs.Fitting.{AllFit}
-use Rattle.printed_laws.specs.Runs.{run_said, run_text}
-use Rattle.printed_laws.proofs.Fitting.{run_fits}
-use Rattle.printed_laws.proofs.Runs.{run_read_back}
-use Rattle.printed_laws.proofs.ValueSent.{PassedIsEncodable}
+use Rattle.line_parts.specs.Schemas.{IsPrintableSchema}
+use Rattle.printed_schemas.specs.Spelled.{AreSpelled, IsSpelled}
+use Rattle.printed_schemas.proofs.Schemas.{printable_schema}
+use Rattle.printed_histories.specs.Runs.{run_said, run_text}
+use Rattle.printed_histories.proofs.ValueSent.{PassedIsEncodable}
+use Rattle.printed_runs.specs.Fitting.{AllFit}
+use Rattle.printed_runs.proofs.Fitting.{run_fits}
+use Rattle.printed_runs.proofs.Runs.{run_read_back}
 use Rattle.mojo_tool.specs.Answers.{KeepsLaws, IsTextOf}
 
 -- what a legal history keeps that has no more events than a core's, and sends what fits
@@ -48,6 +54,26 @@ keeps_laws law schema seqs past is few fit = record {
   one_owner = one_owner (wire_of schema) seqs past is;
 }
 
+-- ## The schema
+
+spelled_of : (bytes : List ℕ) (tree : File) → IsParsed bytes tree → IsSpelled tree
+spelled_of bytes tree parsed = record { bytes = bytes; tokens = parsed.tokens; are = parsed.are; spelled = parsed.spelled }
+
+trees_spelled : (sources : List Source) (files : List NamedFile) → AreTreesOf sources files → AreSpelled files
+trees_spelled [] [] trees = tt
+trees_spelled [] (file ∷ files) trees = absurd trees
+trees_spelled (source ∷ sources) [] trees = absurd trees
+trees_spelled (source ∷ sources) (file ∷ files) trees = (spelled_of source.bytes file.tree trees.0.parsed, trees_spelled sources files trees.1)
+
+-- the schema of files has names and numbers that a text can say
+pub printable_of_files : (sources : List Source) (schema : Schema) → IsSchemaOfFiles sources schema → IsPrintableSchema schema
+printable_of_files sources schema is =
+    let t = is.tables.tables in
+    let same = is.layout.interfaces ∙ ap (λ draft. draft.interfaces) t.are in
+    printable_schema is.tables.files t.order t.names t.consts schema (trees_spelled sources is.tables.files is.tables.trees) t.passed same
+
+-- ## The text
+
 -- the text of a legal history that is the script's, over the schema of files
 pub text_of_run : PassedIsEncodable → (schema : Schema) (script : Script) (order : ℕ) (history : List Event) (notes : List Note) (things : List Thing)
     (text : List ℕ) → ((sources : List Source) × IsSchemaOfFiles sources schema) → ((bytes : List ℕ) × IsScriptOf schema bytes script)
@@ -58,14 +84,15 @@ text_of_run law schema script order history notes things text compiled read lawf
     let same : text ≡ run_text schema script.seqs history = whole
     ∙ ap (λ (n : List Note). history_text schema history n things) told
     ∙ ap (λ (l : List Thing). history_text schema history (callbacks script.seqs history) l) is in
+    let words : IsPrintableSchema schema = printable_of_files compiled.0 schema compiled.1 in
     let short : length (reverse history) ≤ MAX_EVENTS = subst (λ (n : ℕ). n ≤ MAX_EVENTS) (sym (length-reverse history)) few in
     record {
       history = history;
       legal = lawful;
       events = events;
       laws = keeps_laws law schema script.seqs (reverse history) lawful short
-          (run_fits law compiled.0 schema read.0 script order history compiled.1 read.1 events);
+          (run_fits law schema read.0 script order history words read.1 events);
       whole = same;
       one = subst (λ (t : List ℕ). Tells (texts.history schema) t (Ok (run_said script.seqs history))) (sym same)
-          (run_read_back law compiled.0 schema read.0 script order history compiled.1 read.1 lawful events few);
+          (run_read_back law schema read.0 script order history words read.1 lawful events few);
     }

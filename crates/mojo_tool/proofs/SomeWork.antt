@@ -1,6 +1,6 @@
 -- There is a work that a command asks for.
-use Rattle.std.proofs.Common.{◌≡◌, ◌≤◌, ◌<◌, ℕ, List, [], ◌∷◌, ◌++◌, length, Some, None, Ok, Err, refl, sym, subst, append_assoc, append-nil, inl, inr}
-use Rattle.std.specs.Prelude.{Option, Result, ◌⊎◌}
+use Rattle.std.proofs.Common.{◌≡◌, ◌≤◌, ◌<◌, ◌^◌, ℕ, List, [], ◌∷◌, ◌++◌, length, Some, None, Ok, Err, refl, sym, ap, subst, append_assoc, append-nil, arith, inl, inr}
+use Rattle.std.specs.Prelude.{Option, Result, ◌⊎◌, is_some}
 use Rattle.std.proofs.lemmas.Bool.{cases_lt}
 use Rattle.hex.specs.Hex.{decode_of}
 use Rattle.hex.specs.declared.error.FromHexError.{FromHexError}
@@ -24,17 +24,19 @@ use Rattle.bounds_claims.specs.Runs.{run}
 use Rattle.message_validator.specs.Before.{before_payload}
 use Rattle.message_validator.proofs.WholeMessage.{stand}
 use Rattle.wire_encoder.specs.FirstFailed.{Met, Refusal}
-use Rattle.wire_encoder.specs.Prepared.{verdict, payload_for}
+use Rattle.wire_encoder.specs.Prepared.{HasTarget, verdict, payload_for}
 use Rattle.wire_encoder.specs.declared.refusal.PrepareError.TheVariants as unfit
 use Rattle.wire_model.specs.HeaderMarks.{header_marks}
 use Rattle.wire_model.specs.Expected.{Stands, message_marks, method_marks, method_named, parameter_marks, struct_of}
 use Rattle.wire_model.specs.Marks.{Mark, Test, Object, Handle, Id}
-use Rattle.wire_model.specs.Message.{message, payload_start, request_read}
+use Rattle.wire_model.specs.Message.{payload_start, request_read}
 use Rattle.wire_model.specs.Stands.{IsFine}
 use Rattle.wire_model.specs.Tight.{MAX_PAYLOAD_BYTES, value_of}
 use Rattle.wire_model.specs.Trees.{Tree}
 use Rattle.wire_model.specs.declared.target.Expected.{Expected}
+use Rattle.wire_model.specs.declared.target.MessageSide.{MessageSide}
 use Rattle.wire_model.specs.declared.target.Target.{Target}
+use Rattle.sealed_laws.specs.Sealed.{FewAreMet, PassedIsRead}
 use Rattle.byte_rules.specs.Lang.{Lang}
 use Rattle.byte_rules.specs.steps.Reading.{Judges}
 use Rattle.byte_rules.specs.steps.Reading as reading
@@ -44,13 +46,22 @@ use Rattle.value_text.specs.Rules.{value}
 use Rattle.value_text.specs.Spelling.{spell}
 use Rattle.call_script.specs.Targets.{message_named}
 use Rattle.mojo_tool.specs.Targets.{side_of, expected_of}
-use Rattle.mojo_tool.specs.Work.{Work, WrongWords, Missing, TooLong, Refuses, UnknownName, BadText, Unfit, BadHex, Faulty, Checks, Prints, Encodes, Decodes}
-use Rattle.mojo_tool.specs.Work.{AreFetched, HaveSchema, Leads, Parsing, Tabling, FetchingAll, Gathering, Scripting, Listing, Sealing}
+use Rattle.mojo_tool.specs.Work.{Work, WrongWords, Missing, TooLong, Refuses, UnknownName, BadText, Unfit, BadHex, Faulty, Checks, Prints, Runs, RefusesLine, Encodes, Decodes}
+use Rattle.mojo_tool.specs.Work.{AreFetched, HaveSchema, Leads, Parsing, Reading, Tabling, FetchingAll, Gathering, Scripting, Listing, Sealing}
 use Rattle.mojo_tool.specs.Work.{Preparing, Writing}
-use Rattle.mojo_tool.specs.Work.{Finding, Encoding, Unhexing, IsShown, Judged, Judging, Showing, Decoding, IsWork, unchecked, flaw_at, head_of}
+use Rattle.mojo_tool.specs.Work.{Finding, Encoding, Unhexing, IsShown, Judged, Judging, Showing, Decoding, IsWork, unchecked, flaw_at, printed_message}
 use Rattle.mojo_tool.specs.Work.{MAX_BRACKETS, parameters_kind, without_line_end}
-use Rattle.mojo_tool.specs.Complete.{HaveTooManyRows, ComesToScript}
+use Rattle.script_laws.specs.Answer.{HasAnswer}
+use Rattle.mojo_tool.specs.Complete.{HaveTooManyRows}
+use Rattle.printed_histories.proofs.ValueSent.{has_struct}
+use Rattle.printed_runs.proofs.SentWords.{named_parameters}
+use Rattle.mojo_tool.proofs.Ran.{printable_of_files}
+use Rattle.mojo_tool.proofs.Sealed.{is_sealed}
 use Rattle.mojo_tool.proofs.Shown.{struct_by, text_read}
+
+-- the law of script_laws that bytes have an answer
+abbrev Scripts : Type 0
+Scripts = (schema : Schema) (bytes : List ℕ) → length bytes < 2 ^ 63 → HasAnswer schema bytes
 
 -- a work is asked for, or this holds
 abbrev Some_or : Type 0 → (Work → Type 0) → Type 0
@@ -106,24 +117,47 @@ parsing_some Else name bytes = go (one_tree bytes).some
     go (inl some) = inl (Prints some.0, inl (some.0, some.1, refl))
     go (inr some) = inl (Refuses name some.0, inr (some.0, some.1, refl))
 
-finding_some : {A : Type 0} (Else : Type 0) (word : List ℕ) (next : A → Work → Type 0) (found : Option A) → ((x : A) → Some_or Else (next x))
-    → Some_or Else (Finding word next found)
+-- the bytes of a script are one, or have a line that is refused
+reading_some : Scripts → (Else : Type 0) (schema : Schema) (order : ℕ) (bytes : List ℕ) → length bytes ≤ MAX_FILE_BYTES
+    → Some_or Else (Reading schema order bytes)
+reading_some scripts Else schema order bytes short = go (scripts schema bytes (omega (arith, short)))
+  where
+    go : HasAnswer schema bytes → Some_or Else (Reading schema order bytes)
+    go (inl some) = inl (Runs schema bytes order, inl (some.0, some.1, refl))
+    go (inr some) = inl (RefusesLine some.0 some.1, inr (some.0, some.1, some.2, refl))
+
+finding_some : {A : Type 0} (Else : Type 0) (word : List ℕ) (next : A → Work → Type 0) (found : Option A)
+    → ((x : A) → found ≡ Some x → Some_or Else (next x)) → Some_or Else (Finding word next found)
 finding_some Else word next None more = inl (UnknownName word, refl)
-finding_some Else word next (Some x) more = more x
+finding_some Else word next (Some x) more = more x refl
 
 -- values
 
-sealing_some : (Else : Type 0) (schema : Schema) (target : Target) (tree : Tree) (r : Result Met Refusal) → Some_or Else (Sealing schema target tree r)
-sealing_some Else schema target tree (Err wrong) = inl (Unfit (flaw_at wrong.flaw wrong.path), refl)
-sealing_some Else schema target tree (Ok met) = go (cases_lt MAX_PAYLOAD_BYTES (length (payload_for schema target tree)))
+-- what a word names by the schema of files has parameters, and an ordinal of 32 bits
+target_fits : (sources : List Source) (schema : Schema) (side : MessageSide) (word : List ℕ) (found : Target × ℕ) → IsSchemaOfFiles sources schema
+    → message_named schema side word ≡ Some found → HasTarget schema found.0 × (found.0.method < 2 ^ 32)
+target_fits sources schema side word (target, number) compiled e =
+    let named = named_parameters schema side word target number e in
+    let has = has_struct schema target number named.0 in
+    let words = printable_of_files sources schema compiled in
+    (ap is_some named.0, words.ordinals target.interface target.method has.method has.found)
+
+sealing_some : PassedIsRead → FewAreMet → (Else : Type 0) (schema : Schema) (target : Target) (tree : Tree) (r : Result Met Refusal)
+    → HasTarget schema target → target.method < 2 ^ 32 → verdict schema target tree ≡ r → Some_or Else (Sealing schema target tree r)
+sealing_some law few Else schema target tree (Err wrong) there small e = inl (Unfit (flaw_at wrong.flaw wrong.path), refl)
+sealing_some law few Else schema target tree (Ok met) there small e = go (cases_lt MAX_PAYLOAD_BYTES (length (payload_for schema target tree)))
   where
     go : (MAX_PAYLOAD_BYTES < length (payload_for schema target tree)) ⊎ (length (payload_for schema target tree) ≤ MAX_PAYLOAD_BYTES)
         → Some_or Else (Sealing schema target tree (Ok met))
     go (inl long) = inl (Unfit unfit.TooLong, inl (long, refl))
-    go (inr short) = inl (Encodes (message (head_of schema target met) (payload_for schema target tree)), inr (short, refl))
+    go (inr short) = inl (
+      Encodes (printed_message schema target tree met),
+      inr (is_sealed law schema target tree met there small e short (few schema target tree met there e short).1),
+    )
 
-writing_some : (Else : Type 0) (schema : Schema) (found : Target × ℕ) (bytes : List ℕ) → Some_or Else (Writing schema found bytes)
-writing_some Else schema (target, number) bytes =
+writing_some : PassedIsRead → FewAreMet → (Else : Type 0) (schema : Schema) (found : Target × ℕ) (bytes : List ℕ) → HasTarget schema found.0
+    → found.0.method < 2 ^ 32 → Some_or Else (Writing schema found bytes)
+writing_some law few Else schema (target, number) bytes there small =
     go (reading.verdict (length text) (rule.read text)) (judged rule (good_kind schema MAX_BRACKETS (parameters_kind number)) text)
   where
     text : List ℕ
@@ -135,7 +169,7 @@ writing_some Else schema (target, number) bytes =
     go : (r : Result Tree ℕ) → Judges rule text r → Some_or Else (Writing schema (target, number) bytes)
     go (Ok tree) is =
         also Else (Preparing schema target tree) (Writing schema (target, number) bytes) (λ w asked. inl (tree, is, asked))
-        (sealing_some Else schema target tree (verdict schema target tree))
+        (sealing_some law few Else schema target tree (verdict schema target tree) there small refl)
     go (Err at) is = inl (BadText at, inr (at, is, refl))
 
 -- messages
@@ -197,26 +231,31 @@ showing_some Else schema expected name handles bytes = go (decode_of (without_li
 
 -- all commands
 
-pub some_work : (command : Option Command) (files : List Named)
-    → Some_or (HaveTooManyRows files command ⊎ ComesToScript files command) (IsWork command files)
-some_work None files = inl (WrongWords, refl)
-some_work (Some (Run words)) files =
-    gathering_some (Many files words.files ⊎ ComesToScript files (Some (Run words))) files words.files (Scripting files words.script words.order) inl
-    (λ schema have. leads_some _ words.script _ (find_file files words.script) (λ bytes found short. inr (inr (schema, have, bytes, found, short))))
-some_work (Some (Print file)) files = leads_some _ file (Parsing file) (find_file files file) (λ bytes found short. parsing_some _ file bytes)
-some_work (Some (Check names)) files =
-    gathering_some (Many files names ⊎ ⊥) files names Listing inl (λ schema have. inl (Checks schema, refl))
-some_work (Some (Encode words)) files =
-    gathering_some (Many files words.files ⊎ ⊥) files words.files (Encoding files words) inl
+pub some_work : Scripts → PassedIsRead → FewAreMet → (command : Option Command) (files : List Named)
+    → Some_or (HaveTooManyRows files command) (IsWork command files)
+some_work scripts law few None files = inl (WrongWords, refl)
+some_work scripts law few (Some (Run words)) files =
+    gathering_some (Many files words.files) files words.files (Scripting files words.script words.order) (λ many. many)
+    (λ schema have. leads_some _ words.script (Reading schema words.order) (find_file files words.script)
+    (λ bytes found short. reading_some scripts _ schema words.order bytes short))
+some_work scripts law few (Some (Print file)) files =
+    leads_some _ file (Parsing file) (find_file files file) (λ bytes found short. parsing_some _ file bytes)
+some_work scripts law few (Some (Check names)) files =
+    gathering_some (Many files names) files names Listing (λ many. many) (λ schema have. inl (Checks schema, refl))
+some_work scripts law few (Some (Encode words)) files =
+    gathering_some (Many files words.files) files words.files (Encoding files words) (λ many. many)
     (λ schema have. finding_some _ words.method (λ found w. Leads words.value (Writing schema found) (find_file files words.value) w)
     (message_named schema (side_of words.side) words.method)
-    (λ found. leads_some _ words.value (Writing schema found) (find_file files words.value) (λ bytes at short. writing_some _ schema found bytes)))
-some_work (Some (Decode words)) files =
-    gathering_some (Many files words.files ⊎ ⊥) files words.files (Decoding files words) inl
+    (λ found e. leads_some _ words.value (Writing schema found) (find_file files words.value)
+    (λ bytes at short.
+    let fits = target_fits have.sources schema (side_of words.side) words.method found have.schema_of e in
+    writing_some law few _ schema found bytes fits.0 fits.1)))
+some_work scripts law few (Some (Decode words)) files =
+    gathering_some (Many files words.files) files words.files (Decoding files words) (λ many. many)
     (λ schema have. finding_some _ words.interface
     (λ interface w. Leads words.message (Showing schema (expected_of interface (side_of words.side)) words.interface words.handles)
     (find_file files words.message) w)
     (interface_named schema.interfaces words.interface)
-    (λ interface. leads_some _ words.message (Showing schema (expected_of interface (side_of words.side)) words.interface words.handles)
+    (λ interface e. leads_some _ words.message (Showing schema (expected_of interface (side_of words.side)) words.interface words.handles)
     (find_file files words.message)
     (λ bytes at short. showing_some _ schema (expected_of interface (side_of words.side)) words.interface words.handles bytes)))

@@ -26,8 +26,8 @@ use Rattle.call_script.specs.Targets.{message_named}
 use Rattle.script_run.specs.OfScript.{OfScript}
 use Rattle.history_reader.specs.Texts.{Tells}
 use Rattle.history_reader.specs.Whole as texts
-use Rattle.printed_laws.specs.Fitting.{AllFit}
-use Rattle.printed_laws.specs.Runs.{run_said, run_text}
+use Rattle.printed_histories.specs.Runs.{run_said, run_text}
+use Rattle.printed_runs.specs.Fitting.{AllFit}
 use Rattle.mojo_tool.specs.Work.{Work, Missing, TooLong, Refuses, Rejects, RefusesLine, UnknownName, BadText, Unfit, BadHex, Faulty}
 use Rattle.mojo_tool.specs.Work.{Runs, Prints, Checks, Encodes, Decodes, ComesTo, Parsing, Reading, Writing, Showing, IsWork, AskedFor, unchecked}
 use Rattle.mojo_tool.specs.Targets.{side_of, expected_of}

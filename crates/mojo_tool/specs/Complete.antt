@@ -1,9 +1,7 @@
 -- Which status comes where nothing failed: want of memory is the only other one.
-use Rattle.std.specs.Prelude.{ℕ, ◌≡◌, ◌≤◌, List, length, Option, Some, None, ◌⊎◌}
-use Rattle.mj_base.specs.declared.limits.TheConstants.{MAX_FILE_BYTES}
-use Rattle.mj_io.specs.Outside.{Named, Rose, find_file}
-use Rattle.mj_schema.specs.declared.schema.Schema.{Schema}
-use Rattle.command_line.specs.Asked.{Command, Run}
+use Rattle.std.specs.Prelude.{ℕ, ◌≡◌, List, Option, Some, None, ◌⊎◌}
+use Rattle.mj_io.specs.Outside.{Named, Rose}
+use Rattle.command_line.specs.Asked.{Command}
 use Rattle.mojo_tool.specs.Answers.{Seen, asked_by, refused_work, WroteOrFailed}
 use Rattle.mojo_tool.specs.Lines.{refusal_text, error_line, read_text}
 use Rattle.mojom_compile.specs.declared.error.FileRefusal.{FileRefusal}
@@ -14,7 +12,7 @@ use Rattle.call_script.specs.declared.script_error.LineRefusal.{LineRefusal}
 use Rattle.wire_encoder.specs.declared.refusal.PrepareError.{PrepareError}
 use Rattle.mj_base.specs.declared.fault.Fault.{Fault}
 use Rattle.mojo_tool.specs.Work.{Work, WrongWords, Missing, TooLong, Refuses, Rejects, RefusesLine, UnknownName, BadText, Unfit, BadHex, Faulty}
-use Rattle.mojo_tool.specs.Work.{Runs, Prints, Checks, Encodes, Decodes, AreFetched, HaveSchema}
+use Rattle.mojo_tool.specs.Work.{Runs, Prints, Checks, Encodes, Decodes, AreFetched}
 use Rattle.mojo_tool.specs.Fetched.{mojoms_of}
 use Rattle.mojo_tool.specs.declared.refusal.ToolRefusal.{ToolRefusal}
 use Rattle.mojo_tool.specs.declared.status.Status.{Status}
@@ -91,10 +89,3 @@ pub record IsComplete (s : Seen) (status : Status) : Type 0 where
 abbrev pub HaveTooManyRows : List Named → Option Command → Type 0
 HaveTooManyRows files None = ⊥
 HaveTooManyRows files (Some command) = (sources : List Source) × AreFetched files (mojoms_of command) sources × HasTooManyRows sources
-
--- a command runs a script that is there, not too long, behind Mojom files that have a schema
-abbrev pub ComesToScript : List Named → Option Command → Type 0
-ComesToScript files (Some (Run words)) =
-    (schema : Schema) × HaveSchema files words.files schema × (bytes : List ℕ) × (find_file files words.script ≡ Some bytes)
-    × (length bytes ≤ MAX_FILE_BYTES)
-ComesToScript files _ = ⊥

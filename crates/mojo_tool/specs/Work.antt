@@ -24,7 +24,7 @@ use Rattle.call_script.specs.Script.{IsScriptOf, IsFirstRefusal}
 use Rattle.hex.specs.Hex.{decode_of}
 use Rattle.hex.specs.declared.error.FromHexError.{FromHexError}
 use Rattle.wire_model.specs.Expected.{Stands, message_marks, struct_of, method_named}
-use Rattle.wire_model.specs.Message.{Head, message, payload_start, request_read}
+use Rattle.wire_model.specs.Message.{Head, is_plain, message, payload_start, request_read, written_request}
 use Rattle.wire_model.specs.Stands.{up_from}
 use Rattle.wire_model.specs.Tight.{MAX_PAYLOAD_BYTES, value_of}
 use Rattle.wire_model.specs.Trees.{Tree}
@@ -41,6 +41,7 @@ use Rattle.wire_encoder.specs.declared.refusal.Flaw.{Flaw}
 use Rattle.wire_encoder.specs.declared.refusal.Flaw.TheVariants as flaws
 use Rattle.wire_encoder.specs.declared.refusal.PrepareError.{PrepareError}
 use Rattle.wire_encoder.specs.declared.refusal.PrepareError.TheVariants as unfit
+use Rattle.sealed_laws.specs.Sealed.{IsReadAs, expected_for}
 use Rattle.byte_rules.specs.Judged.{Spells, IsBad}
 use Rattle.value_text.specs.Rules.{value}
 use Rattle.value_text.specs.Spelling.{spell}
@@ -223,56 +224,6 @@ Valuing schema number next text work =
     ((tree : Tree) × Spells (value schema MAX_BRACKETS (parameters_kind number)) tree text × next tree work)
     ⊎ ((at : ℕ) × IsBad (value schema MAX_BRACKETS (parameters_kind number)) text at × (work ≡ BadText at))
 
--- why a value with this flaw isn't written
-abbrev pub flaw_at : Flaw → List ℕ → PrepareError
-flaw_at flaws.Misfit path = unfit.Misfit path
-flaw_at flaws.TooDeep path = unfit.TooDeep path
-flaw_at flaws.TooManyHandles path = unfit.TooManyHandles path
-
--- the head of a message that is printed: the interface id 0, the request id 1, no moment, and the ids 1, 2, 3 and so on
-abbrev pub head_of : Schema → Target → Met → Head
-head_of schema target met = record {
-  interface = 0;
-  name = target.method;
-  flags = flags_for (method_of schema target) target;
-  nonce = 0;
-  request = 1;
-  moment = None;
-  ids = up_from 1 (length met.endpoints);
-}
-
--- a value that passes all checks is printed as a message, unless its payload is too long; else its first flaw is said
-abbrev pub Sealing : Schema → Target → Tree → Result Met Refusal → Work → Type 0
-Sealing schema target tree (Err wrong) work = work ≡ Unfit (flaw_at wrong.flaw wrong.path)
-Sealing schema target tree (Ok met) work =
-    ((MAX_PAYLOAD_BYTES < length (payload_for schema target tree)) × (work ≡ Unfit unfit.TooLong))
-    ⊎ ((length (payload_for schema target tree) ≤ MAX_PAYLOAD_BYTES)
-    × (work ≡ Encodes (message (head_of schema target met) (payload_for schema target tree))))
-
--- the value is checked for its target
-abbrev pub Preparing : Schema → Target → Tree → Work → Type 0
-Preparing schema target tree work = Sealing schema target tree (verdict schema target tree) work
-
--- the text of a value without its line's end
-abbrev pub Writing : Schema → Target × ℕ → List ℕ → Work → Type 0
-Writing schema (target, number) bytes work = Valuing schema number (Preparing schema target) (without_line_end bytes) work
-
--- what a look-up found leads on, or the word is unknown
-abbrev pub Finding : {A : Type 0} → List ℕ → (A → Work → Type 0) → Option A → Work → Type 0
-Finding word next None work = work ≡ UnknownName word
-Finding word next (Some found) work = next found work
-
--- the value's file comes after the method
-abbrev pub Encoding : List Named → EncodeWords → Schema → Work → Type 0
-Encoding files words schema work =
-    Finding words.method (λ found w. Fetching files words.value (Writing schema found) w)
-    (message_named schema (side_of words.side) words.method) work
-
--- the bytes of hexadecimal lead on, or it is none
-abbrev pub Unhexing : (List ℕ → Work → Type 0) → Result (List ℕ) FromHexError → Work → Type 0
-Unhexing next (Ok bytes) work = next bytes work
-Unhexing next (Err error) work = work ≡ BadHex
-
 -- whatever a reading of a value's text answers, it is this value, unless memory runs out
 abbrev pub IsReadBack : Schema → ℕ → Tree → Type 0
 IsReadBack schema number tree = (read : Result Value TextError)
@@ -299,6 +250,75 @@ Judged schema expected name handles bytes (Some fault) work = work ≡ Faulty fa
 abbrev pub Judging : Schema → Expected → List ℕ → ℕ → List ℕ → Work → Type 0
 Judging schema expected name handles bytes work =
     Judged schema expected name handles bytes (first_fault (before_payload bytes handles) (message_marks schema expected bytes)) work
+
+-- why a value with this flaw isn't written
+abbrev pub flaw_at : Flaw → List ℕ → PrepareError
+flaw_at flaws.Misfit path = unfit.Misfit path
+flaw_at flaws.TooDeep path = unfit.TooDeep path
+flaw_at flaws.TooManyHandles path = unfit.TooManyHandles path
+
+-- the head of a message that is printed: the interface id 0, the request id 1, no moment, and the ids 1, 2, 3 and so on
+abbrev pub head_of : Schema → Target → Met → Head
+head_of schema target met = record {
+  interface = 0;
+  name = target.method;
+  flags = flags_for (method_of schema target) target;
+  nonce = 0;
+  request = 1;
+  moment = None;
+  ids = up_from 1 (length met.endpoints);
+}
+
+-- the message that is printed of a value
+abbrev pub printed_message : Schema → Target → Tree → Met → List ℕ
+printed_message schema target tree met = message (head_of schema target met) (payload_for schema target tree)
+
+-- `decode` shows the message that is printed of a value, with as many handles as the value has, under any name: as a message of the target's method,
+-- with the request id 1 where there is one, and with the text of this value
+pub record IsShownAgain (schema : Schema) (target : Target) (tree : Tree) (met : Met) (name : List ℕ) : Type 0 where
+  pub method : MethodRow
+  pub number : ℕ
+  pub named : method_of schema target ≡ Some method
+  pub parameters : struct_of target.side method ≡ Some number
+  pub shown : Judging schema (expected_for target) name met.handles (printed_message schema target tree met)
+      (Decodes name method.name (written_request (is_plain (flags_for (Some method) target)) 1) (spell schema (parameters_kind number) tree))
+
+-- a value that passes all checks, in few bytes, is printed as its message; that is let through and read as the value, and `decode` shows the value
+pub record IsSealed (schema : Schema) (target : Target) (tree : Tree) (met : Met) (work : Work) : Type 0 where
+  pub short : length (payload_for schema target tree) ≤ MAX_PAYLOAD_BYTES
+  pub whole : work ≡ Encodes (printed_message schema target tree met)
+  pub reads : IsReadAs schema target met.handles (head_of schema target met) tree (printed_message schema target tree met)
+  pub shows : (name : List ℕ) → IsShownAgain schema target tree met name
+
+-- a value that passes all checks is printed as a message, unless its payload is too long; else its first flaw is said
+abbrev pub Sealing : Schema → Target → Tree → Result Met Refusal → Work → Type 0
+Sealing schema target tree (Err wrong) work = work ≡ Unfit (flaw_at wrong.flaw wrong.path)
+Sealing schema target tree (Ok met) work =
+    ((MAX_PAYLOAD_BYTES < length (payload_for schema target tree)) × (work ≡ Unfit unfit.TooLong)) ⊎ IsSealed schema target tree met work
+
+-- the value is checked for its target
+abbrev pub Preparing : Schema → Target → Tree → Work → Type 0
+Preparing schema target tree work = Sealing schema target tree (verdict schema target tree) work
+
+-- the text of a value without its line's end
+abbrev pub Writing : Schema → Target × ℕ → List ℕ → Work → Type 0
+Writing schema (target, number) bytes work = Valuing schema number (Preparing schema target) (without_line_end bytes) work
+
+-- what a look-up found leads on, or the word is unknown
+abbrev pub Finding : {A : Type 0} → List ℕ → (A → Work → Type 0) → Option A → Work → Type 0
+Finding word next None work = work ≡ UnknownName word
+Finding word next (Some found) work = next found work
+
+-- the value's file comes after the method
+abbrev pub Encoding : List Named → EncodeWords → Schema → Work → Type 0
+Encoding files words schema work =
+    Finding words.method (λ found w. Fetching files words.value (Writing schema found) w)
+    (message_named schema (side_of words.side) words.method) work
+
+-- the bytes of hexadecimal lead on, or it is none
+abbrev pub Unhexing : (List ℕ → Work → Type 0) → Result (List ℕ) FromHexError → Work → Type 0
+Unhexing next (Ok bytes) work = next bytes work
+Unhexing next (Err error) work = work ≡ BadHex
 
 -- the hexadecimal of a message without its line's end
 abbrev pub Showing : Schema → Expected → List ℕ → ℕ → List ℕ → Work → Type 0

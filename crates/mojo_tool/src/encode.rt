@@ -23,6 +23,7 @@ use command_line::Side;
 use mj_base::Items;
 use mj_io::Files;
 use mj_schema::Schema;
+use sealed_laws::sealed_is_read;
 use std::alloc::{AllocError, Global};
 use value_text::{TextError, read_value};
 use wire_encoder::{Head, PrepareError, Prepared, prepare, seal};
@@ -41,11 +42,17 @@ fn ids(alloc: Global, count: usize) -> Result<Vec<u32>, AllocError>
     Ok(ids)
 }
 
-/// The message of a prepared value, with the interface id 0 and the request id 1.
+/// The message of a prepared value, with the interface id 0 and the request id 1. It is let through and read
+/// as the value.
 fn sealed(alloc: Global, schema: &Schema, prepared: &Prepared) -> Result<Vec<u8>, AllocError>
-    requires { IsPrepared schema.now prepared.now }
+    requires there { HasTarget schema.now prepared.now.target }
+    requires prepared { IsPrepared schema.now prepared.now }
     ensures { IfOk result (λ bytes. Preparing schema.now prepared.now.target (view prepared.now.value) (Encodes bytes.items)) }
 {
+    // A law, on which this rests: it does nothing.
+    sealed_is_read();
+    // Its ordinal has 32 bits, once it is read.
+    let _method = prepared.target.method;
     let ids = ids(alloc, prepared.endpoints.len())?;
     let head = Head {
         interface_id: 0,
@@ -88,7 +95,7 @@ fn unfit_stop<'a>(error: PrepareError) -> Stop<'a>
 }
 
 /// The text of the message of a value.
-#[tactic(auto, using(crate::proofs::Sealed::unfit_stops, crate::proofs::Sealed::unfit_names, crate::proofs::Sealed::encoded_text))]
+#[tactic(auto, using(crate::proofs::Sealed::unfit_stops, crate::proofs::Sealed::unfit_names, crate::proofs::Sealed::target_there, crate::proofs::Sealed::encoded_text))]
 fn encode_value<'a>(
     alloc: Global,
     schema: &Schema,

@@ -15,4 +15,7 @@ mod top;
 
 pub use refusal::ToolRefusal;
 pub use status::Status;
-pub use top::{complete, mojo_alone, mojo_main, one_work, prints_again};
+pub use top::{
+    complete, mojo_alone, mojo_main, one_work, prints_again, schemas_of_files_can_be_printed,
+    some_work,
+};

@@ -2,12 +2,16 @@
 
 ghost use Rattle.std.specs.Prelude.{◌≡◌, ◌⊎◌, ℕ, List, map, string_bytes, Some, None, IfOk};
 ghost use Rattle.command_line.specs.Asked.{command_of};
+ghost use Rattle.line_parts.specs.Schemas.{IsPrintableSchema};
 ghost use Rattle.mj_io.specs.Outside.{Named, SinkState};
+ghost use Rattle.mj_schema.specs.declared.schema.Schema.{Schema};
 ghost use Rattle.mojom_ast.specs.declared.file.File.{File};
 ghost use Rattle.mojom_compile.specs.Compiled.{IsParsed};
+ghost use Rattle.mojom_compile.specs.Schemas.{IsSchemaOfFiles};
+ghost use Rattle.mojom_compile.specs.declared.source.Source.{Source};
 ghost use Rattle.mojo_tool.specs.Again.{PrintsAgain};
 ghost use Rattle.mojo_tool.specs.Answers.{Answers, Seen, code_of, WroteOrFailed};
-ghost use Rattle.mojo_tool.specs.Complete.{IsComplete, HaveTooManyRows, ComesToScript};
+ghost use Rattle.mojo_tool.specs.Complete.{IsComplete, HaveTooManyRows};
 ghost use Rattle.mojo_tool.specs.steps.Reports.{Printed, Reported};
 ghost use Rattle.mojo_tool.specs.Lines.{refusal_text, error_line, read_text};
 ghost use Rattle.mojo_tool.specs.Work.{Work, IsWork};
@@ -19,6 +23,8 @@ use crate::status::Status;
 use command_line::{WordsError, read_words};
 use mj_io::{Files, Sink, write_all};
 use mojom_print::push_text;
+use script_laws::some_answer;
+use sealed_laws::sealed_is_read;
 use std::alloc::{AllocError, Global};
 use std::sync::Wait;
 use std::thread::Threads;
@@ -194,16 +200,24 @@ pub fn one_work()
 {}
 
 /// A law of the words: over files that say what they hold there is a work that they ask for, but where
-/// the Mojom files have more rows than a schema can have, or where a script is to be read: that each
-/// script either is one or has a first refusal is no law yet.
+/// the Mojom files have more rows than a schema can have. It calls the laws that it rests on.
 pub fn some_work()
     ensures { (words : List (List ℕ)) (files : List Named) → ((work : Work) × IsWork (command_of words) files work)
-        ⊎ (HaveTooManyRows files (command_of words) ⊎ ComesToScript files (command_of words)) }
-{}
+        ⊎ HaveTooManyRows files (command_of words) }
+{
+    some_answer();
+    sealed_is_read();
+}
 
 /// A law of printed texts: where a file has a tree, the text that is printed of it has a tree too, and
 /// that tree's text is the same text, so that a print of a print changes nothing. It is a law of
 /// trees and texts: one longer than `MAX_FILE_BYTES` is refused by its length.
 pub fn prints_again()
     ensures { (bytes : List ℕ) (tree : File) → IsParsed bytes tree → PrintsAgain tree }
+{}
+
+/// A law of schemas: that of files has names and numbers that a text can say, so that what holds of runs over
+/// such a schema holds of those over it.
+pub fn schemas_of_files_can_be_printed()
+    ensures { (sources : List Source) (schema : Schema) → IsSchemaOfFiles sources schema → IsPrintableSchema schema }
 {}

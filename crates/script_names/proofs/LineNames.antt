@@ -111,27 +111,35 @@ module _ (wire : Wire) (seqs : ℕ) (past : List Event) (me : SeqId) (line : Lin
     (are : AreNames (λ (n : NameId). is_some (held_at old.stands.things.items n)) line.command names) (took : TookFor names command old mid)
     (spends : SpendsAs (held_at old.stands.things.items) line.command names command)
     (have : HaveNames (length old.stands.things.items) old) (within : AreWithin (length old.stands.things.items) (sets line.command)) where
+  -- the names that the line sets
   abbrev ns : List NameId
   ns = sets line.command
 
+  -- what names stood for before
   abbrev stands : NameId → Option Thing
   stands = held_at old.stands.things.items
 
+  -- the handles that were held before
   abbrev these : NameId → Option Thing
   these = held_at old.handles.named.items
 
+  -- the pending endpoints that were
   abbrev halves : NameId → Option Half
   halves = held_at old.pendings.named.items
 
+  -- the responders that were
   abbrev rights : NameId → Option ResponderId
   rights = held_at old.responders.named.items
 
+  -- the names from which the command takes handles
   abbrev gone_handles : List NameId
   gone_handles = handles_spent stands line.command (asked_of command)
 
+  -- those from which it takes pending endpoints
   abbrev gone_pendings : List NameId
   gone_pendings = pendings_spent stands line.command (asked_of command)
 
+  -- those from which it takes responders
   abbrev gone_responders : List NameId
   gone_responders = responders_spent stands line.command (asked_of command)
 

@@ -25,12 +25,15 @@ use Rattle.script_names.specs.Tables.{filled_one}
 use Rattle.script_names.proofs.LineNames.{same_named}
 use Rattle.script_names.proofs.NameLemmas.{given_nowhere, length_filled, length_given, length_left}
 
+-- the table of handles in code
 abbrev pub Handles : Type 0
 Handles = Vec (Option Thing) Global
 
+-- the table of pending endpoints
 abbrev pub Halves : Type 0
 Halves = Vec (Option Half) Global
 
+-- the table of responders
 abbrev pub Rights : Type 0
 Rights = Vec (Option ResponderId) Global
 

@@ -250,10 +250,6 @@ module _ {X : Type 0} where
       e ∙ ap (λ (ns : List NameId). option_map (λ (more : List X). taken ++ more) (taken_from table ns)) (drop_past names k past)
       ∙ ap (λ (xs : List X). Some xs) (append-nil taken)
 
-  pub left_all : (names : List NameId) (first table : List (Option X)) (k : ℕ) → length names ≤ k → left_by first names ≡ left_by table (drop k names)
-      → left_by first names ≡ table
-  left_all names first table k past e = e ∙ ap (left_by table) (drop_past names k past)
-
   -- what was taken from under a list's names, where the list was read so
   pub all_taken : (table : List (Option X)) (list read : List NameId) (o : Option (List X)) (things : List X) → read ≡ list → o ≡ taken_from table read
       → o ≡ Some things → taken_from table list ≡ Some things

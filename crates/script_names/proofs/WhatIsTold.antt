@@ -36,10 +36,12 @@ is_plain (tells.No why) = false
 is_plain (tells.Wrote x) = false
 is_plain told = true
 
+-- a command that writes bytes
 abbrev IsRaw : Asked → Type 0
 IsRaw (asks.Raw x bytes handles) = Unit {0}
 IsRaw asked = ⊥
 
+-- a command that makes an associated endpoint
 abbrev IsMaking : Asked → Type 0
 IsMaking (asks.Associate y side interface) = Unit {0}
 IsMaking asked = ⊥

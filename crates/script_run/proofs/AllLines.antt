@@ -24,10 +24,10 @@ use Rattle.call_script.specs.declared.script.Script.{Script}
 use Rattle.remote_receiver.specs.Notes.{Follows, HasKept, Kept}
 use Rattle.remote_receiver.specs.Stepped.{Step}
 use Rattle.script_names.specs.Autos.{Due, due, due_for, line_at, lines_done}
-use Rattle.script_names.specs.Names.{Named, joined, named_after, pendings_handed, responders_named, then_held}
+use Rattle.script_names.specs.Names.{Named, named_after, pendings_handed, responders_named, then_held}
 use Rattle.script_run.specs.OfScript.{names_of, next_of, replied, reply_first}
 use Rattle.script_names.specs.Asking.{asked_by}
-use Rattle.script_run.specs.Order.{is_own, joins_of, lines_of}
+use Rattle.script_run.specs.Order.{is_own, lines_of}
 use Rattle.script_run.specs.declared.plain.Plain.{Plain}
 use Rattle.script_run.specs.AtDesk.{AnswersZero, SameDesk, Seen, step_by}
 use Rattle.script_run.specs.steps.Desks.{CameTo, DidLine, Replied, answered_it, asked_it, due_by, stood}
@@ -85,6 +85,7 @@ whole_more now later first own event e whole =
     ∙ (append_assoc first (reverse own) (event ∷ [])
     ∙ ap (λ (es : List Event). first ++ es) (sym (reverse-append (event ∷ []) own))))
 
+-- what was kept of steps is kept of them with those of these events behind
 abbrev StillKept : Wire → Kept Plain → Kept Plain → List Event → Type 0
 StillKept wire old new own = (steps : List (Step Plain)) → HasKept AnswersZero steps old → HasKept AnswersZero (steps ++ map (step_by wire) (reverse own)) new
 
@@ -115,15 +116,19 @@ names_alone wire found event before = same_named
 module _ (script : Script) (after_joins : List Event) (k : ℕ) (line : Line) (here : slice_get script.lines k ≡ Some line) (prior after : Seen)
     (first : List Event) (old mid new : Kept Plain) (names names' : Named)
     (worked : HasWorked script after_joins prior.schema prior.me first prior.events old mid names (take k script.lines)) where
+  -- the wire of the schema
   abbrev wire : Wire
   wire = wire_of prior.schema
 
+  -- the sequence
   abbrev me : SeqId
   me = prior.me
 
+  -- its events so far
   abbrev own : List Event
   own = worked.own
 
+  -- what it asks next
   abbrev next : List Event → Option Asked
   next es = next_of wire script after_joins me es
 
@@ -185,9 +190,11 @@ module _ (script : Script) (after_joins : List Event) (k : ℕ) (line : Line) (h
         }
 
   module _ (mine : is_own me line ≡ true) (did : DidLine script.autos line prior after mid new names names') where
+    -- the event of the line
     abbrev event : Event
     event = record { seq = me; asked = asked_by names line; told = did.told }
 
+    -- the automatic reply that is due behind it
     abbrev found : Option Due
     found = due wire script.autos (event ∷ own)
 
@@ -293,19 +300,7 @@ part_more script after_joins k line here before prior after same old mid names w
     (subst (λ (m : SeqId). DidSome script after_joins prior.schema m before.events after.events) same.me
     (part script after_joins k line here prior after before.events old mid mid names names at_prior mine came))
 
--- ## None, and all
-
-pub worked_none : (script : Script) (after_joins : List Event) (schema : Schema) (me : SeqId) (first : List Event) (old : Kept Plain) (names : Named)
-    → names ≡ joined me (joins_of script) after_joins → HasWorked script after_joins schema me first first old old names (take 0 script.lines)
-worked_none script after_joins schema me first old names named = record {
-  own = [];
-  whole = sym (append-nil (own_of me first));
-  asks = tt;
-  none = refl;
-  done = refl;
-  named = named;
-  kept = λ steps h. subst (λ (ss : List (Step Plain)). HasKept AnswersZero ss old) (sym (append-nil steps)) h;
-}
+-- ## All
 
 pub worked_all : (script : Script) (after_joins : List Event) (schema : Schema) (me : SeqId) (first now : List Event) (old new : Kept Plain) (names : Named)
     → HasWorked script after_joins schema me first now old new names script.lines → DidAll script after_joins schema me first now old new names

@@ -53,6 +53,7 @@ pub record CameBoth (wire : Wire) (autos : List AutoReply) (event : Event) (past
   pub asked : reply.asked ≡ replied d
   pub whole : after ≡ reply ∷ event ∷ past
 
+-- an event came alone, or with the automatic reply that was due behind it
 abbrev pub Came : Wire → List AutoReply → Event → List Event → List Event → Type 0
 Came wire autos event past after = CameAlone wire autos event past after ⊎ CameBoth wire autos event past after
 

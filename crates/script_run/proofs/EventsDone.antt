@@ -64,6 +64,7 @@ all_steps wire seqs [] h = tt
 all_steps wire seqs (event ∷ past) h = ((h.0, (past, h.1)), all_steps wire seqs past h.2)
 
 module _ (schema : Schema) (script : Script) (is : IsScript schema script) where
+  -- the wire of the schema
   abbrev wire : Wire
   wire = wire_of schema
 
@@ -128,9 +129,11 @@ module _ (schema : Schema) (script : Script) (is : IsScript schema script) where
   -- ## The lines of a sequence
 
   module _ (after_joins : List Event) (s : SeqId) where
+    -- the lines of the sequence
     abbrev lines : List Line
     lines = lines_of script s
 
+    -- how many of them its events did
     abbrev done : List Event → ℕ
     done own = lines_done wire script.autos own
 
@@ -187,6 +190,7 @@ module _ (schema : Schema) (script : Script) (is : IsScript schema script) where
   -- ## The drain
 
   module _ (before : List Event) where
+    -- how many automatic replies stand among the events behind these
     abbrev replies : List Event → ℕ
     replies own = replies_behind wire script.autos before own
 

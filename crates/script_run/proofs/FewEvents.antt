@@ -33,6 +33,7 @@ counted-append : (f : Told → Asked → ℕ) (xs ys : List Event) → counted f
 counted-append f [] ys = omega arith
 counted-append f (x ∷ xs) ys = omega (arith, counted-append f xs ys)
 
+-- each event counts as one
 abbrev one : Told → Asked → ℕ
 one told asked = 1
 
@@ -83,6 +84,7 @@ fewer_ids test (line ∷ lines) = go (test line) (fewer_ids test lines)
     go false rest = omega (arith, rest)
 
 module _ (schema : Schema) (script : Script) (is : IsScript schema script) (after_joins middle : List Event) where
+  -- the wire of the schema
   abbrev wire : Wire
   wire = wire_of schema
 
@@ -90,9 +92,11 @@ module _ (schema : Schema) (script : Script) (is : IsScript schema script) (afte
 
   module _ (steps : AllByRecursion (IsStep wire script.seqs) middle)
       (asks : (s : SeqId) → s.0 < script.seqs → AsksNext (next_of wire script after_joins s) (own_of s middle)) where
+    -- the events of the sequence of a number
     abbrev own : ℕ → List Event
     own k = own_of (seq_at k) middle
 
+    -- how many lines they did
     abbrev done : ℕ → ℕ
     done k = lines_done wire script.autos (own k)
 

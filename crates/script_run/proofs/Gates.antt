@@ -8,25 +8,13 @@ use Rattle.call_script.specs.declared.script.Line.{Line}
 use Rattle.call_script.specs.declared.script.Script.{Script}
 use Rattle.step_gate.specs.Calls.{calls_round}
 use Rattle.step_gate.specs.declared.GateCall.{GateCall}
-use Rattle.step_gate.specs.declared.GateCall.TheVariants.{Before, After}
+use Rattle.step_gate.specs.declared.GateCall.TheVariants.{Before}
 use Rattle.script_run.specs.Order.{is_own, lines_of}
 use Rattle.script_run.specs.Working.{CallsAll, CallsSome}
 use Rattle.script_run.specs.steps.Working.{calls_by, steps_by}
 use Rattle.script_run.proofs.AllLines.{count_more, own_at}
 
 -- ## One line
-
--- round a line of its own
-pub calls_own : (old one two : List GateCall) (me seq : SeqId) (n : ℕ) (b : Bool) → b ≡ true → seq ≡ me → one ≡ old ++ Before seq n ∷ []
-    → two ≡ one ++ After seq n ∷ [] → two ≡ old ++ calls_by b me n
-calls_own old one two me seq n b own same e f =
-    subst (λ (s : SeqId). two ≡ old ++ calls_by b s n) same
-    (subst (λ (c : Bool). two ≡ old ++ calls_by c seq n) (sym own)
-    (f ∙ (ap (λ (l : List GateCall). l ++ After seq n ∷ []) e ∙ append_assoc old (Before seq n ∷ []) (After seq n ∷ []))))
-
--- there are none round another's
-pub calls_none : (old : List GateCall) (me : SeqId) (n : ℕ) (b : Bool) → b ≡ false → old ≡ old ++ calls_by b me n
-calls_none old me n b other = subst (λ (c : Bool). old ≡ old ++ calls_by c me n) (sym other) (sym (append-nil old))
 
 -- at most one line more
 pub at_most_one : (b : Bool) → steps_by b ≤ 1

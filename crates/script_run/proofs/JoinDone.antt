@@ -39,6 +39,7 @@ use Rattle.script_names.proofs.TableLemmas.{eqb-turned}
 
 -- ## Names
 
+-- names by what they stand for and what is held under them
 abbrev named_by : (NameId → Option Thing) → (NameId → Option Thing) → (NameId → Option PendingId) → (NameId → Option ResponderId) → Named
 named_by stands handle pending responder =
     record { stands = stands; handle = handle; pending = pending; responder = responder }
@@ -79,6 +80,7 @@ module _ (joint : Joint) (number names : ℕ) (x y : Thing) (t : SeqId) (before 
         (subst (λ (k : ℕ). joint.second.0 < k) (sym have.stands) second_within, tt),
       ) n
 
+  -- the handles that were held before
   abbrev table : List (Option Thing)
   table = before.handles.named.items
 
@@ -125,6 +127,7 @@ module _ (s : Schema) (script : Script) (count : ℕ) (core after : Play) (rests
     (here : slice_get (joins_of script) count ≡ Some (line_of joint number))
     (first_within : joint.first.0 < script.names) (second_within : joint.second.0 < script.names)
     (made : HasMade joint core after rests' rooms rooms') where
+  -- the event of the join
   abbrev event : Event
   event = joint_event joint made.first made.second
 
@@ -172,9 +175,11 @@ module _ (s : Schema) (script : Script) (count : ℕ) (core after : Play) (rests
 
 -- ## The joins among lines
 
+-- the joins among lines
 abbrev pub joins_in : List Line → List Line
 joins_in lines = filter (λ (line : Line). is_join line.command) lines
 
+-- a line by its number, its sequence and its command
 abbrev given_line : ℕ → SeqId → Command → Line
 given_line number seq command = record { number = number; seq = seq; command = command }
 

@@ -40,9 +40,11 @@ use Rattle.script_run.proofs.Woken.{grew_went, play_of, rested_again}
 -- ## What a join is told
 
 module _ (schema : Schema) (seqs : ℕ) (me other : SeqId) (before : List Event) where
+  -- the end that the sequence gets
   abbrev first_end : Thing
   first_end = End (record { seq = me.0; serial = serials (reverse before) me.0 })
 
+  -- the end that the other one gets
   abbrev second_end : Thing
   second_end = End (record { seq = other.0; serial = serials (reverse before) other.0 + (if other.0 == me.0 then 1 else 0) })
 

@@ -25,7 +25,6 @@ use Rattle.bind_model.specs.declared.asked.Outgoing.{Outgoing}
 use Rattle.bind_model.specs.declared.commands.Command.{Command}
 use Rattle.bind_model.specs.declared.commands.Command.TheVariants as commands
 use Rattle.bind_model.specs.declared.commands.Refused.{Refused}
-use Rattle.bind_model.specs.declared.commands.Refused.TheVariants as refusals
 use Rattle.bind_model.specs.declared.commands.Reply.{Reply}
 use Rattle.bind_model.specs.declared.commands.Reply.TheVariants.{Got}
 use Rattle.bind_model.specs.declared.endpoint.ResponderId.{ResponderId}
@@ -62,10 +61,12 @@ use Rattle.script_names.proofs.WhatIsTold.{room_behind}
 
 -- ## One event
 
+-- whether an event is of this sequence
 abbrev is_mine : SeqId → Event → Bool
 is_mine me e = e.seq.0 == me.0
 
 module _ (before after : Seen) (command : Command) (reply : Reply) (saw : SawAt before after command reply) where
+  -- the event of the command
   abbrev its_event : Event
   its_event = record { seq = before.me; asked = asked_of command; told = told_of reply }
 
@@ -122,10 +123,6 @@ module _ (before after : Seen) (old new : Kept Plain) (command : Command) where
   room_left result reply rooms served is room =
       let saw : SawAt before after command reply = subst (λ (r : Result Reply Refused). IfOk r (SawAt before after command)) is served.event in
       room_behind (wire_of before.schema) before.seqs (reverse saw.before) before.me command reply rooms saw.told saw.back room
-
-  -- one that came back as spent is none
-  pub full_is : (back : Command) → Served before after command old new (Err (refusals.Spent back)) → IsFull before after
-  full_is back served = record { same = served.same; stays = served.refused.0; full = served.refused.2 }
 
 -- ## Results
 
@@ -187,6 +184,7 @@ due_none : (o : Option Due) → None ≡ reply_of o → o ≡ None
 due_none None e = refl
 due_none (Some d) e = absurd cc
 
+-- a reply that is due to a responder
 abbrev due_with : ResponderId → AutoReply → Option Due
 due_with r reply = Some (r, reply)
 
@@ -205,14 +203,6 @@ last_one r s rs (xs, e) (ys, f) = go xs ys (sym e ∙ f)
     go (x ∷ []) [] e = absurd cc
     go (x ∷ z ∷ xs) [] e = absurd cc
     go (x ∷ xs) (y ∷ ys) e = let rest : xs ++ r ∷ [] ≡ ys ++ s ∷ [] = cc in go xs ys rest
-
--- one that ends isn't empty
-pub ends_some : (r : ResponderId) (rs : List ResponderId) → EndsWith r rs → rs ≡ [] → ⊥
-ends_some r rs (xs, e) none = go xs (sym e ∙ none)
-  where
-    go : (xs : List ResponderId) → xs ++ r ∷ [] ≡ [] → ⊥
-    go [] f = cc
-    go (x ∷ xs) f = cc
 
 -- ## A line
 
@@ -320,6 +310,7 @@ takes_done autos end before after old new reply saw went rooms (Err cut) is last
 
 -- ## Automatic replies
 
+-- what is sent with handles alone
 abbrev with_sent : Target → Tree → List Thing → Outgoing
 with_sent t v hs = record { target = t; parameters = v; handles = hs; pendings = []; moment = None }
 
@@ -342,17 +333,6 @@ answer_done reply before after old new responder copied handles pendings told ot
       (subst (λ (sent : Outgoing). Went before after old new (asks.Answer responder sent) told)
       (same_sent copied reply.prepared handles pendings targets values none bare) went),
 )
-
--- or at least so much of it, where the result is one of want of memory
-pub answer_came : {A : Type 0} (result : Result A Cut) (reply : AutoReply) (before after : Seen) (old new : Kept Plain) (responder : ResponderId)
-    (copied : Prepared) (handles : List Thing) (pendings : List Half) (told : Told) (others : List ResponderId) → EndsWith responder others
-    → copied.target ≡ reply.prepared.target → view copied.value ≡ view reply.prepared.value → handles ≡ [] → pendings ≡ []
-    → Went before after old new (asks.Answer responder (outgoing_of copied handles pendings)) told
-    → OnErr result ((r : ResponderId) → EndsWith r others → AtMost (replied (r, reply)) before after)
-answer_came (Ok x) reply before after old new responder copied handles pendings told others mine targets values none bare went = tt
-answer_came (Err e) reply before after old new responder copied handles pendings told others mine targets values none bare went = λ r last.
-    let sent = answer_done reply before after old new responder copied handles pendings told others mine targets values none bare went r last in
-    inr (sent.0, went_adds before after old new (replied (r, reply)) sent.0 sent.1)
 
 -- what a line's command asked came
 pub command_came : {A : Type 0} (result : Result A Cut) (before after : Seen) (old new : Kept Plain) (command : Command) (told : Told)

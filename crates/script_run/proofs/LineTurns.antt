@@ -119,15 +119,19 @@ module _ (schema : Schema) (script : Script) (line : Line) (core after : Play) (
 module _ (schema : Schema) (script : Script) (order : ℕ) (after_joins : List Event) (lines : List Line) (are : AreInOrder script order lines) (count : ℕ)
     (line : Line) (here : slice_get lines count ≡ Some line) (core after : Play) (rests new : List (Rest Plain)) (rooms later : List Rooms)
     (done : HasDone schema script order after_joins lines count core rests rooms) (did : DidTurn schema script line core after new rooms later) where
+  -- the wire of the schema
   abbrev wire : Wire
   wire = wire_of schema
 
+  -- the event of the line
   abbrev event : Event
   event = line_event schema script line core after new rooms later done.core.schema did
 
+  -- the events of its sequence before
   abbrev own : List Event
   own = own_of line.seq done.middle
 
+  -- what a sequence asks next
   abbrev next : SeqId → List Event → Option Asked
   next s = next_of wire script after_joins s
 

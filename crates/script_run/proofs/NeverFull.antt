@@ -78,6 +78,7 @@ cut_at autos asked b a old alone (inr behind) =
 
 module _ (schema : Schema) (script : Script) (is : IsScript schema script) (short : script.bytes ≤ MAX_FILE_BYTES) (after_joins : List Event)
     (joins : GoesOn (next_join script) after_joins) where
+  -- the wire of the schema
   abbrev wire : Wire
   wire = wire_of schema
 

@@ -13,10 +13,7 @@ use Rattle.std.proofs.lemmas.Option.{get_or_from_slice_get, same_Some, slice_get
 use Rattle.handle_table.proofs.NumberedLemmas.{get-push, get-set}
 use Rattle.mj_base.specs.declared.ids.SeqId.{SeqId}
 use Rattle.bind_model.specs.Laws.{up_from}
-use Rattle.call_script.specs.declared.script.Command.{Command}
-use Rattle.call_script.specs.declared.script.Command.TheVariants.{Join}
 use Rattle.call_script.specs.declared.script.Line.{Line}
-use Rattle.call_script.specs.declared.script.NameId.{NameId}
 use Rattle.call_script.specs.declared.script.Script.{Script}
 use Rattle.script_run.specs.declared.order.Queue.{Queue}
 use Rattle.script_run.specs.Order.{counted_round, drawn, is_join, is_own, lines_of, next_draw, sequences}
@@ -24,7 +21,7 @@ use Rattle.script_run.specs.steps.Orders.{AreInOrder, AreQueues, GivesNext, HasT
 use Rattle.script_run.specs.steps.Orders.{count_of, has_more, left_from, next_in_order, numbered, queued, waiting, whose}
 use Rattle.script_run.proofs.OrderLists.{kept_passes}
 use Rattle.script_run.proofs.Sequences.{same_seq}
-use Rattle.script_names.proofs.TableLemmas.{drop_at, drop_past, eqb-turned}
+use Rattle.script_names.proofs.TableLemmas.{drop_at, eqb-turned}
 use Rattle.script_run.proofs.TurnLemmas.{left_behind}
 
 -- ## The queues that have lines left
@@ -40,9 +37,6 @@ pub left_same : (queues : List Queue) (k : ℕ) (queue : Queue) → slice_get qu
 left_same queues k queue here more =
     ap (left_from k) (drop_at queues k queue here)
     ∙ ap (λ (b : Bool). cond b (numbered k ∷ left_from (k + 1) (drop (k + 1) queues)) (left_from (k + 1) (drop (k + 1) queues))) more
-
-pub left_over : (queues : List Queue) (k : ℕ) → length queues ≤ k → left_from k (drop k queues) ≡ []
-left_over queues k past = ap (left_from k) (drop_past queues k past)
 
 -- how many they are
 left_length : (first : ℕ) (queues : List Queue) → length (filter has_more queues) ≡ length (left_from first queues)
@@ -284,9 +278,3 @@ taken_all script order draw taken old new has takes k w = go (cases_lt k (length
     go (inr v) =
         let gives : GivesNext script order taken None new = takes script order taken has.left has.number in
         slice_get_past taken k v ∙ (sym gives.next ∙ ap (next_in_order script order) (sym (take_all k taken v)))
-
--- ## Joins
-
-pub no_join : (command : Command) → ((other : SeqId) (first second : NameId) → command ≡ Join other first second → ⊥) → is_join command ≡ false
-no_join (Join other first second) none = absurd (none other first second refl)
-no_join command none = refl

@@ -54,6 +54,7 @@ no_job wire command other = refl
 module _ (before after : Seen) (old new : Kept Plain) (same : SameDesk before after) where
   -- a call with its callback; one that is refused changes nothing of what is kept
   module _ (end : EndId) (id : ℕ) (prepared : Prepared) (handles : List Thing) (pendings : List Half) where
+    -- the job that comes with the call
     abbrev job : Option Plain
     job = job_of_method (wire_of before.schema) prepared.target
 
@@ -143,15 +144,6 @@ module _ (before after : Seen) (old new : Kept Plain) (same : SameDesk before af
     refused = ((waited.others, waited.legal), waited.back, spent_only (length after.events) refused waited.spent);
     unmoved = unmoved;
   }
-
-  pub take_served : (command : Command) (end : EndId) (result : Result Reply Refused) → command ≡ Take end
-      → IfOk result (λ reply. Saw before.schema before.seqs before.alone before.me before.events after.events (Take end) reply)
-      → IfOk result (λ reply. Follows AnswersZero old (step_of (Take end) reply None) new)
-      → IfErr result (λ refused. Waited before.schema before.seqs before.alone before.me before.events after.events (Take end) refused)
-      → OnErr result (new ≡ old)
-      → Served before after command old new result
-  take_served command end result is saw follows waited unmoved =
-      subst (λ (c : Command). Served before after c old new result) (sym is) (served (Take end) refl result saw follows waited unmoved)
 
   pub other_served : (command : Command) (result : Result Reply Refused) → IsOther command
       → IfOk result (λ reply. Saw before.schema before.seqs before.alone before.me before.events after.events command reply)

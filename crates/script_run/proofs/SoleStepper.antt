@@ -18,6 +18,7 @@ pub nothing_between : (me : SeqId) (events : List Event) → Continues true me e
 nothing_between me events = record { between = []; none_own = refl; none = λ a. refl; all = sym (append-nil events) }
 
 module _ (schema : Schema) (seqs : ℕ) (me : SeqId) (old new : List Event) (command : Command) where
+  -- the event of the command behind the old ones
   abbrev pub its_event : Event
   its_event = record { seq = me; asked = asked_of command; told = told_behind schema seqs me old command }
 

@@ -114,9 +114,11 @@ module _ (schema : Schema) (script : Script) (seq : SeqId) (end : EndId) (core a
 
 module _ (schema : Schema) (script : Script) (before : List Event) (core : Play) (rests : List (Rest Plain))
     (drained : HasDrained schema script before core rests) where
+  -- the wire of the schema
   abbrev wire : Wire
   wire = wire_of schema
 
+  -- the take that comes next, or the automatic reply
   abbrev next : List Event → Option Next
   next = next_take wire script.autos before
 
@@ -185,6 +187,7 @@ module _ (schema : Schema) (script : Script) (before : List Event) (core : Play)
   -- one take more
   module _ (seq : SeqId) (end : EndId) (there : ready (wire_of core.schema) (past_in core) ≡ Some (seq, end)) (after : Play)
       (new : List (Rest Plain)) (took : TookTurn schema script seq end core after new) where
+    -- the event of the take
     abbrev event : Event
     event = take_event schema script seq end core after new drained.core.schema took
 

@@ -3,7 +3,7 @@ use Rattle.std.proofs.Common.{◌≡◌, ◌<◌, ◌≤◌, ◌+◌, ℕ, zero,
 use Rattle.std.specs.Prelude.{◌==◌, ◌&&◌, cond, not, filter, find, nat_lt, is_some, Option, Some, None, slice_get, option_and_then}
 use Rattle.std.specs.List.{AllByRecursion}
 use Rattle.std.specs.Option.{option_map}
-use Rattle.std.proofs.lemmas.Bool.{and_left, and_parts, eq-eqb, ltb-false, ltb-true, not-true}
+use Rattle.std.proofs.lemmas.Bool.{and_left, and_parts, eq-eqb, ltb-false, ltb-true}
 use Rattle.std.proofs.lemmas.List.{length-take-le, take_all}
 use Rattle.std.proofs.lemmas.List.Filters.{length-filter_more}
 use Rattle.std.proofs.lemmas.Option.{get_or_from_slice_get, same_Some, slice_get_past, slice_get_within}
@@ -92,10 +92,6 @@ module _ (script : Script) (order : ℕ) (lines : List Line) (are : AreInOrder s
 
   pub line_within : (count : ℕ) (line : Line) → slice_get lines count ≡ Some line → line.seq.0 < script.seqs
   line_within count line h = (next_at count line h).within
-
-  pub line_is_none_that_joins : (count : ℕ) (line : Line) → slice_get lines count ≡ Some line → is_join line.command ≡ false
-  line_is_none_that_joins count line h =
-      not-true (is_join line.command) (and_parts (line.seq.0 == line.seq.0) (not (is_join line.command)) (next_at count line h).own).1
 
   -- it is one of the script's
   pub line_holds : (count : ℕ) (line : Line) → slice_get lines count ≡ Some line → (P : Line → Type 0) → AllByRecursion P script.lines → P line
@@ -230,9 +226,6 @@ pub record AreCounted (wire : Wire) (script : Script) (lines : List Line) (count
   pub done : lines_done wire script.autos middle ≡ count
   pub quiet : (s : SeqId) → s.0 < script.seqs → due wire script.autos (own_of s middle) ≡ None
   pub each : (s : SeqId) → s.0 < script.seqs → lines_done wire script.autos (own_of s middle) ≡ count_of s (take count lines)
-
-pub counted_none : (wire : Wire) (script : Script) (lines : List Line) → AreCounted wire script lines 0 []
-counted_none wire script lines = record { none = refl; done = refl; quiet = λ s w. refl; each = λ s w. refl }
 
 -- the line at a number, unless an automatic reply is due
 abbrev line_unless : List Line → ℕ → Option Due → Option Line

@@ -119,6 +119,7 @@ grew_more s a b c x y z first second = record {
 
 -- one came
 module _ (b a : Seen) (old new : Kept Plain) (asked : Asked) (told : Told) (alone : b.alone ≡ true) (went : Went b a old new asked told) where
+  -- the event that was added
   abbrev its_event : Event
   its_event = record { seq = b.me; asked = asked; told = told }
 

@@ -1,4 +1,4 @@
-use Rattle.std.proofs.Common.{None, refl, ap, ◌∙◌}
+use Rattle.std.proofs.Common.{None, refl, ap, ◌∙◌, arith}
 use Rattle.wire_model.specs.Stands.{up_from}
 use Rattle.mojo_tool.proofs.Sealed.{sealed_work, ids_many, ids_are}
 use Rattle.mojo_tool.proofs.encode.sealed.Goals as goal
@@ -14,7 +14,8 @@ seal-requires-clause-ids c =
 
 pub returns : goal.returns
 returns c =
-    sealed_work c.args.schema.now c.args.prepared.now (record { interface_id = 0; request_id = 1; moment = None; ids = c.as_slice.result })
-    c.in_ok-message.message.items
-    c.requires refl refl refl (c.as_slice.ensures.value ∙ c.in_ok-ids.ensures ∙ ap (up_from 1) (c.len.ensures ∙ c.args.prepared.now.endpoints.ok.0))
+    sealed_work c.sealed_is_read.ensures.passed c.args.schema.now c.args.prepared.now
+    (record { interface_id = 0; request_id = 1; moment = None; ids = c.as_slice.result })
+    c.in_ok-message.message.items c.requires.there (omega arith) c.requires.prepared refl refl refl
+    (c.as_slice.ensures.value ∙ c.in_ok-ids.ensures ∙ ap (up_from 1) (c.len.ensures ∙ c.args.prepared.now.endpoints.ok.0))
     c.in_ok-message.ensures.message

@@ -1,5 +1,0 @@
-use Rattle.printed_laws.proofs.Runs.{run_read_back}
-use Rattle.printed_laws.proofs.runs_are_read_back.Goals as goal
-
-pub returns : goal.returns
-returns c = run_read_back c.passed_is_encodable.ensures

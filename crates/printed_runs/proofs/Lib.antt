@@ -1,0 +1,9 @@
+mod OwnEvents
+mod SmallScript
+mod SmallNames
+mod SmallRun
+pub mod SentWords
+mod ValueTurns
+mod ValueScript
+pub mod Runs
+pub mod Fitting
