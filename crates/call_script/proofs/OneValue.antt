@@ -6,6 +6,7 @@ use Rattle.wire_model.specs.Trees.{Tree, view, Null}
 use Rattle.byte_rules.specs.Lang.{Read}
 use Rattle.byte_rules.specs.Judged.{Spells}
 use Rattle.byte_rules.proofs.Judging.{reads}
+use Rattle.value_text.specs.Brackets.{MAX_BRACKETS}
 use Rattle.value_text.proofs.KindLaws.{good_kind}
 use Rattle.mj_schema.specs.KindTrees.{StructKind}
 use Rattle.wire_model.specs.declared.target.Target.{Target}
@@ -30,7 +31,7 @@ tree_in (Err n) = Null
 value_one : (schema : Schema) (number : ℕ) (word : List ℕ) (one other : Tree)
     → Spells (parameters_rule schema number) one word → Spells (parameters_rule schema number) other word → one ≡ other
 value_one schema number word one other s t =
-    let good = good_kind schema 512 (StructKind number false) in
+    let good = good_kind schema MAX_BRACKETS (StructKind number false) in
     ap tree_in (sym (reads (parameters_rule schema number) good word one s) ∙ reads (parameters_rule schema number) good word other t)
 
 -- what was prepared is not refused

@@ -10,6 +10,7 @@ use Rattle.mj_schema.specs.KindTrees.{StructKind}
 use Rattle.mj_schema.specs.Lookups.{interface_named}
 use Rattle.byte_rules.specs.Lang.{Lang}
 use Rattle.byte_rules.specs.Judged.{Spells}
+use Rattle.value_text.specs.Brackets.{MAX_BRACKETS}
 use Rattle.value_text.specs.Rules.{value}
 use Rattle.wire_model.specs.Trees.{Tree, view}
 use Rattle.wire_model.specs.declared.target.MessageSide.TheVariants.{Request, Response}
@@ -108,7 +109,7 @@ knows schema names form = finds schema form && list_all (is_set names (seq_of fo
 
 -- the texts of a method's parameters: a struct of this number, with so many brackets open at once at most as a text may have
 abbrev pub parameters_rule : Schema → ℕ → Lang Tree
-parameters_rule schema number = value schema 512 (StructKind number false)
+parameters_rule schema number = value schema MAX_BRACKETS (StructKind number false)
 
 -- the word is the value that was prepared, of the struct of this number
 abbrev pub IsValueOf : Schema → ℕ → List ℕ → Prepared → Type 0

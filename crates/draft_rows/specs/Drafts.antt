@@ -43,6 +43,7 @@ join one two = record {
   order = one.order ++ two.order;
 }
 
+-- the definition whose row stands in this list under this number
 abbrev pub row_at : RowSort → ℕ → DefinitionRow
 row_at sort number = record { sort = sort; number = number }
 

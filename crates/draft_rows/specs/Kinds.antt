@@ -71,9 +71,11 @@ abbrev pub interface_at : DefinitionSort → Counts → Option ℕ
 interface_at sorts.Interface counts = Some counts.interfaces
 interface_at _ counts = None
 
+-- the number of the interface that a definition of this sort is, where it is one
 abbrev pub sort_interface : List FileRows → Target → DefinitionSort → Option ℕ
 sort_interface rows target sort = option_and_then (interface_at sort) (rows_before_target rows target)
 
+-- the number of the interface that a target is, where it is one
 abbrev pub target_interface : List FileRows → Scope → Target → Option ℕ
 target_interface rows scope target = option_and_then (sort_interface rows target) (sort_of scope.names target)
 
@@ -102,6 +104,7 @@ pending_kind pending.AssociatedReceiver nullable interface = AssociatedReceiverK
 abbrev pub count_of : Option Number → Option ℕ
 count_of count = option_map (λ (n : Number). held n.value) count
 
+-- the kind of a map of these keys and values, where there is a kind of the values
 abbrev pub with_value : Bool → KindTree → Option KindTree → Option KindTree
 with_value nullable key value = option_map (λ (v : KindTree). MapKind key v nullable) value
 

@@ -31,6 +31,7 @@ abbrev pub structs_with : Option (List Parameter) → ℕ
 structs_with None = 1
 structs_with (Some parameters) = 2
 
+-- how many structs a method has
 abbrev pub structs_of : Method → ℕ
 structs_of m = structs_with m.response
 
@@ -49,6 +50,7 @@ after counts (items.Interface item) =
     record counts { structs = counts.structs + structs_of_all (methods_in item.members); interfaces = counts.interfaces + 1 }
 after counts (items.Const item) = record counts { consts = counts.consts + 1 }
 
+-- so many rows, and those of definitions
 abbrev pub after_all : Counts → List Defined → Counts
 after_all counts definitions = fold (λ (before : Counts) (d : Defined). after before d.item) counts definitions
 
@@ -72,6 +74,7 @@ rows_from files counts (number ∷ numbers) =
     record { file = number; before = counts_before counts (definitions_at files number) }
     ∷ rows_from files (after_all counts (definitions_at files number)) numbers
 
+-- for each file of an order, how many rows stand before each of its definitions
 abbrev pub rows_of : List NamedFile → List ℕ → List FileRows
 rows_of files order = rows_from files no_rows order
 

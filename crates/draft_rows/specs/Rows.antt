@@ -10,7 +10,7 @@ use Rattle.mojom_ast.specs.declared.definitions.Const.{Const}
 use Rattle.mojom_ast.specs.declared.definitions.Enumerator.{Enumerator}
 use Rattle.mojom_ast.specs.declared.definitions.Method.{Method}
 use Rattle.mojom_ast.specs.declared.definitions.Parameter.{Parameter}
-use Rattle.mojom_files.specs.Names.{within}
+use Rattle.mj_base.specs.Names.{within}
 use Rattle.const_eval.specs.Ordinals.{NumberedAs, numbered_by}
 use Rattle.const_meanings.specs.Known.{Known, TextValue, BoolValue, NumberValue, FloatValue}
 use Rattle.mj_schema.specs.KindTrees.{KindTree}
@@ -46,6 +46,7 @@ literal_of FloatValue = None
 abbrev pub literal_in : Scope → Value → Option Literal
 literal_in scope value = option_and_then literal_of (known_in scope value)
 
+-- the row of a constant of this full name, kind and value
 abbrev pub const_with : List ℕ → KindTree → Literal → ConstRow
 const_with full kind value = record { name = full; kind = kind; value = value }
 
@@ -60,6 +61,7 @@ const_row rows scope full c =
 abbrev pub kind_in : List FileRows → Scope → Option TypeTree → Option KindTree
 kind_in rows scope kind = option_and_then (kind_of rows scope) kind
 
+-- the row of a field of this kind
 abbrev pub field_with : Scope → Member → KindTree → DraftField
 field_with scope member kind = record {
   name = member.name.text;
@@ -82,6 +84,7 @@ struct_row rows scope full members = record { name = full; fields = found_of (fi
 
 -- unions
 
+-- the row of a field of a union of this kind
 abbrev pub union_field_with : Numbered → KindTree → UnionFieldRow
 union_field_with one kind = record { name = one.member.name.text; tag = one.ordinal; kind = kind }
 
@@ -89,6 +92,7 @@ union_field_with one kind = record { name = one.member.name.text; tag = one.ordi
 abbrev pub union_field_row : List FileRows → Scope → Numbered → Option UnionFieldRow
 union_field_row rows scope one = option_map (union_field_with one) (kind_in rows scope one.member.kind)
 
+-- `[Extensible]` is among the attributes
 abbrev pub is_extensible : List Attribute → Bool
 is_extensible attributes = has_attribute (codes "Extensible") attributes
 
@@ -131,6 +135,7 @@ valued_from scope next (e ∷ es) =
 abbrev pub valued : Scope → List Enumerator → List Valued
 valued scope enumerators = valued_from scope (pos 0) enumerators
 
+-- the row of an enumerator with its number
 abbrev pub member_row : Valued → MemberRow
 member_row v = record { name = v.enumerator.name.text; number = v.number }
 

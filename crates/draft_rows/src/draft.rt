@@ -19,7 +19,7 @@ use crate::literal::const_row;
 use crate::row_table::RowTable;
 use const_eval::Consts;
 use kind_scope::ScopeView;
-use mj_base::Items;
+use mj_base::{FullName, Items};
 use mj_schema::{ConstRow, DefinitionRow, DraftStruct, EnumRow, InterfaceRow, RowSort, UnionRow};
 use module_resolver::Names;
 use mojom_ast::{Const, Enum, Interface, Method, Struct, Union};
@@ -131,7 +131,7 @@ fn add_interface(
     rows: &RowTable,
     scope: &ScopeView<'_>,
     counts: Counts,
-    full: &str,
+    full: &FullName,
     item: &Interface,
 ) -> Result<(), AllocError>
     ensures { OnOk result (lists_view lists.new ≡ join (lists_view lists.old) (draft_of_interface rows.now (scope_view scope.now) counts full.now item.now)) }
@@ -154,7 +154,7 @@ fn add_struct(
     rows: &RowTable,
     scope: &ScopeView<'_>,
     counts: Counts,
-    full: &str,
+    full: &FullName,
     item: &Struct,
 ) -> Result<(), AllocError>
     ensures { OnOk result (lists_view lists.new ≡ join (lists_view lists.old) (draft_of_struct rows.now (scope_view scope.now) counts full.now item.now)) }
@@ -177,8 +177,8 @@ fn add_union(
     ensures { OnOk result (lists_view lists.new ≡ join (lists_view lists.old)
         (draft_of_union rows.now (scope_view scope.now) counts view.now.full view.now.attributes item.now)) }
 {
-    let full = view.full(alloc)?;
-    let row = row_of_union(alloc, rows, scope, full.as_str(), view.attributes(), item)?;
+    let full = view.kept(alloc)?;
+    let row = row_of_union(alloc, rows, scope, &full, view.attributes(), item)?;
     lists.unions.push(row)?;
     add_row(&mut lists.order, RowSort::Union, counts.unions)
 }
@@ -195,8 +195,8 @@ fn add_enum(
     ensures { OnOk result (lists_view lists.new ≡ join (lists_view lists.old)
         (draft_of_enum (scope_view scope.now) counts view.now.full view.now.attributes item.now)) }
 {
-    let full = view.full(alloc)?;
-    let row = row_of_enum(alloc, scope, full.as_str(), view.attributes(), item)?;
+    let full = view.kept(alloc)?;
+    let row = row_of_enum(alloc, scope, &full, view.attributes(), item)?;
     lists.enums.push(row)?;
     add_row(&mut lists.order, RowSort::Enum, counts.enums)
 }
@@ -208,7 +208,7 @@ fn add_const(
     rows: &RowTable,
     scope: &ScopeView<'_>,
     counts: Counts,
-    full: &str,
+    full: &FullName,
     item: &Const,
 ) -> Result<(), AllocError>
     ensures { OnOk result (lists_view lists.new ≡ join (lists_view lists.old) (draft_of_const rows.now (scope_view scope.now) counts full.now item.now)) }
@@ -233,14 +233,13 @@ fn add_within(
     ensures { OnOk result (lists_view lists.new ≡ join (lists_view lists.old)
         (draft_of_item rows.now (scope_view scope.now) counts view.now.full view.now.attributes view.now.item)) }
 {
-    let name = view.full(alloc)?;
-    let full = name.as_str();
+    let full = view.kept(alloc)?;
     match view.item() {
-        ItemView::Struct(item) => add_struct(alloc, lists, rows, inner, counts, full, item),
+        ItemView::Struct(item) => add_struct(alloc, lists, rows, inner, counts, &full, item),
         ItemView::Union(item) => add_union(alloc, lists, rows, inner, counts, view, item),
         ItemView::Enum(item) => add_enum(alloc, lists, inner, counts, view, item),
-        ItemView::Interface(item) => add_interface(alloc, lists, rows, inner, counts, full, item),
-        ItemView::Const(item) => add_const(alloc, lists, rows, scope, counts, full, item),
+        ItemView::Interface(item) => add_interface(alloc, lists, rows, inner, counts, &full, item),
+        ItemView::Const(item) => add_const(alloc, lists, rows, scope, counts, &full, item),
     }
 }
 

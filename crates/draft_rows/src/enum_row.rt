@@ -9,7 +9,7 @@ ghost use Rattle.draft_rows.specs.steps.Views.{valued_view};
 use crate::member_row::is_extensible;
 use const_meanings::KnownView;
 use kind_scope::{ScopeView, is_default, known_in};
-use mj_base::Text;
+use mj_base::{FullName, Text};
 use mj_schema::{EnumRow, MemberRow, MemberRows};
 use mojom_ast::{Attribute, Enumerator, Value};
 use std::alloc::{AllocError, Global};
@@ -110,14 +110,14 @@ fn default_in(ones: &[ValuedView<'_>]) -> Option<i32>
 /// The enum of this full name and these enumerators.
 pub fn enum_row(
     alloc: Global,
-    full: &str,
+    full: &FullName,
     attributes: &[Attribute],
     ones: &[ValuedView<'_>],
 ) -> Result<EnumRow, AllocError>
     ensures { IfOk result (λ made. made ≡ enum_row full.now attributes.now (map valued_view ones.now)) }
 {
     Ok(EnumRow {
-        name: Text::from_str(alloc, full)?,
+        name: full.share(alloc)?,
         extensible: is_extensible(attributes),
         members: member_rows(alloc, ones)?,
         default: default_in(ones),

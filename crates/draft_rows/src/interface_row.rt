@@ -2,6 +2,7 @@
 
 ghost use Rattle.std.specs.Prelude.{◌≡◌, ◌++◌, map, IfOk, OnOk};
 ghost use Rattle.std.specs.Option.{option_to_list};
+ghost use Rattle.mj_base.specs.Names.{within};
 ghost use Rattle.draft_rows.specs.Rows.{method_row, method_rows, interface_row, parameters_row, response_row, method_structs, structs_of_methods};
 ghost use Rattle.kind_scope.specs.Views.{scope_view};
 
@@ -9,10 +10,9 @@ use crate::counts::{more, structs_of};
 use crate::member_row::struct_row;
 use crate::row_table::RowTable;
 use kind_scope::{ScopeView, held, ordinal_at, parameters};
-use mj_base::{Items, Text};
+use mj_base::{FullName, Items, OuterName, Text};
 use mj_schema::{DraftStruct, InterfaceRow, MethodRow};
 use mojom_ast::{Method, Parameter};
-use mojom_files::within;
 use std::alloc::{AllocError, Global};
 
 /// The row of a method whose request has this number.
@@ -61,7 +61,7 @@ fn method_rows(
 /// this version.
 pub fn interface_row(
     alloc: Global,
-    full: &str,
+    full: &FullName,
     first: u32,
     methods: &[&Method],
     version: u32,
@@ -69,7 +69,7 @@ pub fn interface_row(
     ensures { IfOk result (λ made. made ≡ interface_row full.now first (map (λ m. m.now) methods.now) version) }
 {
     Ok(InterfaceRow {
-        name: Text::from_str(alloc, full)?,
+        name: full.share(alloc)?,
         methods: method_rows(alloc, first, methods)?,
         version,
     })
@@ -80,7 +80,7 @@ fn parameters_row(
     alloc: Global,
     rows: &RowTable,
     scope: &ScopeView<'_>,
-    full: &str,
+    full: &FullName,
     list: &[Parameter],
 ) -> Result<DraftStruct, AllocError>
     ensures { IfOk result (λ made. made ≡ parameters_row rows.now (scope_view scope.now) full.now list.now) }
@@ -95,7 +95,7 @@ fn add_response(
     structs: &mut Vec<DraftStruct>,
     rows: &RowTable,
     scope: &ScopeView<'_>,
-    full: &str,
+    full: &FullName,
     response: &Option<Items<Parameter>>,
 ) -> Result<(), AllocError>
     ensures { OnOk result (structs.new.items ≡ structs.old.items ++ option_to_list (response_row rows.now (scope_view scope.now) full.now response.now)) }
@@ -106,29 +106,42 @@ fn add_response(
     Ok(())
 }
 
-/// Adds the structs of the method of this full name.
+/// Adds the structs of a method of the interface of this full name.
 fn add_method(
     alloc: Global,
     structs: &mut Vec<DraftStruct>,
     rows: &RowTable,
     scope: &ScopeView<'_>,
-    full: &str,
+    full: &OuterName,
     method: &Method,
 ) -> Result<(), AllocError>
-    ensures { OnOk result (structs.new.items ≡ structs.old.items ++ method_structs rows.now (scope_view scope.now) full.now method.now) }
+    ensures { OnOk result (structs.new.items ≡ structs.old.items
+        ++ method_structs rows.now (scope_view scope.now) (within full.now method.now.name.text) method.now) }
 {
-    let request = within(alloc, full, "request")?;
+    let name = method.name.text.as_str();
+    let request = full.inner_of(alloc, name, "request")?;
     let list = method.request.as_slice();
-    structs.push(parameters_row(alloc, rows, scope, request.as_str(), list)?)?;
-    let response = within(alloc, full, "response")?;
-    add_response(
-        alloc,
-        structs,
-        rows,
-        scope,
-        response.as_str(),
-        &method.response,
-    )
+    structs.push(parameters_row(alloc, rows, scope, &request, list)?)?;
+    let response = full.inner_of(alloc, name, "response")?;
+    add_response(alloc, structs, rows, scope, &response, &method.response)
+}
+
+/// Adds the structs of methods of the interface of this full name, which is kept for all of them.
+fn add_each_method(
+    alloc: Global,
+    structs: &mut Vec<DraftStruct>,
+    rows: &RowTable,
+    scope: &ScopeView<'_>,
+    full: &OuterName,
+    methods: &[&Method],
+) -> Result<(), AllocError>
+    ensures { OnOk result (structs.new.items ≡ structs.old.items
+        ++ structs_of_methods rows.now (scope_view scope.now) full.now (map (λ m. m.now) methods.now)) }
+{
+    for method in methods {
+        add_method(alloc, structs, rows, scope, full, method)?;
+    }
+    Ok(())
 }
 
 /// Adds the structs of the methods of the interface of this full name.
@@ -137,15 +150,12 @@ pub fn add_methods(
     structs: &mut Vec<DraftStruct>,
     rows: &RowTable,
     scope: &ScopeView<'_>,
-    full: &str,
+    full: &FullName,
     methods: &[&Method],
 ) -> Result<(), AllocError>
     ensures { OnOk result (structs.new.items ≡ structs.old.items
         ++ structs_of_methods rows.now (scope_view scope.now) full.now (map (λ m. m.now) methods.now)) }
 {
-    for method in methods {
-        let name = within(alloc, full, method.name.text.as_str())?;
-        add_method(alloc, structs, rows, scope, name.as_str(), method)?;
-    }
-    Ok(())
+    let outer = full.for_inner(alloc)?;
+    add_each_method(alloc, structs, rows, scope, &outer, methods)
 }

@@ -10,6 +10,7 @@ use crate::enum_row::{enum_row, valued};
 use crate::member_row::{struct_row, union_row};
 use crate::row_table::RowTable;
 use kind_scope::{ScopeView, fields, union_fields};
+use mj_base::FullName;
 use mj_schema::{DraftStruct, EnumRow, UnionRow};
 use mojom_ast::{Attribute, Enum, Struct, Union};
 use std::alloc::{AllocError, Global};
@@ -19,7 +20,7 @@ pub fn row_of_struct(
     alloc: Global,
     rows: &RowTable,
     scope: &ScopeView<'_>,
-    full: &str,
+    full: &FullName,
     item: &Struct,
 ) -> Result<DraftStruct, AllocError>
     ensures { IfOk result (λ made. made ≡ struct_row rows.now (scope_view scope.now) full.now (flat_map field_of item.now.members)) }
@@ -33,7 +34,7 @@ pub fn row_of_union(
     alloc: Global,
     rows: &RowTable,
     scope: &ScopeView<'_>,
-    full: &str,
+    full: &FullName,
     attributes: &[Attribute],
     item: &Union,
 ) -> Result<UnionRow, AllocError>
@@ -47,7 +48,7 @@ pub fn row_of_union(
 pub fn row_of_enum(
     alloc: Global,
     scope: &ScopeView<'_>,
-    full: &str,
+    full: &FullName,
     attributes: &[Attribute],
     item: &Enum,
 ) -> Result<EnumRow, AllocError>

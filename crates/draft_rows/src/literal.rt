@@ -9,7 +9,7 @@ use crate::kind_of::kind_of;
 use crate::row_table::RowTable;
 use const_meanings::KnownView;
 use kind_scope::{ScopeView, known_in};
-use mj_base::{Items, Text};
+use mj_base::{FullName, Items};
 use mj_schema::{ConstRow, Literal};
 use mojom_ast::{Const, Value};
 use std::alloc::{AllocError, Global};
@@ -48,7 +48,7 @@ pub fn const_row(
     alloc: Global,
     rows: &RowTable,
     scope: &ScopeView<'_>,
-    full: &str,
+    full: &FullName,
     item: &Const,
 ) -> Result<Option<ConstRow>, AllocError>
     ensures { IfOk result (λ made. made ≡ const_row rows.now (scope_view scope.now) full.now item.now) }
@@ -59,6 +59,6 @@ pub fn const_row(
     let Some(value) = literal_in(alloc, scope, &item.value)? else {
         return Ok(None);
     };
-    let name = Text::from_str(alloc, full)?;
+    let name = full.share(alloc)?;
     Ok(Some(ConstRow { name, kind, value }))
 }

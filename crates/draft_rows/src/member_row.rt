@@ -12,7 +12,7 @@ use crate::row_table::RowTable;
 use kind_scope::{
     MemberView, NumberedView, ScopeView, along_ordinals, has_attribute, numbered, version_of,
 };
-use mj_base::{Items, Text};
+use mj_base::{FullName, Items, Text};
 use mj_schema::{DraftField, DraftStruct, Kind, Literal, UnionFieldRow, UnionFieldRows, UnionRow};
 use mojom_ast::{Attribute, Type, Value};
 use std::alloc::{AllocError, Global};
@@ -104,7 +104,7 @@ pub fn struct_row(
     alloc: Global,
     rows: &RowTable,
     scope: &ScopeView<'_>,
-    full: &str,
+    full: &FullName,
     members: &[MemberView<'_>],
 ) -> Result<DraftStruct, AllocError>
     ensures { IfOk result (λ made. made ≡ struct_row rows.now (scope_view scope.now) full.now (map member_view members.now)) }
@@ -112,7 +112,7 @@ pub fn struct_row(
     let ones = numbered(alloc, members)?;
     let sorted = along_ordinals(alloc, ones.as_slice())?;
     let fields = field_rows(alloc, rows, scope, sorted.as_slice())?;
-    let name = Text::from_str(alloc, full)?;
+    let name = full.share(alloc)?;
     Ok(DraftStruct { name, fields })
 }
 
@@ -164,7 +164,7 @@ pub fn union_row(
     alloc: Global,
     rows: &RowTable,
     scope: &ScopeView<'_>,
-    full: &str,
+    full: &FullName,
     attributes: &[Attribute],
     members: &[MemberView<'_>],
 ) -> Result<UnionRow, AllocError>
@@ -172,7 +172,7 @@ pub fn union_row(
 {
     let ones = numbered(alloc, members)?;
     let fields = union_field_rows(alloc, rows, scope, ones.as_slice())?;
-    let name = Text::from_str(alloc, full)?;
+    let name = full.share(alloc)?;
     Ok(UnionRow {
         name,
         extensible: is_extensible(attributes),

@@ -9,12 +9,14 @@ use kind_scope::{Meant, ScopeView};
 use module_resolver::{DefinitionSort, Target};
 use mojom_files::Basic;
 
+/// Whether this is float or double.
 fn is_float_basic(basic: Basic) -> bool
     ensures { result ≡ is_float_basic basic }
 {
     matches!(basic, Basic::Float | Basic::Double)
 }
 
+/// Whether this is string.
 fn is_text_basic(basic: Basic) -> bool
     ensures { result ≡ is_text_basic basic }
 {
@@ -28,12 +30,14 @@ fn is_number_basic(basic: Basic) -> bool
     !(is_float_basic(basic) || is_text_basic(basic))
 }
 
+/// Whether this is an enum.
 fn is_enum(sort: Option<DefinitionSort>) -> bool
     ensures { result ≡ is_enum sort }
 {
     matches!(sort, Some(DefinitionSort::Enum))
 }
 
+/// Whether this is a struct or a union.
 fn is_struct_or_union(sort: Option<DefinitionSort>) -> bool
     ensures { result ≡ is_struct_or_union sort }
 {

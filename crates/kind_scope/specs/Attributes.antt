@@ -9,5 +9,6 @@ use Rattle.mojom_ast.specs.declared.definitions.Enumerator.{Enumerator}
 abbrev pub has_attribute : List ℕ → List Attribute → Bool
 has_attribute name attributes = list_any (λ (a : Attribute). bytes_eq a.name.text name) attributes
 
+-- an enumerator has `[Default]`
 abbrev pub is_default : Enumerator → Bool
 is_default e = has_attribute (codes "Default") e.attributes

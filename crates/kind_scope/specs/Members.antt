@@ -32,12 +32,15 @@ field_in attributes (struct_items.Field f) =
 field_in attributes (struct_items.Const c) = []
 field_in attributes (struct_items.Enum e) = []
 
+-- the field that a member of a struct is, with the attributes before it
 abbrev pub field_of : StructMember → List Member
 field_of member = field_in member.attributes member.item
 
+-- a field of a union
 abbrev pub union_field_of : UnionField → Member
 union_field_of f = record { name = f.name; attributes = f.attributes; kind = Some f.kind; ordinal = f.ordinal; default = None }
 
+-- a parameter
 abbrev pub parameter_of : Parameter → Member
 parameter_of p = record { name = p.name; attributes = p.attributes; kind = Some p.kind; ordinal = p.ordinal; default = None }
 
@@ -48,6 +51,7 @@ method_in attributes (interface_items.Method m) =
 method_in attributes (interface_items.Const c) = []
 method_in attributes (interface_items.Enum e) = []
 
+-- the method that a member of an interface is, with the attributes before it
 abbrev pub method_of : InterfaceMember → List Member
 method_of member = method_in member.attributes member.item
 

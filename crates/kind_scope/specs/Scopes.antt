@@ -39,5 +39,6 @@ inside scope full = record { names = scope.names; consts = scope.consts; file = 
 abbrev pub around : List FileNames → Consts → ℕ → Option (List ℕ) → Scope
 around names consts file enclosing = record { names = names; consts = consts; file = file; enclosing = enclosing }
 
+-- what is known of a value that is written here
 abbrev pub known_in : Scope → Value → Option Known
 known_in scope value = value_in scope.consts scope.names scope.file scope.enclosing value

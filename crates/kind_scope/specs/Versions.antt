@@ -13,6 +13,7 @@ abbrev pub held_whole : ℤ → ℕ
 held_whole (pos n) = held n
 held_whole (negsuc n) = 0
 
+-- a value as a version: what is no number counts as 0
 abbrev pub version_of_known : Known → ℕ
 version_of_known (NumberValue number) = held_whole number
 version_of_known _ = 0

@@ -158,6 +158,24 @@ fn add_lists(
     Ok(())
 }
 
+/// Adds what is wrong with a definition, and with what stands in it.
+fn add_definition(
+    alloc: Global,
+    reasons: &mut Vec<Reason>,
+    given: Given<'_>,
+    file: usize,
+    definition: &DefinitionView<'_>,
+) -> Result<(), AllocError> {
+    let enclosing = definition.enclosing(alloc)?;
+    let here = Here {
+        given,
+        file,
+        enclosing: &enclosing,
+    };
+    add_outside(alloc, reasons, here, definition)?;
+    add_lists(alloc, reasons, given, file, definition)
+}
+
 /// Why the file of this number is refused for its constants and numbers, where no name is.
 pub fn reasons_of_consts(
     alloc: Global,
@@ -170,14 +188,7 @@ pub fn reasons_of_consts(
     };
     add_things(alloc, &mut reasons, given, file)?;
     for definition in &definitions(alloc, &named.tree)? {
-        let enclosing = definition.enclosing(alloc)?;
-        let here = Here {
-            given,
-            file,
-            enclosing: &enclosing,
-        };
-        add_outside(alloc, &mut reasons, here, definition)?;
-        add_lists(alloc, &mut reasons, given, file, definition)?;
+        add_definition(alloc, &mut reasons, given, file, definition)?;
     }
     Ok(reasons)
 }

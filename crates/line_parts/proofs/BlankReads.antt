@@ -8,6 +8,7 @@ use Rattle.byte_rules.specs.declared.stop.Stop.{Stop}
 use Rattle.byte_rules.specs.Lang.{Lang, byte, never}
 use Rattle.byte_rules.specs.Judged.{Spells, IsBad}
 use Rattle.byte_rules.specs.Reading.{Fails}
+use Rattle.value_text.specs.Brackets.{MAX_BRACKETS}
 use Rattle.value_text.specs.Rules.{value}
 use Rattle.value_text.specs.Texts.{Tells}
 use Rattle.value_text.specs.declared.text_error.TextError.{TextError}
@@ -29,12 +30,12 @@ refused one bytes e at is told = subst (λ (e : TextError). Tells one bytes (Err
 module _ (schema : Schema) (kind : KindTree) where
   -- the texts of the kind
   abbrev one : Lang Tree
-  one = value schema 512 kind
+  one = value schema MAX_BRACKETS kind
 
   -- all bytes are a value
   pub nothing : (bytes : List ℕ) (x : Tree) → Spells one x bytes → (value_and_blank schema kind).read bytes ≡ Err 0
   unfolding value_and_blank
-  nothing bytes x s = reads.nothing_behind one (good_kind schema 512 kind) blank refl bytes x s
+  nothing bytes x s = reads.nothing_behind one (good_kind schema MAX_BRACKETS kind) blank refl bytes x s
 
   -- the bytes behind a place, as a slice has them
   abbrev behind : ℕ → List ℕ → List ℕ
@@ -44,18 +45,18 @@ module _ (schema : Schema) (kind : KindTree) where
   pub other : (bytes : List ℕ) (at : ℕ) (e : Stop) → IsBad one bytes at → Fails e ((byte blank).read (behind at bytes))
       → Fails e ((value_and_blank schema kind).read bytes)
   unfolding value_and_blank
-  other bytes at e bad f = reads.other_behind one (good_kind schema 512 kind) blank refl bytes at e bad
+  other bytes at e bad f = reads.other_behind one (good_kind schema MAX_BRACKETS kind) blank refl bytes at e bad
       (subst (λ (l : List ℕ). Fails e ((byte blank).read l)) (take_rest bytes at) f)
 
   -- a blank stands there, behind a value or not
   pub whole : (bytes after : List ℕ) (at b : ℕ) (x : Tree) → (byte blank).read (behind at bytes) ≡ Ok (b, after) → Spells one x (take at bytes)
       → (value_and_blank schema kind).read bytes ≡ Ok (x, after)
   unfolding value_and_blank
-  whole bytes after at b x r s = reads.value_behind one (good_kind schema 512 kind) blank refl bytes after at b x
+  whole bytes after at b x r s = reads.value_behind one (good_kind schema MAX_BRACKETS kind) blank refl bytes after at b x
       (ap (byte blank).read (sym (take_rest bytes at)) ∙ r) s
 
   pub none : (bytes : List ℕ) (at place : ℕ) → IsBad one bytes at → IsBad one (take at bytes) place
       → (value_and_blank schema kind).read bytes ≡ Err (length (behind at bytes))
   unfolding value_and_blank
-  none bytes at place bad inside = reads.none_behind one (good_kind schema 512 kind) blank refl bytes at bad (λ x s. inside.none x s)
+  none bytes at place bad inside = reads.none_behind one (good_kind schema MAX_BRACKETS kind) blank refl bytes at bad (λ x s. inside.none x s)
       ∙ ap (λ (l : List ℕ). Err (length l)) (sym (take_rest bytes at))

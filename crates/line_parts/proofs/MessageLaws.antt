@@ -7,6 +7,7 @@ use Rattle.wire_model.specs.Trees.{Tree}
 use Rattle.wire_model.specs.declared.target.MessageSide.{MessageSide}
 use Rattle.wire_model.specs.declared.target.Target.{Target}
 use Rattle.byte_rules.proofs.Good.{Good, nothing, good_value, good_closed, good_never, good_then, good_before, good_wider}
+use Rattle.value_text.specs.Brackets.{MAX_BRACKETS}
 use Rattle.value_text.proofs.KindLaws.{value_starts, good_kind}
 use Rattle.line_parts.specs.Signs.{blank}
 use Rattle.line_parts.specs.Names.{messages_of}
@@ -19,7 +20,7 @@ use Rattle.line_parts.proofs.NameLaws.{is_not_blank, blank_apart, AreWords, mess
 
 pub good_value_and_blank : (schema : Schema) (kind : KindTree) → Good value_starts nothing (value_and_blank schema kind)
 unfolding value_and_blank
-good_value_and_blank schema kind = good_then _ (good_kind schema 512 kind) (λ v. good_closed blank v) blank_no_digit
+good_value_and_blank schema kind = good_then _ (good_kind schema MAX_BRACKETS kind) (λ v. good_closed blank v) blank_no_digit
 
 good_parameters : (schema : Schema) (other : Target) (found : Option Message) → Good (λ b. b == blank) nothing (parameters schema other found)
 good_parameters schema other None = good_wider (λ b. b == blank) nothing (good_never (other, values.Null)) (λ b e. absurd (cc)) (λ b e. refl)

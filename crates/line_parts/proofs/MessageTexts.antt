@@ -18,6 +18,7 @@ use Rattle.byte_rules.proofs.Finds.{Free, Outcome}
 use Rattle.byte_rules.proofs.Judging.{reads}
 use Rattle.byte_rules.proofs.Parts.{Parts}
 use Rattle.byte_rules.proofs.Shown.{Shown, shown_then, shown_closed}
+use Rattle.value_text.specs.Brackets.{MAX_BRACKETS}
 use Rattle.value_text.specs.Numbers.{is_digit}
 use Rattle.value_text.specs.Rules.{value}
 use Rattle.value_text.specs.Spelling.{spell}
@@ -41,7 +42,7 @@ use Rattle.line_parts.proofs.TokenTexts.{texts_tokens}
 module _ (schema : Schema) (kind : KindTree) where
   -- the texts of the kind
   abbrev one : Lang Tree
-  one = value schema 512 kind
+  one = value schema MAX_BRACKETS kind
 
   -- the text of a value, and a blank
   abbrev text : Tree → List ℕ
@@ -59,7 +60,7 @@ module _ (schema : Schema) (kind : KindTree) where
 
   -- bytes that spell a value are its text wherever they stand
   shown_of : (v : Tree) (w : List ℕ) → Spells one v w → Shown one v w
-  shown_of v w s = of (one.read w) (reads one (good_kind schema 512 kind) w v s) ((good_kind schema 512 kind).tells w)
+  shown_of v w s = of (one.read w) (reads one (good_kind schema MAX_BRACKETS kind) w v s) ((good_kind schema MAX_BRACKETS kind).tells w)
     where
       of : (r : Read Tree) → r ≡ Ok (v, []) → Told one w r → Shown one v w
       of (Err n) e t = absurd (cc)
@@ -75,15 +76,15 @@ module _ (schema : Schema) (kind : KindTree) where
 
   from_value : Parts (Is (λ (v : Tree). Spells one v (spell schema kind v)) text) (value_and_blank schema kind)
   unfolding value_and_blank
-  from_value K p h = of (one.read (p ++ [])) ((good_kind schema 512 kind).finds Whole (Next K) (free K) p [] refl h)
-      ((good_kind schema 512 kind).tells (p ++ []))
+  from_value K p h = of (one.read (p ++ [])) ((good_kind schema MAX_BRACKETS kind).finds Whole (Next K) (free K) p [] refl h)
+      ((good_kind schema MAX_BRACKETS kind).tells (p ++ []))
     where
       done : (v : Tree) (f q : List ℕ) → p ≡ f ++ q → Next K v q → Shown one v f
           → (x : Tree) × (w : List ℕ) × (r : List ℕ) × Is (λ (v : Tree). Spells one v (spell schema kind v)) text x w × (p ≡ w ++ r) × K x r
       done v f [] e n s = absurd n
       done v f (b ∷ q) e n s =
           let spelled : Spells one v f = subst (λ (l : List ℕ). Spells one v l) (append-nil f) (s Whole (λ x rest. (rest ≡ []) × (x ≡ v)) [] (refl, refl)) in
-          let is : f ≡ spell schema kind v = one_text schema 512 kind v f spelled in
+          let is : f ≡ spell schema kind v = one_text schema MAX_BRACKETS kind v f spelled in
           let c : b ≡ blank = eqb-true b blank n.0 in (
             v,
             text v,
@@ -113,7 +114,7 @@ module _ (schema : Schema) (kind : KindTree) where
 
 -- the parameters of a message
 abbrev Parameters : Schema → Message → Target × Tree → Type 0
-Parameters schema m p = (p.0 ≡ m.target) × Spells (value schema 512 (StructKind m.parameters false)) p.1 (spell schema (StructKind m.parameters false) p.1)
+Parameters schema m p = (p.0 ≡ m.target) × Spells (value schema MAX_BRACKETS (StructKind m.parameters false)) p.1 (spell schema (StructKind m.parameters false) p.1)
 
 -- the text of parameters between blanks
 abbrev parameters_spelled : Schema → Message → Target × Tree → List ℕ
@@ -179,7 +180,7 @@ module _ (schema : Schema) (side : MessageSide) where
   text_is target v = sym (append_assoc (method_text schema target.interface target.method) (blank ∷ parameters_text schema target v) (blank ∷ []))
 
   made : (m : Message) (v : Tree) (w : List ℕ) → meaning entries (word_of m) ≡ Some m
-      → Spells (value schema 512 (StructKind m.parameters false)) v (spell schema (StructKind m.parameters false) v)
+      → Spells (value schema MAX_BRACKETS (StructKind m.parameters false)) v (spell schema (StructKind m.parameters false) v)
       → w ≡ word_of m ++ parameters_spelled schema m (m.target, v) → Is (λ (p : Target × Tree). IsMessage schema side p.0 p.1) whole (m.target, v) w
   made m v w means spells e =
       let k : StructKind m.parameters false ≡ kind_for (parameters_of schema m.target) = sym (kind_is m means) in (
@@ -189,8 +190,8 @@ module _ (schema : Schema) (side : MessageSide) where
       )
     where
       ap_spells : StructKind m.parameters false ≡ kind_for (parameters_of schema m.target)
-          → Spells (value schema 512 (StructKind m.parameters false)) v (parameters_text schema m.target v)
-      ap_spells k = subst (λ (kind : KindTree). Spells (value schema 512 (StructKind m.parameters false)) v (spell schema kind v)) k spells
+          → Spells (value schema MAX_BRACKETS (StructKind m.parameters false)) v (parameters_text schema m.target v)
+      ap_spells k = subst (λ (kind : KindTree). Spells (value schema MAX_BRACKETS (StructKind m.parameters false)) v (spell schema kind v)) k spells
 
   there : (p : Target × Tree) (w : List ℕ) → Linked p w → Is (λ (p : Target × Tree). IsMessage schema side p.0 p.1) whole p w
   there p w h =
@@ -217,7 +218,7 @@ module _ (schema : Schema) (side : MessageSide) where
           (
             (
               refl,
-              subst (λ (kind : KindTree). Spells (value schema 512 (StructKind h.0.number false)) p.1
+              subst (λ (kind : KindTree). Spells (value schema MAX_BRACKETS (StructKind h.0.number false)) p.1
                   (spell schema kind p.1)) k h.0.spells,
             ),
             refl,

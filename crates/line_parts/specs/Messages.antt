@@ -10,6 +10,7 @@ use Rattle.wire_model.specs.declared.target.Target.{Target}
 use Rattle.bind_model.specs.declared.endpoint.PendingId.{PendingId}
 use Rattle.bind_model.specs.declared.asked.Outgoing.{Outgoing}
 use Rattle.byte_rules.specs.Lang.{Lang, as_value, closed, never, ◌then◌, ◌▸◌}
+use Rattle.value_text.specs.Brackets.{MAX_BRACKETS}
 use Rattle.value_text.specs.Rules.{value}
 use Rattle.line_parts.specs.Signs.{blank}
 use Rattle.line_parts.specs.Names.{named, messages_of}
@@ -19,7 +20,7 @@ use Rattle.line_parts.specs.declared.names.Names.{Names}
 
 -- a value of a kind, with no more brackets open at once than a text may have, and a blank
 unfoldable pub value_and_blank : Schema → KindTree → Lang Tree
-value_and_blank schema kind = value schema 512 kind then λ v. closed blank v
+value_and_blank schema kind = value schema MAX_BRACKETS kind then λ v. closed blank v
 
 -- the parameters of a message, between blanks: a value of its struct
 abbrev pub parameters_of : Schema → Message → Lang (Target × Tree)

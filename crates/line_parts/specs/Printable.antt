@@ -14,6 +14,7 @@ use Rattle.bind_model.specs.declared.asked.Outgoing.{Outgoing}
 use Rattle.bind_model.specs.declared.endpoint.PendingId.{PendingId}
 use Rattle.bind_model.specs.declared.endpoint.ResponderId.{ResponderId}
 use Rattle.byte_rules.specs.Judged.{Spells}
+use Rattle.value_text.specs.Brackets.{MAX_BRACKETS}
 use Rattle.value_text.specs.Rules.{value}
 use Rattle.history_text.specs.History.{parameters_text}
 use Rattle.history_text.specs.Names.{interface_name, method_text}
@@ -80,7 +81,7 @@ pub record IsMessage (schema : Schema) (side : MessageSide) (target : Target) (p
   pub number : ℕ
   pub means : meaning (messages_of (names_of schema) side) (method_text schema target.interface target.method) ≡ Some
       (record { target = target; parameters = number })
-  pub spells : Spells (value schema 512 (StructKind number false)) parameters (parameters_text schema target parameters)
+  pub spells : Spells (value schema MAX_BRACKETS (StructKind number false)) parameters (parameters_text schema target parameters)
 
 -- what is sent: a message of this side, and handles, pending endpoints and a moment whose numbers are of their widths
 abbrev pub IsOutgoing : Schema → MessageSide → Outgoing → Type 0

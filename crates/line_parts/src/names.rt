@@ -74,7 +74,8 @@ fn interface_words(alloc: Global, rows: &[InterfaceRow]) -> Result<Vec<Entry<u32
 {
     let mut words = Vec::new(alloc);
     for (number, row) in rows.iter().enumerate() {
-        let text = Vec::from_slice(alloc, row.name.as_str().as_bytes())?;
+        let full = row.name.full(alloc)?;
+        let text = Vec::from_slice(alloc, full.as_str().as_bytes())?;
         push_word(&mut words, text, number as u32)?;
     }
     Ok(words)
@@ -135,7 +136,8 @@ fn push_messages(
     ensures { OnOk result (words.new.items ≡ words.old.items
         ++ that_are_words (flat_map (λ method. message_in side interface row.now.name method (struct_of side method)) row.now.methods)) }
 {
-    let name = row.name.as_str().as_bytes();
+    let full = row.name.full(alloc)?;
+    let name = full.as_str().as_bytes();
     for method in row.methods.as_slice() {
         push_message(alloc, words, side, interface, name, method)?;
     }

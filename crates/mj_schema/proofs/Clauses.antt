@@ -1,6 +1,6 @@
 -- What the type of a schema keeps, part by part.
 use Rattle.std.proofs.Common.{◌≡◌, length, map}
-use Rattle.std.specs.Prelude.{true, ◌&&◌}
+use Rattle.std.specs.Prelude.{true}
 use Rattle.std.specs.List.{list_all}
 use Rattle.std.proofs.lemmas.Bool.{and_parts}
 use Rattle.mj_schema.specs.declared.rows.InterfaceRow.{InterfaceRow}

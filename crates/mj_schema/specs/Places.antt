@@ -20,9 +20,10 @@ pub record AreOrdered (keys : List ℤ) (places : List KeyPlace) : Type 0 where
   pub all : IsPermutation (places_from 0 keys) places
   pub rising : IsSortedBy is_before places
 
--- a member's number, and a field's tag as such a key
+-- a member's number as such a key
 abbrev pub number_of : MemberRow → ℤ
 number_of member = member.number
 
+-- a field's tag as such a key
 abbrev pub tag_of : UnionFieldRow → ℤ
 tag_of field = pos field.tag

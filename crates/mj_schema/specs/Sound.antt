@@ -119,6 +119,7 @@ is_sound_interface row =
 
 -- the order of definitions
 
+-- whether two sorts of rows are the same
 abbrev pub same_sort : RowSort → RowSort → Bool
 same_sort sorts.Struct sorts.Struct = true
 same_sort sorts.Union sorts.Union = true

@@ -7,7 +7,7 @@ use Rattle.std.specs.Str.{bytes_eq}
 use Rattle.std.proofs.lemmas.Grind.{flat_map-append}
 use Rattle.std.proofs.lemmas.List.{length-map, get_or-map}
 use Rattle.import_order.specs.Numbers.{number_of}
-use Rattle.mojom_files.specs.Names.{within}
+use Rattle.mj_base.specs.Names.{within}
 use Rattle.module_resolver.specs.declared.target.Target.{Target}
 use Rattle.module_resolver.specs.steps.Owners.{file_of, where_seen, owner, Notes}
 use Rattle.module_resolver.proofs.Owned.{number_noted}

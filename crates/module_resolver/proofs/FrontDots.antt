@@ -4,7 +4,7 @@ use Rattle.std.specs.Prelude.{reverse}
 use Rattle.std.proofs.Math.Seq.{take-length}
 use Rattle.std.proofs.lemmas.List.{get_or_default, map-append}
 use Rattle.mojom_ast.specs.declared.names.Identifier.{Identifier}
-use Rattle.mojom_files.specs.Names.{within}
+use Rattle.mj_base.specs.Names.{within}
 use Rattle.module_resolver.specs.NamesOf.{texts_from, fronts_of}
 use Rattle.module_resolver.specs.steps.Cuts.{Falls}
 use Rattle.module_resolver.specs.steps.Dots.{dots_in}

@@ -9,7 +9,7 @@ use Rattle.std.proofs.Math.Seq.{take-length}
 use Rattle.std.proofs.lemmas.Option.{slice_get-map, none-some, same_Some}
 use Rattle.indexmap.specs.IndexMap.{get}
 use Rattle.mojom_ast.specs.declared.names.Identifier.{Identifier}
-use Rattle.mojom_files.specs.Names.{within}
+use Rattle.mj_base.specs.Names.{within}
 use Rattle.name_tree.specs.Walks.{walk, Grows}
 use Rattle.name_tree.specs.Trees.{child, count, IsNameTree}
 use Rattle.name_tree.proofs.Walks.{two_walks, in_tree, one_text, kept_walk}

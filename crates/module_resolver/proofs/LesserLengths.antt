@@ -6,7 +6,7 @@ use Rattle.std.specs.Option.{option_or}
 use Rattle.std.proofs.Math.Nat.{eq-or-lt_of_le}
 use Rattle.std.proofs.lemmas.Bool.{ltb-true, ltb-false}
 use Rattle.std.proofs.lemmas.List.{get_or_past, get_or_default, get_or_push, get_or_append_left, drop_all}
-use Rattle.mojom_files.specs.Names.{within}
+use Rattle.mj_base.specs.Names.{within}
 use Rattle.mojom_files.specs.Refusals.{first_of}
 use Rattle.module_resolver.specs.steps.Dots.{dots_in}
 use Rattle.module_resolver.specs.steps.Lengths.{IsLesser, IsBetween, reached}
@@ -148,11 +148,6 @@ none_behind look full fronts rest number none = go (nat_lt number (length fronts
         ∙ ap (λ (xs : List (List ℕ)). first_of look (map full xs ++ rest)) (drop_all (length fronts) fronts (omega arith))
     go false ge =
         ap (λ (xs : List (List ℕ)). first_of look (map full xs ++ rest)) (drop_all number fronts (ltb-false number (length fronts) ge))
-
--- nothing has a full name of a length between those that are kept
-pub unowned : (owners : List ℕ → Option (List Target)) (seen : ℕ → Bool) (lengths full : List ℕ) → HaveLengths lengths owners → IsBetween lengths (length full)
-    → owner owners seen full ≡ None
-unowned owners seen lengths full have between = rw (have full between) refl
 
 or_some : {B : Type 0} (found later : Option B) → is_some found ≡ true → option_or found later ≡ found
 or_some None later is = absurd (cc)

@@ -1,6 +1,6 @@
 -- The full names of enumerators.
 use Rattle.std.specs.Prelude.{ℕ, List, map}
-use Rattle.mojom_files.specs.Names.{within}
+use Rattle.mj_base.specs.Names.{within}
 use Rattle.module_resolver.specs.declared.enumerator_names.EnumNames.{EnumNames}
 
 -- the full names of the enumerators of an enum

@@ -1,7 +1,7 @@
 -- What a name means where it stands (Mojom IDL, "Modules" and "Nested types": names are looked up from the inside out).
 use Rattle.std.specs.Prelude.{ℕ, List, [], ◌∷◌, ◌++◌, map, slice_get, Option, None, option_and_then}
 use Rattle.std.specs.Option.{option_map, option_or, option_to_list}
-use Rattle.mojom_files.specs.Names.{within}
+use Rattle.mj_base.specs.Names.{within}
 use Rattle.mojom_files.specs.Refusals.{first_of}
 use Rattle.import_order.specs.Numbers.{number_of}
 use Rattle.module_resolver.specs.declared.target.Target.{Target}

@@ -9,7 +9,7 @@ use Rattle.mojom_ast.specs.declared.definitions.DefinitionItem.TheVariants as it
 use Rattle.mojom_ast.specs.declared.file.Import.{Import}
 use Rattle.mojom_ast.specs.declared.file.ModuleStatement.{ModuleStatement}
 use Rattle.mojom_files.specs.declared.named_file.NamedFile.{NamedFile}
-use Rattle.mojom_files.specs.Names.{within}
+use Rattle.mj_base.specs.Names.{within}
 use Rattle.mojom_files.specs.Definitions.{Defined, definitions_of, enumerator_names}
 use Rattle.module_resolver.specs.declared.target.DefinitionSort.{DefinitionSort}
 use Rattle.module_resolver.specs.declared.target.DefinitionSort.TheVariants as sorts

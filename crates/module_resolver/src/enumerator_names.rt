@@ -1,7 +1,6 @@
 //! The full names of enumerators.
 
-use mj_base::{Items, Text};
-use mojom_files::FullName;
+use mj_base::{FullName, Items, Text};
 use std::marker::Model;
 
 /// The enumerators of an enum: its full name, and their own names.

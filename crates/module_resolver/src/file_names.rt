@@ -5,8 +5,7 @@ use crate::fronts::Fronts;
 use crate::indexed_files::IndexedFiles;
 use crate::seen::Seen;
 use crate::target::DefinitionSort;
-use mj_base::Items;
-use mojom_files::FullName;
+use mj_base::{FullName, Items};
 
 /// The names of a file: the full names of its definitions and what these are, the full names of its
 /// enumerators, the files in which its names are looked up, and the fronts of its module's name.

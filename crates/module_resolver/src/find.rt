@@ -2,7 +2,7 @@
 
 ghost use Rattle.std.specs.Prelude.{◌≡◌, ◌<◌, ◌≤◌, ◌+◌, ◌^◌, ℕ, [], length, get_or, Some, None, IfSome};
 ghost use Rattle.std.specs.Option.{unwrap_or};
-ghost use Rattle.mojom_files.specs.Names.{within};
+ghost use Rattle.mj_base.specs.Names.{within};
 ghost use Rattle.mojom_files.specs.Refusals.{first_of};
 ghost use Rattle.import_order.specs.Imports.{has};
 ghost use Rattle.module_resolver.specs.LookUp.{candidates};

@@ -2,7 +2,7 @@
 
 ghost use Rattle.std.specs.Prelude.{◌≡◌, ◌++◌, IfOk, OnOk, map, filter};
 ghost use Rattle.std.specs.List.{flat_map};
-ghost use Rattle.mojom_files.specs.Names.{within};
+ghost use Rattle.mj_base.specs.Names.{within};
 ghost use Rattle.mojom_files.specs.Definitions.{enumerator_names};
 ghost use Rattle.mojom_files.specs.Views.{item_view};
 ghost use Rattle.module_resolver.specs.NamesOf.{sort_of_item, module_fronts, sees, sees_number, names_in, names_of};
@@ -16,9 +16,9 @@ use crate::indexed_files::IndexedFiles;
 use crate::seen::Seen;
 use crate::target::DefinitionSort;
 use indexmap::IndexSet;
-use mj_base::{Items, Text};
+use mj_base::{FullName, Items, Text};
 use mojom_ast::{Enumerator, Import, ModuleStatement};
-use mojom_files::{DefinitionView, FullName, ItemView, NamedFile, definitions};
+use mojom_files::{DefinitionView, ItemView, NamedFile, definitions};
 use std::alloc::{AllocError, Global};
 
 /// The full names of definitions, each by its parts.

@@ -10,7 +10,7 @@ ghost use Rattle.module_resolver.specs.steps.Owners.{file_of, where_seen, owner,
 ghost use Rattle.module_resolver.specs.Enums.{names_in_enum};
 ghost use Rattle.module_resolver.specs.steps.Held.{held, IsSound, IsEntry, Entered, KeepsNodes};
 ghost use Rattle.name_tree.specs.Trees.{count};
-ghost use Rattle.mojom_files.specs.Names.{within, named_in, full_name};
+ghost use Rattle.mj_base.specs.Names.{within, named_in, full_name};
 
 use crate::dots::{count_within, dots_in, sum};
 use crate::entry::Entry;
@@ -18,7 +18,7 @@ use crate::enumerator_names::{EnumNames, EnumeratorNames};
 use crate::file_names::FileNames;
 use crate::name_index::NameIndex;
 use crate::target::Target;
-use mojom_files::{FullName, NameParts, SharedText};
+use mj_base::{FullName, NameParts, SharedText};
 use std::alloc::{AllocError, Global};
 
 /// Enters a name that stands in no other.

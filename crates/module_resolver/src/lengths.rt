@@ -1,7 +1,7 @@
 //! The lengths of full names.
 
 ghost use Rattle.std.specs.Prelude.{◌≡◌, ◌+◌, ℕ, ◌||◌, ◌==◌, Bool, false, get_or, length, if◌then◌else◌, IfOk, OnOk};
-ghost use Rattle.mojom_files.specs.Names.{within};
+ghost use Rattle.mj_base.specs.Names.{within};
 ghost use Rattle.module_resolver.specs.steps.Lengths.{IsLesser, IsBetween, reached, limit_of};
 
 use std::alloc::{AllocError, Global};

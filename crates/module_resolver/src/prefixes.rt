@@ -1,7 +1,7 @@
 //! Names that begin with others.
 
 ghost use Rattle.std.specs.Prelude.{◌≡◌, IfSome};
-ghost use Rattle.mojom_files.specs.Names.{within};
+ghost use Rattle.mj_base.specs.Names.{within};
 
 /// What stands in a name behind another and a dot; none where it doesn't begin with these.
 pub fn behind_dot<'a>(outer: &str, name: &'a str) -> Option<&'a str>

@@ -1,7 +1,7 @@
 //! What a name means.
 
 /// What a definition is.
-#[derive(Clone, Copy, Debug, PartialEq, Eq)]
+#[derive(Clone, Copy)]
 pub enum DefinitionSort {
     Struct,
     Union,
@@ -12,7 +12,7 @@ pub enum DefinitionSort {
 
 /// What a name means: a definition or an enumerator, by the number of its file among those given and
 /// by its number among the definitions, or the enumerators, of that file.
-#[derive(Clone, Copy, Debug, PartialEq, Eq)]
+#[derive(Clone, Copy, PartialEq, Eq)]
 pub enum Target {
     Definition { file: u32, number: usize },
     Enumerator { file: u32, number: usize },

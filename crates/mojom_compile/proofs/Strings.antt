@@ -26,7 +26,7 @@ use Rattle.mojom_ast.specs.declared.token.Token.{Token}
 use Rattle.mojom_ast.specs.Grammar.{file}
 use Rattle.mojom_files.specs.Definitions.{definitions_of, identifier_of, in_interface, in_struct, interface_item, module_of, nested_in}
 use Rattle.mojom_files.specs.Definitions.{struct_item, with_nested}
-use Rattle.mojom_files.specs.Names.{named_in}
+use Rattle.mj_base.specs.Names.{named_in}
 use Rattle.mojom_print.proofs.DefinitionRules.{prints_file}
 use Rattle.mojom_print.proofs.Prints.{AllLexical, Printed, option_sorts}
 use Rattle.mojom_print.proofs.Retold.{comma_lexical, tokens_lexical}

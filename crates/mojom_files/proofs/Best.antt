@@ -17,9 +17,6 @@ not_itself a r = grind (arith, common_steps)
 one_way : (a r b s : ℕ) → before a r b s ≡ true → before b s a r ≡ false
 one_way a r b s e = grind (arith, common_steps)
 
-before_is : (one two : Refusal) → comes_before one two ≡ before one.at (rank one.cause) two.at (rank two.cause)
-before_is one two = refl
-
 through : (one two three : Refusal) → comes_before one two ≡ false → comes_before two three ≡ false → comes_before one three ≡ false
 through one two three e f = not_through one.at (rank one.cause) two.at (rank two.cause) three.at (rank three.cause) e f
 

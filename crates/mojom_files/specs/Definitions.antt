@@ -16,7 +16,8 @@ use Rattle.mojom_ast.specs.declared.definitions.InterfaceItem.TheVariants as int
 use Rattle.mojom_ast.specs.declared.definitions.Enumerator.{Enumerator}
 use Rattle.mojom_ast.specs.declared.file.File.{File}
 use Rattle.mojom_ast.specs.declared.file.ModuleStatement.{ModuleStatement}
-use Rattle.mojom_files.specs.Names.{within, named_in, dotted}
+use Rattle.mj_base.specs.Names.{within, named_in}
+use Rattle.mojom_files.specs.Names.{dotted}
 
 -- a definition: its full name, that of the definition around it where there is one, its identifier, the attributes before it, and what
 -- it is

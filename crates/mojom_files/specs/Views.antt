@@ -6,7 +6,7 @@ use Rattle.mojom_ast.specs.declared.definitions.DefinitionItem.{DefinitionItem}
 use Rattle.mojom_ast.specs.declared.definitions.DefinitionItem.TheVariants as items
 use Rattle.mojom_files.specs.declared.definition_view.ItemView.{ItemView}
 use Rattle.mojom_files.specs.declared.definition_view.ItemView.TheVariants as views
-use Rattle.mojom_files.specs.Names.{around, full_name}
+use Rattle.mj_base.specs.Names.{around, full_name}
 use Rattle.mojom_files.specs.Definitions.{Defined}
 
 -- a definition that is lent

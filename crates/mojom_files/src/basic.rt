@@ -4,7 +4,7 @@ ghost use Rattle.std.specs.Prelude.{◌≡◌};
 ghost use Rattle.mojom_files.specs.Basics.{basic_of, basic_name};
 
 /// A kind that is named by one identifier and needs no definition.
-#[derive(Clone, Copy, Debug, PartialEq, Eq)]
+#[derive(Clone, Copy, PartialEq, Eq)]
 pub enum Basic {
     Bool,
     Int8,

@@ -2,14 +2,12 @@
 
 ghost use Rattle.std.specs.Prelude.{◌≡◌, ◌++◌, IfOk, OnOk};
 ghost use Rattle.std.specs.List.{flat_map};
-ghost use Rattle.mojom_files.specs.Names.{named_in};
+ghost use Rattle.mj_base.specs.Names.{named_in};
 ghost use Rattle.mojom_files.specs.Definitions.{module_of, identifier_of, in_struct, in_interface, with_nested, definitions_of, nested};
 ghost use Rattle.mojom_files.specs.Views.{item_view};
 
-use crate::full_name::{FullName, NameParts};
 use crate::names::dotted;
-use crate::shared_text::{SharedText, shared};
-use mj_base::Text;
+use mj_base::{FullName, NameParts, SharedText, Text, shared};
 use mojom_ast::{
     Attribute, Const, Definition, DefinitionItem, Enum, File, Identifier, Interface, InterfaceItem,
     InterfaceMember, ModuleStatement, Struct, StructItem, StructMember, Union,
@@ -53,7 +51,7 @@ impl<'a> Model for DefinitionView<'a> {
 
 impl<'a> DefinitionView<'a> {
     ghost use Rattle.std.specs.Prelude.{◌≡◌, IfOk};
-    ghost use Rattle.mojom_files.specs.Names.{around, full_name};
+    ghost use Rattle.mj_base.specs.Names.{around, full_name};
     ghost use Rattle.mojom_files.specs.Views.{item_view};
 
     /// The parts of the full name.

@@ -5,17 +5,13 @@
 mod basic;
 mod cause;
 mod definition_view;
-mod full_name;
 mod named_file;
 mod names;
 mod refusal;
-mod shared_text;
 
 pub use basic::Basic;
 pub use cause::{Cause, CauseParts, NamedCause};
 pub use definition_view::{DefinitionView, ItemView, definitions};
-pub use full_name::{FullName, NameParts};
 pub use named_file::NamedFile;
-pub use names::{dotted, within};
+pub use names::dotted;
 pub use refusal::{Refusal, best_is_first, keep};
-pub use shared_text::SharedText;

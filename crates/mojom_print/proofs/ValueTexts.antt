@@ -29,7 +29,7 @@ use Rattle.mojom_print.proofs.WordTexts.{of_identifier, identifier_tells, greate
 use Rattle.mojom_print.proofs.NumberTexts.{after_value, value_on, value_greater, number_tells, number_value_tells}
 use Rattle.mojom_print.proofs.StringTexts.{string_tells}
 use Rattle.mojom_print.proofs.SignTexts.{comma_blank, dot, at, minus, question, less, more, open_bracket, close_bracket, one_blank, line_end, equals_blanks, equals, true_word, false_word, remote_word, receiver_word, associated_remote_word, associated_receiver_word, handle_word, array_less, map_less, indent_tells}
-use Rattle.mojom_print.proofs.Sorts.{key, sign, identifier_sorts, parts_sorts, name_sorts, ordinal_sorts, value_sorts, assigned_sorts, attribute_sorts, bracketed_sorts, attributes_sorts, handle_sort_sorts, sort_given_sorts, pending_sort_sorts, count_sorts, nullable_sorts, base_sorts, type_sorts}
+use Rattle.mojom_print.proofs.Sorts.{identifier_sorts, parts_sorts, name_sorts, ordinal_sorts, value_sorts, assigned_sorts, attribute_sorts, bracketed_sorts, attributes_sorts, sort_given_sorts, pending_sort_sorts, count_sorts, nullable_sorts, base_sorts, type_sorts}
 
 -- names
 parts_tell : (ps : List Identifier) → Tells none goes_on (join_by (λ part. part.text) (codes ".") ps) (parts_sorts ps)

@@ -24,6 +24,7 @@ pub fn push_declared(out: &mut Vec<u8>, kind: &Type, name: &Identifier) -> Resul
     push_text(out, name.text.as_str())
 }
 
+/// Writes a type.
 #[cycle(nodes)]
 fn push_node(out: &mut Vec<u8>, node: &TypeNode) -> Result<(), AllocError>
     ensures { OnOk result (out.new.items ≡ out.old.items ++ type_text (type_view node.now)) }
@@ -35,6 +36,7 @@ fn push_node(out: &mut Vec<u8>, node: &TypeNode) -> Result<(), AllocError>
     Ok(())
 }
 
+/// Writes a type without its `?`.
 #[cycle(nodes)]
 fn push_base(out: &mut Vec<u8>, base: &BaseNode) -> Result<(), AllocError>
     ensures { OnOk result (out.new.items ≡ out.old.items ++ base_text (base_view base.now)) }
@@ -90,6 +92,7 @@ fn push_sort_given(out: &mut Vec<u8>, sort: Option<HandleSort>) -> Result<(), Al
     Ok(())
 }
 
+/// The word for what a handle stands for.
 fn handle_sort_text(sort: HandleSort) -> &'static str
     ensures { result.now ≡ handle_sort_text sort }
 {
@@ -102,6 +105,7 @@ fn handle_sort_text(sort: HandleSort) -> &'static str
     }
 }
 
+/// The word for an end of an interface.
 fn pending_sort_text(sort: PendingSort) -> &'static str
     ensures { result.now ≡ pending_sort_text sort }
 {

@@ -5,7 +5,7 @@ use Rattle.std.specs.Prelude.{Bool, true, false, ◌==◌, nat_eq, Option, Some,
 use Rattle.std.proofs.lemmas.Bool.{ne_eqb}
 use Rattle.std.proofs.lemmas.Slice.Eq.{bytes_eq-Decides}
 use Rattle.indexmap.specs.IndexMap.{get}
-use Rattle.mojom_files.specs.Names.{named_in, full_name}
+use Rattle.mj_base.specs.Names.{named_in, full_name}
 use Rattle.name_tree.specs.Walks.{walk, Grows}
 use Rattle.name_tree.specs.Trees.{child, count, IsNameTree}
 use Rattle.name_tree.specs.declared.tree.NameTree.{NameTree}

@@ -56,6 +56,7 @@ method_name (interface_items.Method m) = m.name ∷ []
 method_name (interface_items.Const c) = []
 method_name (interface_items.Enum e) = []
 
+-- the parameters of one list
 abbrev pub parameter_names : List Parameter → List Identifier
 parameter_names parameters = map (λ (p : Parameter). p.name) parameters
 

@@ -61,6 +61,7 @@ is_min_version attribute = bytes_eq attribute.name.text (codes "MinVersion")
 abbrev pub uses_in_attribute : Option (List ℕ) → Attribute → List Use
 uses_in_attribute enclosing attribute = if is_min_version attribute then uses_in_option enclosing attribute.value else []
 
+-- the names that attributes use
 abbrev pub uses_in_attributes : Option (List ℕ) → List Attribute → List Use
 uses_in_attributes enclosing attributes = flat_map (uses_in_attribute enclosing) attributes
 
@@ -71,15 +72,19 @@ uses_in_field enclosing attributes (struct_items.Field f) =
 uses_in_field enclosing attributes (struct_items.Const c) = []
 uses_in_field enclosing attributes (struct_items.Enum e) = []
 
+-- the names that a member of a struct uses
 abbrev pub uses_in_struct : Option (List ℕ) → StructMember → List Use
 uses_in_struct enclosing member = uses_in_field enclosing member.attributes member.item
 
+-- the names that a field of a union uses
 abbrev pub uses_in_union : Option (List ℕ) → UnionField → List Use
 uses_in_union enclosing f = uses_in_attributes enclosing f.attributes ++ uses_in_type enclosing f.kind.base
 
+-- the names that an enumerator uses
 abbrev pub uses_in_enum : Option (List ℕ) → Enumerator → List Use
 uses_in_enum enclosing e = uses_in_attributes enclosing e.attributes ++ uses_in_option enclosing e.value
 
+-- the names that a parameter uses
 abbrev pub uses_in_parameter : Option (List ℕ) → Parameter → List Use
 uses_in_parameter enclosing p = uses_in_attributes enclosing p.attributes ++ uses_in_type enclosing p.kind.base
 
@@ -96,6 +101,7 @@ uses_in_method enclosing attributes (interface_items.Method m) =
 uses_in_method enclosing attributes (interface_items.Const c) = []
 uses_in_method enclosing attributes (interface_items.Enum e) = []
 
+-- the names that a member of an interface uses
 abbrev pub uses_in_interface : Option (List ℕ) → InterfaceMember → List Use
 uses_in_interface enclosing member = uses_in_method enclosing member.attributes member.item
 

@@ -4,7 +4,7 @@ ghost use Rattle.std.specs.Prelude.{◌≡◌};
 ghost use Rattle.name_refusals.specs.steps.Sets.{is_name};
 
 use indexmap::IndexMap;
-use mojom_files::{NameParts, SharedText};
+use mj_base::{NameParts, SharedText};
 use name_tree::NameTree;
 use std::alloc::{AllocError, Global};
 
@@ -34,7 +34,7 @@ impl KnownNames {
     ghost use Rattle.indexmap.specs.IndexMap.{get};
     ghost use Rattle.name_tree.specs.Walks.{walk};
     ghost use Rattle.name_tree.specs.Trees.{child, count};
-    ghost use Rattle.mojom_files.specs.Names.{within, named_in, full_name};
+    ghost use Rattle.mj_base.specs.Names.{within, named_in, full_name};
     ghost use Rattle.name_refusals.specs.Known.{no_names, with_name};
     ghost use Rattle.name_refusals.specs.steps.Trees.{knows, AreKnown, StandsAt, EntersInto};
 

@@ -13,7 +13,7 @@ use mojom_files::{Basic, Cause, NamedCause, Refusal, dotted, keep};
 use std::alloc::{AllocError, Global};
 
 /// What a name has to mean where it stands.
-#[derive(Clone, Copy, Debug, PartialEq, Eq)]
+#[derive(Clone, Copy)]
 pub enum Wanted {
     /// A struct, a union or an enum.
     Kind,

@@ -2,9 +2,9 @@
 
 use crate::file_order::is_named;
 use crate::things::Thing;
-use mj_base::Text;
+use mj_base::{Text, within};
 use mojom_ast::{File, Name};
-use mojom_files::{NamedFile, dotted, within};
+use mojom_files::{NamedFile, dotted};
 use std::alloc::{AllocError, Global};
 
 /// Files, their numbers in resolved order, and their things.

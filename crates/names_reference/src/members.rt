@@ -1,11 +1,11 @@
 //! The lists of members of a definition.
 
-use mj_base::Text;
+use mj_base::{Text, within};
 use mojom_ast::{
     Attribute, Enum, Identifier, Interface, InterfaceItem, Method, Number, Parameter, Struct,
     StructItem, TypeNode, Union, Value,
 };
-use mojom_files::{DefinitionView, ItemView, within};
+use mojom_files::{DefinitionView, ItemView};
 use std::alloc::{AllocError, Global};
 
 /// What a list has.

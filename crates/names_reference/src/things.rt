@@ -1,8 +1,8 @@
 //! The definitions and enumerators of files.
 
-use mj_base::Text;
+use mj_base::{Text, within};
 use mojom_ast::{BaseNode, Enumerator, Identifier, Name, Value};
-use mojom_files::{Basic, DefinitionView, ItemView, NamedFile, definitions, within};
+use mojom_files::{Basic, DefinitionView, ItemView, NamedFile, definitions};
 use std::alloc::{AllocError, Global};
 
 /// Where the value of a thing comes from.

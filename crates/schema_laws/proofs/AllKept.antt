@@ -18,7 +18,7 @@ use Rattle.mojom_ast.specs.declared.definitions.InterfaceItem.TheVariants as int
 use Rattle.mojom_ast.specs.declared.definitions.Method.{Method}
 use Rattle.mojom_ast.specs.declared.definitions.Parameter.{Parameter}
 use Rattle.mojom_files.specs.declared.named_file.NamedFile.{NamedFile}
-use Rattle.mojom_files.specs.Names.{within}
+use Rattle.mj_base.specs.Names.{within}
 use Rattle.mojom_files.specs.Definitions.{Defined}
 use Rattle.module_resolver.specs.declared.file_names.FileNames.{FileNames}
 use Rattle.name_refusals.specs.Uses.{response_of}

@@ -20,15 +20,6 @@ pub among_back : {A : Type 0} (xs ys : List A) (one : A) → IsAmong ys one → 
 among_back [] ys one among = among
 among_back (x ∷ xs) ys one among = inr (among_back xs ys one among)
 
-further : {A : Type 0} (x : A) (xs ys : List A) (one : A) → IsAmong xs one ⊎ IsAmong ys one → IsAmong (x ∷ xs) one ⊎ IsAmong ys one
-further x xs ys one (inl among) = inl (inr among)
-further x xs ys one (inr among) = inr among
-
-pub among_either : {A : Type 0} (xs ys : List A) (one : A) → IsAmong (xs ++ ys) one → IsAmong xs one ⊎ IsAmong ys one
-among_either [] ys one among = inr among
-among_either (x ∷ xs) ys one (inl same) = inl (inl same)
-among_either (x ∷ xs) ys one (inr among) = further x xs ys one (among_either xs ys one among)
-
 -- what comes of a list
 
 pub among_map : {A B : Type 0} (f : A → B) (xs : List A) (one : A) → IsAmong xs one → IsAmong (map f xs) (f one)
@@ -36,40 +27,10 @@ among_map f [] one among = absurd among
 among_map f (x ∷ xs) one (inl same) = inl (ap f same)
 among_map f (x ∷ xs) one (inr among) = inr (among_map f xs one among)
 
--- one of these of which this comes
-pub record ComesOf {A B : Type 0} (f : A → B) (xs : List A) (one : B) : Type 0 where
-  pub of : A
-  pub among : IsAmong xs of
-  pub is : f of ≡ one
-
-pub in_map : {A B : Type 0} (f : A → B) (xs : List A) (one : B) → IsAmong (map f xs) one → ComesOf f xs one
-in_map f [] one among = absurd among
-in_map f (x ∷ xs) one (inl same) = record { of = x; among = inl refl; is = same }
-in_map f (x ∷ xs) one (inr among) = let c = in_map f xs one among in record { of = c.of; among = inr c.among; is = c.is }
-
 pub among_flat : {A B : Type 0} (f : A → List B) (xs : List A) (x : A) (one : B) → IsAmong xs x → IsAmong (f x) one → IsAmong (flat_map f xs) one
 among_flat f [] x one among is = absurd among
 among_flat f (y ∷ ys) x one (inl same) is = among_front (f y) (flat_map f ys) one (subst (λ z. IsAmong (f z) one) (sym same) is)
 among_flat f (y ∷ ys) x one (inr among) is = among_back (f y) (flat_map f ys) one (among_flat f ys x one among is)
-
--- one of these among whose it is
-pub record StandsIn {A B : Type 0} (f : A → List B) (xs : List A) (one : B) : Type 0 where
-  pub of : A
-  pub among : IsAmong xs of
-  pub is : IsAmong (f of) one
-
-stands_further : {A B : Type 0} (f : A → List B) (x : A) (xs : List A) (one : B) → StandsIn f xs one → StandsIn f (x ∷ xs) one
-stands_further f x xs one s = record { of = s.of; among = inr s.among; is = s.is }
-
-stands : {A B : Type 0} (f : A → List B) (x : A) (xs : List A) (one : B)
-    → (IsAmong (flat_map f xs) one → StandsIn f xs one) → IsAmong (f x) one ⊎ IsAmong (flat_map f xs) one
-    → StandsIn f (x ∷ xs) one
-stands f x xs one rest (inl here) = record { of = x; among = inl refl; is = here }
-stands f x xs one rest (inr among) = stands_further f x xs one (rest among)
-
-pub in_flat : {A B : Type 0} (f : A → List B) (xs : List A) (one : B) → IsAmong (flat_map f xs) one → StandsIn f xs one
-in_flat f [] one among = absurd among
-in_flat f (x ∷ xs) one among = stands f x xs one (in_flat f xs one) (among_either (f x) (flat_map f xs) one among)
 
 -- places
 
@@ -89,10 +50,6 @@ place_of (x ∷ xs) one (inl same) = record { place = zero; is = ap Some same }
 place_of (x ∷ xs) one (inr among) = let p = place_of xs one among in record { place = suc p.place; is = p.is }
 
 -- what holds of all
-
-pub all_where : {A : Type 0} (test : A → Bool) (xs : List A) → ((x : A) → IsAmong xs x → test x ≡ true) → list_all test xs ≡ true
-all_where test [] each = refl
-all_where test (x ∷ xs) each = rw (each x (inl refl)) (all_where test xs (λ y among. each y (inr among)))
 
 both_true : (one two : Bool) → (one && two) ≡ true → (one ≡ true) × (two ≡ true)
 both_true true two e = (refl, e)

@@ -6,7 +6,7 @@ use Rattle.std.specs.Option.{option_map, option_or, IfSome}
 use Rattle.std.proofs.lemmas.List.{length-map}
 use Rattle.mojom_ast.specs.declared.definitions.Enumerator.{Enumerator}
 use Rattle.mojom_files.specs.declared.named_file.NamedFile.{NamedFile}
-use Rattle.mojom_files.specs.Names.{within}
+use Rattle.mj_base.specs.Names.{within}
 use Rattle.mojom_files.specs.Definitions.{Defined, definitions_of, enumerators_of, enumerator_names}
 use Rattle.mojom_files.specs.Refusals.{first_of}
 use Rattle.module_resolver.specs.declared.target.Target.{Target}

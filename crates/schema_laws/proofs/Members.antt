@@ -15,7 +15,7 @@ use Rattle.mojom_ast.specs.declared.definitions.Method.{Method}
 use Rattle.mojom_ast.specs.declared.definitions.Parameter.{Parameter}
 use Rattle.mojom_ast.specs.declared.names.Identifier.{Identifier}
 use Rattle.mojom_files.specs.declared.named_file.NamedFile.{NamedFile}
-use Rattle.mojom_files.specs.Names.{within}
+use Rattle.mj_base.specs.Names.{within}
 use Rattle.module_resolver.specs.declared.file_names.Names.{Names}
 use Rattle.const_eval.specs.declared.consts.Consts.{Consts}
 use Rattle.mj_schema.specs.WellFormed.{has_distinct_tags, has_distinct_ordinals, has_members}

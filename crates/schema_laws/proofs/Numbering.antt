@@ -11,7 +11,7 @@ use Rattle.mojom_ast.specs.declared.definitions.Method.{Method}
 use Rattle.mojom_ast.specs.declared.definitions.Parameter.{Parameter}
 use Rattle.mojom_files.specs.declared.named_file.NamedFile.{NamedFile}
 use Rattle.mojom_files.specs.Definitions.{Defined}
-use Rattle.mojom_files.specs.Names.{within}
+use Rattle.mj_base.specs.Names.{within}
 use Rattle.module_resolver.specs.declared.file_names.FileNames.{FileNames}
 use Rattle.const_eval.specs.declared.consts.Consts.{Consts}
 use Rattle.mj_schema.specs.declared.rows.DraftStruct.{DraftStruct}

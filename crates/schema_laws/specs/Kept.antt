@@ -53,9 +53,11 @@ names_along members = map (λ (one : Numbered). one.member.name.text) (along_ord
 abbrev pub names_listed : List Member → List (List ℕ)
 names_listed members = map (λ (m : Member). m.name.text) members
 
+-- the names of the fields of a struct
 abbrev pub field_names : DraftStruct → List (List ℕ)
 field_names row = map (λ (field : DraftField). field.name) row.fields
 
+-- the names of the fields of a union
 abbrev pub union_field_names : UnionRow → List (List ℕ)
 union_field_names row = map (λ (field : UnionFieldRow). field.name) row.fields
 

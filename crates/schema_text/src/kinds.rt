@@ -32,9 +32,7 @@ fn push_node(out: &mut Vec<u8>, schema: &Schema, node: &KindNode) -> Result<(), 
             push_integer(out, *width, *signed)?;
             push_mark(out, *nullable)
         }
-        KindNode::Enum { number, nullable } => {
-            push_nullable(out, enum_name(schema, *number), *nullable)
-        }
+        KindNode::Enum { number, nullable } => push_enum(out, schema, *number, *nullable),
         KindNode::Text { nullable } => push_nullable(out, "string", *nullable),
         KindNode::Handle { sort, nullable } => push_nullable(out, handle_text(*sort), *nullable),
         KindNode::Array {
@@ -58,12 +56,8 @@ fn push_node(out: &mut Vec<u8>, schema: &Schema, node: &KindNode) -> Result<(), 
             push_node(out, schema, value)?;
             push_nullable(out, ">", *nullable)
         }
-        KindNode::Struct { number, nullable } => {
-            push_nullable(out, struct_name(schema, *number), *nullable)
-        }
-        KindNode::Union { number, nullable } => {
-            push_nullable(out, union_name(schema, *number), *nullable)
-        }
+        KindNode::Struct { number, nullable } => push_struct(out, schema, *number, *nullable),
+        KindNode::Union { number, nullable } => push_union(out, schema, *number, *nullable),
         _ => push_end(out, schema, node),
     }
 }
@@ -136,7 +130,7 @@ fn push_pending(
 {
     push_text(out, word)?;
     push_text(out, "<")?;
-    push_text(out, interface_name(schema, interface))?;
+    push_interface_name(out, schema, interface)?;
     push_nullable(out, ">", nullable)
 }
 
@@ -159,6 +153,7 @@ fn push_length(out: &mut Vec<u8>, count: Option<u32>) -> Result<(), AllocError>
     Ok(())
 }
 
+/// A handle, by what it stands for.
 fn handle_text(sort: HandleSort) -> &'static str
     ensures { result.now ≡ handle_text sort }
 {
@@ -172,42 +167,81 @@ fn handle_text(sort: HandleSort) -> &'static str
     }
 }
 
-/// The full name of the struct of this number; none has no bytes.
-fn struct_name(schema: &Schema, number: u32) -> &str
-    ensures { result.now ≡ struct_name schema.now number }
+/// Writes the full name of the struct of this number; nothing where there is none.
+fn push_struct_name(out: &mut Vec<u8>, schema: &Schema, number: u32) -> Result<(), AllocError>
+    ensures { OnOk result (out.new.items ≡ out.old.items ++ struct_name schema.now number) }
 {
     match schema.structs.as_slice().get(number as usize) {
-        Some(row) => row.name.as_str(),
-        None => "",
+        Some(row) => row.name.push_to(out),
+        None => Ok(()),
     }
 }
 
-/// The full name of the union of this number.
-fn union_name(schema: &Schema, number: u32) -> &str
-    ensures { result.now ≡ union_name schema.now number }
+/// Writes the full name of the union of this number.
+fn push_union_name(out: &mut Vec<u8>, schema: &Schema, number: u32) -> Result<(), AllocError>
+    ensures { OnOk result (out.new.items ≡ out.old.items ++ union_name schema.now number) }
 {
     match schema.unions.as_slice().get(number as usize) {
-        Some(row) => row.name.as_str(),
-        None => "",
+        Some(row) => row.name.push_to(out),
+        None => Ok(()),
     }
 }
 
-/// The full name of the enum of this number.
-fn enum_name(schema: &Schema, number: u32) -> &str
-    ensures { result.now ≡ enum_name schema.now number }
+/// Writes the full name of the enum of this number.
+fn push_enum_name(out: &mut Vec<u8>, schema: &Schema, number: u32) -> Result<(), AllocError>
+    ensures { OnOk result (out.new.items ≡ out.old.items ++ enum_name schema.now number) }
 {
     match schema.enums.as_slice().get(number as usize) {
-        Some(row) => row.name.as_str(),
-        None => "",
+        Some(row) => row.name.push_to(out),
+        None => Ok(()),
     }
 }
 
-/// The full name of the interface of this number.
-fn interface_name(schema: &Schema, number: u32) -> &str
-    ensures { result.now ≡ interface_name schema.now number }
+/// Writes the full name of the interface of this number.
+fn push_interface_name(out: &mut Vec<u8>, schema: &Schema, number: u32) -> Result<(), AllocError>
+    ensures { OnOk result (out.new.items ≡ out.old.items ++ interface_name schema.now number) }
 {
     match schema.interfaces.as_slice().get(number as usize) {
-        Some(row) => row.name.as_str(),
-        None => "",
+        Some(row) => row.name.push_to(out),
+        None => Ok(()),
     }
+}
+
+/// Writes a struct by its number, and `?` where it may be null.
+fn push_struct(
+    out: &mut Vec<u8>,
+    schema: &Schema,
+    number: u32,
+    nullable: bool,
+) -> Result<(), AllocError>
+    ensures { OnOk result (out.new.items ≡ out.old.items ++ (struct_name schema.now number ++ nullable_text nullable)) }
+{
+    push_struct_name(out, schema, number)?;
+    push_mark(out, nullable)
+}
+
+/// Writes a union by its number, and `?` where it may be null.
+fn push_union(
+    out: &mut Vec<u8>,
+    schema: &Schema,
+    number: u32,
+    nullable: bool,
+) -> Result<(), AllocError>
+    ensures { OnOk result (out.new.items ≡ out.old.items ++ (union_name schema.now number ++ nullable_text nullable)) }
+{
+    push_union_name(out, schema, number)?;
+    push_mark(out, nullable)
+}
+
+/// Writes an enum by its number, and `?` where it may be null.
+fn push_enum(
+    out: &mut Vec<u8>,
+    schema: &Schema,
+    number: u32,
+    nullable: bool,
+) -> Result<(), AllocError>
+    ensures { OnOk result (out.new.items ≡ out.old.items ++ (enum_name schema.now number ++ nullable_text nullable)) }
+{
+    push_enum_name(out, schema, number)?;
+    push_mark(out, nullable)
 }

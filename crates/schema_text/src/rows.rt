@@ -6,7 +6,9 @@ ghost use Rattle.schema_text.specs.Listing.{const_text, member_line, enum_text, 
 
 use crate::fields::push_union_fields;
 use crate::kinds::push_kind_word;
-use crate::words::{push_heading, push_number_word, push_signed, push_value, push_word};
+use crate::words::{
+    push_heading, push_name_word, push_number_word, push_signed, push_value, push_word,
+};
 use mj_schema::{ConstRow, EnumRow, InterfaceRow, MemberRow, MethodRow, Schema, UnionRow};
 use mojom_print::push_text;
 use std::alloc::AllocError;
@@ -17,7 +19,7 @@ pub fn push_const(out: &mut Vec<u8>, schema: &Schema, row: &ConstRow) -> Result<
     ensures { OnOk result (out.new.items ≡ out.old.items ++ const_text schema.now row.now) }
 {
     push_text(out, "const")?;
-    push_word(out, row.name.as_str())?;
+    push_name_word(out, &row.name)?;
     push_kind_word(out, schema, &row.kind)?;
     push_text(out, " ")?;
     push_value(out, &row.value)?;
@@ -51,7 +53,7 @@ fn push_members(out: &mut Vec<u8>, members: &[MemberRow]) -> Result<(), AllocErr
 pub fn push_enum(out: &mut Vec<u8>, row: &EnumRow) -> Result<(), AllocError>
     ensures { OnOk result (out.new.items ≡ out.old.items ++ enum_text row.now) }
 {
-    push_heading(out, "enum", row.name.as_str(), row.extensible)?;
+    push_heading(out, "enum", &row.name, row.extensible)?;
     push_members(out, row.members.as_slice())
 }
 
@@ -60,7 +62,7 @@ pub fn push_enum(out: &mut Vec<u8>, row: &EnumRow) -> Result<(), AllocError>
 pub fn push_union(out: &mut Vec<u8>, schema: &Schema, row: &UnionRow) -> Result<(), AllocError>
     ensures { OnOk result (out.new.items ≡ out.old.items ++ union_text schema.now row.now) }
 {
-    push_heading(out, "union", row.name.as_str(), row.extensible)?;
+    push_heading(out, "union", &row.name, row.extensible)?;
     push_union_fields(out, schema, row.fields.as_slice())
 }
 
@@ -91,7 +93,7 @@ pub fn push_interface(out: &mut Vec<u8>, row: &InterfaceRow) -> Result<(), Alloc
     ensures { OnOk result (out.new.items ≡ out.old.items ++ interface_text row.now) }
 {
     push_text(out, "interface")?;
-    push_word(out, row.name.as_str())?;
+    push_name_word(out, &row.name)?;
     push_text(out, "\n")?;
     push_methods(out, row.methods.as_slice())
 }

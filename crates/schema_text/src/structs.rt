@@ -5,7 +5,7 @@ ghost use Rattle.std.specs.List.{flat_map};
 ghost use Rattle.schema_text.specs.Listing.{version_line, struct_text};
 
 use crate::fields::push_fields;
-use crate::words::{push_number_word, push_word};
+use crate::words::{push_name_word, push_number_word};
 use mj_schema::{Schema, StructRow, VersionRow};
 use mojom_print::push_text;
 use std::alloc::AllocError;
@@ -38,7 +38,7 @@ pub fn push_struct(out: &mut Vec<u8>, schema: &Schema, row: &StructRow) -> Resul
     ensures { OnOk result (out.new.items ≡ out.old.items ++ struct_text schema.now row.now) }
 {
     push_text(out, "struct")?;
-    push_word(out, row.name.as_str())?;
+    push_name_word(out, &row.name)?;
     push_text(out, "\n")?;
     push_fields(out, schema, row.fields.as_slice())?;
     push_versions(out, row.versions.as_slice())

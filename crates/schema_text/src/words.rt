@@ -4,6 +4,7 @@ ghost use Rattle.std.specs.Prelude.{◌≡◌, ◌∷◌, [], ◌++◌, codes, d
 ghost use Rattle.std.specs.Fmt.{signed_decimal};
 ghost use Rattle.schema_text.specs.Listing.{line, extensible_word, value_text};
 
+use mj_base::FullName;
 use mj_schema::Literal;
 use mojom_print::{push_number, push_string, push_text};
 use std::alloc::AllocError;
@@ -14,6 +15,14 @@ pub fn push_word(out: &mut Vec<u8>, word: &str) -> Result<(), AllocError>
 {
     push_text(out, " ")?;
     push_text(out, word)
+}
+
+/// Writes a blank and a full name.
+pub fn push_name_word(out: &mut Vec<u8>, name: &FullName) -> Result<(), AllocError>
+    ensures { OnOk result (out.new.items ≡ out.old.items ++ (codes " " ++ name.now)) }
+{
+    push_text(out, " ")?;
+    name.push_to(out)
 }
 
 /// Writes a blank and a number in decimal.
@@ -47,13 +56,13 @@ pub fn push_value(out: &mut Vec<u8>, value: &Literal) -> Result<(), AllocError>
 pub fn push_heading(
     out: &mut Vec<u8>,
     sort: &str,
-    name: &str,
+    name: &FullName,
     extensible: bool,
 ) -> Result<(), AllocError>
     ensures { OnOk result (out.new.items ≡ out.old.items ++ line (sort.now ∷ name.now ∷ extensible_word extensible)) }
 {
     push_text(out, sort)?;
-    push_word(out, name)?;
+    push_name_word(out, name)?;
     if extensible {
         push_word(out, "extensible")?;
     }

@@ -17,7 +17,7 @@ use Rattle.mojom_ast.specs.declared.definitions.StructItem.TheVariants as struct
 use Rattle.mojom_ast.specs.declared.definitions.StructMember.{StructMember}
 use Rattle.mojom_ast.specs.declared.names.Identifier.{Identifier}
 use Rattle.mojom_files.specs.Definitions.{Defined, definitions_of}
-use Rattle.mojom_files.specs.Names.{within}
+use Rattle.mj_base.specs.Names.{within}
 use Rattle.mojom_files.specs.declared.named_file.NamedFile.{NamedFile}
 use Rattle.name_refusals.specs.NameRefusals.{of_file}
 use Rattle.module_resolver.specs.declared.file_names.Names.{Names}

@@ -18,7 +18,8 @@ use Rattle.mojom_ast.specs.declared.definitions.StructMember.{StructMember}
 use Rattle.mojom_ast.specs.declared.names.Value.{Value}
 use Rattle.mojom_ast.specs.declared.names.Value.TheVariants as values
 use Rattle.mojom_files.specs.Definitions.{Defined, definitions_of, enumerators_of}
-use Rattle.mojom_files.specs.Names.{dotted, within}
+use Rattle.mj_base.specs.Names.{within}
+use Rattle.mojom_files.specs.Names.{dotted}
 use Rattle.mojom_files.specs.declared.basic.Basic.{Basic}
 use Rattle.mojom_files.specs.declared.basic.Basic.TheVariants as basics
 use Rattle.mojom_files.specs.declared.named_file.NamedFile.{NamedFile}

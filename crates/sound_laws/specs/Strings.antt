@@ -20,13 +20,16 @@ ValueText (values.Bool value span) = Unit {0}
 ValueText (values.Number negative magnitude span) = Unit {0}
 ValueText (values.Name name) = Unit {0}
 
+-- so is one that may be left out
 abbrev pub OptionText : Option Value → Type 0
 OptionText None = Unit {0}
 OptionText (Some value) = ValueText value
 
+-- so are those of an enum
 abbrev pub EnumText : Enum → Type 0
 EnumText e = AllByRecursion (λ (x : Enumerator). OptionText x.value) e.enumerators
 
+-- so are those of a member of a struct
 abbrev pub MemberText : StructItem → Type 0
 MemberText (struct_items.Const c) = ValueText c.value
 MemberText (struct_items.Enum e) = EnumText e
@@ -40,6 +43,7 @@ ItemText (items.Enum e) = EnumText e
 ItemText (items.Interface i) = Unit {0}
 ItemText (items.Const c) = ValueText c.value
 
+-- so are those of a definition where it stands
 abbrev pub DefinedText : Defined → Type 0
 DefinedText d = ItemText d.item
 

@@ -12,7 +12,7 @@ use Rattle.mojom_ast.specs.declared.definitions.InterfaceMember.{InterfaceMember
 use Rattle.mojom_ast.specs.declared.definitions.InterfaceItem.{InterfaceItem}
 use Rattle.mojom_ast.specs.declared.definitions.InterfaceItem.TheVariants as interface_items
 use Rattle.mojom_ast.specs.declared.definitions.Parameter.{Parameter}
-use Rattle.mojom_files.specs.Names.{within}
+use Rattle.mj_base.specs.Names.{within}
 use Rattle.mojom_files.specs.Definitions.{Defined}
 use Rattle.module_resolver.specs.declared.file_names.FileNames.{FileNames}
 use Rattle.name_refusals.specs.NameRefusals.{refused_uses}

@@ -12,6 +12,7 @@ use Rattle.mj_schema.specs.KindTrees.{KindTree}
 use Rattle.mj_schema.specs.KindTrees as kinds
 use Rattle.written_laws.specs.Values.{Site}
 
+-- the kind is an enum
 abbrev pub is_enum : KindTree → Bool
 is_enum (kinds.EnumKind number nullable) = true
 is_enum _ = false

@@ -34,18 +34,23 @@ field_entry attributes (struct_items.Field f) =
 field_entry attributes (struct_items.Const c) = []
 field_entry attributes (struct_items.Enum e) = []
 
+-- the fields of a struct, as the file has them
 abbrev pub fields_of : List StructMember → List Entry
 fields_of members = flat_map (λ (m : StructMember). field_entry m.attributes m.item) members
 
+-- a field of a union
 abbrev pub union_entry : UnionField → Entry
 union_entry f = record { name = f.name.text; attributes = f.attributes; kind = Some f.kind; ordinal = f.ordinal; default = None }
 
+-- the fields of a union, as the file has them
 abbrev pub union_fields_of : List UnionField → List Entry
 union_fields_of fields = map union_entry fields
 
+-- a parameter
 abbrev pub parameter_entry : Parameter → Entry
 parameter_entry p = record { name = p.name.text; attributes = p.attributes; kind = Some p.kind; ordinal = p.ordinal; default = None }
 
+-- the parameters of one list, as the file has them
 abbrev pub parameters_of : List Parameter → List Entry
 parameters_of parameters = map parameter_entry parameters
 
@@ -56,6 +61,7 @@ method_entry attributes (interface_items.Method m) =
 method_entry attributes (interface_items.Const c) = []
 method_entry attributes (interface_items.Enum e) = []
 
+-- the methods of an interface, as the file has them
 abbrev pub methods_of : List InterfaceMember → List Entry
 methods_of members = flat_map (λ (m : InterfaceMember). method_entry m.attributes m.item) members
 

@@ -48,6 +48,7 @@ pub record IsEnum (text : EnumText) (row : EnumRow) : Type 0 where
   pub members : AreMembers text.site (pos 0) text.enumerators row.members
   pub default : row.default ≡ default_of text.enumerators row.members
 
+-- the enum that a definition is, where it is one
 abbrev pub enum_texts : Site → List ℕ → List Attribute → DefinitionItem → List EnumText
 enum_texts site full attributes (items.Enum item) =
     record { site = site; full = full; attributes = attributes; enumerators = item.enumerators } ∷ []

@@ -10,7 +10,7 @@ use Rattle.mojom_ast.specs.declared.definitions.InterfaceItem.{InterfaceItem}
 use Rattle.mojom_ast.specs.declared.definitions.InterfaceItem.TheVariants as interface_items
 use Rattle.mojom_ast.specs.declared.definitions.Parameter.{Parameter}
 use Rattle.mojom_files.specs.declared.named_file.NamedFile.{NamedFile}
-use Rattle.mojom_files.specs.Names.{within}
+use Rattle.mj_base.specs.Names.{within}
 use Rattle.mojom_files.specs.Definitions.{Defined, definitions_of}
 use Rattle.module_resolver.specs.declared.file_names.FileNames.{FileNames}
 use Rattle.const_eval.specs.declared.consts.Consts.{Consts}
@@ -152,6 +152,7 @@ all_placed files order = flat_map (placed_in files) order
 abbrev pub site_in : List FileNames → Consts → ℕ → List ℕ → Site
 site_in names consts file full = record { names = names; consts = consts; file = file; enclosing = Some full }
 
+-- a struct of this full name and these entries
 abbrev pub struct_text : Site → List ℕ → List Entry → StructText
 struct_text site full entries = record { site = site; full = full; entries = entries }
 
@@ -176,6 +177,7 @@ struct_texts site full (items.Union item) = []
 struct_texts site full (items.Enum item) = []
 struct_texts site full (items.Const item) = []
 
+-- the union that a definition is, where it is one
 abbrev pub union_texts : Site → List ℕ → List Attribute → DefinitionItem → List UnionText
 union_texts site full attributes (items.Union item) = record { site = site; full = full; attributes = attributes; entries = union_fields_of item.fields } ∷ []
 union_texts site full attributes (items.Struct item) = []
@@ -183,6 +185,7 @@ union_texts site full attributes (items.Interface item) = []
 union_texts site full attributes (items.Enum item) = []
 union_texts site full attributes (items.Const item) = []
 
+-- the interface that a definition is, where it is one
 abbrev pub interface_texts : Site → List ℕ → DefinitionItem → List InterfaceText
 interface_texts site full (items.Interface item) =
     record {

@@ -1,19 +1,25 @@
-use Rattle.std.proofs.Common.{◌≡◌, sym, None}
-use Rattle.std.specs.Prelude.{string_bytes}
-use Rattle.std.specs.HashMap.{get_by_text}
-use Rattle.std.proofs.lemmas.Map.Text.{hash_map_updates_text}
-use Rattle.call_script.proofs.Interfaces.{stays_noted}
-use Rattle.call_script.proofs.NameLemmas.{noted}
+use Rattle.std.specs.Prelude.{nat_eq}
+use Rattle.indexmap.specs.IndexMap.{get}
+use Rattle.mj_base.specs.Names.{full_name}
+use Rattle.call_script.proofs.Interfaces.{kept_more, noted_more}
 use Rattle.call_script.proofs.indexed_schema.note.Goals as goal
 
-pub returns-in-Some : goal.returns-in-Some
-returns-in-Some c = stays_noted c.args.numbers.now c.args.name.now c.args.number c.in-Some._first.now (sym c.in-Some.ensures.value)
+pub enter_full-requires-clause-tree : goal.enter_full-requires-clause-tree
+enter_full-requires-clause-tree c = c.requires.kept.tree_is
 
-pub returns : goal.returns
-returns c q =
-    let key = c.in_ok-from_str.field-0 in
-    let fresh : get_by_text c.args.numbers.now c.args.name.now ≡ None = sym c.in_default.ensures.value in
-    let named : string_bytes key ≡ c.args.name.now = c.in_ok-from_str.ensures.ok in
-    rw (sym named)
-    (noted (get_by_text c.args.numbers.now) (get_by_text c.insert.new.self) (string_bytes key) c.args.number (rw named fresh) q
-    (hash_map_updates_text (string_bytes key) c.args.numbers.now c.insert.new.self _ c.in_ok-insert.ensures.updates q))
+pub enter_full-requires-clause-root : goal.enter_full-requires-clause-root
+enter_full-requires-clause-root c = c.requires.kept.root
+
+pub returns-clause-kept : goal.returns-clause-kept
+returns-clause-kept c =
+    let name = full_name c.args.name.module_name.now c.args.name.outer.now c.args.name.name.now in
+    let made = c.in_ok-made.ensures in
+    kept_more c.args.tree.now c.enter_full.new.tree (get nat_eq c.args.numbers.now) (get nat_eq c.keep.new.numbers) c.in_ok-made.made.node
+    c.args.number name c.requires.kept made.tree made.grows made.is c.in_ok-keep.ensures
+
+pub returns-clause-noted : goal.returns-clause-noted
+returns-clause-noted c =
+    let name = full_name c.args.name.module_name.now c.args.name.outer.now c.args.name.name.now in
+    let made = c.in_ok-made.ensures in
+    noted_more c.args.tree.now c.enter_full.new.tree (get nat_eq c.args.numbers.now) (get nat_eq c.keep.new.numbers) c.in_ok-made.made.node
+    c.args.number name c.requires.kept made.tree made.grows made.is c.in_ok-keep.ensures

@@ -1,6 +1,7 @@
 use Rattle.std.proofs.Common.{take}
 use Rattle.std.proofs.lemmas.Result.{err_from_is_err_and}
 use Rattle.wire_model.specs.Trees.{view}
+use Rattle.value_text.specs.Brackets.{MAX_BRACKETS}
 use Rattle.value_text.specs.Rules.{value}
 use Rattle.line_parts.specs.Signs.{blank}
 use Rattle.line_parts.proofs.BlankReads as reads
@@ -8,7 +9,7 @@ use Rattle.line_parts.proofs.messages.value_and_blank.Goals as goal
 
 pub returns-in_err-after : goal.returns-in_err-after
 returns-in_err-after c =
-    let here = value c.args.schema.now 512 c.args.kind.now in
+    let here = value c.args.schema.now MAX_BRACKETS c.args.kind.now in
     let at = c.in-Err-BadText.at in
     let bad = reads.refused here c.args.bytes.now c.in-Err-BadText.field-0 at c.in-Err-BadText.field-0-is c.in-Err-BadText.ensures in
     let p = err_from_is_err_and c.from_residual.result c.from_residual.ensures.1 in
@@ -21,7 +22,7 @@ returns-in-Ok-read_value c =
 
 pub returns-in-Err-BadText-read_value : goal.returns-in-Err-BadText-read_value
 returns-in-Err-BadText-read_value c =
-    let here = value c.args.schema.now 512 c.args.kind.now in
+    let here = value c.args.schema.now MAX_BRACKETS c.args.kind.now in
     let at = c.in-Err-BadText.at in
     let bad = reads.refused here c.args.bytes.now c.in-Err-BadText.field-0 at c.in-Err-BadText.field-0-is c.in-Err-BadText.ensures in
     let second = c.in-Err-BadText-read_value in

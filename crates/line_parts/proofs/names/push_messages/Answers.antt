@@ -16,7 +16,8 @@ loop-method-preserved c =
     (subst (λ (ms : List MethodRow). c.loop-method.method-index < length ms) c.as_slice-method-items.ensures c.loop-method-test.true)
     (c.method-item.is ∙ ap (λ (ms : List MethodRow). get_or ms c.loop-method.method-index method) c.as_slice-method-items.ensures)
     (c.in_ok-push_message.ensures
-    ∙ ap (λ (name : List ℕ). words ++ that_are_words (of name method)) (c.as_bytes-name.ensures.value ∙ c.as_str.ensures)) c.loop-method.invariant
+    ∙ ap (λ (name : List ℕ). words ++ that_are_words (of name method)) (c.as_bytes-name.ensures.value ∙ c.as_str.ensures ∙ c.in_ok-full.ensures))
+    c.loop-method.invariant
 
 pub returns : goal.returns
 returns c =

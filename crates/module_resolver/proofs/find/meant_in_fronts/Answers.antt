@@ -1,5 +1,5 @@
 use Rattle.std.proofs.Common.{arith, refl, ℕ, List, [], ◌∷◌, get_or, sym, ◌∙◌}
-use Rattle.mojom_files.specs.Names.{within}
+use Rattle.mj_base.specs.Names.{within}
 use Rattle.import_order.specs.Imports.{has}
 use Rattle.module_resolver.specs.steps.Owners.{owner}
 use Rattle.module_resolver.specs.steps.Held.{held}

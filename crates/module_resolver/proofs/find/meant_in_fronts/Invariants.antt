@@ -1,6 +1,6 @@
 use Rattle.std.proofs.Common.{◌≡◌, ◌-◌, length, drop, map, [], ◌∷◌, ◌++◌}
 use Rattle.std.specs.Prelude.{None}
-use Rattle.mojom_files.specs.Names.{within}
+use Rattle.mj_base.specs.Names.{within}
 use Rattle.mojom_files.specs.Refusals.{first_of}
 use Rattle.import_order.specs.Imports.{has}
 use Rattle.module_resolver.specs.LookUp.{candidates}

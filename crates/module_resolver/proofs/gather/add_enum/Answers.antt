@@ -1,7 +1,7 @@
 use Rattle.std.proofs.Common.{List, ℕ, map, ◌++◌, ◌∙◌, ap}
 use Rattle.std.specs.List.{flat_map}
 use Rattle.mojom_ast.specs.declared.definitions.Enumerator.{Enumerator}
-use Rattle.mojom_files.specs.Names.{within}
+use Rattle.mj_base.specs.Names.{within}
 use Rattle.module_resolver.specs.Enums.{names_in_enum}
 use Rattle.module_resolver.proofs.Held.{one_behind}
 use Rattle.module_resolver.proofs.Enums.{flat_pushed}

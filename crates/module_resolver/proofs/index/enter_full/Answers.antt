@@ -1,5 +1,5 @@
 use Rattle.std.proofs.Common.{subst}
-use Rattle.mojom_files.specs.Names.{named_in}
+use Rattle.mj_base.specs.Names.{named_in}
 use Rattle.module_resolver.specs.steps.Held.{IsEntry}
 use Rattle.module_resolver.proofs.Held.{entered_twice, node_there}
 use Rattle.module_resolver.proofs.index.enter_full.Goals as goal

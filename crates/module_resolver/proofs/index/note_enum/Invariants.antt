@@ -1,7 +1,7 @@
 use Rattle.std.proofs.Common.{◌+◌, ℕ, take, map}
 use Rattle.std.specs.Option.{option_map}
 use Rattle.import_order.specs.Numbers.{number_of}
-use Rattle.mojom_files.specs.Names.{within}
+use Rattle.mj_base.specs.Names.{within}
 use Rattle.module_resolver.specs.declared.target.Target.TheVariants.{Enumerator}
 use Rattle.module_resolver.specs.steps.Owners.{where_seen, Notes}
 use Rattle.module_resolver.specs.steps.Held.{held, IsSound, IsEntry, KeepsNodes}

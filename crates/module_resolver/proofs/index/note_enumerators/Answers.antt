@@ -4,7 +4,7 @@ use Rattle.std.specs.List.{flat_map}
 use Rattle.std.specs.Option.{option_map}
 use Rattle.std.proofs.lemmas.List.{take_all, length-map}
 use Rattle.import_order.specs.Numbers.{number_of}
-use Rattle.mojom_files.specs.Names.{within}
+use Rattle.mj_base.specs.Names.{within}
 use Rattle.module_resolver.specs.declared.target.Target.TheVariants.{Enumerator}
 use Rattle.module_resolver.specs.Enums.{names_in_enum}
 use Rattle.module_resolver.specs.steps.Owners.{where_seen, Notes}

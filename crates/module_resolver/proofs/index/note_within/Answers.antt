@@ -1,5 +1,5 @@
 use Rattle.std.proofs.Common.{[], ◌∙◌, ap}
-use Rattle.mojom_files.specs.Names.{within}
+use Rattle.mj_base.specs.Names.{within}
 use Rattle.name_tree.specs.Walks.{walk}
 use Rattle.name_tree.specs.Trees.{child}
 use Rattle.module_resolver.proofs.Held.{node_there, node_kept, measured, noted_behind}

@@ -1,6 +1,6 @@
 use Rattle.std.proofs.Common.{◌≡◌, drop, ◌++◌}
 use Rattle.std.specs.List.{flat_map}
-use Rattle.mojom_files.specs.Names.{named_in}
+use Rattle.mj_base.specs.Names.{named_in}
 use Rattle.mojom_files.specs.Definitions.{in_struct}
 use Rattle.mojom_files.proofs.definition_view.add_in_struct.Given as goal
 

@@ -1,6 +1,6 @@
 use Rattle.std.proofs.Common.{◌≡◌, ℕ, ◌-◌, List, [], ◌∷◌, ◌++◌, length, take, drop, map, sym, ◌∙◌, ap, subst, append_assoc}
 use Rattle.std.specs.Prelude.{codes, reverse, string_bytes}
-use Rattle.mojom_files.specs.Names.{within}
+use Rattle.mj_base.specs.Names.{within}
 use Rattle.module_resolver.specs.NamesOf.{fronts_of}
 use Rattle.module_resolver.specs.steps.Dots.{dots_in}
 use Rattle.module_resolver.specs.steps.Cuts.{cut_at, AreCuts}

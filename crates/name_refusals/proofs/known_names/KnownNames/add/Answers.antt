@@ -1,5 +1,5 @@
 use Rattle.std.proofs.Common.{refl, ◌∙◌}
-use Rattle.mojom_files.specs.Names.{full_name}
+use Rattle.mj_base.specs.Names.{full_name}
 use Rattle.name_refusals.proofs.KnownTree.{known_more, was_known}
 use Rattle.name_refusals.proofs.known_names.KnownNames.add.Goals as goal
 

@@ -2,23 +2,24 @@
 
 ghost use Rattle.std.specs.Prelude.{◌≡◌, IfOk};
 
-use mj_base::Text;
+use crate::text::Text;
 use std::alloc::{AllocError, Global};
 use std::marker::Model;
-use std::rc::Rc;
+use std::sync::Arc;
 
-/// A text that several things have, kept once for all of them. Contracts see the text.
+/// A text that several things have, in any threads, kept once for all of them. Contracts see the text.
 #[derive(Drop)]
 pub struct SharedText {
-    text: Rc<Text>,
+    text: Arc<Text>,
 }
 
 impl Model for SharedText {
     ghost use Rattle.std.specs.Prelude.{List, ℕ};
+    ghost use Rattle.std.specs.Arc.{arc_value};
 
     ghost Value = { List ℕ };
 
-    ghost view = { λ t. t.text.value };
+    ghost view = { λ t. arc_value t.text };
 }
 
 impl SharedText {
@@ -34,7 +35,7 @@ impl SharedText {
     pub fn new(alloc: Global, text: Text) -> Result<SharedText, AllocError>
         ensures { IfOk result (λ made. made ≡ text) }
     {
-        let text = Rc::new(alloc, text)?;
+        let text = Arc::new(alloc, text)?;
         Ok(SharedText { text })
     }
 
@@ -42,7 +43,7 @@ impl SharedText {
     pub fn share(&self) -> Result<SharedText, AllocError>
         ensures { IfOk result (λ made. made ≡ self.now) }
     {
-        let text = self.text.clone()?;
+        let text = Arc::try_clone(&self.text)?;
         Ok(SharedText { text })
     }
 
@@ -55,7 +56,7 @@ impl SharedText {
 }
 
 /// The same text for one more, where there is one. Takes no memory.
-pub(crate) fn shared(text: &Option<SharedText>) -> Result<Option<SharedText>, AllocError>
+pub fn shared(text: &Option<SharedText>) -> Result<Option<SharedText>, AllocError>
     ensures { IfOk result (λ made. made ≡ text.now) }
 {
     match text {

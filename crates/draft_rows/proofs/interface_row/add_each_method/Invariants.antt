@@ -1,6 +1,6 @@
 use Rattle.std.proofs.Common.{◌≡◌, drop, map, ◌++◌}
 use Rattle.draft_rows.specs.Rows.{structs_of_methods}
-use Rattle.draft_rows.proofs.interface_row.add_methods.Given as goal
+use Rattle.draft_rows.proofs.interface_row.add_each_method.Given as goal
 use Rattle.kind_scope.specs.Views.{scope_view}
 
 abbrev pub invariant-loop-method : goal.invariant-loop-method

@@ -1,0 +1,2 @@
+pub mod FullNames
+mod Backs
