@@ -120,9 +120,6 @@ module _ (wire : Wire) (seqs : ℕ) (past : List Event) (seq : SeqId) (y : EndId
 
 -- ## Sets that cover
 
-pub covers_more : (s : State) (old new : List EndId) → Covers s old → IsWithin old new → Covers s new
-covers_more s old new c more x r = more x (c x r)
-
 pub covers_still : (s : State) (old new : List EndId) → Holds s → Covers s old → KeepsTaken s old new → Covers s new
 covers_still s old new h c keeps x r =
     keeps x

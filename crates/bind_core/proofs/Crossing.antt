@@ -7,7 +7,8 @@ use Rattle.core_state.proofs.state.Rights.TheSendSync as rights
 use Rattle.bind_core.proofs.end_set.EndSet.TheSendSync as end_set
 use Rattle.core_state.specs.contracts.state.State as state
 use Rattle.bind_core.specs.contracts.machine.Core as core
-use Rattle.bind_model.proofs.Crossing.{history_send, schema_send, schema_sync}
+use Rattle.mj_schema.proofs.Crossing.{schema_send, schema_sync}
+use Rattle.bind_model.proofs.Crossing.{history_send}
 
 -- all that a core keeps
 state_send : IsSend state.the_field.row

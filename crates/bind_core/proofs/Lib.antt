@@ -5,6 +5,6 @@ mod NearAsked
 mod Leasts
 mod FirstReady
 mod Covering
-mod SoleStepper
+pub mod SoleStepper
 mod Leaving
 mod Crossing

@@ -1,8 +1,6 @@
--- What may go to another thread: schemas, commands, replies and events. Threads may share a schema.
-use denote.Param.Send.{IsSend, IsSync, sendable}
+-- What may go to another thread: commands, replies and events.
+use denote.Param.Send.{IsSend, sendable}
 use Rattle.std.proofs.Crossing as vecs
-use Rattle.mj_schema.proofs.kind.KindNode.TheLaws.TheKnot as kinds
-use Rattle.mj_schema.specs.contracts.schema.Schema as schema
 use Rattle.wire_model.proofs.value.Value.TheLaws.TheKnot as values
 use Rattle.bind_model.proofs.asked.Closing.TheSendSync as closing
 use Rattle.bind_model.proofs.asked.Notice.TheSendSync as notice
@@ -30,12 +28,6 @@ use Rattle.bind_model.specs.contracts.commands.Command as command
 use Rattle.bind_model.specs.contracts.commands.Received as received
 use Rattle.bind_model.specs.contracts.commands.Reply as reply
 use Rattle.bind_model.specs.contracts.commands.Refused as refused
-
-pub schema_send : IsSend schema.the_field.row
-schema_send = search (kinds.crosses, vecs.crosses, sendable) depth 60 fits 20000
-
-pub schema_sync : IsSync schema.the_field.row
-schema_sync = search (kinds.crosses, vecs.crosses, sendable) depth 60 fits 20000
 
 pub parameters_send : IsSend parameters.the_field.row
 parameters_send = search (values.crosses, vecs.crosses, sendable) depth 60 fits 20000

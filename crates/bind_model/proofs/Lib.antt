@@ -34,3 +34,4 @@ pub mod ResponderCounts
 pub mod PendingTable
 pub mod CoreFacts
 pub mod Crossing
+pub mod PeerLemmas

@@ -27,7 +27,7 @@ use Rattle.bind_model.specs.Wire.{Wire}
 use Rattle.bind_model.specs.Machine.{made, made_by, gone_by, given, handed, bound_by, peer, gone, is_gone, out, bounds, taken, written, endpoint_at, unread, emits, emits_for, control_of, enters, closed_ids, is_local, is_peer_closed, Endpoints, handles_of, carried, carried_behind, goes_behind, goes_with, held_unread, held_bound, spread}
 use Rattle.bind_model.specs.Replies.{serials, tokens, all_out, picked, unpicked, got, from_id}
 use Rattle.handle_table.proofs.ThingsLemmas.{same-sym, same_end-true}
-use Rattle.bind_model.proofs.Counting.{times-append, times-absent, absent, gather, gathers}
+use Rattle.bind_model.proofs.Counting.{times-append, gather, gathers}
 use Rattle.bind_model.proofs.Balance.{Moves}
 use Rattle.bind_model.proofs.Kept.{Kept, out_made, bound_made, made_once, own_times, one_own, one_bound, carry, quiet}
 use Rattle.bind_model.proofs.Outcomes.{Outcome, Fronts, joins, mints, binds, associates, attaches, calls, answers, writes, gets, drops, controls, spoils, closes, closes_pending, closes_responder, closes_end, closes_endpoint, notifies, pauses, pipes, flows, skips, refuses}
@@ -90,9 +90,6 @@ module _ (wire : Wire) (seqs : ℕ) (past : List Event) (seq : SeqId) (k : Kept 
 
   none_left : (z : Thing) → 0 ≤ times z (held_bound past)
   none_left z = omega arith
-
-  not_gone : (z : Thing) → has (made past) z ≡ false → has (gone past) z ≡ false
-  not_gone z h = absent z (gone past) (omega (arith, k.one z, times-absent z (made past) h))
 
   pub new_end : (x : EndId) → serials past x.seq ≤ x.serial → has (made past) (End x) ≡ false
   new_end x h = go (has (made past) (End x)) refl

@@ -23,7 +23,7 @@ pub struct Got {
 }
 
 /// Why a message is bad.
-#[derive(Clone, Copy, Debug, PartialEq, Eq)]
+#[derive(Clone, Copy, PartialEq, Eq)]
 pub enum BadWhy {
     /// It stands for nothing.
     Message(Fault),

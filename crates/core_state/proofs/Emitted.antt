@@ -10,8 +10,8 @@ use Rattle.mj_schema.specs.declared.schema.Schema.{Schema}
 use Rattle.handle_table.specs.Things.{has, same_end}
 use Rattle.handle_table.specs.declared.thing.Thing.TheVariants.{End}
 use Rattle.handle_table.proofs.ThingsLemmas.{or_left, or_right, same_end-true}
-use Rattle.message_pipe.specs.Contents.{Becomes, Contents}
-use Rattle.message_pipe.specs.Ends.{end_of, is_closed, peer_of, with_messages}
+use Rattle.message_pipe.specs.Contents.{Contents}
+use Rattle.message_pipe.specs.Ends.{end_of, peer_of, with_messages}
 use Rattle.message_pipe.specs.Mail.{are_emitted}
 use Rattle.message_pipe.specs.declared.message.Message.{Message}
 use Rattle.message_pipe.specs.declared.pipe_end.PipeEnd.{PipeEnd}
@@ -44,39 +44,6 @@ all_emitted control endpoints y (id ∷ ids) = go (not (is_peer_closed (found_at
         → are_emitted (if b then control_for (control id) ∷ emitted_at control endpoints y ids else emitted_at control endpoints y ids) ≡ true
     go true rest = rest
     go false rest = rest
-
--- messages that are written, and none that are
-pub emits_pushed : (p : EndId) (messages : List Message) (old new : Contents) → Becomes p (with_messages messages) old new → Emits p true messages old new
-emits_pushed p messages old new b = record { ends = λ x. b.ends x ∙ go (same_end p x) (end_of old.ends x); table = b.table; made = b.made }
-  where
-    go : (c : Bool) (o : Option PipeEnd) → (if c then option_map (with_messages messages) o else o)
-        ≡ (if c && true then option_map (with_messages messages) o else o)
-    go true o = refl
-    go false o = refl
-
-pub emits_nothing : (p : EndId) (messages : List Message) (old : Contents) → Emits p false messages old old
-emits_nothing p messages old = record { ends = λ x. go (same_end p x) (end_of old.ends x); table = refl; made = refl }
-  where
-    go : (c : Bool) (o : Option PipeEnd) → o ≡ (if c && false then option_map (with_messages messages) o else o)
-    go true o = refl
-    go false o = refl
-
--- at the other end, by whether there is one and it is open
-pub to_none : (o : Option EndId) (messages : List Message) (old : Contents) → o ≡ None → EmitsTo o messages old old
-to_none None messages old h = refl
-to_none (Some p) messages old h = absurd cc
-
-pub to_closed : (o : Option EndId) (p : EndId) (messages : List Message) (old : Contents) → o ≡ Some p → is_closed (end_of old.ends p) ≡ true
-    → EmitsTo o messages old old
-to_closed o p messages old h c =
-    subst (λ (q : Option EndId). EmitsTo q messages old old) (sym h)
-    (subst (λ (b : Bool). Emits p (not b) messages old old) (sym c) (emits_nothing p messages old))
-
-pub to_open : (o : Option EndId) (p : EndId) (messages : List Message) (old new : Contents) → o ≡ Some p → is_closed (end_of old.ends p) ≡ false
-    → Becomes p (with_messages messages) old new → EmitsTo o messages old new
-to_open o p messages old new h c b =
-    subst (λ (q : Option EndId). EmitsTo q messages old new) (sym h)
-    (subst (λ (b : Bool). Emits p (not b) messages old new) (sym c) (emits_pushed p messages old new b))
 
 -- ## What the events say of it
 

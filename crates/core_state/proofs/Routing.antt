@@ -115,10 +115,6 @@ module _ (R : Bool → Contents → Contents → Type 0) (same : (c : Contents) 
             (sym (ap (λ (k : ℕ). listed all k) (eqb-true x.seq y.seq f)) ∙ listed-past all x.seq h)))
             none
 
--- an end is itself
-pub same-end : (x : EndId) → same_end x x ≡ true
-same-end x = rw (eq-eqb x.seq x.seq refl, eq-eqb x.serial x.serial refl) refl
-
 pub on_err : {A B E : Type 0} {Y : Type 0} (r : Result Y E) → (A → B) → OnErr r A → OnErr r B
 on_err (Ok v) f h = tt
 on_err (Err e) f h = f h

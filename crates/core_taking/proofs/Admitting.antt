@@ -14,7 +14,7 @@ use Rattle.bind_model.specs.declared.endpoint.Endpoint.{Endpoint}
 use Rattle.bind_model.proofs.Entering.{entry_there}
 use Rattle.bind_model.proofs.Growing.{behind, entries_more, strange_grown, strange_later, with_entry}
 use Rattle.endpoint_router.specs.Agreement.{entered_row}
-use Rattle.endpoint_router.specs.Rows.{Contents, RowSeen, endpoints_of, no_endpoints, row_at, row_of}
+use Rattle.endpoint_router.specs.Rows.{Contents, RowSeen, endpoints_of, row_at, row_of}
 use Rattle.endpoint_router.proofs.Stepping.{last_enters}
 use Rattle.core_taking.specs.declared.admit.Admitted.{Admitted}
 use Rattle.core_taking.specs.steps.Admits.{Admits, AreSlots, Gains, IsAdmitted, by_slot, first_or}
@@ -182,14 +182,6 @@ module _ (endpoints : Endpoints) (named : List Named) (done : List ℕ) (seen : 
         keep (Some x) = refl
 
 -- ## All
-
--- no ids
-pub admitted_none : (endpoints : Endpoints) (named : List Named) (seen : Contents) (a : Admitted) → seen ≡ no_endpoints → a.strange ≡ None
-    → a.entries.items ≡ [] → a.closed.items ≡ [] → IsAdmitted endpoints named [] seen a
-admitted_none endpoints named seen a e s f g = record {
-  so_far = record { strange = s; entries = f; closed = g };
-  rows = λ n. ap (λ (c : Contents). row_at c n) e;
-}
 
 -- those up to the next one
 pub next_admitted : (endpoints : Endpoints) (named : List Named) (slots : List (Option WantedEndpoint)) (ids : List ℕ) (k : ℕ) (endpoint : Endpoint)

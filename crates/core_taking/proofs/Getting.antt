@@ -14,7 +14,6 @@ use Rattle.handle_table.specs.declared.places.Place.{Place}
 use Rattle.handle_table.specs.declared.places.Place.TheVariants as places
 use Rattle.handle_table.specs.declared.thing.Thing.{Thing}
 use Rattle.handle_table.specs.declared.thing.Thing.TheVariants.{End}
-use Rattle.handle_table.proofs.ThingsLemmas.{or_right}
 use Rattle.message_pipe.specs.Contents.{Contents, Becomes, Closes}
 use Rattle.message_pipe.specs.Ends.{closed_by, shut, without_front}
 use Rattle.message_pipe.specs.declared.message.Message.{Message}
@@ -23,16 +22,16 @@ use Rattle.bind_model.specs.declared.asked.Asked.TheVariants.{Take}
 use Rattle.bind_model.specs.declared.told.Told.TheVariants.{Control}
 use Rattle.bind_model.specs.declared.event.Event.{Event}
 use Rattle.bind_model.specs.Wire.{Wire}
-use Rattle.bind_model.specs.Machine.{made, made_by, peer, peer_by, gone, gone_by, is_gone, out, given, handed, taken, takes, written, puts}
+use Rattle.bind_model.specs.Machine.{made, made_by, peer, peer_by, gone_by, is_gone, given, handed, taken, takes, written, puts}
 use Rattle.bind_model.specs.Machine.{changes, unread, endpoint_at}
-use Rattle.bind_model.proofs.Kept.{Kept, out_made}
+use Rattle.bind_model.proofs.Kept.{Kept}
 use Rattle.core_state.specs.Routers.{Routers}
 use Rattle.core_state.specs.Placing.{PutsAll}
-use Rattle.core_state.specs.Agreement.{Agrees, end_in, end_with, is_out, is_shut}
-use Rattle.core_state.proofs.After.{gone_after, out_after, unread_after, end_after}
-use Rattle.core_state.proofs.Facts.{gone_out, gone_made}
+use Rattle.core_state.specs.Agreement.{Agrees, end_in, is_out, is_shut}
+use Rattle.core_state.proofs.After.{gone_after, unread_after, end_after}
 use Rattle.core_state.proofs.Steady.{AllAgree, IsSteady}
 use Rattle.core_taking.specs.steps.Founds.{IsSilent}
+use Rattle.core_taking.proofs.HandedOut.{front_shut, moved, one_taken, outs_now, shuts_now, some_moved}
 
 -- an event that consumes the oldest message at y, and makes, takes in and writes nothing
 pub record IsReading (wire : Wire) (event : Event) (past : List Event) (y : EndId) : Type 0 where
@@ -41,15 +40,6 @@ pub record IsReading (wire : Wire) (event : Event) (past : List Event) (y : EndI
   pub takes : (x : EndId) → length (takes event.told event.asked x) ≡ (if same_end y x then 1 else 0)
   pub puts : (x : EndId) → puts wire past (written wire past) (endpoint_at wire past) event.told event.asked x ≡ []
   pub peer : (x : EndId) → peer_by event.told x (peer past x) ≡ peer past x
-
--- a place that is another where this holds
-abbrev moved : Bool → Place → Option Place → Option Place
-moved b place o = if b then option_map (λ (before : Place). place) o else o
-
-some_moved : (b : Bool) (place : Place) (o : Option Place) → is_some (moved b place o) ≡ is_some o
-some_moved false place o = refl
-some_moved true place None = refl
-some_moved true place (Some p) = refl
 
 module _ (wire : Wire) (event : Event) (past : List Event) (y : EndId) (k : Kept wire past) (after : Kept wire (event ∷ past))
     (s : IsReading wire event past y) where
@@ -80,90 +70,10 @@ module _ (wire : Wire) (event : Event) (past : List Event) (y : EndId) (k : Kept
       (if same_end y x then option_map without_front (end_in wire past x) else end_in wire past x)
       ≡ end_in wire (event ∷ past) x
   ends_now x =
-      go (has (made past) (End x)) (is_gone past x) (same_end y x) (has (gone_by event.told) (End x)) refl (unread wire past x)
+      front_shut event past x (has (made past) (End x)) (is_gone past x) (same_end y x) (has (gone_by event.told) (End x)) refl (unread wire past x)
       ∙ sym (end_after wire event past x (has (made past) (End x)) (peer past x) (is_gone past x || has (gone_by event.told) (End x))
       (if has (gone_by event.told) (End x) then [] else (if same_end y x then drop 1 (unread wire past x) else unread wire past x))
       (ap (λ ms. has ms (End x)) same_made) (s.peer x) (gone_after wire event past (End x)) (unread_now x))
-    where
-      go : (m g b h : Bool) → has (gone_by event.told) (End x) ≡ h → (ms : List Message)
-          → option_map (closed_by (gone_by event.told) x)
-          (if b then option_map without_front (end_with m (peer past x) g ms) else end_with m (peer past x) g ms)
-          ≡ end_with m (peer past x) (g || h) (if h then [] else (if b then drop 1 ms else ms))
-      go false g true h e ms = refl
-      go false g false h e ms = refl
-      go true true true true e ms = rw e refl
-      go true true true false e ms = rw e refl
-      go true true false true e ms = rw e refl
-      go true true false false e ms = rw e refl
-      go true false true true e ms = rw e refl
-      go true false true false e ms = rw e refl
-      go true false false true e ms = rw e refl
-      go true false false false e ms = rw e refl
-
-  -- what comes out was made and isn't gone
-  handed_out : (z : Thing) → has (handed event.told) z ≡ true → has (out (event ∷ past)) z ≡ true
-  handed_out z h =
-      out_after wire event past z ∙ or_right (has (out past) z && not (has (given event.told event.asked) z)) (has (handed event.told) z) h
-
-  handed_made : (z : Thing) → has (handed event.told) z ≡ true → has (made past) z ≡ true
-  handed_made z h = sym (ap (λ ms. has ms z) same_made) ∙ out_made wire (event ∷ past) after z (handed_out z h)
-
-  handed_kept : (z : Thing) → has (handed event.told) z ≡ true → has (gone (event ∷ past)) z ≡ false
-  handed_kept z h = go (has (gone (event ∷ past)) z) refl
-    where
-      go : (b : Bool) → has (gone (event ∷ past)) z ≡ b → b ≡ false
-      go false e = refl
-      go true e = absurd (let t : true ≡ false = sym (handed_out z h) ∙ gone_out wire (event ∷ past) after z e in cc)
-
-  gone_now : (z : Thing) → has (gone_by event.told) z ≡ true → has (gone (event ∷ past)) z ≡ true
-  gone_now z h = gone_after wire event past z ∙ or_right (has (gone past) z) (has (gone_by event.told) z) h
-
-  goes_made : (z : Thing) → has (gone_by event.told) z ≡ true → has (made past) z ≡ true
-  goes_made z h = sym (ap (λ ms. has ms z) same_made) ∙ gone_made wire (event ∷ past) after z (gone_now z h)
-
-  outs_now : (z : Thing) (o : Option Place) → is_out o ≡ has (out past) z → is_some o ≡ has (made past) z
-      → is_out (moved (has (handed event.told) z) places.Out (moved (has (gone_by event.told) z) places.Closed o)) ≡ has (out (event ∷ past)) z
-  outs_now z o e m = go (has (handed event.told) z) (has (gone_by event.told) z) refl refl
-    where
-      is : (p : Option Place) → is_some p ≡ true → is_out (option_map (λ (before : Place). places.Out) p) ≡ true
-      is None h = cc
-      is (Some q) h = refl
-
-      nowhere : (p : Option Place) → is_out (option_map (λ (before : Place). places.Closed) p) ≡ false
-      nowhere None = refl
-      nowhere (Some q) = refl
-
-      plain : (b : Bool) → ((b && true) || false) ≡ b
-      plain true = refl
-      plain false = refl
-
-      go : (h g : Bool) → has (handed event.told) z ≡ h → has (gone_by event.told) z ≡ g
-          → is_out (moved h places.Out (moved g places.Closed o)) ≡ has (out (event ∷ past)) z
-      go true g i j = is (moved g places.Closed o) (some_moved g places.Closed o ∙ (m ∙ handed_made z i)) ∙ sym (handed_out z i)
-      go false true i j = nowhere o ∙ sym (gone_out wire (event ∷ past) after z (gone_now z j))
-      go false false i j = e ∙ sym (out_after wire event past z ∙ rw (s.given, i) (plain (has (out past) z)))
-
-  shuts_now : (z : Thing) (o : Option Place) → is_shut o ≡ has (gone past) z → is_some o ≡ has (made past) z
-      → is_shut (moved (has (handed event.told) z) places.Out (moved (has (gone_by event.told) z) places.Closed o)) ≡ has (gone (event ∷ past)) z
-  shuts_now z o e m = go (has (handed event.told) z) (has (gone_by event.told) z) refl refl
-    where
-      nowhere : (p : Option Place) → is_shut (option_map (λ (before : Place). places.Out) p) ≡ false
-      nowhere None = refl
-      nowhere (Some q) = refl
-
-      is : (p : Option Place) → is_some p ≡ true → is_shut (option_map (λ (before : Place). places.Closed) p) ≡ true
-      is None h = cc
-      is (Some q) h = refl
-
-      plain : (b : Bool) → (b || false) ≡ b
-      plain true = refl
-      plain false = refl
-
-      go : (h g : Bool) → has (handed event.told) z ≡ h → has (gone_by event.told) z ≡ g
-          → is_shut (moved h places.Out (moved g places.Closed o)) ≡ has (gone (event ∷ past)) z
-      go true g i j = nowhere (moved g places.Closed o) ∙ sym (handed_kept z i)
-      go false true i j = is o (m ∙ goes_made z j) ∙ sym (gone_now z j)
-      go false false i j = e ∙ sym (gone_after wire event past z ∙ rw j (plain (has (gone past) z)))
 
   -- what agreed agrees with the longer history, once the message is away, what goes is closed and what comes out is out
   pub read_agrees : (old mid shut new : Contents) (before now : Routers)
@@ -175,12 +85,12 @@ module _ (wire : Wire) (event : Event) (past : List Event) (y : EndId) (k : Kept
         ∙ (c.ends x
         ∙ (ap (option_map (closed_by (gone_by event.told) x))
         (b.ends x ∙ ap (λ (o : Option PipeEnd). if same_end y x then option_map without_front o else o) (a.ends x)) ∙ ends_now x));
-    outs = λ z. ap is_out (at z) ∙ outs_now z (place_of old.table z) (a.outs z) (a.there z);
+    outs = λ z. ap is_out (at z) ∙ outs_now wire event past after same_made s.given z (place_of old.table z) (a.outs z) (a.there z);
     there = λ z.
         ap (λ (o : Option Place). is_some o) (at z)
         ∙ (some_moved (has (handed event.told) z) places.Out (moved (has (gone_by event.told) z) places.Closed (place_of old.table z))
         ∙ (some_moved (has (gone_by event.told) z) places.Closed (place_of old.table z) ∙ (a.there z ∙ sym (ap (λ ms. has ms z) same_made))));
-    shuts = λ z. ap is_shut (at z) ∙ shuts_now z (place_of old.table z) (a.shuts z) (a.there z);
+    shuts = λ z. ap is_shut (at z) ∙ shuts_now wire event past after same_made s.given z (place_of old.table z) (a.shuts z) (a.there z);
     made = p.made ∙ (c.made ∙ (b.made ∙ (a.made ∙ sym (ap length same_made))));
     serials = λ n.
         p.ends_made n
@@ -201,10 +111,6 @@ module _ (wire : Wire) (event : Event) (past : List Event) (y : EndId) (k : Kept
           (c.places z ∙ ap (λ t. moved (has (gone_by event.told) z) places.Closed (place_of t z)) b.table)
 
 -- ## Controls
-
-one_taken : {A : Type 0} (b : Bool) (a : A) → length (if b then a ∷ [] else []) ≡ (if b then 1 else 0)
-one_taken true a = refl
-one_taken false a = refl
 
 -- what a control does
 pub control_read : (wire : Wire) (past : List Event) (seq : SeqId) (y : EndId) (id : ℕ)

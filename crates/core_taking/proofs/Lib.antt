@@ -1,6 +1,7 @@
 mod PendingMade
 mod Admitting
 mod CarriedIds
+mod HandedOut
 mod Getting
 mod Looking
 mod Fronts

@@ -72,9 +72,6 @@ named_parted y (id ∷ ids) js p = go (same_pending (pending_at y id) p) (named_
 
 -- ## Places
 
-pub none_placed : (names : List (EndpointName × Bool)) (y : EndId) → HavePlaces names y []
-none_placed names y id h = absurd cc
-
 -- one that is pending is named by its id alone
 first_named : (e : Entry) (rest : List Entry) → is_pending e.endpoint ≡ true → has_number (pending_ids (e ∷ rest)) e.id ≡ true
 first_named e rest h = go (is_pending e.endpoint) h

@@ -1,7 +1,7 @@
 -- What a take that consumes a message makes of pipes, places and endpoints, where ids enter and controls are emitted.
 use Rattle.control_bytes.specs.declared.control.Control.TheVariants as says
 use Rattle.std.proofs.Common.{◌≡◌, ◌≤◌, ℕ, Bool, true, false, List, [], ◌∷◌, ◌++◌, length, drop, refl, sym, ap, ◌∙◌}
-use Rattle.std.specs.Prelude.{if◌then◌else◌, ◌||◌, ◌&&◌, not, ◌==◌, filter, is_some, map, Option, Some, None}
+use Rattle.std.specs.Prelude.{if◌then◌else◌, ◌||◌, ◌&&◌, not, ◌==◌, filter, is_some, map, Option, Some}
 use Rattle.std.specs.Option.{option_map}
 use Rattle.std.specs.List.{count_by}
 use Rattle.std.proofs.lemmas.List.{append-nil}
@@ -13,7 +13,7 @@ use Rattle.handle_table.specs.declared.places.Place.{Place}
 use Rattle.handle_table.specs.declared.places.Place.TheVariants as places
 use Rattle.handle_table.specs.declared.thing.Thing.{Thing}
 use Rattle.handle_table.specs.declared.thing.Thing.TheVariants.{End}
-use Rattle.handle_table.proofs.ThingsLemmas.{or_right, same_end-true}
+use Rattle.handle_table.proofs.ThingsLemmas.{same_end-true}
 use Rattle.message_pipe.specs.Contents.{Contents, Becomes, Closes}
 use Rattle.message_pipe.specs.Ends.{closed_by, end_of, shut, with_messages, without_front}
 use Rattle.message_pipe.specs.declared.message.Message.{Message}
@@ -24,19 +24,19 @@ use Rattle.bind_model.specs.declared.told.Got.{Got}
 use Rattle.bind_model.specs.declared.told.Noted.TheVariants as noted
 use Rattle.bind_model.specs.declared.told.Told.TheVariants.{Control, Dropped, Taken}
 use Rattle.bind_model.specs.Wire.{Wire}
-use Rattle.bind_model.specs.Machine.{made, made_by, peer, peer_by, gone, gone_by, is_gone, out, given, handed, taken, takes, written, puts}
+use Rattle.bind_model.specs.Machine.{made, made_by, peer, peer_by, gone_by, is_gone, given, handed, taken, takes, written, puts}
 use Rattle.bind_model.specs.Machine.{closed_ids, emits, enters, is_peer_closed, unread, endpoint_at}
 use Rattle.bind_model.proofs.Controls.{controls_of}
-use Rattle.bind_model.proofs.Kept.{Kept, out_made}
+use Rattle.bind_model.proofs.Kept.{Kept}
 use Rattle.bind_model.proofs.Moving.{few_read}
 use Rattle.bind_model.proofs.Outcomes.{Fronts}
 use Rattle.core_state.specs.Emitting.{Emits}
 use Rattle.core_state.specs.Placing.{PutsAll}
 use Rattle.core_state.specs.Routers.{Routers}
 use Rattle.core_state.specs.Agreement.{Agrees, end_in, end_with, is_out, is_shut}
-use Rattle.core_state.proofs.After.{gone_after, out_after, unread_after, end_after}
-use Rattle.core_state.proofs.Facts.{gone_out, gone_made}
+use Rattle.core_state.proofs.After.{gone_after, unread_after, end_after}
 use Rattle.core_state.proofs.Steady.{AllAgree}
+use Rattle.core_taking.proofs.HandedOut.{front_shut, moved, one_taken, outs_now, shuts_now, some_moved}
 
 -- an event that consumes the oldest message at y, emits these messages at its peer, and makes and takes in nothing
 pub record IsTaking (wire : Wire) (event : Event) (past : List Event) (y : EndId) (messages : List Message) : Type 0 where
@@ -48,15 +48,6 @@ pub record IsTaking (wire : Wire) (event : Event) (past : List Event) (y : EndId
   pub puts : (x : EndId) → puts wire past (written wire past) (endpoint_at wire past) event.told event.asked x
       ≡ (if same_end (peer past y) x && not (is_gone past x) then messages else [])
   pub peer : (x : EndId) → peer_by event.told x (peer past x) ≡ peer past x
-
--- a place that is another where this holds
-abbrev moved : Bool → Place → Option Place → Option Place
-moved b place o = if b then option_map (λ (before : Place). place) o else o
-
-some_moved : (b : Bool) (place : Place) (o : Option Place) → is_some (moved b place o) ≡ is_some o
-some_moved false place o = refl
-some_moved true place None = refl
-some_moved true place (Some p) = refl
 
 module _ (wire : Wire) (event : Event) (past : List Event) (y : EndId) (messages : List Message) (k : Kept wire past)
     (after : Kept wire (event ∷ past)) (s : IsTaking wire event past y messages) where
@@ -119,92 +110,12 @@ module _ (wire : Wire) (event : Event) (past : List Event) (y : EndId) (messages
       else end_with (has (made past) (End x)) (peer past x) (is_gone past x) (unread wire past x ++ added x))
       ≡ end_in wire (event ∷ past) x
   ends_now x =
-      go (has (made past) (End x)) (is_gone past x) (same_end y x) (has (gone_by event.told) (End x)) refl (unread wire past x ++ added x)
+      front_shut event past x (has (made past) (End x)) (is_gone past x) (same_end y x) (has (gone_by event.told) (End x)) refl (unread wire past x ++ added x)
       ∙ (ap (λ (ms : List Message). end_with (has (made past) (End x)) (peer past x) (is_gone past x || has (gone_by event.told) (End x))
       (if has (gone_by event.told) (End x) then [] else ms)) (front_first x (same_end y x) refl (added x))
       ∙ sym (end_after wire event past x (has (made past) (End x)) (peer past x) (is_gone past x || has (gone_by event.told) (End x))
       (if has (gone_by event.told) (End x) then [] else (if same_end y x then drop 1 (unread wire past x) else unread wire past x) ++ added x)
       (ap (λ ms. has ms (End x)) same_made) (s.peer x) (gone_after wire event past (End x)) (unread_now x)))
-    where
-      go : (m g b h : Bool) → has (gone_by event.told) (End x) ≡ h → (ms : List Message)
-          → option_map (closed_by (gone_by event.told) x)
-          (if b then option_map without_front (end_with m (peer past x) g ms) else end_with m (peer past x) g ms)
-          ≡ end_with m (peer past x) (g || h) (if h then [] else (if b then drop 1 ms else ms))
-      go false g true h e ms = refl
-      go false g false h e ms = refl
-      go true true true true e ms = rw e refl
-      go true true true false e ms = rw e refl
-      go true true false true e ms = rw e refl
-      go true true false false e ms = rw e refl
-      go true false true true e ms = rw e refl
-      go true false true false e ms = rw e refl
-      go true false false true e ms = rw e refl
-      go true false false false e ms = rw e refl
-
-  -- what comes out was made and isn't gone
-  handed_out : (z : Thing) → has (handed event.told) z ≡ true → has (out (event ∷ past)) z ≡ true
-  handed_out z h =
-      out_after wire event past z ∙ or_right (has (out past) z && not (has (given event.told event.asked) z)) (has (handed event.told) z) h
-
-  handed_made : (z : Thing) → has (handed event.told) z ≡ true → has (made past) z ≡ true
-  handed_made z h = sym (ap (λ ms. has ms z) same_made) ∙ out_made wire (event ∷ past) after z (handed_out z h)
-
-  handed_kept : (z : Thing) → has (handed event.told) z ≡ true → has (gone (event ∷ past)) z ≡ false
-  handed_kept z h = go (has (gone (event ∷ past)) z) refl
-    where
-      go : (b : Bool) → has (gone (event ∷ past)) z ≡ b → b ≡ false
-      go false e = refl
-      go true e = absurd (let t : true ≡ false = sym (handed_out z h) ∙ gone_out wire (event ∷ past) after z e in cc)
-
-  gone_now : (z : Thing) → has (gone_by event.told) z ≡ true → has (gone (event ∷ past)) z ≡ true
-  gone_now z h = gone_after wire event past z ∙ or_right (has (gone past) z) (has (gone_by event.told) z) h
-
-  goes_made : (z : Thing) → has (gone_by event.told) z ≡ true → has (made past) z ≡ true
-  goes_made z h = sym (ap (λ ms. has ms z) same_made) ∙ gone_made wire (event ∷ past) after z (gone_now z h)
-
-  outs_now : (z : Thing) (o : Option Place) → is_out o ≡ has (out past) z → is_some o ≡ has (made past) z
-      → is_out (moved (has (handed event.told) z) places.Out (moved (has (gone_by event.told) z) places.Closed o)) ≡ has (out (event ∷ past)) z
-  outs_now z o e m = go (has (handed event.told) z) (has (gone_by event.told) z) refl refl
-    where
-      is : (p : Option Place) → is_some p ≡ true → is_out (option_map (λ (before : Place). places.Out) p) ≡ true
-      is None h = cc
-      is (Some q) h = refl
-
-      nowhere : (p : Option Place) → is_out (option_map (λ (before : Place). places.Closed) p) ≡ false
-      nowhere None = refl
-      nowhere (Some q) = refl
-
-      plain : (b : Bool) → ((b && true) || false) ≡ b
-      plain true = refl
-      plain false = refl
-
-      go : (h g : Bool) → has (handed event.told) z ≡ h → has (gone_by event.told) z ≡ g
-          → is_out (moved h places.Out (moved g places.Closed o)) ≡ has (out (event ∷ past)) z
-      go true g i j = is (moved g places.Closed o) (some_moved g places.Closed o ∙ (m ∙ handed_made z i)) ∙ sym (handed_out z i)
-      go false true i j = nowhere o ∙ sym (gone_out wire (event ∷ past) after z (gone_now z j))
-      go false false i j = e ∙ sym (out_after wire event past z ∙ rw (s.given, i) (plain (has (out past) z)))
-
-  shuts_now : (z : Thing) (o : Option Place) → is_shut o ≡ has (gone past) z → is_some o ≡ has (made past) z
-      → is_shut (moved (has (handed event.told) z) places.Out (moved (has (gone_by event.told) z) places.Closed o)) ≡ has (gone (event ∷ past)) z
-  shuts_now z o e m = go (has (handed event.told) z) (has (gone_by event.told) z) refl refl
-    where
-      nowhere : (p : Option Place) → is_shut (option_map (λ (before : Place). places.Out) p) ≡ false
-      nowhere None = refl
-      nowhere (Some q) = refl
-
-      is : (p : Option Place) → is_some p ≡ true → is_shut (option_map (λ (before : Place). places.Closed) p) ≡ true
-      is None h = cc
-      is (Some q) h = refl
-
-      plain : (b : Bool) → (b || false) ≡ b
-      plain true = refl
-      plain false = refl
-
-      go : (h g : Bool) → has (handed event.told) z ≡ h → has (gone_by event.told) z ≡ g
-          → is_shut (moved h places.Out (moved g places.Closed o)) ≡ has (gone (event ∷ past)) z
-      go true g i j = nowhere (moved g places.Closed o) ∙ sym (handed_kept z i)
-      go false true i j = is o (m ∙ goes_made z j) ∙ sym (gone_now z j)
-      go false false i j = e ∙ sym (gone_after wire event past z ∙ rw j (plain (has (gone past) z)))
 
   -- what agreed agrees with the longer history, once the messages lie at the peer, the oldest is away, what goes is closed and what comes out is out
   pub taken_agrees : (old sent mid shut new : Contents) (before now : Routers)
@@ -217,12 +128,12 @@ module _ (wire : Wire) (event : Event) (past : List Event) (y : EndId) (messages
         ∙ (c.ends x
         ∙ (ap (option_map (closed_by (gone_by event.told) x))
         (b.ends x ∙ ap (λ (o : Option PipeEnd). if same_end y x then option_map without_front o else o) (lies x)) ∙ ends_now x));
-    outs = λ z. ap is_out (at z) ∙ outs_now z (place_of old.table z) (a.outs z) (a.there z);
+    outs = λ z. ap is_out (at z) ∙ outs_now wire event past after same_made s.given z (place_of old.table z) (a.outs z) (a.there z);
     there = λ z.
         ap (λ (o : Option Place). is_some o) (at z)
         ∙ (some_moved (has (handed event.told) z) places.Out (moved (has (gone_by event.told) z) places.Closed (place_of old.table z))
         ∙ (some_moved (has (gone_by event.told) z) places.Closed (place_of old.table z) ∙ (a.there z ∙ sym (ap (λ ms. has ms z) same_made))));
-    shuts = λ z. ap is_shut (at z) ∙ shuts_now z (place_of old.table z) (a.shuts z) (a.there z);
+    shuts = λ z. ap is_shut (at z) ∙ shuts_now wire event past after same_made s.given z (place_of old.table z) (a.shuts z) (a.there z);
     made = p.made ∙ (c.made ∙ (b.made ∙ (e.made ∙ (a.made ∙ sym (ap length same_made)))));
     serials = λ n.
         p.ends_made n
@@ -253,10 +164,6 @@ module _ (wire : Wire) (event : Event) (past : List Event) (y : EndId) (messages
           (c.places z ∙ ap (λ t. moved (has (gone_by event.told) z) places.Closed (place_of t z)) (b.table ∙ e.table))
 
 -- ## What a got message does, and a dropped one, whatever ids they carry
-
-one_taken : {A : Type 0} (b : Bool) (a : A) → length (if b then a ∷ [] else []) ≡ (if b then 1 else 0)
-one_taken true a = refl
-one_taken false a = refl
 
 module _ (wire : Wire) (seqs : ℕ) (past : List Event) (seq : SeqId) (y : EndId) (k : Kept wire past) where
   -- the controls of these ids that are due

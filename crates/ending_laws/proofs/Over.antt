@@ -27,7 +27,7 @@ use Rattle.bind_model.proofs.Counting.{times-present}
 use Rattle.bind_model.proofs.Fresh.{kept}
 use Rattle.bind_model.proofs.Kept.{Kept, most}
 use Rattle.bind_model.proofs.Outcomes.{Outcome, outcome, calls, answers as responds, writes, gets, drops, controls, notifies, closes_pending, closes_end, closes_endpoint}
-use Rattle.ending_laws.proofs.PeerLemmas.{told_peer, not_again, back}
+use Rattle.bind_model.proofs.PeerLemmas.{told_peer, not_again, back}
 use Rattle.ending_laws.proofs.Standing.{is_shut, stands_on}
 
 -- ## What makes an endpoint over

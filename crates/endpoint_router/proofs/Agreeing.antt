@@ -1,20 +1,16 @@
 -- What a table that agrees with the events says.
-use Rattle.std.proofs.Common.{◌≡◌, ℕ, ◌+◌, Bool, true, false, List, length, Some, None, refl, sym, ap, ◌∙◌, subst}
+use Rattle.std.proofs.Common.{◌≡◌, ℕ, ◌+◌, Bool, true, false, List, length, Some, None, refl, ap, ◌∙◌}
 use Rattle.std.specs.Prelude.{if◌then◌else◌, not, ◌&&◌, ◌||◌, Option}
 use Rattle.std.specs.Option.{option_map}
 use Rattle.mj_base.specs.declared.ids.EndId.{EndId}
-use Rattle.mj_base.specs.declared.ids.SeqId.{SeqId}
-use Rattle.message_pipe.specs.declared.message.Message.{Message}
-use Rattle.bind_model.specs.Machine.{Endpoints, endpoint_at, is_closed, is_remote}
-use Rattle.bind_model.specs.Replies.{drawn, headed, is_asked, next_id}
+use Rattle.bind_model.specs.Machine.{endpoint_at, is_closed, is_remote}
+use Rattle.bind_model.specs.Replies.{drawn, is_asked, next_id}
 use Rattle.bind_model.specs.Wire.{Wire}
 use Rattle.bind_model.specs.declared.endpoint.Endpoint.{Endpoint}
 use Rattle.bind_model.specs.declared.event.Event.{Event}
 use Rattle.bind_model.specs.declared.limits.TheConstants.{REMOTE_IDS}
 use Rattle.endpoint_router.specs.Agreement.{Agrees, Says, row_with}
-use Rattle.endpoint_router.specs.Nexts.{Tells, next_of}
 use Rattle.endpoint_router.specs.Rows.{Contents, RowSeen, endpoints_of, is_pending, next_number, own_id, row_at}
-use Rattle.endpoint_router.proofs.Finding.{tells}
 
 module _ (wire : Wire) (past : List Event) (x : EndId) (contents : Contents) (agrees : Agrees wire past x contents) where
   -- the endpoints
@@ -25,19 +21,9 @@ module _ (wire : Wire) (past : List Event) (x : EndId) (contents : Contents) (ag
       go None = refl
       go (Some e) = refl
 
-  pub endpoints_told : endpoints_of contents ≡ endpoint_at wire past x
-  endpoints_told i id = endpoint_told id i
-
   -- the next id that the end makes
   pub own_id_told : own_id contents ≡ next_id wire past x
   own_id_told = λ i. agrees.drawn i + 1 + (if is_remote (endpoint_told 0 i) then REMOTE_IDS else 0)
-
-  -- what a take at the end is told of a message, by what is found there
-  pub next_told : (seq : SeqId) (m : Message)
-      → Tells wire past x m (next_of wire (endpoints_of contents) seq m) (headed wire past seq x m (wire.header m.bytes))
-  next_told seq m =
-      subst (λ (endpoints : Endpoints). Tells wire past x m (next_of wire endpoints seq m) (headed wire past seq x m (wire.header m.bytes)))
-      (sym endpoints_told) (tells wire past seq x m)
 
   module _ (id : ℕ) (e : Endpoint) (there : endpoint_at wire past x id ≡ Some e) where
     -- the row of an endpoint
@@ -67,5 +53,4 @@ says wire past x contents agrees = record {
   own_id = own_id_told wire past x contents agrees;
   numbers = number_told wire past x contents agrees;
   unasked = unasked_told wire past x contents agrees;
-  takes = next_told wire past x contents agrees;
 }

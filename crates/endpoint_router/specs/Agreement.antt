@@ -2,16 +2,13 @@
 use Rattle.std.specs.Prelude.{ℕ, ◌≡◌, ◌+◌, ◌==◌, ◌&&◌, ◌||◌, not, false, List, [], ◌∷◌, length, Option, Some, if◌then◌else◌}
 use Rattle.std.specs.Option.{option_map}
 use Rattle.mj_base.specs.declared.ids.EndId.{EndId}
-use Rattle.mj_base.specs.declared.ids.SeqId.{SeqId}
-use Rattle.message_pipe.specs.declared.message.Message.{Message}
 use Rattle.bind_model.specs.Machine.{Entry, associated, endpoint_at, is_closed}
-use Rattle.bind_model.specs.Replies.{drawn, headed, is_asked, is_response, next_id}
+use Rattle.bind_model.specs.Replies.{drawn, is_asked, is_response, next_id}
 use Rattle.bind_model.specs.Wire.{Wire}
 use Rattle.bind_model.specs.declared.endpoint.Endpoint.{Endpoint}
 use Rattle.bind_model.specs.declared.event.Event.{Event}
 use Rattle.bind_model.specs.declared.told.Got.{Got}
 use Rattle.endpoint_router.specs.Changes.{without_request}
-use Rattle.endpoint_router.specs.Nexts.{Tells, next_of}
 use Rattle.endpoint_router.specs.Rows.{Contents, RowSeen, endpoints_of, is_pending, next_number, own_id, row_at, row_of}
 
 -- the row of an endpoint, with the requests that the events sent from it
@@ -37,9 +34,6 @@ pub record Says (wire : Wire) (past : List Event) (x : EndId) (contents : Conten
   -- whether nobody waits for a response that comes to an endpoint which isn't closed
   pub unasked : (id : ℕ) (e : Endpoint) → endpoint_at wire past x id ≡ Some e → is_closed e ≡ false → (request method : ℕ)
       → not (is_pending (row_at contents id) request method) ≡ (e.peer_closed || not (is_asked past x id request method))
-  -- what a take at the end is told of its oldest message
-  pub takes : (seq : SeqId) (m : Message)
-      → Tells wire past x m (next_of wire (endpoints_of contents) seq m) (headed wire past seq x m (wire.header m.bytes))
 
 -- the row of an id when these endpoints entered
 abbrev pub entered_row : List Entry → ℕ → Option RowSeen → Option RowSeen

@@ -1,4 +1,3 @@
 pub mod Agreement
 pub mod Changes
-pub mod Nexts
 pub mod Rows

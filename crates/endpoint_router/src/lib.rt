@@ -2,12 +2,10 @@
 #![tactic(auto)]
 
 pub mod laws;
-mod next;
 mod place;
 mod requests;
 mod router;
 mod row;
 
-pub use next::Next;
 pub use router::Router;
 pub use row::Row;

@@ -1,6 +1,5 @@
 mod Heads
 mod Reading
-mod PeerLemmas
 mod Past
 mod Ids
 mod Pendings

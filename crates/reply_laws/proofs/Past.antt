@@ -26,7 +26,7 @@ use Rattle.bind_model.specs.declared.told.Told.{Told}
 use Rattle.bind_model.specs.declared.told.Told.TheVariants.{Closed, Control as Heard, Dropped, Notified as Informed, Sent, Taken, Wrote}
 use Rattle.bind_model.proofs.Fresh.{kept}
 use Rattle.reply_laws.specs.Own.{Earlier, latest, before, was_raw, writes_raw}
-use Rattle.reply_laws.proofs.PeerLemmas.{told_peer, not_again}
+use Rattle.bind_model.proofs.PeerLemmas.{told_peer, not_again}
 
 -- ## Pasts
 
