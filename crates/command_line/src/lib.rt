@@ -5,8 +5,6 @@ mod asked;
 mod definition;
 mod law;
 mod read;
-#[cfg(test)]
-mod tests;
 
 pub use asked::{Command, Side, WordsError};
 pub use law::{handles_are_digits, orders_are_digits, taken_words_have_a_command};

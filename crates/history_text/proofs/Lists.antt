@@ -75,7 +75,3 @@ line_next line old now new xs k d h so_far more =
     more
     ∙ (ap (λ t. t ++ line (get_or xs k d)) so_far
     ∙ (append_assoc old (flat_map line (take k xs)) (line (get_or xs k d)) ∙ ap (λ t. old ++ t) (sym (line_more line xs k d h))))
-
--- the text of an end and what is behind it
-pub end_then : (a b : List ℕ) (end : List ℕ) → (a ++ 46 ∷ b) ++ end ≡ a ++ 46 ∷ (b ++ end)
-end_then a b end = append_assoc a (46 ∷ b) end

@@ -1,25 +1,43 @@
 //! How commands stand in a line.
 
-ghost use Rattle.std.specs.Prelude.{◌≡◌, ◌++◌, OnOk, codes};
-ghost use Rattle.bind_model.specs.declared.asked.Asked.TheVariants.{Associate};
-ghost use Rattle.history_text.specs.History.{all_text, asked_text, flow_text, hex_text, notice_text, thing_text, things_text};
+ghost use Rattle.std.specs.Prelude.{◌≡◌, ◌++◌, OnOk, IfSome, codes};
+ghost use Rattle.bind_model.specs.declared.asked.Asked.TheVariants.{Associate, Bind};
+ghost use Rattle.history_text.specs.History.{all_text, asked_text, at_text, flow_text, hex_text, notice_text, outgoing_text, thing_text, things_text};
 
-use crate::message_text::{push_hex, push_outgoing, push_text};
+use crate::message_text::{push_outgoing, push_text};
 use crate::names::name_of_interface;
+use crate::parts::{push_bytes, push_pair, push_shown, push_triple};
 use crate::shown::{
     ShownAt, ShownClosing, ShownEnd, ShownEndpoint, ShownPending, ShownResponder, ShownThing,
 };
 use crate::shown_lists::ShownThings;
 use crate::words::{side_word, sort_word};
-use bind_model::{Asked, Flow, Notice};
+use bind_model::{Asked, Flow, Notice, Outgoing};
 use handle_table::Thing;
 use mj_base::EndId;
 use mj_schema::Schema;
 use std::alloc::{AllocError, Global};
+use std::fmt;
 use wire_encoder::EndpointSide;
 
+/// Adds a word, who sends, and what is sent.
+fn push_sent<A: fmt::Display + Copy>(
+    alloc: Global,
+    out: &mut Vec<u8>,
+    schema: &Schema,
+    word: &str,
+    sender: A,
+    outgoing: &Outgoing,
+) -> Result<(), AllocError>
+    ensures { OnOk result (IfSome (A.output sender) (λ a. out.new.items ≡ out.old.items
+        ++ (word.now ++ (at_text outgoing.now.moment ++ (codes " " ++ (a ++ (codes " " ++ outgoing_text schema.now outgoing.now))))))) }
+{
+    push_pair(alloc, out, word, ShownAt(outgoing.moment), sender)?;
+    push_text(out, " ")?;
+    push_outgoing(alloc, out, schema, outgoing)
+}
+
 /// Adds the making of an associated endpoint.
-#[tactic(auto, using(crate::proofs::Lists::end_then))]
 fn push_associate(
     alloc: Global,
     out: &mut Vec<u8>,
@@ -30,13 +48,37 @@ fn push_associate(
 ) -> Result<(), AllocError>
     ensures { OnOk result (out.new.items ≡ out.old.items ++ asked_text schema.now (Associate end side interface)) }
 {
-    let text = format!(in alloc;
-        "associate {} {} {}",
+    let name = name_of_interface(alloc, schema, interface)?;
+    push_triple(
+        alloc,
+        out,
+        "associate ",
         ShownEnd(end),
         side_word(side),
-        name_of_interface(schema, interface)
-    )?;
-    push_text(out, text.as_str())
+        name.as_str(),
+    )
+}
+
+/// Adds the binding of an end.
+fn push_bind(
+    alloc: Global,
+    out: &mut Vec<u8>,
+    schema: &Schema,
+    end: Thing,
+    side: EndpointSide,
+    interface: u32,
+) -> Result<(), AllocError>
+    ensures { OnOk result (out.new.items ≡ out.old.items ++ asked_text schema.now (Bind end side interface)) }
+{
+    let name = name_of_interface(alloc, schema, interface)?;
+    push_triple(
+        alloc,
+        out,
+        "bind ",
+        ShownThing(end),
+        side_word(side),
+        name.as_str(),
+    )
 }
 
 /// Adds a raw message.
@@ -50,12 +92,8 @@ fn push_raw(
     ensures { OnOk result (out.new.items ≡ out.old.items
         ++ (codes "raw " ++ (thing_text end ++ (codes " " ++ (hex_text bytes.now ++ (codes " " ++ things_text handles.now)))))) }
 {
-    push_text(out, format!(in alloc; "raw {} ", ShownThing(end))?.as_str())?;
-    push_hex(alloc, out, bytes)?;
-    push_text(
-        out,
-        format!(in alloc; " {}", ShownThings(handles))?.as_str(),
-    )
+    push_bytes(alloc, out, "raw ", ShownThing(end), bytes)?;
+    push_shown(alloc, out, " ", ShownThings(handles))
 }
 
 /// Adds what asks for a control.
@@ -68,15 +106,15 @@ fn push_notice(
     ensures { OnOk result (out.new.items ≡ out.old.items ++ notice_text end notice) }
 {
     match notice {
-        Notice::Query(id) => push_text(
+        Notice::Query(id) => push_shown(alloc, out, "query ", ShownEndpoint(end, id)),
+        Notice::Require(id, version) => push_pair(
+            alloc,
             out,
-            format!(in alloc; "query {}", ShownEndpoint(end, id))?.as_str(),
+            "require ",
+            ShownEndpoint(end, id),
+            version,
         ),
-        Notice::Require(id, version) => push_text(
-            out,
-            format!(in alloc; "require {} {version}", ShownEndpoint(end, id))?.as_str(),
-        ),
-        Notice::Flush => push_text(out, format!(in alloc; "flush {}", ShownEnd(end))?.as_str()),
+        Notice::Flush => push_shown(alloc, out, "flush ", ShownEnd(end)),
     }
 }
 
@@ -91,37 +129,17 @@ fn all_word(all: bool) -> &'static str
 fn push_flow(alloc: Global, out: &mut Vec<u8>, token: Thing, flow: &Flow) -> Result<(), AllocError>
     ensures { OnOk result (out.new.items ≡ out.old.items ++ flow_text token flow.now) }
 {
+    let shown = ShownThing(token);
     match flow {
         Flow::Put(bytes, all) => {
-            push_text(
-                out,
-                format!(in alloc; "put{} {} ", all_word(*all), ShownThing(token))?.as_str(),
-            )?;
-            push_hex(alloc, out, bytes.as_slice())
+            push_shown(alloc, out, "put", all_word(*all))?;
+            push_bytes(alloc, out, " ", shown, bytes.as_slice())
         }
-        Flow::Get(n, all) => push_text(
-            out,
-            format!(in alloc; "get{} {} {n}", all_word(*all), ShownThing(token))?.as_str(),
-        ),
-        Flow::BeginPut => push_text(
-            out,
-            format!(in alloc; "begin-put {}", ShownThing(token))?.as_str(),
-        ),
-        Flow::EndPut(bytes) => {
-            push_text(
-                out,
-                format!(in alloc; "end-put {} ", ShownThing(token))?.as_str(),
-            )?;
-            push_hex(alloc, out, bytes.as_slice())
-        }
-        Flow::BeginGet => push_text(
-            out,
-            format!(in alloc; "begin-get {}", ShownThing(token))?.as_str(),
-        ),
-        Flow::EndGet(n) => push_text(
-            out,
-            format!(in alloc; "end-get {} {n}", ShownThing(token))?.as_str(),
-        ),
+        Flow::Get(n, all) => push_triple(alloc, out, "get", all_word(*all), shown, *n),
+        Flow::BeginPut => push_shown(alloc, out, "begin-put ", shown),
+        Flow::EndPut(bytes) => push_bytes(alloc, out, "end-put ", shown, bytes.as_slice()),
+        Flow::BeginGet => push_shown(alloc, out, "begin-get ", shown),
+        Flow::EndGet(n) => push_pair(alloc, out, "end-get ", shown, *n),
     }
 }
 
@@ -136,67 +154,30 @@ pub(crate) fn push_asked(
 {
     match asked {
         Asked::Pipe => push_text(out, "pipe"),
-        Asked::Join(t) => push_text(out, format!(in alloc; "join {}", t.0)?.as_str()),
-        Asked::Mint(sort) => push_text(
-            out,
-            format!(in alloc; "mint {}", sort_word(*sort))?.as_str(),
-        ),
-        Asked::Bind(x, side, number) => push_text(
-            out,
-            format!(in alloc;
-                "bind {} {} {}",
-                ShownThing(*x),
-                side_word(*side),
-                name_of_interface(schema, *number)
-            )?
-            .as_str(),
-        ),
+        Asked::Join(t) => push_shown(alloc, out, "join ", t.0),
+        Asked::Mint(sort) => push_shown(alloc, out, "mint ", sort_word(*sort)),
+        Asked::Bind(x, side, number) => push_bind(alloc, out, schema, *x, *side, *number),
         Asked::Associate(x, side, number) => {
             push_associate(alloc, out, schema, *x, *side, *number)
         }
-        Asked::Attach(p, t) => push_text(
-            out,
-            format!(in alloc; "attach {} {}", ShownPending(*p), t.0)?.as_str(),
-        ),
+        Asked::Attach(p, t) => push_pair(alloc, out, "attach ", ShownPending(*p), t.0),
         Asked::Call(x, id, outgoing) => {
-            push_text(
-                out,
-                format!(in alloc;
-                    "call{} {} ",
-                    ShownAt(outgoing.moment),
-                    ShownEndpoint(*x, *id)
-                )?
-                .as_str(),
-            )?;
-            push_outgoing(alloc, out, schema, outgoing)
+            push_sent(alloc, out, schema, "call", ShownEndpoint(*x, *id), outgoing)
         }
         Asked::Answer(r, outgoing) => {
-            push_text(
-                out,
-                format!(in alloc;
-                    "answer{} {} ",
-                    ShownAt(outgoing.moment),
-                    ShownResponder(*r)
-                )?
-                .as_str(),
-            )?;
-            push_outgoing(alloc, out, schema, outgoing)
+            push_sent(alloc, out, schema, "answer", ShownResponder(*r), outgoing)
         }
         Asked::Raw(x, bytes, handles) => {
             push_raw(alloc, out, *x, bytes.as_slice(), handles.as_slice())
         }
-        Asked::Take(x) => push_text(out, format!(in alloc; "take {}", ShownEnd(*x))?.as_str()),
-        Asked::Close(thing) => push_text(
-            out,
-            format!(in alloc; "close {}", ShownClosing(*thing))?.as_str(),
-        ),
+        Asked::Take(x) => push_shown(alloc, out, "take ", ShownEnd(*x)),
+        Asked::Close(thing) => push_shown(alloc, out, "close ", ShownClosing(*thing)),
         Asked::Notify(x, notice) => push_notice(alloc, out, *x, *notice),
-        Asked::Pause(b, a, flush) => push_text(
-            out,
-            format!(in alloc; "pause {} {} {flush}", ShownEnd(*b), ShownEnd(*a))?.as_str(),
-        ),
-        Asked::Data(size) => push_text(out, format!(in alloc; "data {size}")?.as_str()),
+        Asked::Pause(b, a, flush) => {
+            push_triple(alloc, out, "pause ", ShownEnd(*b), ShownEnd(*a), *flush)
+        }
+        Asked::Data(size) => push_shown(alloc, out, "data ", *size),
         Asked::Flow(x, flow) => push_flow(alloc, out, *x, flow),
-        Asked::Skip(line) => push_text(out, format!(in alloc; "skip {line}")?.as_str()),
+        Asked::Skip(line) => push_shown(alloc, out, "skip ", *line),
     }
 }

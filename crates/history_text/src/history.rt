@@ -7,6 +7,7 @@ ghost use Rattle.history_text.specs.History.{event_line, event_lines, note_line,
 use crate::asked_text::push_asked;
 use crate::message_text::push_text;
 use crate::notes::Note;
+use crate::parts::{push_pair, push_shown, push_triple};
 use crate::shown::{ShownEndpoint, ShownThing};
 use crate::told_text::push_told;
 use crate::words::fate_word;
@@ -25,10 +26,8 @@ fn push_event(
 ) -> Result<(), AllocError>
     ensures { OnOk result (out.new.items ≡ out.old.items ++ event_line schema.now number event.now) }
 {
-    push_text(
-        out,
-        format!(in alloc; "{number} {} ", event.seq.0)?.as_str(),
-    )?;
+    push_pair(alloc, out, "", number, event.seq.0)?;
+    push_text(out, " ")?;
     push_asked(alloc, out, schema, &event.asked)?;
     push_text(out, " -> ")?;
     push_told(alloc, out, schema, &event.told)?;
@@ -50,14 +49,10 @@ fn event_lines(alloc: Global, schema: &Schema, events: &[Event]) -> Result<Vec<u
 fn push_note(alloc: Global, out: &mut Vec<u8>, note: Note) -> Result<(), AllocError>
     ensures { OnOk result (out.new.items ≡ out.old.items ++ note_line note) }
 {
-    let seq = note.seq.0;
     let endpoint = ShownEndpoint(note.end, note.id);
-    let request = note.request;
-    let fate = fate_word(note.fate);
-    push_text(
-        out,
-        format!(in alloc; "callback {seq} {endpoint} {request} {fate}\n")?.as_str(),
-    )
+    push_triple(alloc, out, "callback ", note.seq.0, endpoint, note.request)?;
+    push_shown(alloc, out, " ", fate_word(note.fate))?;
+    push_text(out, "\n")
 }
 
 /// Adds the lines of callbacks.
@@ -74,10 +69,8 @@ fn push_notes(alloc: Global, out: &mut Vec<u8>, notes: &[Note]) -> Result<(), Al
 fn push_left_line(alloc: Global, out: &mut Vec<u8>, thing: Thing) -> Result<(), AllocError>
     ensures { OnOk result (out.new.items ≡ out.old.items ++ left_line thing) }
 {
-    push_text(
-        out,
-        format!(in alloc; "left {}\n", ShownThing(thing))?.as_str(),
-    )
+    push_shown(alloc, out, "left ", ShownThing(thing))?;
+    push_text(out, "\n")
 }
 
 /// Adds the lines of what is left.
@@ -107,7 +100,7 @@ pub fn render(
     let mut text = event_lines(alloc, schema, history.as_slice())?;
     push_notes(alloc, &mut text, notes)?;
     push_left(alloc, &mut text, left)?;
-    let count = history.len();
-    push_text(&mut text, format!(in alloc; "done {count}\n")?.as_str())?;
+    push_shown(alloc, &mut text, "done ", history.len())?;
+    push_text(&mut text, "\n")?;
     Ok(text)
 }

@@ -6,6 +6,7 @@ mod history;
 mod message_text;
 mod names;
 mod notes;
+mod parts;
 mod shown;
 mod shown_lists;
 mod told_text;
@@ -13,3 +14,4 @@ mod words;
 
 pub use history::render;
 pub use notes::{Fate, Note};
+pub use words::fault_word;

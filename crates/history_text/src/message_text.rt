@@ -6,6 +6,7 @@ ghost use Rattle.wire_encoder.specs.Prepared.{parameters_of, kind_for};
 ghost use Rattle.history_text.specs.History.{hex_text, message_text, outgoing_text};
 
 use crate::names::{name_of_interface, name_of_method};
+use crate::parts::push_shown;
 use crate::shown_lists::ShownTokens;
 use bind_model::{Outgoing, Parameters};
 use mj_schema::{Kind, KindNode, Schema};
@@ -67,7 +68,8 @@ pub(crate) fn push_message(
 ) -> Result<(), AllocError>
     ensures { OnOk result (out.new.items ≡ out.old.items ++ message_text schema.now target parameters.now) }
 {
-    push_text(out, name_of_interface(schema, target.interface))?;
+    let interface = name_of_interface(alloc, schema, target.interface)?;
+    push_text(out, interface.as_str())?;
     push_text(out, ".")?;
     push_text(out, name_of_method(schema, target.interface, target.method))?;
     push_text(out, " ")?;
@@ -90,5 +92,5 @@ pub(crate) fn push_outgoing(
         handles: outgoing.handles.as_slice(),
         pendings: outgoing.pendings.as_slice(),
     };
-    push_text(out, format!(in alloc; " {tokens}")?.as_str())
+    push_shown(alloc, out, " ", tokens)
 }

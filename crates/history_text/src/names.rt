@@ -1,17 +1,23 @@
 //! The names of interfaces and methods, by their numbers.
 
-ghost use Rattle.std.specs.Prelude.{◌≡◌};
+ghost use Rattle.std.specs.Prelude.{◌≡◌, IfOk};
 ghost use Rattle.history_text.specs.Names.{interface_name, method_name};
 
+use mj_base::Text;
 use mj_schema::Schema;
+use std::alloc::{AllocError, Global};
 
-/// The full name of an interface, empty where there is none of this number.
-pub(crate) fn name_of_interface(schema: &Schema, interface: u32) -> &str
-    ensures { result.now ≡ interface_name schema.now interface }
+/// The full name of an interface as one text, empty where there is none of this number.
+pub(crate) fn name_of_interface(
+    alloc: Global,
+    schema: &Schema,
+    interface: u32,
+) -> Result<Text, AllocError>
+    ensures { IfOk result (λ name. name ≡ interface_name schema.now interface) }
 {
     match schema.interfaces.as_slice().get(interface as usize) {
-        Some(row) => row.name.as_str(),
-        None => "",
+        Some(row) => row.name.full(alloc),
+        None => Text::from_str(alloc, ""),
     }
 }
 

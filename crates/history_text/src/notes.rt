@@ -3,7 +3,7 @@
 use mj_base::{EndId, SeqId};
 
 /// What became of a callback.
-#[derive(Clone, Copy, Debug, PartialEq, Eq)]
+#[derive(Clone, Copy, PartialEq, Eq)]
 pub enum Fate {
     /// It ran, once: the response to its request was taken.
     Ran,
@@ -12,7 +12,7 @@ pub enum Fate {
 }
 
 /// A callback that was given with a request, and what became of it.
-#[derive(Clone, Copy, Debug, PartialEq, Eq)]
+#[derive(Clone, Copy, PartialEq, Eq)]
 pub struct Note {
     /// The sequence that called.
     pub seq: SeqId,

@@ -50,7 +50,7 @@ pub(crate) fn fate_word(fate: Fate) -> &'static str
 }
 
 /// The word for a fault, as Chromium has it where it has one.
-pub(crate) fn fault_word(kind: FaultKind) -> &'static str
+pub fn fault_word(kind: FaultKind) -> &'static str
     ensures { result.now ≡ fault_word kind }
 {
     match kind {

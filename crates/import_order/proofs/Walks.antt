@@ -142,12 +142,6 @@ taken_more imports taken one are next = λ k lt.
         ap (next_file imports) (take-append-le k taken (one ∷ []) (omega (arith, lt)))
         ∙ (are k lt ∙ ap (λ (x : ℕ). Some x) (sym (get_or_append_left taken (one ∷ []) 0 k lt)))
 
--- a file is free where it is left and no import of it is
-pub free_is : (imports : List (List ℕ)) (taken : List ℕ) (file : ℕ)
-    → has taken file ≡ false → is_none (import_left imports taken file) ≡ true
-    → is_free imports taken file ≡ true
-free_is imports taken file left none = ap (λ (b : Bool). not b && is_none (import_left imports taken file)) left ∙ none
-
 -- the next file is not taken
 pub free_left : (imports : List (List ℕ)) (taken : List ℕ) (file : ℕ) → next_file imports taken ≡ Some file → has taken file ≡ false
 free_left imports taken file e =

@@ -4,7 +4,7 @@ ghost use Rattle.std.specs.Prelude.{◌≡◌, ◌<◌, ◌^◌, List, length, f
 ghost use Rattle.mojom_files.specs.declared.named_file.NamedFile.{NamedFile};
 ghost use Rattle.import_order.specs.Imports.{has, all_files, first_left, next_file, IsTakenWhole};
 ghost use Rattle.import_order.specs.steps.Taking.{AreBelow};
-ghost use Rattle.import_order.specs.Order.{file_names, all_imports, names_file, import_place, names_at, LeadsOnAt};
+ghost use Rattle.import_order.specs.Order.{file_names, all_imports, given_refusal, names_file, import_place, names_at, LeadsOnAt};
 ghost use Rattle.import_order.specs.Order.{IsCircular, IsOrdered, IsDisordered, OneOrder};
 ghost use Rattle.import_order.specs.steps.Taking.{AreTexts};
 ghost use Rattle.import_order.specs.Errors.{IsFor};
@@ -109,6 +109,65 @@ fn circular(
     })
 }
 
+/// The order of files all of which were taken; or else the refusal of those that are left.
+fn ordered_or_circular(
+    alloc: Global,
+    files: &[NamedFile],
+    table: &NameTable,
+    imports: &[Items<u32>],
+    taken: Marked,
+) -> Result<Vec<u32>, ResolveError>
+    requires few { length files.now < 2 ^ 32 }
+    requires none { given_refusal files.now ≡ None }
+    requires named { table.now ≡ file_names files.now }
+    requires texts { AreTexts table.now }
+    requires imports { imports.now ≡ all_imports files.now }
+    requires limit { taken.limit ≡ length imports.now }
+    requires whole { IsTakenWhole imports.now taken.numbers }
+    ensures ok { IfOk result (λ order. IsOrdered files.now order.items) }
+    ensures refused { IfErr result (IsFor (IsDisordered files.now)) }
+{
+    match first_file_left(&taken, files.len() as u32) {
+        Some(from) => Err(ResolveError::Refused(circular(
+            alloc, files, table, imports, &taken, from,
+        )?)),
+        None => Ok(taken.into_vec()),
+    }
+}
+
+/// The order of files of which nothing was refused as they were given; or else their circle.
+fn taken_order(
+    alloc: Global,
+    files: &[NamedFile],
+    table: &NameTable,
+) -> Result<Vec<u32>, ResolveError>
+    requires few { length files.now < 2 ^ 32 }
+    requires none { given_refusal files.now ≡ None }
+    requires named { table.now ≡ file_names files.now }
+    requires texts { AreTexts table.now }
+    ensures ok { IfOk result (λ order. IsOrdered files.now order.items) }
+    ensures refused { IfErr result (IsFor (IsDisordered files.now)) }
+{
+    let imports = all_imports(alloc, files, table)?;
+    let list = imports.as_slice();
+    let taken = take_all(alloc, list)?;
+    ordered_or_circular(alloc, files, table, list, taken)
+}
+
+/// The order of files with the table of their names; or else their first refusal.
+fn order_by(alloc: Global, files: &[NamedFile], table: &NameTable) -> Result<Vec<u32>, ResolveError>
+    requires few { length files.now < 2 ^ 32 }
+    requires named { table.now ≡ file_names files.now }
+    requires texts { AreTexts table.now }
+    ensures ok { IfOk result (λ order. IsOrdered files.now order.items) }
+    ensures refused { IfErr result (IsFor (IsDisordered files.now)) }
+{
+    match given_refusal(alloc, files, table)? {
+        Some(refusal) => Err(ResolveError::Refused(refusal)),
+        None => taken_order(alloc, files, table),
+    }
+}
+
 /// The numbers of the files in resolved order: again and again the first file given whose imports
 /// are all in it. Or else the first refusal of what was given, along the files as they were given:
 /// `DuplicateName` of a file that was given before, and `NoFile` of an import that names no file. Or
@@ -120,22 +179,7 @@ pub fn order(alloc: Global, files: &[NamedFile]) -> Result<Vec<u32>, ResolveErro
     ensures refused { IfErr result (IsFor (IsDisordered files.now)) }
 {
     let table = name_table(alloc, files)?;
-    if let Some(refusal) = given_refusal(alloc, files, &table)? {
-        return Err(ResolveError::Refused(refusal));
-    }
-    let imports = all_imports(alloc, files, &table)?;
-    let taken = take_all(alloc, imports.as_slice())?;
-    match first_file_left(&taken, files.len() as u32) {
-        Some(from) => Err(ResolveError::Refused(circular(
-            alloc,
-            files,
-            &table,
-            imports.as_slice(),
-            &taken,
-            from,
-        )?)),
-        None => Ok(taken.into_vec()),
-    }
+    order_by(alloc, files, &table)
 }
 
 /// Files have one order or one refusal, and never both: this is a law and does nothing.

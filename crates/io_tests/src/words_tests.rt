@@ -1,6 +1,6 @@
 //! Spellings that are taken, words that are not, and what is said of them.
 
-use crate::{Command, Side, WordsError, read_words};
+use command_line::{Command, Side, WordsError, read_words};
 use std::alloc::{AllocError, Global};
 use std::test::Fail;
 
@@ -76,7 +76,7 @@ fn side_word(side: Side) -> &'static str {
 }
 
 /// What the command asks for.
-fn command_line(alloc: Global, command: Command<'_>) -> Result<String, AllocError> {
+fn command_text(alloc: Global, command: Command<'_>) -> Result<String, AllocError> {
     match command {
         Command::Run {
             script,
@@ -123,7 +123,7 @@ fn answer(alloc: Global, line: &str) -> Result<String, AllocError> {
         words.push(String::from_str(alloc, word)?)?;
     }
     match read_words(alloc, words.as_slice()) {
-        Ok(command) => command_line(alloc, command),
+        Ok(command) => command_text(alloc, command),
         Err(WordsError::WrongUse(text)) => Ok(text),
         Err(WordsError::Memory) => Err(AllocError),
     }
