@@ -14,7 +14,6 @@ mod raw;
 mod remaining;
 mod replies;
 mod replying;
-mod same;
 mod script;
 mod sending;
 mod take;
@@ -22,6 +21,5 @@ mod turns;
 
 pub use remaining::left;
 pub use replies::answer;
-pub use same::{are_same_events, are_same_told};
 pub use script::events_of;
 pub use turns::ready;

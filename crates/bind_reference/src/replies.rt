@@ -81,6 +81,41 @@ fn bind(schema: &Schema, past: &[Event], thing: Thing, interface: u32) -> Told {
     }
 }
 
+/// The one reply to a command of a sequence, of so many, where this is what the events before leave.
+fn reply(
+    alloc: Global,
+    schema: &Schema,
+    seqs: u32,
+    mail: &Mail<'_>,
+    seq: SeqId,
+    asked: &Asked,
+) -> Result<Told, AllocError> {
+    let past = mail.past;
+    match asked {
+        Asked::Pipe => join(alloc, past, seq, seq),
+        Asked::Join(other) if other.0 < seqs => join(alloc, past, seq, *other),
+        Asked::Join(_) => Ok(Told::No(Why::NoName)),
+        Asked::Mint(_) => mint(alloc, past, seq),
+        Asked::Bind(thing, _, interface) => Ok(bind(schema, past, *thing, *interface)),
+        Asked::Associate(end, _, interface) => Ok(associated(schema, mail, *end, *interface)),
+        Asked::Attach(pending, on) => Ok(attached(seqs, mail, *pending, *on)),
+        Asked::Call(end, id, outgoing) => { called(alloc, schema, mail, seq, *end, *id, outgoing) }
+        Asked::Answer(responder, outgoing) => {
+            answered(alloc, schema, mail, seq, *responder, outgoing)
+        }
+        Asked::Raw(thing, bytes, handles) => {
+            wrote(alloc, mail, *thing, bytes.as_slice(), handles.as_slice())
+        }
+        Asked::Take(end) => took(alloc, schema, mail, seq, *end),
+        Asked::Close(closing) => closed(alloc, schema, mail, seq, *closing),
+        Asked::Skip(_) => Ok(Told::Skipped),
+        // No line of a script asks for these.
+        Asked::Notify(_, _) | Asked::Pause(_, _, _) | Asked::Data(_) | Asked::Flow(_, _) => {
+            Ok(Told::Skipped)
+        }
+    }
+}
+
 /// The one reply to a command of a sequence, of so many.
 pub fn answer(
     alloc: Global,
@@ -91,27 +126,5 @@ pub fn answer(
     asked: &Asked,
 ) -> Result<Told, AllocError> {
     let mail = Mail::new(alloc, schema, past)?;
-    match asked {
-        Asked::Pipe => join(alloc, past, seq, seq),
-        Asked::Join(other) if other.0 < seqs => join(alloc, past, seq, *other),
-        Asked::Join(_) => Ok(Told::No(Why::NoName)),
-        Asked::Mint(_) => mint(alloc, past, seq),
-        Asked::Bind(thing, _, interface) => Ok(bind(schema, past, *thing, *interface)),
-        Asked::Associate(end, _, interface) => Ok(associated(schema, &mail, *end, *interface)),
-        Asked::Attach(pending, on) => Ok(attached(seqs, &mail, *pending, *on)),
-        Asked::Call(end, id, outgoing) => { called(alloc, schema, &mail, seq, *end, *id, outgoing) }
-        Asked::Answer(responder, outgoing) => {
-            answered(alloc, schema, &mail, seq, *responder, outgoing)
-        }
-        Asked::Raw(thing, bytes, handles) => {
-            wrote(alloc, &mail, *thing, bytes.as_slice(), handles.as_slice())
-        }
-        Asked::Take(end) => took(alloc, schema, &mail, seq, *end),
-        Asked::Close(closing) => closed(alloc, schema, &mail, seq, *closing),
-        Asked::Skip(_) => Ok(Told::Skipped),
-        // No line of a script asks for these.
-        Asked::Notify(_, _) | Asked::Pause(_, _, _) | Asked::Data(_) | Asked::Flow(_, _) => {
-            Ok(Told::Skipped)
-        }
-    }
+    reply(alloc, schema, seqs, &mail, seq, asked)
 }

@@ -9,10 +9,11 @@ use crate::play::command_of;
 use crate::tally::Tally;
 use bind_core::Core;
 use bind_model::{Event, Refused};
-use bind_reference::{answer, are_same_told, left, ready};
+use bind_reference::{answer, left, ready};
 use handle_table::Ended;
 use mj_base::SeqId;
 use mj_schema::Schema;
+use past_reference::same::are_same_told;
 use std::alloc::{AllocError, Global};
 use std::sync::Arc;
 

@@ -6,7 +6,7 @@ ghost use Rattle.mj_schema.specs.Layout.{never_fall};
 
 use crate::kinds::kind_named;
 use mj_base::limits::MAX_FIELDS;
-use mj_base::{Items, Text};
+use mj_base::{FullName, Items, Text};
 use mj_schema::{DraftField, DraftStruct, Place, VersionRow};
 use std::alloc::{AllocError, Global};
 use version_tables::lay_out;
@@ -94,7 +94,7 @@ fn packed(alloc: Global, fields: Vec<DraftField>) -> Result<Option<String>, Allo
     if fields.len() > MAX_FIELDS || !rises(&fields) {
         return Ok(None);
     }
-    let name = Text::from_str(alloc, "s")?;
+    let name = FullName::own(Text::from_str(alloc, "s")?);
     let fields = Items::from_vec(fields);
     let row = lay_out(alloc, DraftStruct { name, fields })?;
     let mut places = Vec::new(alloc);

@@ -18,7 +18,8 @@ fn literal_text(alloc: Global, value: &Literal) -> Result<String, AllocError> {
 
 /// Adds the defaults of a struct's fields.
 fn push_struct(alloc: Global, text: &mut String, row: &StructRow) -> Result<(), AllocError> {
-    let full = row.name.as_str();
+    let whole = row.name.full(alloc)?;
+    let full = whole.as_str();
     for field in row.fields.as_slice() {
         if let Some(value) = &field.default {
             let name = field.name.as_str();
@@ -35,7 +36,8 @@ fn push_enum(alloc: Global, text: &mut String, row: &EnumRow) -> Result<(), Allo
     let Some(number) = row.default else {
         return Ok(());
     };
-    let full = row.name.as_str();
+    let whole = row.name.full(alloc)?;
+    let full = whole.as_str();
     text.push_str(format!(in alloc; "{full} = {number}\n")?.as_str())
 }
 

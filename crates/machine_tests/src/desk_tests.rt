@@ -10,7 +10,7 @@ ghost use Rattle.remote_receiver.specs.Calls.{IsOther};
 use bind_core::{Alone, Core};
 use bind_model::{Command, PendingList, Received, Reply, Stepper, ToClose, Why};
 use handle_table::Handles;
-use mj_base::{EndId, Items, SeqId, Text};
+use mj_base::{EndId, FullName, Items, SeqId, Text};
 use mj_schema::{DefinitionRow, InterfaceRow, MethodRow, RowSort, Schema, StructRow, VersionRow};
 use remote_receiver::{Answered, BoxedJob, Callback, Desk, Job, Note, Promise};
 use response_map::Key;
@@ -51,7 +51,7 @@ fn empty_struct(alloc: Global, name: &str) -> Result<StructRow, AllocError>
         bytes: 8,
     };
     Ok(StructRow {
-        name: Text::from_str(alloc, name)?,
+        name: FullName::own(Text::from_str(alloc, name)?),
         fields: Items::new(alloc),
         versions: Items::from_vec(vec![in alloc; version]?),
     })
@@ -69,7 +69,7 @@ fn one_method(alloc: Global) -> Result<InterfaceRow, AllocError>
         response: Some(1),
     };
     Ok(InterfaceRow {
-        name: Text::from_str(alloc, "t.P")?,
+        name: FullName::own(Text::from_str(alloc, "t.P")?),
         methods: Items::from_vec(vec![in alloc; ask]?),
         version: 0,
     })

@@ -8,7 +8,7 @@ use bind_model::{
 };
 use handle_table::{Thing, TokenId};
 use history_text::{Fate, Note, render};
-use mj_base::{EndId, Items, SeqId, Text};
+use mj_base::{EndId, FullName, Items, SeqId, Text};
 use mj_schema::{DefinitionRow, InterfaceRow, MethodRow, RowSort, Schema, StructRow, VersionRow};
 use std::alloc::{AllocError, Global};
 use std::test::Fail;
@@ -80,7 +80,7 @@ fn empty_struct(alloc: Global) -> Result<StructRow, AllocError>
         bytes: 8,
     };
     Ok(StructRow {
-        name: Text::from_str(alloc, "t.P.Ping.request")?,
+        name: FullName::own(Text::from_str(alloc, "t.P.Ping.request")?),
         fields: Items::new(alloc),
         versions: Items::from_vec(vec![in alloc; version]?),
     })
@@ -98,7 +98,7 @@ fn one_method(alloc: Global) -> Result<InterfaceRow, AllocError>
         response: None,
     };
     Ok(InterfaceRow {
-        name: Text::from_str(alloc, "t.P")?,
+        name: FullName::own(Text::from_str(alloc, "t.P")?),
         methods: Items::from_vec(vec![in alloc; method]?),
         version: 0,
     })

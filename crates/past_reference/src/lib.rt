@@ -1,6 +1,6 @@
 //! What the events before say, computed literally: what was made, who has it, which endpoints there are, and what
-//! lies unread, read off the whole list anew each time. Plain, slow, and apart from the code that is proved of the
-//! definitions. `bind_reference` reads the machine's replies off it.
+//! lies unread, read off the whole list anew each time; and whether two histories are the same. Plain, slow, and
+//! apart from the code that is proved of the definitions. `bind_reference` reads the machine's replies off it.
 #![tactic(auto)]
 
 pub mod entering;
@@ -10,5 +10,6 @@ pub mod mail;
 pub mod past;
 pub mod pendings;
 pub mod responders;
+pub mod same;
 pub mod values;
 pub mod wire;

@@ -1,16 +1,9 @@
-//! Compares layouts with those that are wanted: the layout that packing gives and the one that the
-//! definition gives, computed bit by bit. A line of the file is `KINDS | VERSIONS | PLACES | ROWS`.
-#![tactic(auto)]
-
-mod kinds;
-mod layout;
+//! The files of layouts that words name, each line compared.
 
 use crate::layout::Wanted;
 use check_files::{MOST_BYTES, bytes_of};
-use std::env::Env;
+use std::io;
 use std::io::Print;
-use std::process::ExitCode;
-use std::{env, io};
 
 /// How many layouts went which way.
 #[derive(Clone, Copy, Default)]
@@ -40,10 +33,14 @@ fn compare<R: Print + AllocGlobal>(rt: &R, text: &str, tally: &mut Tally) -> io:
 }
 
 /// Compares the layouts of each file that the words name.
-fn run_files<R: std::rt::Files + Env + Print + AllocGlobal>(rt: &R) -> io::Result<Tally> {
+fn run_files<R: std::rt::Files + Print + AllocGlobal>(
+    rt: &R,
+    words: &[String],
+) -> io::Result<Tally> {
     let mut tally = Tally::default();
-    for name in env::args(rt)?.skip(1) {
-        let bytes = bytes_of(rt, name.as_str(), MOST_BYTES);
+    for word in words {
+        let name = word.as_str();
+        let bytes = bytes_of(rt, name, MOST_BYTES);
         match bytes.as_ref().map(|bytes| str::from_utf8(bytes.as_slice())) {
             Some(Ok(text)) => compare(rt, text, &mut tally)?,
             _ => {
@@ -55,11 +52,10 @@ fn run_files<R: std::rt::Files + Env + Print + AllocGlobal>(rt: &R) -> io::Resul
     Ok(tally)
 }
 
-fn main(rt: HostRuntime) -> io::Result<ExitCode> {
-    let tally = run_files(&rt)?;
+/// Compares the layouts of the files that the words name, and prints those that are wrong and how many there were;
+/// whether all are right.
+pub fn run<R: std::rt::Files + Print + AllocGlobal>(rt: &R, words: &[String]) -> io::Result<bool> {
+    let tally = run_files(rt, words)?;
     println!(rt; "{} passed, {} failed", tally.passed, tally.failed)?;
-    if tally.failed > 0 {
-        return Ok(ExitCode::FAILURE);
-    }
-    Ok(ExitCode::SUCCESS)
+    Ok(tally.failed == 0)
 }

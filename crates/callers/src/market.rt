@@ -1,10 +1,4 @@
-//! The runtime as a library, as a caller uses it: a Mojom text is compiled, a value becomes a message and is
-//! read again, and calls with jobs go over a pipe.
-#![tactic(auto)]
-
-mod calls;
-mod held;
-mod messages;
+//! A market: its text, its messages, and the calls over it.
 
 use crate::calls::buy;
 use crate::messages::{order, read, sealed};
@@ -74,13 +68,14 @@ fn show_calls<R: Print + AllocGlobal>(rt: &R, schema: &Arc<Schema>, interface: u
     Ok(())
 }
 
-fn main(rt: HostRuntime) -> Result<()> {
+/// Compiles the text, shows the messages of two orders and calls; prints what came of each.
+pub fn run<R: Print + AllocGlobal>(rt: &R) -> Result<()> {
     let schema = Arc::new(rt.alloc(), compiled(rt.alloc())?)?;
     let Some(interface) = schema.find_interface("market.Stall") else {
         bail!("there is no market.Stall")
     };
     println!(rt; "market.Stall is interface {interface}")?;
-    show_message(&rt, &schema, interface, Some(3))?;
-    show_message(&rt, &schema, interface, None)?;
-    show_calls(&rt, &schema, interface)
+    show_message(rt, &schema, interface, Some(3))?;
+    show_message(rt, &schema, interface, None)?;
+    show_calls(rt, &schema, interface)
 }

@@ -1,14 +1,4 @@
-//! Compares cores with the machine that is computed literally: of each walk, all lists of a few turns, each done on
-//! a core, and each reply, the end that is ready and what isn't gone read off the events by the other.
-#![tactic(auto)]
-
-mod compare;
-mod held;
-mod moves;
-mod play;
-mod tally;
-mod values;
-mod walks;
+//! All walks, each compared.
 
 use crate::compare::compare_walk;
 use crate::tally::Tally;
@@ -19,7 +9,6 @@ use mojom_compile::{Source, compile};
 use std::alloc::{AllocError, Global};
 use std::io;
 use std::io::Print;
-use std::process::ExitCode;
 use std::sync::Arc;
 
 /// The schema of the definitions; none where they are refused.
@@ -62,18 +51,16 @@ fn compare_walks<R: Print + AllocGlobal>(rt: &R, schema: Schema) -> io::Result<T
     Ok(total)
 }
 
-fn main(rt: HostRuntime) -> io::Result<ExitCode> {
+/// Compares all walks, and prints what came of each; whether nothing differs.
+pub fn run<R: Print + AllocGlobal>(rt: &R) -> io::Result<bool> {
     let Some(schema) = schema_of(rt.alloc())? else {
         println!(rt; "the definitions are refused")?;
-        return Ok(ExitCode::FAILURE);
+        return Ok(false);
     };
-    let total = compare_walks(&rt, schema)?;
+    let total = compare_walks(rt, schema)?;
     println!(rt;
         "{} lists, {} steps, differ {}",
         total.lists, total.steps, total.differ
     )?;
-    if total.differ > 0 {
-        return Ok(ExitCode::FAILURE);
-    }
-    Ok(ExitCode::SUCCESS)
+    Ok(total.differ == 0)
 }

@@ -1,12 +1,4 @@
-//! Does worked examples command by command, on the core and with no script, and prints their histories:
-//! associated endpoints on three sequences, their ends, and messages that are written raw.
-#![tactic(auto)]
-
-mod came;
-mod commands;
-mod examples;
-mod held;
-mod play;
+//! The examples of a file, each done.
 
 use crate::examples::{Example, examples};
 use crate::play::history_of;
@@ -15,10 +7,9 @@ use mj_base::{Items, Text};
 use mj_schema::Schema;
 use mojom_compile::{Source, compile};
 use std::alloc::{AllocError, Global};
-use std::env::Env;
+use std::io;
 use std::io::Print;
 use std::sync::Arc;
-use std::{env, io};
 
 /// The schema of a file's bytes; none where it is refused.
 fn schema_of(alloc: Global, name: &str, bytes: Vec<u8>) -> Result<Option<Schema>, AllocError> {
@@ -44,25 +35,24 @@ fn print_all<R: Print + AllocGlobal>(
     Ok(())
 }
 
-/// Does the examples of the second file that the words name, over the schema of the first.
-fn run<R: std::rt::Files + Env + Print + AllocGlobal>(rt: &R) -> io::Result<()> {
-    let mut words = env::args(rt)?.skip(1);
-    let (Some(mojom), Some(name)) = (words.next(), words.next()) else {
-        return println!(rt; "usage: endpoints MOJOM EXAMPLES");
+/// Does the examples of the second file that the words name, over the schema of the first; whether they were done.
+pub fn run<R: std::rt::Files + Print + AllocGlobal>(rt: &R, words: &[String]) -> io::Result<bool> {
+    let [mojom, name] = words else {
+        println!(rt; "usage: endpoints MOJOM EXAMPLES")?;
+        return Ok(false);
     };
     let definitions = bytes_of(rt, mojom.as_str(), MOST_BYTES);
     let text = bytes_of(rt, name.as_str(), MOST_BYTES);
     let (Some(definitions), Some(text)) = (definitions, text) else {
-        return println!(rt; "a file can't be read");
+        println!(rt; "a file can't be read")?;
+        return Ok(false);
     };
     let Some(schema) = schema_of(rt.alloc(), mojom.as_str(), definitions)? else {
-        return println!(rt; "{mojom}: it is refused");
+        println!(rt; "{}: it is refused", mojom.as_str())?;
+        return Ok(false);
     };
     let text = str::from_utf8(&text).unwrap_or("");
     let examples = examples(rt.alloc(), text)?;
-    print_all(rt, schema, examples.as_slice())
-}
-
-fn main(rt: HostRuntime) -> io::Result<()> {
-    run(&rt)
+    print_all(rt, schema, examples.as_slice())?;
+    Ok(true)
 }

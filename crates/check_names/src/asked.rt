@@ -1,27 +1,12 @@
-//! Compares what the stages on files, names, constants and kinds make of small sets of files with a literal reading of
-//! the rules: the first refusal or the listing, and what names, constants and enumerators mean. The sets are those of
-//! the files of cases that the words name, of which the answer is compared with what is wanted too, and where a word is
-//! a number so many sets that are made.
-#![tactic(auto)]
-
-mod answer;
-mod case;
-mod compare;
-mod literal;
-mod made;
-mod rows;
-mod stages;
-mod tally;
+//! The sets of files that words ask for, each compared.
 
 use crate::case::{Case, take_line};
 use crate::compare::compare;
 use crate::made::{made_sources, made_text};
 use crate::tally::Tally;
 use check_files::{MOST_BYTES, bytes_of};
-use std::env::Env;
+use std::io;
 use std::io::Print;
-use std::process::ExitCode;
-use std::{env, io};
 
 /// Compares the files of a case, and prints what is wrong.
 fn compare_case<R: Print + AllocGlobal>(rt: &R, case: &Case, tally: &mut Tally) -> io::Result<()> {
@@ -99,11 +84,12 @@ fn compare_file<R: std::rt::Files + Print + AllocGlobal>(
 }
 
 /// Compares what the words say: a number, that so many sets are made; any other, a file of cases.
-fn run_words<R: std::rt::Files + Env + Print + AllocGlobal>(
+fn run_words<R: std::rt::Files + Print + AllocGlobal>(
     rt: &R,
+    words: &[String],
     tally: &mut Tally,
 ) -> io::Result<()> {
-    for word in env::args(rt)?.skip(1) {
+    for word in words {
         match word.as_str().parse::<u64>() {
             Ok(count) => compare_made(rt, count, tally)?,
             Err(_) => compare_file(rt, word.as_str(), tally)?,
@@ -112,12 +98,10 @@ fn run_words<R: std::rt::Files + Env + Print + AllocGlobal>(
     Ok(())
 }
 
-fn main(rt: HostRuntime) -> io::Result<ExitCode> {
+/// Compares what the words say, and prints what differs and how much was compared; whether nothing differs.
+pub fn run<R: std::rt::Files + Print + AllocGlobal>(rt: &R, words: &[String]) -> io::Result<bool> {
     let mut tally = Tally::new(rt.alloc());
-    run_words(&rt, &mut tally)?;
-    tally.print(&rt)?;
-    if tally.is_good() {
-        return Ok(ExitCode::SUCCESS);
-    }
-    Ok(ExitCode::FAILURE)
+    run_words(rt, words, &mut tally)?;
+    tally.print(rt)?;
+    Ok(tally.is_good())
 }

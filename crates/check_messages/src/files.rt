@@ -1,20 +1,12 @@
-//! Compares what the proved code makes of small messages with what they literally stand for: of each
-//! message of a file, all its cuts, and each word of it changed to a few telling others.
-#![tactic(auto)]
-
-mod case;
-mod compare;
-mod edits;
+//! The files of messages that words name, each message compared.
 
 use crate::case::{Case, cases};
 use crate::compare::{Setting, Verdict, compare};
 use crate::edits::{Tally, compare_cuts, compare_edits};
 use check_files::{MOST_BYTES, bytes_of};
 use std::alloc::{AllocError, Global};
-use std::env::Env;
+use std::io;
 use std::io::Print;
-use std::process::ExitCode;
-use std::{env, io};
 
 /// Compares a case; none where its definitions are refused or its message is.
 fn compare_case(alloc: Global, case: &mut Case) -> Result<Option<Tally>, AllocError> {
@@ -64,10 +56,14 @@ fn compare_text<R: Print + AllocGlobal>(rt: &R, text: &str, total: &mut Tally) -
 }
 
 /// Compares the cases of each file that the words name.
-fn run_files<R: std::rt::Files + Env + Print + AllocGlobal>(rt: &R) -> io::Result<Tally> {
+fn run_files<R: std::rt::Files + Print + AllocGlobal>(
+    rt: &R,
+    words: &[String],
+) -> io::Result<Tally> {
     let mut tally = Tally::default();
-    for name in env::args(rt)?.skip(1) {
-        let bytes = bytes_of(rt, name.as_str(), MOST_BYTES);
+    for word in words {
+        let name = word.as_str();
+        let bytes = bytes_of(rt, name, MOST_BYTES);
         match bytes.as_ref().map(|bytes| str::from_utf8(bytes.as_slice())) {
             Some(Ok(text)) => compare_text(rt, text, &mut tally)?,
             _ => {
@@ -79,15 +75,13 @@ fn run_files<R: std::rt::Files + Env + Print + AllocGlobal>(rt: &R) -> io::Resul
     Ok(tally)
 }
 
-fn main(rt: HostRuntime) -> io::Result<ExitCode> {
-    let tally = run_files(&rt)?;
+/// Compares the cases of the files that the words name, and prints what came of each; whether nothing differs.
+pub fn run<R: std::rt::Files + Print + AllocGlobal>(rt: &R, words: &[String]) -> io::Result<bool> {
+    let tally = run_files(rt, words)?;
     println!(rt;
         "{} compared, {} differences",
         tally.compared(),
         tally.differ
     )?;
-    if tally.differ > 0 {
-        return Ok(ExitCode::FAILURE);
-    }
-    Ok(ExitCode::SUCCESS)
+    Ok(tally.differ == 0)
 }
