@@ -17,7 +17,7 @@ use Rattle.bind_model.specs.declared.event.Event.{Event}
 use Rattle.byte_rules.specs.Lang.{Read}
 use Rattle.byte_rules.specs.Judged.{Spells}
 use Rattle.byte_rules.proofs.Judging.{reads}
-use Rattle.value_text.specs.Brackets.{brackets}
+use Rattle.value_text.specs.Brackets.{MAX_BRACKETS, brackets}
 use Rattle.value_text.specs.Rules.{value}
 use Rattle.value_text.specs.Spelling.{spell}
 use Rattle.value_text.proofs.Shows as shows
@@ -40,14 +40,14 @@ use Rattle.history_reader.proofs.WholeTexts.{spelled, its_text}
 -- a value of the struct of its method's parameters can be said
 pub message_fits : (schema : Schema) (side : MessageSide) (target : Target) (t : Tree) (number : ℕ)
     → meaning (messages_of (names_of schema) side) (method_text schema target.interface target.method) ≡ Some (record { target = target; parameters = number })
-    → IsOfKind schema (StructKind number false) t → brackets t ≤ 512 → IsMessage schema side target t
+    → IsOfKind schema (StructKind number false) t → brackets t ≤ MAX_BRACKETS → IsMessage schema side target t
 message_fits schema side target t number means fits depth =
     let m : Message = record { target = target; parameters = number } in
     record {
       number = number;
       means = means;
-      spells = subst (λ (kind : KindTree). Spells (value schema 512 (StructKind number false)) t (spell schema kind t)) (sym (kind_is schema side m means))
-          (shows.spelled schema 512 (StructKind number false) t fits depth);
+      spells = subst (λ (kind : KindTree). Spells (value schema MAX_BRACKETS (StructKind number false)) t (spell schema kind t)) (sym (kind_is schema side m means))
+          (shows.spelled schema MAX_BRACKETS (StructKind number false) t fits depth);
     }
 
 -- what is said of a command has its text

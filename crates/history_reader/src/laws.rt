@@ -10,7 +10,7 @@ ghost use Rattle.wire_model.specs.declared.target.Target.{Target};
 ghost use Rattle.handle_table.specs.declared.thing.Thing.{Thing};
 ghost use Rattle.bind_model.specs.declared.event.Event.{Event};
 ghost use Rattle.byte_rules.specs.Judged.{Spells};
-ghost use Rattle.value_text.specs.Brackets.{brackets};
+ghost use Rattle.value_text.specs.Brackets.{MAX_BRACKETS, brackets};
 ghost use Rattle.value_text.specs.declared.text_error.TextError.{TextError};
 ghost use Rattle.history_text.specs.declared.notes.Note.{Note};
 ghost use Rattle.history_text.specs.History.{history_text};
@@ -61,5 +61,5 @@ pub fn fitting_messages_are_said()
     ensures { (schema : Schema) (side : MessageSide) (target : Target) (t : Tree) (number : ℕ)
         → meaning (messages_of (names_of schema) side) (method_text schema target.interface target.method)
         ≡ Some (record { target = target; parameters = number })
-        → IsOfKind schema (StructKind number false) t → brackets t ≤ 512 → IsMessage schema side target t }
+        → IsOfKind schema (StructKind number false) t → brackets t ≤ MAX_BRACKETS → IsMessage schema side target t }
 {}

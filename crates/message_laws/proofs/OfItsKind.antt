@@ -13,6 +13,7 @@ use Rattle.wire_model.specs.Tight.{MAX_DEPTH, marks_of, value_of}
 use Rattle.wire_model.specs.declared.target.Expected.{Expected}
 use Rattle.wire_model.specs.declared.target.MessageSide.{MessageSide}
 use Rattle.wire_model.specs.declared.value.Value.{Value}
+use Rattle.value_text.specs.Brackets.{MAX_BRACKETS}
 use Rattle.value_text.specs.Rules as rules
 use Rattle.value_text.specs.Spelling.{spell}
 use Rattle.value_text.specs.Texts.{Tells, ReadsBack}
@@ -68,11 +69,11 @@ of_its_kind schema expected bytes handle_count number filled small stands e =
 pub read_back : (schema : Schema) (expected : Expected) (bytes : List ℕ) (handle_count number : ℕ) (read : Result Value TextError)
     → IsFilledSchema schema → AreBytes bytes → Stands schema expected bytes handle_count
     → option_and_then (struct_of expected.side) (method_named schema expected bytes) ≡ Some number
-    → Tells (rules.value schema 512 (StructKind number false)) (spell schema (StructKind number false) (message_value schema bytes number).value) read
+    → Tells (rules.value schema MAX_BRACKETS (StructKind number false)) (spell schema (StructKind number false) (message_value schema bytes number).value) read
     → ReadsBack (message_value schema bytes number).value read
 read_back schema expected bytes handle_count number read filled small stands e told =
     let v = value_kinded schema bytes expected handle_count number filled small stands e in
     let t = value_of schema bytes (payload_start bytes) number in
     let deep = v.deep in
     let few = open_behind t in
-    reads_back schema 512 (StructKind number false) t read v.kind (omega (arith, deep, few)) told
+    reads_back schema MAX_BRACKETS (StructKind number false) t read v.kind (omega (arith, deep, few)) told

@@ -9,6 +9,7 @@ ghost use Rattle.wire_model.specs.Expected.{Stands, message_value, method_named,
 ghost use Rattle.wire_model.specs.Tight.{MAX_DEPTH};
 ghost use Rattle.wire_model.specs.declared.target.Expected.{Expected};
 ghost use Rattle.wire_model.specs.declared.value.Value.{Value};
+ghost use Rattle.value_text.specs.Brackets.{MAX_BRACKETS};
 ghost use Rattle.value_text.specs.Rules.{value};
 ghost use Rattle.value_text.specs.Spelling.{spell};
 ghost use Rattle.value_text.specs.Texts.{Tells, ReadsBack};
@@ -39,6 +40,6 @@ pub fn decoded_text_is_read_back()
     ensures { (schema : Schema) (expected : Expected) (bytes : List ℕ) (handle_count number : ℕ) (read : Result Value TextError)
         → AreBytes bytes → Stands schema expected bytes handle_count
         → option_and_then (struct_of expected.side) (method_named schema expected bytes) ≡ Some number
-        → Tells (value schema 512 (StructKind number false)) (spell schema (StructKind number false) (message_value schema bytes number).value) read
+        → Tells (value schema MAX_BRACKETS (StructKind number false)) (spell schema (StructKind number false) (message_value schema bytes number).value) read
         → ReadsBack (message_value schema bytes number).value read }
 {}

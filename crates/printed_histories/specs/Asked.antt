@@ -13,7 +13,7 @@ use Rattle.wire_model.specs.declared.target.MessageSide.TheVariants.{Request, Re
 use Rattle.wire_model.specs.declared.target.Target.{Target}
 use Rattle.wire_encoder.specs.FirstFailed.{Met}
 use Rattle.wire_encoder.specs.Prepared.{parameters_of, payload_for, verdict}
-use Rattle.value_text.specs.Brackets.{brackets}
+use Rattle.value_text.specs.Brackets.{MAX_BRACKETS, brackets}
 use Rattle.message_laws.specs.Filled as filled
 use Rattle.bind_model.specs.WireOf.{endpoints_met}
 use Rattle.bind_model.specs.declared.asked.Asked.{Asked}
@@ -73,7 +73,7 @@ BecomeBytes schema target parameters =
 -- a value of the struct of a number, with at most 512 brackets open at once
 pub record IsSaid (schema : Schema) (number : ℕ) (t : Tree) : Type 0 where
   pub kind : IsOfKind schema (StructKind number false) t
-  pub few : brackets t ≤ 512
+  pub few : brackets t ≤ MAX_BRACKETS
 
 -- what is sent for a target of a side: a value of the struct of its parameters, which passes all checks, in few bytes
 pub record IsSending (schema : Schema) (side : MessageSide) (target : Target) (t : Tree) : Type 0 where

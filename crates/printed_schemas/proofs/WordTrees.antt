@@ -29,7 +29,8 @@ use Rattle.mojom_print.proofs.Sorts.{dotted_sorts, parts_sorts, attributes_sorts
 use Rattle.mojom_print.proofs.DefinitionRules.{prints_file}
 use Rattle.mojom_print.proofs.WordTexts.{word_each, of_identifier}
 use Rattle.mojom_print.proofs.Retold.{comma_lexical, tokens_lexical}
-use Rattle.mojom_files.specs.Names.{named_in, dotted}
+use Rattle.mj_base.specs.Names.{named_in}
+use Rattle.mojom_files.specs.Names.{dotted}
 use Rattle.mojom_files.specs.Definitions.{Defined, identifier_of, module_of, struct_item, interface_item, in_struct, in_interface, nested_in, with_nested, definitions_of}
 use Rattle.draft_rows.specs.RowCounts.{method_among, methods_in}
 use Rattle.line_parts.specs.Names as words

@@ -23,6 +23,7 @@ use Rattle.byte_rules.specs.Judged.{Spells}
 use Rattle.byte_rules.specs.steps.Reading.{Judges}
 use Rattle.byte_rules.specs.steps.Reading as reading
 use Rattle.byte_rules.proofs.Judging.{judged, reads}
+use Rattle.value_text.specs.Brackets.{MAX_BRACKETS}
 use Rattle.value_text.proofs.KindLaws.{good_kind}
 use Rattle.value_text.proofs.OneText.{one_text}
 use Rattle.value_text.specs.Spelling.{spell}
@@ -39,7 +40,7 @@ tree_in (Err n) = Null
 one_value : (schema : Schema) (number : ℕ) (word : List ℕ) (one other : Tree) → Spells (parameters_rule schema number) one word
     → Spells (parameters_rule schema number) other word → one ≡ other
 one_value schema number word one other s t =
-    let good = good_kind schema 512 (StructKind number false) in
+    let good = good_kind schema MAX_BRACKETS (StructKind number false) in
     ap tree_in (sym (reads (parameters_rule schema number) good word one s) ∙ reads (parameters_rule schema number) good word other t)
 
 -- a value that doesn't pass all checks is refused for a reason
@@ -76,7 +77,7 @@ module _ (passed : Passed) (schema : Schema) (target : Target) (number : ℕ) (t
       let e = encodes passed schema target number tree met there passes few in
       let fits = from_fits schema (Fields e.fields) MAX_DEPTH false (StructKind number false) e.encodable.fits in
       let kind : IsOfKind schema (StructKind number false) tree = subst (IsOfKind schema (StructKind number false)) (sym e.value) fits.0 in
-      let text : word ≡ spell schema (StructKind number false) tree = one_text schema 512 (StructKind number false) tree word spells in
+      let text : word ≡ spell schema (StructKind number false) tree = one_text schema MAX_BRACKETS (StructKind number false) tree word spells in
       let long = ap length text in
       let b = built (length word) small tree (short schema (length word) (StructKind number false) tree kind (omega (arith, long))) in
       let payload = listed (payload_for schema target tree) (omega (arith, few)) in
@@ -142,7 +143,7 @@ module _ (passed : Passed) (schema : Schema) (target : Target) (number : ℕ) (t
       → (((tree : Tree) → Spells (parameters_rule schema number) tree word → ⊥) → A) → A
   value_of_word {A} is_one is_none =
       go (reading.verdict (length word) ((parameters_rule schema number).read word))
-      (judged (parameters_rule schema number) (good_kind schema 512 (StructKind number false)) word)
+      (judged (parameters_rule schema number) (good_kind schema MAX_BRACKETS (StructKind number false)) word)
     where
       go : (r : Result Tree ℕ) → Judges (parameters_rule schema number) word r → A
       go (Ok tree) is = is_one tree is

@@ -13,7 +13,7 @@ use Rattle.mj_schema.specs.declared.rows.UnionRow.{UnionRow}
 use Rattle.mj_schema.specs.declared.schema.Schema.{Schema}
 use Rattle.wire_model.specs.Kinded.{is_nullable}
 use Rattle.wire_model.specs.Rows.{kind_of_tag, kind_in}
-use Rattle.wire_model.specs.Trees.{Tree, Trees, trees, none, more}
+use Rattle.wire_model.specs.Trees.{Tree, trees}
 use Rattle.wire_model.specs.Trees as values
 use Rattle.byte_rules.specs.Lang.{Lang, as_value, choice, never, closed, ◌then◌, ◌▸◌, listed, exactly}
 use Rattle.byte_rules.specs.Judged.{Spells}

@@ -1,5 +1,5 @@
 -- The text of a value of its kind is spelled by the rule of its kind, where not too many brackets are open at once.
-use Rattle.std.proofs.Common.{◌≡◌, ℕ, zero, suc, ◌+◌, ◌≤◌, ◌<◌, ◌^◌, List, [], ◌∷◌, ◌++◌, Option, Some, None, Ok, Bool, true, false, map}
+use Rattle.std.proofs.Common.{◌≡◌, ℕ, zero, suc, ◌+◌, ◌≤◌, ◌<◌, ◌^◌, List, [], ◌∷◌, ◌++◌, Option, Some, None, Bool, true, false, map}
 use Rattle.std.proofs.Common.{refl, sym, ap, subst, append_assoc, arith}
 use Rattle.std.specs.Fmt.{signed_decimal}
 use Rattle.std.specs.Prelude.{decimal, unwrap_or, slice_get, is_some, IsTrue}
@@ -24,7 +24,6 @@ use Rattle.wire_model.specs.Trees.{Tree, Trees, trees, none, more, count}
 use Rattle.wire_model.specs.Trees as values
 use Rattle.byte_rules.specs.Lang.{Whole, as_value, closed, ◌then◌, ◌▸◌, until, listed, rest_of, exactly}
 use Rattle.byte_rules.specs.Judged.{Spells}
-use Rattle.byte_rules.proofs.Judging.{reads}
 use Rattle.byte_rules.proofs.Shown.{Shown, shown_closed, shown_value, shown_then, shown_before, shown_among, shown_none, shown_more, shown_many}
 use Rattle.byte_rules.proofs.Shown.{shown_no_list, shown_listed}
 use Rattle.byte_rules.proofs.Shown.{shown_no_rest, shown_rest, shown_none_exactly, shown_exactly}
@@ -37,7 +36,6 @@ use Rattle.value_text.specs.Rules.{keys_of, values_of, pairs_of}
 use Rattle.value_text.specs.Spelling.{flag_text, fields_kinds, element_of, held, row_kinds, field_kinds, spell, first_item, next_items, both_lists, each_text, first_pair}
 use Rattle.value_text.specs.Spelling.{next_pairs, first_field, next_fields}
 use Rattle.value_text.proofs.KnownNumbers.{tag_listed}
-use Rattle.value_text.proofs.KindLaws.{good_kind}
 use Rattle.value_text.proofs.KindShows.{lift, null_shown, null_alone, flag_shown, index_shown, whole_shown, one_shown, two_shown, handle_shown}
 use Rattle.value_text.proofs.TextShows.{text_to}
 use Rattle.value_text.proofs.Utf8Lengths.{is_text}
@@ -378,7 +376,3 @@ pub spelled : (schema : Schema) (left : ℕ) (k : KindTree) (t : Tree) → IsOfK
 spelled schema left k t f d =
     subst (λ (l : List ℕ). Spells (value schema left k) t l) (append-nil (spell schema k t))
     (kind_shows schema left k t f d Whole (λ v rest. (rest ≡ []) × (v ≡ t)) [] (refl, refl))
-
-pub read_back : (schema : Schema) (left : ℕ) (k : KindTree) (t : Tree) → IsOfKind schema k t → brackets t ≤ left
-    → (value schema left k).read (spell schema k t) ≡ Ok (t, [])
-read_back schema left k t f d = reads (value schema left k) (good_kind schema left k) (spell schema k t) t (spelled schema left k t f d)

@@ -5,7 +5,7 @@ ghost use Rattle.mj_schema.specs.KindTrees.{kind_view};
 ghost use Rattle.wire_model.specs.Depth.{IsOfKind};
 ghost use Rattle.wire_model.specs.Trees.{view, trees};
 ghost use Rattle.byte_rules.specs.Judged.{Spells};
-ghost use Rattle.value_text.specs.Brackets.{brackets};
+ghost use Rattle.value_text.specs.Brackets.{MAX_BRACKETS, brackets};
 ghost use Rattle.value_text.specs.Rules as rules;
 ghost use Rattle.value_text.specs.Spelling.{fields_kinds, spell, first_item, each_text, first_pair, first_field, element_of, key_of, value_of, field_kinds, held};
 
@@ -223,9 +223,9 @@ pub fn write_value(
 ) -> Result<Vec<u8>, AllocError>
     ensures text { IfOk result (λ text. text.items ≡ spell schema.now kind.now (view value.now)) }
     ensures spells { IfOk result
-        (λ text. IsOfKind schema.now kind.now (view value.now) → brackets (view value.now) ≤ 512
-        → Spells (rules.value schema.now 512 kind.now) (view value.now) text.items) }
-    ensures one { IfOk result (λ text. (bytes : List ℕ) → Spells (rules.value schema.now 512 kind.now) (view value.now) bytes → bytes ≡ text.items) }
+        (λ text. IsOfKind schema.now kind.now (view value.now) → brackets (view value.now) ≤ MAX_BRACKETS
+        → Spells (rules.value schema.now MAX_BRACKETS kind.now) (view value.now) text.items) }
+    ensures one { IfOk result (λ text. (bytes : List ℕ) → Spells (rules.value schema.now MAX_BRACKETS kind.now) (view value.now) bytes → bytes ≡ text.items) }
 {
     let mut out = Vec::new(alloc);
     push_value(value, kind.node(), alloc, schema, &mut out)?;

@@ -3,6 +3,7 @@
 ghost use Rattle.std.specs.Prelude.{◌≡◌, ◌≤◌, length};
 ghost use Rattle.wire_model.specs.Trees.{view};
 ghost use Rattle.byte_rules.specs.steps.Reading.{verdict};
+ghost use Rattle.value_text.specs.Brackets.{MAX_BRACKETS};
 ghost use Rattle.value_text.specs.Rules.{value};
 ghost use Rattle.value_text.specs.Texts.{Tells};
 ghost use Rattle.value_text.specs.steps.Reading.{Agrees};
@@ -15,17 +16,17 @@ use std::alloc::Global;
 use wire_model::Value;
 
 /// How many brackets may be open at once.
-const MAX_BRACKETS: u32 = 512;
+const MOST_BRACKETS: u32 = 512;
 
 /// What the reading of a kind says of all the bytes.
 #[tactic(auto, unfolding(crate::specs::Rules::value))]
 fn judge(alloc: Global, schema: &Schema, kind: &Kind, bytes: &[u8]) -> Result<Value, TextError>
-    ensures { Agrees result (verdict (length bytes.now) ((value schema.now 512 kind.now).read bytes.now)) }
+    ensures { Agrees result (verdict (length bytes.now) ((value schema.now MAX_BRACKETS kind.now).read bytes.now)) }
 {
     match value(
         alloc,
         schema,
-        MAX_BRACKETS,
+        MOST_BRACKETS,
         kind.node(),
         kind.has_flag(),
         bytes,
@@ -56,7 +57,7 @@ pub fn read_value(
     kind: &Kind,
     bytes: &[u8],
 ) -> Result<Value, TextError>
-    ensures { Tells (value schema.now 512 kind.now) bytes.now result }
+    ensures { Tells (value schema.now MAX_BRACKETS kind.now) bytes.now result }
 {
     judge(alloc, schema, kind, bytes)
 }
