@@ -204,13 +204,6 @@ module _ {A : Type 0} (S more : ℕ → Bool) (spelled : A → List ℕ) (all : 
   begun : (bs : List ℕ) → Reached spelled bs all (last bs)
   begun bs = reached spelled bs all all (0, None) (λ x i. i) (record { by = inl refl; whole = tt })
 
-  within : (bs : List ℕ) (near : Near A) → Reached spelled bs all near → near.0 ≤ length bs
-  within bs near r = of r.by
-    where
-      of : (near.0 ≡ 0) ⊎ ((x : A) × IsAmong x all × (common (spelled x) bs ≡ near.0)) → near.0 ≤ length bs
-      of (inl e) = omega (arith, e)
-      of (inr k) = let most = common_most (spelled k.0) bs in omega (arith, most.1, k.2)
-
   scanned_at : (bs : List ℕ) (near : Near A) → Reached spelled bs all near → Scanned (among_words spelled all) bs (found bs near)
   scanned_at bs (n, Some x) r =
       (r.whole.0, sym (glue n bs) ∙ ap (λ (l : List ℕ). l ++ drop n bs) (sym (whole_front (spelled x) bs n r.whole.1 r.whole.2)))

@@ -2,7 +2,7 @@
 use Rattle.std.proofs.Common.{◌≡◌, ℕ, zero, suc, ◌≤◌, List, [], ◌∷◌, ◌++◌, length, Ok, Err, Bool, true, false, cond, ◌==◌, ◌⊎◌, inl, inr, refl, sym, ap}
 use Rattle.std.proofs.Common.{subst, append_assoc, arith, length-append}
 use Rattle.std.proofs.lemmas.List.{append-nil}
-use Rattle.byte_rules.specs.Lang.{Lang, Mode, Whole, Begun, Cut, Read, ◌>>=◌, byte_in, byte, as_value, ◌then◌, choice, closed, until}
+use Rattle.byte_rules.specs.Lang.{Lang, Mode, Whole, Begun, Cut, Read, ◌>>=◌, byte_in, as_value, ◌then◌, choice, until}
 use Rattle.byte_rules.specs.Lang.{many, Words, words}
 use Rattle.byte_rules.proofs.Tells.{Told, Tells, tells_byte, tells_value, tells_until}
 
@@ -88,9 +88,6 @@ pub pick_false : {A : Type 0} (P : A → Type 0) (v : Bool) (x y : A) → v ≡ 
 pick_false P true x y e h = absurd (cc)
 pick_false P false x y e h = h
 
-cut_of : {A : Type 0} (S : ℕ → Bool) (one : Lang A) → Opens S one → (m : Mode) (K : A → List ℕ → Type 0) → one.followed m K [] → Cut m
-cut_of S one o m K h = o m K [] h
-
 pub finds_choice : {A : Type 0} (p S more : ℕ → Bool) (one two : Lang A) → Opens p one → Opens S two → ((b : ℕ) → S b ≡ true → p b ≡ false)
     → Tells (choice p one two) → Finds more one → Finds more two → Finds more (choice p one two)
 finds_choice p S more one two o1 o2 apart t f1 f2 m K free [] u fits (inl h) = cut m K (choice p one two) t u (o1 m K [] h)
@@ -102,9 +99,6 @@ finds_choice p S more one two o1 o2 apart t f1 f2 m K free (b ∷ bs) u fits (in
 
 pub finds_wider : {A : Type 0} (more wide : ℕ → Bool) (one : Lang A) → ((b : ℕ) → wide b ≡ false → more b ≡ false) → Finds more one → Finds wide one
 finds_wider more wide one w f m K free p u fits h = f m K (λ x t ts k. w t (free x t ts k)) p u fits h
-
-pub finds_closed : {A : Type 0} (c : ℕ) (x : A) → Finds (λ b. false) (closed c x)
-finds_closed c x = finds_value (λ b. false) (λ b. x) (byte c) (finds_byte (λ b. b == c))
 
 -- a list: what the reader that may take b goes over, where the bytes are no more
 module _ {A : Type 0} (c : ℕ) (S more : ℕ → Bool) (one : Lang A) (tells : Tells one) (opens : Opens S one) (finds : Finds more one)

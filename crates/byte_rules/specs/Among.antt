@@ -17,6 +17,7 @@ abbrev pub nearer_at : {A : Type 0} → List ℕ → A → ℕ → Near A → Ne
 nearer_at text x n near =
     if nat_lt n near.0 then near else (if length text == n then (n, Some x) else (if n == near.0 then near else (n, None)))
 
+-- one word more
 abbrev pub nearer : {A : Type 0} → List ℕ → List ℕ → A → Near A → Near A
 nearer text bs x near = nearer_at text x (common text bs) near
 
@@ -25,6 +26,7 @@ abbrev pub nearest : {A : Type 0} → (A → List ℕ) → List ℕ → Near A �
 nearest spelled bs near [] = near
 nearest spelled bs near (x ∷ xs) = nearest spelled bs (nearer (spelled x) bs x near) xs
 
+-- what is read by the word that goes farthest; where none ends there, no byte goes on
 abbrev pub found : {A : Type 0} → List ℕ → Near A → Read A
 found bs (n, Some x) = Ok (x, drop n bs)
 found bs (n, None) = Err (length bs - n)
@@ -34,6 +36,7 @@ abbrev pub IsAmong : {A : Type 0} → A → List A → Type 0
 IsAmong x [] = ⊥
 IsAmong x (y ∷ ys) = (x ≡ y) ⊎ IsAmong x ys
 
+-- the words of these values, scanned one after the other
 abbrev pub among_words : {A : Type 0} → (A → List ℕ) → List A → Words A
 among_words {A} spelled xs = record {
   In = λ x. IsAmong x xs;

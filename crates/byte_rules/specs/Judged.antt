@@ -1,6 +1,6 @@
 -- What is said of bytes as a whole: the value that they spell, or the first byte with which nothing goes on.
-use Rattle.std.specs.Prelude.{◌≡◌, ◌≤◌, ◌-◌, ℕ, List, [], ◌∷◌, length, take, Result, Ok, Err}
-use Rattle.byte_rules.specs.Lang.{Lang, Read, Whole, Begun}
+use Rattle.std.specs.Prelude.{◌≡◌, ◌≤◌, ℕ, List, [], length, take}
+use Rattle.byte_rules.specs.Lang.{Lang, Whole, Begun}
 
 -- the bytes are the rule, with this value
 abbrev pub Spells : {A : Type 0} → Lang A → A → List ℕ → Type 0

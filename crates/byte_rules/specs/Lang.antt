@@ -41,10 +41,11 @@ abbrev pub byte_read : (ℕ → Bool) → List ℕ → Read ℕ
 byte_read p [] = Err 0
 byte_read p (b ∷ bs) = if p b then Ok (b, bs) else Err (length (b ∷ bs))
 
--- a byte that passes; this byte
+-- a byte that passes
 abbrev pub byte_in : (ℕ → Bool) → Lang ℕ
 byte_in p = record { followed = byte_followed p; read = byte_read p }
 
+-- this byte
 abbrev pub byte : ℕ → Lang ℕ
 byte c = byte_in (λ b. b == c)
 

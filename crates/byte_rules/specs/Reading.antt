@@ -1,7 +1,5 @@
 -- What a function that reads by a rule answers.
-use Rattle.std.specs.Prelude.{◌≡◌, ℕ, List, ◌++◌, Result, Ok, Err}
-use Rattle.std.specs.List.{flat_map}
-use Rattle.byte_rules.specs.Lang.{Read, ◌>>=◌}
+use Rattle.std.specs.Prelude.{◌≡◌, ℕ, Result, Ok, Err}
 use Rattle.byte_rules.specs.declared.stop.Stop.{Stop}
 use Rattle.byte_rules.specs.declared.stop.Stop.TheVariants as stops
 

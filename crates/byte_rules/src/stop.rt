@@ -6,7 +6,7 @@ ghost use Rattle.byte_rules.specs.declared.stop.Stop.TheVariants.{Memory};
 use std::alloc::{AllocError, AllocFailed};
 
 /// Why the reading of a rule stopped.
-#[derive(Debug, Drop)]
+#[derive(Drop)]
 pub enum Stop {
     Memory,
     /// So many bytes are left at the first that no text goes on with.

@@ -6,7 +6,6 @@ use Rattle.mojom_files.specs.declared.refusal.Refusal.{Refusal}
 use Rattle.mojom_files.specs.Refusals.{sooner, best_of}
 use Rattle.const_eval.specs.declared.ordinals.MemberView.{MemberView}
 use Rattle.const_eval.specs.Kinds.{refused_uint32}
-use Rattle.const_eval.specs.Things.{numbered}
 use Rattle.const_eval.specs.Refused.{ordinal_or, place_of_ordinal, refused_ordinals}
 use Rattle.const_eval.specs.steps.Views.{member_view}
 
@@ -45,11 +44,3 @@ pub best_step : {A : Type 0} (f : A → List Refusal) (best new all : Option Ref
 best_step f best new all xs i x d lt is h n =
     let now : best_of best (f (get_or xs i d) ++ flat_map f (drop (i + 1) xs)) ≡ all = rw (drop_next xs i d lt) at h in
     rw (n, is) (sym (best_append best (f (get_or xs i d)) (flat_map f (drop (i + 1) xs))) ∙ now)
-
--- the same where each goes by its number
-pub best_numbered_step : {A : Type 0} (f : ℕ → A → List Refusal) (best new all : Option Refusal) (number : ℕ) (xs : List A) (i : ℕ) (x d : A)
-    → i < length xs → x ≡ get_or xs i d → best_of best (numbered f number (drop i xs)) ≡ all → new ≡ best_of best (f number x)
-    → best_of new (numbered f (number + 1) (drop (i + 1) xs)) ≡ all
-best_numbered_step f best new all number xs i x d lt is h n =
-    let now : best_of best (f number (get_or xs i d) ++ numbered f (number + 1) (drop (i + 1) xs)) ≡ all = rw (drop_next xs i d lt) at h in
-    rw (n, is) (sym (best_append best (f number (get_or xs i d)) (numbered f (number + 1) (drop (i + 1) xs))) ∙ now)

@@ -135,6 +135,7 @@ fn check_default_by(
     }
 }
 
+/// Whether this is string.
 fn is_string(kind: Option<Basic>) -> bool
     ensures { result ≡ is_string kind }
 {

@@ -44,9 +44,6 @@ far_more things steps n reaches r up e =
       ];
     }
 
-pub all_far : (things : List Origin) (steps : ℕ) (reaches : List Reach) → AreFar things steps reaches → FarUpTo things steps (length things) reaches
-all_far things steps reaches far = record { count = far.count; far = far.far }
-
 pub far_all : (things : List Origin) (steps n : ℕ) (reaches : List Reach) → n ≡ length things → FarUpTo things steps n reaches → AreFar things steps reaches
 far_all things steps n reaches e up = record { count = up.count ∙ e; far = λ thing lt. up.far thing (omega (arith, e, lt)) }
 

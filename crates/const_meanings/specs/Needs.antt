@@ -9,6 +9,7 @@ needed_by thing (Some (Of other)) = Some other
 needed_by thing (Some Next) = Some (thing - 1)
 needed_by thing _ = None
 
+-- what a thing needs, by its number
 abbrev pub needed : List Origin → ℕ → Option ℕ
 needed things thing = needed_by thing (slice_get things thing)
 
@@ -17,6 +18,7 @@ abbrev pub or_itself : ℕ → Option ℕ → ℕ
 or_itself thing None = thing
 or_itself thing (Some other) = other
 
+-- where the value of a thing comes from, by its number
 abbrev pub source : List Origin → ℕ → ℕ
 source things thing = or_itself thing (needed things thing)
 

@@ -37,11 +37,12 @@ gets pipe (flows.Get n all) (Ok (flowed.Bytes bytes)) = bytes
 gets pipe (flows.EndGet n) (Ok flowed.Ended) = take n (viewed pipe.consumer)
 gets pipe f said = []
 
--- all that was written, and all that was read, in order
+-- all that was written, in order
 abbrev pub written : ℕ → List Call → List ℕ
 written capacity [] = []
 written capacity (call ∷ calls) = written capacity calls ++ puts call.asked (told (played capacity calls) call.gone call.asked)
 
+-- all that was read, in order
 abbrev pub read : ℕ → List Call → List ℕ
 read capacity [] = []
 read capacity (call ∷ calls) =

@@ -31,7 +31,7 @@ abbrev pub told_at : TokenId → Result flowed DataWhy → Told
 told_at t (Ok w) = Flowed t w
 told_at t (Err why) = No (why_at t why)
 
--- at which token something is asked, and which is that of the other side
+-- at which token something is asked
 abbrev pub side_of : Flow → DataPipe → TokenId
 side_of (flows.Put bytes all) d = d.producer
 side_of flows.BeginPut d = d.producer
@@ -40,6 +40,7 @@ side_of (flows.Get n all) d = d.consumer
 side_of flows.BeginGet d = d.consumer
 side_of (flows.EndGet n) d = d.consumer
 
+-- which token is that of the other side
 abbrev pub other_of : Flow → DataPipe → TokenId
 other_of (flows.Put bytes all) d = d.consumer
 other_of flows.BeginPut d = d.consumer

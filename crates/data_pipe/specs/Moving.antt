@@ -37,10 +37,11 @@ made size = first_of (unless (is_right_size size) (BadSize size) ∷ []) (empty_
 abbrev pub nothing_held : Pipe → Bool → Option DataWhy
 nothing_held pipe gone = if is_none pipe.held then (if gone then Some PeerClosed else Some Empty) else None
 
--- nothing was begun at a side, or something was
+-- something was begun at a side already
 abbrev pub begun_already : Begun → Option DataWhy
 begun_already b = if is_busy b then Some Busy else None
 
+-- nothing was begun at a side
 abbrev pub nothing_begun : Begun → Option DataWhy
 nothing_begun b = if is_busy b then None else Some Idle
 

@@ -11,7 +11,7 @@ use mj_base::EndId;
 use std::alloc::Global;
 
 /// A wait until an end has consumed the flush of this number, or is gone.
-#[derive(Clone, Copy, Debug, PartialEq, Eq)]
+#[derive(Clone, Copy)]
 pub struct Wait {
     pub end: EndId,
     pub flush: u32,

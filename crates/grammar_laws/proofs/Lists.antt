@@ -310,9 +310,3 @@ good_asked {D = D} {D' = D'} f g = record {
   finds = λ b m ask.
       g.finds b m (asked_less D D' f m ask);
 }
-
--- with more that may follow
-pub good_more : {A : Type 0} {D : Type 0} {more : List ℕ} {one two : Lang A} (all : List ℕ) → ((c : ℕ) → has all c ≡ false → has more c ≡ false)
-    → Good D more one two → Good D all one two
-good_more {D = D} {more = more} {one = one} {two = two} all sub g = record
-    { same = g.same; null = g.null; opens = g.opens; opens_two = g.opens_two; shows = g.shows; finds = λ b. finds_more b D more all one two sub (g.finds b) }

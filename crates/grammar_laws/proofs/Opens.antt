@@ -90,11 +90,6 @@ pub opens_maybe : {A : Type 0} (one : Lang A) → Opens one → Opens (maybe one
 opens_maybe one o m K p (inl h) = elim (o m (λ x. K (Some x)) p h) [ inl f ↦ inl f | inr n ↦ inr (refl, (Some n.1.0, n.1.1)) ]
 opens_maybe one o m K p (inr h) = inr (refl, (None, h))
 
--- with a rule that isn't nothing, one after the other begin as the first does
-pub front_first : (m : Mode) (null : Bool) (a b : List ℕ) (p : List Token) → null ≡ false → Front m (cond null (a ++ b) a) p → Front m a p
-front_first m true a b p e h = absurd (cc)
-front_first m false a b p e h = h
-
 -- at most so many
 pub opens_times : {A : Type 0} (n : ℕ) (one : Lang A) → one.null ≡ false → Opens one → (m : Mode) (K : List A → List Token → Type 0) (p : List Token)
     → (times n one).followed m K p → Front m one.starts p ⊎ ((xs : List A) × K xs p)

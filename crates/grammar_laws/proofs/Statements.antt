@@ -1,5 +1,5 @@
 -- The laws of the factored rule of a file.
-use Rattle.std.proofs.Common.{◌≡◌, Ok, ℕ, zero, suc, ◌-◌, ◌≤◌, ◌<◌, List, [], ◌∷◌, ◌++◌, length, true, false, Some, cond, inl, inr, refl, subst, arith, length-append}
+use Rattle.std.proofs.Common.{◌≡◌, Ok, ℕ, zero, suc, ◌-◌, ◌≤◌, ◌<◌, List, [], ◌∷◌, ◌++◌, length, false, Some, cond, inl, inr, refl, subst, arith, length-append}
 use Rattle.mojom_ast.specs.declared.classes.TheConstants.{OPEN_BRACKET, IMPORT, MODULE, STRUCT, UNION, ENUM, INTERFACE, CONST}
 use Rattle.mojom_ast.specs.declared.token.Token.{Token}
 use Rattle.mojom_ast.specs.Lang.{Lang, has, ◌▹◌, as_value, maybe, maybe_read, times, any}
@@ -17,11 +17,6 @@ statements_starts : (n l k : ℕ) → (statements n l k).starts ≡ statement_st
 unfolding statements attributes bracketed definition_item struct_of union_of enum_of interface_of const_of import_path
 statements_starts zero l k = refl
 statements_starts (suc n) l k = refl
-
-statements_null : (n l k : ℕ) → (statements n l k).null ≡ true
-unfolding statements
-statements_null zero l k = refl
-statements_null (suc n) l k = refl
 
 -- a rule of a level shows, and opens, with itself
 module _ (k : ℕ) where

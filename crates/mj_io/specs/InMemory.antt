@@ -72,5 +72,6 @@ IsAbsent files name = find_file files name ≡ None
 abbrev pub files_of : MemoryFiles → List Named
 files_of files = map named files.files.items
 
+-- the files that steady files in memory hold
 abbrev pub steady_files_of : SteadyFiles → List Named
 steady_files_of files = map named files.files.items

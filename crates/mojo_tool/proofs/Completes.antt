@@ -3,12 +3,13 @@ use Rattle.std.proofs.Common.{◌≡◌, ℕ, List, [], Some, None, refl, sym, a
 use Rattle.std.specs.Prelude.{Option, ◌⊎◌, codes, decimal}
 use Rattle.mj_io.specs.Outside.{Named, Rose}
 use Rattle.command_line.specs.Asked.{Command, Run, Print, Check, Encode, Decode, command_of}
+use Rattle.history_text.specs.Words.{fault_word}
 use Rattle.mojom_compile.specs.Causes.{cause_text}
 use Rattle.mojo_tool.specs.LanguageCauses.{language_text}
 use Rattle.mojo_tool.specs.Work.{Work, WrongWords, Missing, TooLong, Refuses, Rejects, RefusesLine, UnknownName, BadText, Unfit, BadHex, Faulty}
 use Rattle.mojo_tool.specs.Work.{Runs, Prints, Checks, Encodes, Decodes, AskedFor, IsWork}
 use Rattle.mojo_tool.specs.Answers.{Seen, Answers, asked_by, IsTextFor, IsRightText, ReadFailed, WroteOrFailed, refused_work}
-use Rattle.mojo_tool.specs.Lines.{refusal_text, line_refusal_name, unfit_text, fault_name, error_line, read_text}
+use Rattle.mojo_tool.specs.Lines.{refusal_text, line_refusal_name, unfit_text, error_line, read_text}
 use Rattle.mojo_tool.specs.Complete.{CanBeDone, CanBeServed, IsAsked, IsDoable, IsDoneOrShort, IsRefusedOrShort, IsUnreadOrShort, IsComplete}
 use Rattle.mojo_tool.proofs.OneWork.{one_work}
 use Rattle.mojo_tool.specs.declared.refusal.ToolRefusal.{ToolRefusal}
@@ -108,7 +109,7 @@ line_of (UnknownName name) = codes "UnknownName " ++ name
 line_of (BadText at) = codes "BadText " ++ decimal at
 line_of (Unfit why) = unfit_text why
 line_of BadHex = codes "BadHex"
-line_of (Faulty fault) = fault_name fault.kind ++ (codes " " ++ decimal fault.at)
+line_of (Faulty fault) = fault_word fault.kind ++ (codes " " ++ decimal fault.at)
 line_of (Checks schema) = []
 line_of (Prints tree) = []
 line_of (Runs schema script order) = []

@@ -8,8 +8,8 @@ use Rattle.byte_rules.specs.Lang.{Read}
 use Rattle.byte_rules.specs.Judged.{Spells, IsBad}
 use Rattle.byte_rules.proofs.Judging.{reads}
 use Rattle.value_text.proofs.KindLaws.{good_kind}
+use Rattle.value_text.specs.Brackets.{MAX_BRACKETS}
 use Rattle.value_text.specs.Rules.{value}
-use Rattle.mojo_tool.specs.Work.{MAX_BRACKETS}
 
 -- one value, and one place
 pub record OneValue (schema : Schema) (kind : KindTree) (text : List ℕ) : Type 0 where

@@ -22,11 +22,12 @@ use Rattle.wire_model.specs.declared.value.Value.{Value}
 use Rattle.sealed_laws.specs.Sealed.{IsHeadFor, IsReadAs, PassedIsRead, expected_for}
 use Rattle.sealed_laws.proofs.Sealed.{are_flags, has_struct}
 use Rattle.byte_rules.specs.Judged.{Spells, IsBad}
+use Rattle.value_text.specs.Brackets.{MAX_BRACKETS}
 use Rattle.value_text.specs.Rules.{value}
 use Rattle.value_text.specs.Spelling.{spell}
 use Rattle.mojo_tool.specs.Lines.{hex_line}
 use Rattle.mojo_tool.specs.Work.{Work, BadText, Decodes, Encodes, Unfit, IsShown, Judging, IsShownAgain, IsSealed, Sealing, Preparing, Writing}
-use Rattle.mojo_tool.specs.Work.{MAX_BRACKETS, head_of, parameters_kind, printed_message, without_line_end}
+use Rattle.mojo_tool.specs.Work.{head_of, parameters_kind, printed_message, without_line_end}
 use Rattle.mojo_tool.specs.steps.Messages.{IsTextOfWork, unfit_stop}
 use Rattle.mojo_tool.specs.steps.Stops.{StopsAt, IsOf}
 use Rattle.mojo_tool.proofs.Shown.{shown_work, text_read}
@@ -163,9 +164,9 @@ sealed_work law schema p head bytes there small is interface request moment ids 
     subst (λ (r : Result Met Refusal). Sealing schema p.target (view p.value) r (Encodes bytes)) (sym is.passes) (inr sealed)
 
 -- its text
-pub encoded_text : (schema : Schema) (p : Prepared) (target : Target) (value : Value) (bytes text : List ℕ) → p.target ≡ target → p.value ≡ value
+pub encoded : (schema : Schema) (p : Prepared) (target : Target) (value : Value) (bytes text : List ℕ) → p.target ≡ target → p.value ≡ value
     → Preparing schema p.target (view p.value) (Encodes bytes) → text ≡ hex_line bytes → IsTextOfWork (Preparing schema target (view value)) text
-encoded_text schema p target value bytes text t v asked e = record {
+encoded schema p target value bytes text t v asked e = record {
   work = Encodes bytes;
   asked = subst (λ (x : Value). Preparing schema target (view x) (Encodes bytes)) v
       (subst (λ (x : Target). Preparing schema x (view p.value) (Encodes bytes)) t asked);
@@ -193,12 +194,12 @@ unfit_stops schema target tree unfit.TooLong is = long (verdict schema target tr
 unfit_stops schema target tree unfit.Memory is = tt
 
 -- and no file is named
-pub unfit_names : (why : PrepareError) → IsOf (λ name. ⊥) (unfit_stop why)
-unfit_names (unfit.Misfit path) = tt
-unfit_names (unfit.TooDeep path) = tt
-unfit_names (unfit.TooManyHandles path) = tt
-unfit_names unfit.TooLong = tt
-unfit_names unfit.Memory = tt
+pub unnamed : (why : PrepareError) → IsOf (λ name. ⊥) (unfit_stop why)
+unnamed (unfit.Misfit path) = tt
+unnamed (unfit.TooDeep path) = tt
+unnamed (unfit.TooManyHandles path) = tt
+unnamed unfit.TooLong = tt
+unnamed unfit.Memory = tt
 
 -- the text of a value leads on to the value, or is bad
 pub value_spelled : (schema : Schema) (found : Target × ℕ) (bytes : List ℕ) (tree : Tree)

@@ -42,6 +42,7 @@ use Rattle.byte_rules.specs.steps.Reading.{Judges}
 use Rattle.byte_rules.specs.steps.Reading as reading
 use Rattle.byte_rules.proofs.Judging.{judged}
 use Rattle.value_text.proofs.KindLaws.{good_kind}
+use Rattle.value_text.specs.Brackets.{MAX_BRACKETS}
 use Rattle.value_text.specs.Rules.{value}
 use Rattle.value_text.specs.Spelling.{spell}
 use Rattle.call_script.specs.Targets.{message_named}
@@ -50,7 +51,7 @@ use Rattle.mojo_tool.specs.Work.{Work, WrongWords, Missing, TooLong, Refuses, Un
 use Rattle.mojo_tool.specs.Work.{AreFetched, HaveSchema, Leads, Parsing, Reading, Tabling, FetchingAll, Gathering, Scripting, Listing, Sealing}
 use Rattle.mojo_tool.specs.Work.{Preparing, Writing}
 use Rattle.mojo_tool.specs.Work.{Finding, Encoding, Unhexing, IsShown, Judged, Judging, Showing, Decoding, IsWork, unchecked, flaw_at, printed_message}
-use Rattle.mojo_tool.specs.Work.{MAX_BRACKETS, parameters_kind, without_line_end}
+use Rattle.mojo_tool.specs.Work.{parameters_kind, without_line_end}
 use Rattle.script_laws.specs.Answer.{HasAnswer}
 use Rattle.mojo_tool.specs.Complete.{HaveTooManyRows}
 use Rattle.printed_histories.proofs.ValueSent.{has_struct}

@@ -4,12 +4,7 @@ use Rattle.std.specs.List.{flat_map}
 use Rattle.hex.specs.Hex.{encode_lower}
 use Rattle.wire_encoder.specs.declared.refusal.PrepareError.{PrepareError}
 use Rattle.wire_encoder.specs.declared.refusal.PrepareError.TheVariants as unfit
-use Rattle.mj_base.specs.declared.fault.FaultKind.{FaultKind}
-use Rattle.mj_base.specs.declared.fault.FaultKind.TheVariants.{MisalignedObject, IllegalMemoryRange, UnexpectedStructHeader, UnexpectedArrayHeader}
-use Rattle.mj_base.specs.declared.fault.FaultKind.TheVariants.{IllegalHandle, UnexpectedInvalidHandle, IllegalPointer, UnexpectedNullPointer}
-use Rattle.mj_base.specs.declared.fault.FaultKind.TheVariants.{IllegalInterfaceId, UnexpectedInvalidInterfaceId, MessageHeaderInvalidFlags}
-use Rattle.mj_base.specs.declared.fault.FaultKind.TheVariants.{MessageHeaderMissingRequestId, MessageHeaderUnknownMethod, DifferentSizedArraysInMap}
-use Rattle.mj_base.specs.declared.fault.FaultKind.TheVariants.{UnexpectedNullUnion, UnknownUnionTag, UnknownEnumValue, MaxRecursionDepth, BadUtf8}
+use Rattle.history_text.specs.Words.{fault_word}
 use Rattle.call_script.specs.declared.script_error.LineRefusal.{LineRefusal}
 use Rattle.call_script.specs.declared.script_error.LineRefusal.TheVariants as lines
 use Rattle.mojom_compile.specs.Causes.{cause_text}
@@ -17,28 +12,6 @@ use Rattle.mojo_tool.specs.declared.refusal.ToolRefusal.{ToolRefusal}
 use Rattle.mojo_tool.specs.declared.refusal.ToolRefusal.TheVariants.{RefusedLine, FileTooLong, Refused, Rejected, UnknownName, BadText, Unfit, BadHex, Faulty}
 use Rattle.mojo_tool.specs.LanguageCauses.{language_text}
 use Rattle.mojo_tool.specs.Work.{line_feed}
-
--- the name of a fault, as Chromium has it where it has one
-abbrev pub fault_name : FaultKind → List ℕ
-fault_name MisalignedObject = codes "MISALIGNED_OBJECT"
-fault_name IllegalMemoryRange = codes "ILLEGAL_MEMORY_RANGE"
-fault_name UnexpectedStructHeader = codes "UNEXPECTED_STRUCT_HEADER"
-fault_name UnexpectedArrayHeader = codes "UNEXPECTED_ARRAY_HEADER"
-fault_name IllegalHandle = codes "ILLEGAL_HANDLE"
-fault_name UnexpectedInvalidHandle = codes "UNEXPECTED_INVALID_HANDLE"
-fault_name IllegalPointer = codes "ILLEGAL_POINTER"
-fault_name UnexpectedNullPointer = codes "UNEXPECTED_NULL_POINTER"
-fault_name IllegalInterfaceId = codes "ILLEGAL_INTERFACE_ID"
-fault_name UnexpectedInvalidInterfaceId = codes "UNEXPECTED_INVALID_INTERFACE_ID"
-fault_name MessageHeaderInvalidFlags = codes "MESSAGE_HEADER_INVALID_FLAGS"
-fault_name MessageHeaderMissingRequestId = codes "MESSAGE_HEADER_MISSING_REQUEST_ID"
-fault_name MessageHeaderUnknownMethod = codes "MESSAGE_HEADER_UNKNOWN_METHOD"
-fault_name DifferentSizedArraysInMap = codes "DIFFERENT_SIZED_ARRAYS_IN_MAP"
-fault_name UnexpectedNullUnion = codes "UNEXPECTED_NULL_UNION"
-fault_name UnknownUnionTag = codes "UNKNOWN_UNION_TAG"
-fault_name UnknownEnumValue = codes "UNKNOWN_ENUM_VALUE"
-fault_name MaxRecursionDepth = codes "MAX_RECURSION_DEPTH"
-fault_name BadUtf8 = codes "BAD_UTF8"
 
 -- steps behind the first of a path, with a dot before each
 abbrev pub steps_text : List ℕ → List ℕ
@@ -75,7 +48,7 @@ refusal_text (UnknownName name) = codes "UnknownName " ++ name.now
 refusal_text (BadText at) = codes "BadText " ++ decimal at
 refusal_text (Unfit why) = unfit_text why
 refusal_text BadHex = codes "BadHex"
-refusal_text (Faulty fault) = fault_name fault.kind ++ (codes " " ++ decimal fault.at)
+refusal_text (Faulty fault) = fault_word fault.kind ++ (codes " " ++ decimal fault.at)
 
 -- a line on standard error
 abbrev pub error_line : List ℕ → List ℕ

@@ -43,6 +43,7 @@ use Rattle.wire_encoder.specs.declared.refusal.PrepareError.{PrepareError}
 use Rattle.wire_encoder.specs.declared.refusal.PrepareError.TheVariants as unfit
 use Rattle.sealed_laws.specs.Sealed.{IsReadAs, expected_for}
 use Rattle.byte_rules.specs.Judged.{Spells, IsBad}
+use Rattle.value_text.specs.Brackets.{MAX_BRACKETS}
 use Rattle.value_text.specs.Rules.{value}
 use Rattle.value_text.specs.Spelling.{spell}
 use Rattle.value_text.specs.Texts.{Tells, ReadsBack}
@@ -209,10 +210,6 @@ ends_line bytes = nat_lt 0 (length bytes) && (slice_index bytes (length bytes - 
 -- the bytes without the one line feed that they may end in
 abbrev pub without_line_end : List ℕ → List ℕ
 without_line_end bytes = if ends_line bytes then take (length bytes - 1) bytes else bytes
-
--- how many brackets may be open at once in the text of a value
-abbrev pub MAX_BRACKETS : ℕ
-MAX_BRACKETS = 512
 
 -- the kind of parameters: a struct, which is there
 abbrev pub parameters_kind : ℕ → KindTree

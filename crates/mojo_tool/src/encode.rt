@@ -95,7 +95,7 @@ fn unfit_stop<'a>(error: PrepareError) -> Stop<'a>
 }
 
 /// The text of the message of a value.
-#[tactic(auto, using(crate::proofs::Sealed::unfit_stops, crate::proofs::Sealed::unfit_names, crate::proofs::Sealed::target_there, crate::proofs::Sealed::encoded_text))]
+#[tactic(auto, using(crate::proofs::Sealed::unfit_stops, crate::proofs::Sealed::unnamed, crate::proofs::Sealed::target_there, crate::proofs::Sealed::encoded))]
 fn encode_value<'a>(
     alloc: Global,
     schema: &Schema,

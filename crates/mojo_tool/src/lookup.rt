@@ -1,7 +1,6 @@
 //! The interface and the method that words name.
 
-ghost use Rattle.std.specs.Prelude.{◌≡◌, ◌<◌, ◌^◌, length};
-ghost use Rattle.mj_schema.specs.Lookups.{interface_named};
+ghost use Rattle.std.specs.Prelude.{◌≡◌};
 ghost use Rattle.wire_encoder.specs.Prepared.{parameters_of};
 ghost use Rattle.call_script.specs.Targets.{target_named, message_named, target_between};
 ghost use Rattle.mojo_tool.specs.Targets.{side_of};
@@ -9,7 +8,7 @@ ghost use Rattle.mojo_tool.specs.Work.{parameters_kind};
 
 use call_script::{split_word, target_in};
 use command_line::Side;
-use mj_schema::{InterfaceRow, Kind, KindNode, Schema};
+use mj_schema::{Kind, KindNode, Schema};
 use wire_model::{MessageSide, Target};
 
 /// Which message of a method the words mean.
@@ -32,19 +31,6 @@ pub fn parameters_kind(number: u32) -> Kind
     })
 }
 
-/// The number of the interface whose full name has these bytes, which are a part of a word.
-fn interface_named(interfaces: &[InterfaceRow], name: &[u8]) -> Option<u32>
-    requires { length interfaces.now < 2 ^ 32 }
-    ensures { result ≡ interface_named interfaces.now name.now }
-{
-    for (number, interface) in interfaces.iter().enumerate() {
-        if interface.name.as_str().as_bytes() == name {
-            return Some(number as u32);
-        }
-    }
-    None
-}
-
 /// A message of the method of a name in the interface of a full name.
 fn target_between(
     schema: &Schema,
@@ -54,7 +40,7 @@ fn target_between(
 ) -> Option<Target>
     ensures { result ≡ target_between schema.now side (interface.now, method.now) }
 {
-    let number = interface_named(schema.interfaces.as_slice(), interface)?;
+    let number = schema.find_interface_of(interface)?;
     target_in(schema, side, method, number)
 }
 

@@ -1,11 +1,13 @@
 //! Why files, a value or a message are refused.
 
 ghost use Rattle.std.specs.Prelude.{◌≡◌, ◌++◌, codes, decimal, OnOk};
-ghost use Rattle.mojo_tool.specs.Lines.{refusal_text, line_refusal_name, unfit_text, path_text, steps_text, fault_name};
+ghost use Rattle.history_text.specs.Words.{fault_word};
+ghost use Rattle.mojo_tool.specs.Lines.{refusal_text, line_refusal_name, unfit_text, path_text, steps_text};
 
 use crate::cause_text::{push_cause, push_named};
 use call_script::LineRefusal;
-use mj_base::{Fault, FaultKind};
+use history_text::fault_word;
+use mj_base::Fault;
 use mojom_compile::FileRefusal;
 use mojom_files::Cause;
 use mojom_print::{push_number, push_text};
@@ -71,33 +73,6 @@ fn push_line(out: &mut Vec<u8>, line: u32, why: LineRefusal) -> Result<(), Alloc
     push_named(out, ": ", line_refusal_name(why))
 }
 
-/// The name of a fault, as Chromium has it where it has one.
-fn fault_name(kind: FaultKind) -> &'static str
-    ensures { result.now ≡ fault_name kind }
-{
-    match kind {
-        FaultKind::MisalignedObject => "MISALIGNED_OBJECT",
-        FaultKind::IllegalMemoryRange => "ILLEGAL_MEMORY_RANGE",
-        FaultKind::UnexpectedStructHeader => "UNEXPECTED_STRUCT_HEADER",
-        FaultKind::UnexpectedArrayHeader => "UNEXPECTED_ARRAY_HEADER",
-        FaultKind::IllegalHandle => "ILLEGAL_HANDLE",
-        FaultKind::UnexpectedInvalidHandle => "UNEXPECTED_INVALID_HANDLE",
-        FaultKind::IllegalPointer => "ILLEGAL_POINTER",
-        FaultKind::UnexpectedNullPointer => "UNEXPECTED_NULL_POINTER",
-        FaultKind::IllegalInterfaceId => "ILLEGAL_INTERFACE_ID",
-        FaultKind::UnexpectedInvalidInterfaceId => "UNEXPECTED_INVALID_INTERFACE_ID",
-        FaultKind::MessageHeaderInvalidFlags => "MESSAGE_HEADER_INVALID_FLAGS",
-        FaultKind::MessageHeaderMissingRequestId => "MESSAGE_HEADER_MISSING_REQUEST_ID",
-        FaultKind::MessageHeaderUnknownMethod => "MESSAGE_HEADER_UNKNOWN_METHOD",
-        FaultKind::DifferentSizedArraysInMap => "DIFFERENT_SIZED_ARRAYS_IN_MAP",
-        FaultKind::UnexpectedNullUnion => "UNEXPECTED_NULL_UNION",
-        FaultKind::UnknownUnionTag => "UNKNOWN_UNION_TAG",
-        FaultKind::UnknownEnumValue => "UNKNOWN_ENUM_VALUE",
-        FaultKind::MaxRecursionDepth => "MAX_RECURSION_DEPTH",
-        FaultKind::BadUtf8 => "BAD_UTF8",
-    }
-}
-
 /// Writes steps, with a dot before each.
 fn push_steps(out: &mut Vec<u8>, steps: &[u64]) -> Result<(), AllocError>
     ensures { OnOk result (out.new.items ≡ out.old.items ++ steps_text steps.now) }
@@ -140,9 +115,9 @@ fn push_unfit(out: &mut Vec<u8>, why: &PrepareError) -> Result<(), AllocError>
 
 /// Writes a fault and its place.
 fn push_fault(out: &mut Vec<u8>, fault: &Fault) -> Result<(), AllocError>
-    ensures { OnOk result (out.new.items ≡ out.old.items ++ (fault_name fault.now.kind ++ (codes " " ++ decimal fault.now.at))) }
+    ensures { OnOk result (out.new.items ≡ out.old.items ++ (fault_word fault.now.kind ++ (codes " " ++ decimal fault.now.at))) }
 {
-    push_named(out, fault_name(fault.kind), " ")?;
+    push_named(out, fault_word(fault.kind), " ")?;
     push_number(out, fault.at)
 }
 

@@ -12,6 +12,7 @@ pub struct Definition {
     pub item: DefinitionItem,
 }
 
+/// What a definition is.
 #[derive(Drop)]
 pub enum DefinitionItem {
     Struct(Struct),
@@ -21,6 +22,7 @@ pub enum DefinitionItem {
     Const(Const),
 }
 
+/// A struct: its name, and what stands in it, in order.
 #[derive(Drop)]
 pub struct Struct {
     pub name: Identifier,
@@ -34,6 +36,7 @@ pub struct StructMember {
     pub item: StructItem,
 }
 
+/// What stands in a struct by itself.
 #[derive(Drop)]
 pub enum StructItem {
     Const(Const),
@@ -50,12 +53,14 @@ pub struct Field {
     pub default: Option<Value>,
 }
 
+/// A union: its name and its fields, in order.
 #[derive(Drop)]
 pub struct Union {
     pub name: Identifier,
     pub fields: Items<UnionField>,
 }
 
+/// A field of a union, and the attributes before it.
 #[derive(Drop)]
 pub struct UnionField {
     pub attributes: Items<Attribute>,
@@ -64,12 +69,14 @@ pub struct UnionField {
     pub ordinal: Option<Number>,
 }
 
+/// An enum: its name and its enumerators, in order.
 #[derive(Drop)]
 pub struct Enum {
     pub name: Identifier,
     pub enumerators: Items<Enumerator>,
 }
 
+/// An enumerator, with its value where one is written, and the attributes before it.
 #[derive(Drop)]
 pub struct Enumerator {
     pub attributes: Items<Attribute>,
@@ -77,6 +84,7 @@ pub struct Enumerator {
     pub value: Option<Value>,
 }
 
+/// An interface: its name, and what stands in it, in order.
 #[derive(Drop)]
 pub struct Interface {
     pub name: Identifier,
@@ -90,6 +98,7 @@ pub struct InterfaceMember {
     pub item: InterfaceItem,
 }
 
+/// What stands in an interface by itself.
 #[derive(Drop)]
 pub enum InterfaceItem {
     Const(Const),
@@ -106,6 +115,7 @@ pub struct Method {
     pub response: Option<Items<Parameter>>,
 }
 
+/// A parameter of a method, and the attributes before it.
 #[derive(Drop)]
 pub struct Parameter {
     pub attributes: Items<Attribute>,
@@ -114,6 +124,7 @@ pub struct Parameter {
     pub ordinal: Option<Number>,
 }
 
+/// A constant: its type, its name and its value.
 #[derive(Drop)]
 pub struct Const {
     pub kind: Type,

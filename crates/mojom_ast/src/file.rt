@@ -13,12 +13,14 @@ pub struct File {
     pub definitions: Items<Definition>,
 }
 
+/// The module statement of a file, and the attributes before it.
 #[derive(Drop)]
 pub struct ModuleStatement {
     pub attributes: Items<Attribute>,
     pub name: Name,
 }
 
+/// An import by its path, and the attributes before it.
 #[derive(Drop)]
 pub struct Import {
     pub attributes: Items<Attribute>,

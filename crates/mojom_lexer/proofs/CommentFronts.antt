@@ -9,7 +9,7 @@ use Rattle.mojom_lexer.specs.Pieces.{Is, IsLongest, BeginsNone, is_line_comment,
 use Rattle.mojom_lexer.specs.Pieces.Kind.{Comment}
 use Rattle.mojom_lexer.specs.steps.Scans.{kind_at, run_len, before_close}
 use Rattle.mojom_lexer.proofs.Runs.{left, right, both, run_within, run_passes, run_most}
-use Rattle.mojom_lexer.proofs.FirstBytes.{longest_of, none_of, begins_comment}
+use Rattle.mojom_lexer.proofs.FirstBytes.{longest_of, none_of}
 use Rattle.mojom_lexer.proofs.Closes.{behind_first}
 use Rattle.mojom_lexer.proofs.QuoteFronts.{found_later, number_in}
 
@@ -80,10 +80,6 @@ close_again (c ∷ cs) rest e =
     not_here : (ds : List ℕ) → at_close (c ∷ (ds ++ 42 ∷ [])) ≡ false → at_close (c ∷ (ds ++ 42 ∷ 47 ∷ rest)) ≡ false
     not_here [] g = g
     not_here (d ∷ ds) g = g
-
-at_slash : (bs : List ℕ) → kind_at bs ≡ Some Comment → bs ≡ 47 ∷ drop 1 bs
-at_slash [] e = absurd (cc)
-at_slash (c ∷ cs) e = ap (λ (b : ℕ). b ∷ cs) (begins_comment c e)
 
 -- `//`
 line_each : (bs : List ℕ) → is_line_comment bs ≡ true → list_all stays_on_line bs ≡ true

@@ -1,5 +1,5 @@
 -- A piece has one meaning, or one refusal.
-use Rattle.std.proofs.Common.{◌≡◌, ℕ, zero, suc, ◌+◌, ◌-◌, ◌<◌, List, [], ◌∷◌, ◌++◌, length, take, Bool, true, false, cond, not, ◌==◌, ◌&&◌, ◌||◌, ◌⊎◌, inl, inr, Option, Some, None, Result, Ok, Err, nat_eq, refl, sym, ap, ◌∙◌, subst, arith, length-append}
+use Rattle.std.proofs.Common.{◌≡◌, ℕ, zero, suc, ◌+◌, ◌-◌, ◌<◌, List, [], ◌∷◌, ◌++◌, length, take, Bool, true, false, cond, not, ◌==◌, ◌||◌, ◌⊎◌, inl, inr, Option, Some, None, Result, Ok, Err, nat_eq, refl, sym, ap, ◌∙◌, subst, arith, length-append}
 use Rattle.std.specs.Prelude.{is_some}
 use Rattle.std.specs.List.{list_all, flat_map}
 use Rattle.std.proofs.Math.Seq.{take-append_seam}
@@ -63,10 +63,6 @@ passed_no_token s p (inl h) g = not_passed s (one_kind (sort_kind s) Blank p (sp
 passed_no_token s p (inr h) g = not_comment s (one_kind (sort_kind s) Comment p (spells_kind s p g) h)
 
 -- the parts of a string are read off its bytes
-falls : (v : Bool) → (v && false) ≡ false
-falls true = refl
-falls false = refl
-
 not_slash : (p q r : Bool) → not (p || q || r) ≡ true → q ≡ false
 not_slash true q r e = absurd (cc)
 not_slash false true r e = absurd (cc)

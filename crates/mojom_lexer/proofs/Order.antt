@@ -9,9 +9,6 @@ use Rattle.mojom_lexer.specs.Lexed.{Reaches, AreTokens, InOrder}
 use Rattle.mojom_lexer.specs.Lexed.Reaches.{starts, passes, takes}
 use Rattle.mojom_lexer.proofs.Steps.{token_at, longest_some}
 
-abbrev end_of : Token → ℕ
-end_of token = token.span.start + token.span.len
-
 before_or_last : (k n : ℕ) → k < n + 1 → (k < n) ⊎ (k ≡ n)
 before_or_last k n lt = step (nat_lt k n) refl
   where

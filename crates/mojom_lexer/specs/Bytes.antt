@@ -7,26 +7,31 @@ abbrev pub byte_of : List ℕ → ℕ
 byte_of [] = 0
 byte_of (c ∷ cs) = c
 
--- the bytes that ASCII has no character for, in the order of their numbers
+-- a tab, for which there is no character to be seen
 abbrev pub tab : ℕ
 tab = 9
 
+-- LF, which ends a line
 abbrev pub line_feed : ℕ
 line_feed = 10
 
+-- CR, which may stand before LF
 abbrev pub carriage_return : ℕ
 carriage_return = 13
 
--- the bytes that begin, end or part strings and comments
+-- what a string begins and ends with
 abbrev pub quote : ℕ
 quote = byte_of (codes "\"")
 
+-- what lets the byte behind it stand in a string
 abbrev pub backslash : ℕ
 backslash = byte_of (codes "\\")
 
+-- what a comment begins with
 abbrev pub slash : ℕ
 slash = byte_of (codes "/")
 
+-- what stands behind the first slash of a comment of many lines, and before its last
 abbrev pub asterisk : ℕ
 asterisk = byte_of (codes "*")
 

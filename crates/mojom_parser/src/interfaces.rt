@@ -21,6 +21,7 @@ use mojom_ast::{
 };
 use std::alloc::Global;
 
+/// A parameter, and the attributes before it.
 #[tactic(auto, unfolding(mojom_ast::specs::Grammar::parameter))]
 fn parameter(alloc: Global, tokens: &[Token]) -> Result<(Parameter, &[Token]), ReadError>
     ensures { Gives (λ x. (x.0, x.1.now)) result ((parameter MAX_NESTED_TYPES).read tokens.now) }
@@ -106,6 +107,7 @@ fn response(
     Ok((Some(parameters), rest))
 }
 
+/// A method, without the attributes before it.
 #[tactic(auto, unfolding(mojom_ast::specs::Grammar::method))]
 fn method(alloc: Global, tokens: &[Token]) -> Result<(Method, &[Token]), ReadError>
     ensures { Gives (λ x. (x.0, x.1.now)) result ((method MAX_NESTED_TYPES).read tokens.now) }

@@ -19,6 +19,7 @@ use mojom_ast::{
 };
 use std::alloc::Global;
 
+/// A field of a struct, without the attributes before it.
 #[tactic(auto, unfolding(mojom_ast::specs::Grammar::field))]
 fn field(alloc: Global, tokens: &[Token]) -> Result<(Field, &[Token]), ReadError>
     ensures { Gives (λ x. (x.0, x.1.now)) result ((field MAX_NESTED_TYPES).read tokens.now) }

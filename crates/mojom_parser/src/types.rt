@@ -43,6 +43,7 @@ fn question(tokens: &[Token]) -> Result<(bool, &[Token]), ReadError>
     Ok((true, rest))
 }
 
+/// An array.
 #[cycle(kind)]
 #[tactic(auto, unfolding(mojom_ast::specs::Grammar::array))]
 fn array(alloc: Global, left: u32, tokens: &[Token]) -> Result<(BaseNode, &[Token]), ReadError>
@@ -62,6 +63,7 @@ fn array(alloc: Global, left: u32, tokens: &[Token]) -> Result<(BaseNode, &[Toke
     ))
 }
 
+/// A map.
 #[cycle(kind)]
 #[tactic(auto, unfolding(mojom_ast::specs::Grammar::map_of))]
 fn map_of(alloc: Global, left: u32, tokens: &[Token]) -> Result<(BaseNode, &[Token]), ReadError>
@@ -186,6 +188,7 @@ fn begins_pending(tokens: &[Token]) -> bool
         || is_keyword(tokens, Keyword::PendingAssociatedReceiver)
 }
 
+/// A type without its `?`.
 #[cycle(kind)]
 #[tactic(auto, using(crate::proofs::Starts::bases), unfolding(mojom_ast::specs::Grammar::base))]
 fn base(alloc: Global, left: u32, tokens: &[Token]) -> Result<(BaseNode, &[Token]), ReadError>
@@ -233,6 +236,7 @@ pub fn begins_type(tokens: &[Token]) -> bool
         || is_identifier(tokens)
 }
 
+/// Why nothing is read where no level of types is left.
 fn too_deep(tokens: &[Token]) -> ReadError
     ensures { Fails result ((deep {A = TypeTree} type_starts).read tokens.now) }
 {

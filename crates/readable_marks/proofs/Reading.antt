@@ -13,7 +13,7 @@ use Rattle.mj_schema.specs.declared.schema.Schema.{Schema}
 use Rattle.wire_model.specs.Bytes.{number32, number64}
 use Rattle.wire_model.specs.Trees.{Trees, Items, none}
 use Rattle.wire_model.specs.Values.{Behind, value, pointer_value, object_value, slot_value, slots_value}
-use Rattle.wire_model.specs.Marks.{visit, object_marks, Mark, Test, Object, Handle, Id, Next, has_value, marks_if, union_marks, found_union_marks, slot_marks, slots_marks, content_marks, array_marks, text_marks, map_marks, struct_marks, found_struct_marks, pointer_marks, slots_up_to, row_fits}
+use Rattle.wire_model.specs.Marks.{visit, object_marks, Mark, Test, Object, Handle, Id, Next, has_value, marks_if, union_marks, found_union_marks, slot_marks, slots_marks, content_marks, array_marks, map_marks, struct_marks, found_struct_marks, pointer_marks, slots_up_to, row_fits}
 use Rattle.wire_model.specs.Rows.{row_for}
 use Rattle.wire_model.specs.Slots.{element_bytes, element_slots, field_slot}
 use Rattle.wire_model.specs.Tight.{MAX_DEPTH, marks_of}
@@ -54,9 +54,6 @@ pub readable_array : (n : ℕ) (next : Next) (schema : Schema) (bytes : List ℕ
     → AreReadable n (array_marks next schema bytes p of count) → ReadableArray n next schema bytes p of
 unfolding array_marks
 readable_array n next schema bytes p of count h = record { within = omega (arith, h.0, h.1.0); content = h.1.1 }
-
-pub readable_text : (n : ℕ) (bytes : List ℕ) (p : ℕ) → AreReadable n (text_marks bytes p) → p + 8 + number32 bytes (p + 4) ≤ n
-readable_text n bytes p h = omega (arith, h.0, h.1.0)
 
 -- a map that was checked
 pub record ReadableMap (n : ℕ) (next : Next) (bytes : List ℕ) (p : ℕ) (key value : KindTree) : Type 0 where
@@ -196,10 +193,6 @@ module _ (next : Behind) (schema : Schema) (bytes : List ℕ) (p : ℕ) where
       → object_value next schema bytes p k ≡ slot_value next schema bytes p 0 k
   unfolding object_value slot_value
   union_is_slot k number nullable e = subst (λ x. object_value next schema bytes p x ≡ slot_value next schema bytes p 0 x) (sym e) refl
-
--- the marks of a field that has a value
-pub value_readable : (n : ℕ) (has : Bool) (ms : List Mark) → has ≡ true → AreReadable n (marks_if has ms) → AreReadable n ms
-value_readable n has ms e h = rw e at h
 
 -- the marks of parameters are those of their struct
 pub parameters_readable : (n : ℕ) (schema : Schema) (bytes : List ℕ) (start number : ℕ) → AreReadable n (marks_of schema bytes start number)

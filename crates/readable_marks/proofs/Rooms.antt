@@ -10,8 +10,6 @@ use Rattle.mj_schema.specs.declared.kind.Width.TheVariants.{Bits8, Bits16, Bits3
 use Rattle.mj_schema.specs.declared.rows.FieldRow.{FieldRow}
 use Rattle.wire_model.specs.Readable.{EndsWithin}
 use Rattle.wire_model.specs.Slots.{element_bytes}
-use Rattle.wire_model.specs.steps.Cells.{cell_size}
-use Rattle.wire_laws.proofs.Lengths.{cell_fits}
 use Rattle.readable_marks.specs.steps.Rooms.{EndsIn}
 
 -- fields within an object lie within the bytes
@@ -28,10 +26,6 @@ within_bytes fields row_bytes p size n h a b =
 pub field_in : (base n : ℕ) (fields : List FieldRow) (i : ℕ) (f : FieldRow) → i < length fields → f ≡ get_or fields i f
     → All (EndsIn base n) fields → EndsIn base n f
 field_in base n fields i f lt is h = subst (EndsIn base n) (sym is) (All-get_or (EndsIn base n) fields i f lt h)
-
--- what is held in a union has 8 bytes
-pub cell_room : (k : KindTree) → (cell_size k + 7) / 8 ≤ 8
-cell_room k = omega (arith, (cell_fits k).1)
 
 -- elements of so many bits: a place that so many elements end behind, with the bytes of one of them
 flags : (place i n : ℕ) → i < n → place ≡ i * 1 → place / 8 + (1 + 7) / 8 ≤ (n * 1 + 7) / 8

@@ -1,11 +1,11 @@
 -- The newest callback beside those of a tree: what is there at a request, and what a taking and a drop leave.
-use Rattle.std.proofs.Common.{◌≡◌, ◌≢◌, ◌≤◌, Bool, true, false, not, cond, ◌==◌, ◌&&◌, Option, Some, None, IfSome, ap, sym, ◌∙◌, refl, subst, arith}
+use Rattle.std.proofs.Common.{◌≡◌, ◌≢◌, Bool, true, false, not, cond, ◌==◌, ◌&&◌, Option, Some, None, IfSome, ap, sym, ◌∙◌, refl, subst}
 use Rattle.std.specs.BTreeMap.{BTreeMap}
 use Rattle.std.specs.FinMap.{FinMap, get, insert, remove, retain_keys}
 use Rattle.std.proofs.lemmas.Bool.{true≢false, false_from_ne_true, and_parts, and_from, eqb-true, eq-eqb}
 use Rattle.response_map.specs.declared.key.Key.{Key}
 use Rattle.response_map.specs.declared.scope.Scope.{Scope}
-use Rattle.response_map.specs.Contents.{Contents, callbacks_of, with_newest, free, seen}
+use Rattle.response_map.specs.Contents.{Contents, callbacks_of, with_newest, seen}
 use Rattle.response_map.specs.Keys.{key_cmp, is_of_end}
 use Rattle.response_map.specs.steps.Scopes.{has, kept}
 use Rattle.response_map.proofs.Orders.{one_end, is_there}
@@ -106,11 +106,3 @@ module _ {C : Type 0} where
   kept_new None t u s new e = tt
   kept_new (Some entry) t u s new e = new_cases (has s entry.0) entry u
       (ap (λ (m : FinMap key_cmp C). get m entry.0) e ∙ get_less (callbacks_of t) (λ x. not (has s x)) entry.0 new)
-
-  free_cases : (b : Bool) (entry : Key × C) → 0 ≤ free (cond b None (Some entry))
-  free_cases true entry = omega arith
-  free_cases false entry = omega arith
-
-  pub kept_free : (o : Option (Key × C)) (s : Scope) → free o ≤ free (kept o s)
-  kept_free None s = omega arith
-  kept_free (Some entry) s = free_cases (has s entry.0) entry

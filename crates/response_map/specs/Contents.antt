@@ -24,5 +24,6 @@ abbrev pub free : {C : Type 0} → Option (Key × C) → ℕ
 free None = 1
 free (Some entry) = 0
 
+-- the contents of a tree and the newest callback beside it
 abbrev pub seen : {C : Type 0} → Option (Key × C) → BTreeMap Key C → Contents C
 seen newest tree = record { callbacks = with_newest newest (callbacks_of tree); spare = free newest }

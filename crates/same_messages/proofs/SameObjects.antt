@@ -19,7 +19,7 @@ use Rattle.mj_schema.specs.declared.schema.Schema.{Schema}
 use Rattle.wire_model.specs.Absent.{absent_values}
 use Rattle.wire_model.specs.Bytes.{number32, number64}
 use Rattle.wire_model.specs.Marks as marks
-use Rattle.wire_model.specs.Marks.{Mark, Next, pointer_marks, array_marks, content_marks, text_marks, map_marks, struct_marks, found_struct_marks, slots_marks, object_marks, visit, count_at, count_is, row_fits, slots_up_to}
+use Rattle.wire_model.specs.Marks.{Mark, Next, pointer_marks, array_marks, content_marks, text_marks, map_marks, struct_marks, found_struct_marks, object_marks, visit, count_at, row_fits, slots_up_to}
 use Rattle.wire_model.specs.Readable.{EndsWithin, IsReadableRow}
 use Rattle.wire_model.specs.Rows.{row_for}
 use Rattle.wire_model.specs.Slots.{element_slots, element_bytes, field_slot}

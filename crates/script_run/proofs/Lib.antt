@@ -12,7 +12,6 @@ mod OrderSteps
 mod RunParts
 mod Sequences
 mod Serving
-mod SoleStepper
 mod TakeTurns
 mod TurnLemmas
 mod Woken

@@ -8,6 +8,7 @@ use Rattle.wire_model.specs.Expected.{struct_of}
 use Rattle.wire_model.specs.declared.target.MessageSide.{MessageSide}
 use Rattle.wire_model.specs.declared.target.Target.{Target}
 
+-- the messages of one side of a method, by numbers
 abbrev pub target_at : ℕ → ℕ → MessageSide → Target
 target_at interface method side = record { interface = interface; method = method; side = side }
 

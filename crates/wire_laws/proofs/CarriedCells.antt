@@ -11,7 +11,7 @@ use Rattle.mj_schema.specs.KindTrees as kinds
 use Rattle.mj_schema.specs.KindTrees.{KindTree}
 use Rattle.mj_schema.specs.declared.rows.StructRow.{StructRow}
 use Rattle.wire_model.specs.Trees as values
-use Rattle.wire_model.specs.Trees.{Tree, Trees, none, more, count}
+use Rattle.wire_model.specs.Trees.{Tree}
 use Rattle.wire_model.specs.Marks.{pointer_marks, visit}
 use Rattle.wire_model.specs.Values.{pointer_value, value}
 use Rattle.wire_model.specs.Indexes.{handles_of, ids_of}

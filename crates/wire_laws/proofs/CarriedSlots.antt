@@ -10,7 +10,7 @@ use Rattle.wire_model.specs.Rows.{member_kind}
 use Rattle.mj_schema.specs.KindTrees as kinds
 use Rattle.mj_schema.specs.KindTrees.{KindTree}
 use Rattle.wire_model.specs.Trees as values
-use Rattle.wire_model.specs.Trees.{Tree, Trees}
+use Rattle.wire_model.specs.Trees.{Tree}
 use Rattle.wire_model.specs.Tight.{MAX_PAYLOAD_BYTES}
 use Rattle.wire_model.specs.Fits.{IsAligned, Fits}
 use Rattle.wire_laws.specs.Carried.{Pair, KindFits, IsClosed}

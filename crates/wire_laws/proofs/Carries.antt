@@ -8,7 +8,7 @@ use Rattle.wire_model.specs.Rows.{member_kind}
 use Rattle.mj_schema.specs.KindTrees as kinds
 use Rattle.mj_schema.specs.KindTrees.{KindTree}
 use Rattle.wire_model.specs.Trees as values
-use Rattle.wire_model.specs.Trees.{Tree, Trees, none, more, count}
+use Rattle.wire_model.specs.Trees.{Tree, Trees, none, more}
 use Rattle.wire_model.specs.Marks.{has_value, marks_if, slot_marks, slots_marks, visit}
 use Rattle.wire_model.specs.Values.{slots_value, value}
 use Rattle.wire_model.specs.Tight.{MAX_PAYLOAD_BYTES}

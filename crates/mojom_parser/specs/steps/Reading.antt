@@ -17,9 +17,11 @@ use Rattle.grammar_laws.specs.steps.Factored.{Statements, Statement, OtherLine, 
 use Rattle.mojom_parser.specs.declared.error.ReadError.{ReadError}
 use Rattle.mojom_parser.specs.declared.error.ReadError.TheVariants as stops
 
+-- the identifier of a text and its place
 abbrev pub identifier_at : List ℕ → Span → Identifier
 identifier_at text span = record { text = text; span = span }
 
+-- why it stopped: at a fault, or for want of memory
 abbrev pub Fails : {Y : Type 0} → ReadError → Result Y Fault → Type 0
 Fails stops.Memory read = Unit {0}
 Fails (stops.Fault f) read = read ≡ Err f

@@ -1,5 +1,5 @@
-use Rattle.std.proofs.Common.{◌≡◌, ◌+◌, ◌*◌, ◌/◌, ◌%◌, ◌<◌, true, Bool, ◌∙◌, sym, subst, arith}
-use Rattle.std.specs.Prelude.{not, Some}
+use Rattle.std.proofs.Common.{◌≡◌, ◌+◌, ◌*◌, ◌/◌, ◌%◌, true, Bool, ◌∙◌, sym, subst, arith}
+use Rattle.std.specs.Prelude.{Some}
 use Rattle.mj_schema.specs.Parts.{FLAG_KIND, has_flag}
 use Rattle.mj_schema.specs.Layout.{IsFlagPlaced}
 use Rattle.field_packing.proofs.Cuts.{end_below}

@@ -1,4 +1,4 @@
-use Rattle.script_run.proofs.SoleStepper.{saw_alone}
+use Rattle.bind_core.proofs.SoleStepper.{saw_alone}
 use Rattle.script_run.proofs.seat.SeatStepper.step.Goals as goal
 
 pub returns-clause-event : goal.returns-clause-event
