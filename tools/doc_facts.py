@@ -10,12 +10,12 @@ TOP = os.path.dirname(os.path.dirname(os.path.abspath(__file__)))
 PART, FEW = 0.06, 10
 # The numbers of what programs of the gate tried: where they stand, and the pages that have them.
 TRIED = (('crates/conformance/stdout', r'^(\d+) passed', ('README.md', 'docs/promise.md')),
-         ('crates/check_names/stdout', r'^(\d+) cases', ('README.md', 'docs/promise.md')),
-         ('crates/check_names/stdout', r'and (\d+) made sets', ('README.md', 'docs/promise.md')),
-         ('crates/check_layouts/stdout', r'^(\d+) passed', ('README.md',)),
-         ('crates/check_messages/stdout', r'^(\d+) compared, 0 differences', ('README.md', 'docs/promise.md')),
+         ('crates/checks/stdout', r'^(\d+) cases', ('README.md', 'docs/promise.md')),
+         ('crates/checks/stdout', r'and (\d+) made sets', ('README.md', 'docs/promise.md')),
+         ('crates/checks/stdout', r'^(\d+) passed', ('README.md',)),
+         ('crates/checks/stdout', r'^(\d+) compared, 0 differences', ('README.md', 'docs/promise.md')),
          ('crates/check_runs/stdout', r'^(\d+) scripts, 0 differences\n\Z', ('README.md', 'docs/promise.md')),
-         ('crates/check_cores/stdout', r', (\d+) steps, differ 0\n\Z', ('README.md', 'docs/promise.md')))
+         ('crates/checks/stdout', r', (\d+) steps, differ 0$', ('README.md', 'docs/promise.md')))
 
 # A name with the file where a page says that it stands.
 PLACED = re.compile(r'`(\w+)` (?:in|of) `(crates/[^`*]+\.(?:antt|rt|cases))`')
