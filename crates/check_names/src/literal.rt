@@ -56,7 +56,8 @@ fn is_same_meaning(
 ) -> Result<bool, AllocError> {
     let text = dotted(alloc, one.name.parts.as_slice())?;
     let number = u32::try_from(file).unwrap_or(u32::MAX);
-    let target = names.look_up(alloc, number, &one.enclosing, text.as_str())?;
+    let place = names.place(number, &one.enclosing);
+    let target = place.look_up(text.as_str());
     let thing = match meaning(alloc, given, file, &one.enclosing, one.name)? {
         Some(number) => given.things.get(number),
         None => None,
@@ -111,7 +112,8 @@ fn is_same_value(
         return Ok(true);
     };
     let file = u32::try_from(thing.file).unwrap_or(u32::MAX);
-    let known = consts.value_of(alloc, names, file, &thing.enclosing, written)?;
+    let place = names.place(file, &thing.enclosing);
+    let known = consts.value_of(alloc, &place, written)?;
     Ok(value_of(alloc, given, thing.file, &thing.enclosing, written)? == found(known))
 }
 

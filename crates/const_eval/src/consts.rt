@@ -2,8 +2,8 @@
 
 use crate::file_things::{FileThings, thing_of};
 use const_meanings::{KnownView, Meaning, Origin, known_with, signed};
-use mj_base::{Items, Text};
-use module_resolver::{Names, Target};
+use mj_base::Items;
+use module_resolver::{Place, Target};
 use mojom_ast::Value;
 use mojom_files::dotted;
 use std::alloc::{AllocError, Global};
@@ -53,17 +53,15 @@ impl Consts {
         self.value_at(thing_of(self.files.as_slice(), target)?)
     }
 
-    /// What a value is in the file of this number, within the definition of this full name: a literal
-    /// is itself, and a name what it means. None exactly for a name that has no value.
+    /// What a value is that stands here: a literal is itself, and a name what it means. None exactly for a
+    /// name that has no value.
     pub fn value_of<'a>(
         &'a self,
         alloc: Global,
-        names: &Names,
-        file: u32,
-        enclosing: &Option<Text>,
+        place: &Place<'_>,
         value: &'a Value,
     ) -> Result<Option<KnownView<'a>>, AllocError>
-        ensures { IfOk result (λ found. option_map known_view found ≡ value_in self.now names.now.files file enclosing.now value.now) }
+        ensures { IfOk result (λ found. option_map known_view found ≡ value_in self.now place.now.files place.now.file place.now.enclosing value.now) }
     {
         match value {
             Value::String(written) => Ok(Some(KnownView::Text(written.bytes.as_slice()))),
@@ -75,7 +73,7 @@ impl Consts {
             } => Ok(Some(KnownView::Number(signed(*negative, *magnitude)))),
             Value::Name(name) => {
                 let text = dotted(alloc, name.parts.as_slice())?;
-                match names.look_up(alloc, file, enclosing, text.as_str())? {
+                match place.look_up(text.as_str()) {
                     Some(target) => Ok(self.value_of_target(target)),
                     None => Ok(None),
                 }

@@ -5,15 +5,14 @@ ghost use Rattle.mojom_ast.specs.TypeTrees.{base_view};
 ghost use Rattle.mojom_files.specs.Refusals.{best_of};
 ghost use Rattle.const_eval.specs.Refused.{meant_by_base, meant_by_value, is_enumerator_of, refused_enum_default};
 ghost use Rattle.const_eval.specs.Refused.{is_string, refused_default_by, refused_default};
-ghost use Rattle.const_eval.specs.steps.Views.{site_of};
+ghost use Rattle.const_eval.specs.steps.Views.{site_at};
 
+use crate::consts::Consts;
 use crate::file_things::{FileThings, owner_of};
-use crate::here::Here;
 use crate::kinds::{check_known, refuse_literal};
 use crate::places::place_of_value;
 use crate::trees::basic_of_base;
-use mj_base::Text;
-use module_resolver::Target;
+use module_resolver::{Place, Target};
 use mojom_ast::{BaseNode, Field, Value};
 use mojom_files::{Basic, Refusal, dotted};
 use std::alloc::{AllocError, Global};
@@ -21,17 +20,16 @@ use std::alloc::{AllocError, Global};
 /// What the name of a type means; none of a type that is no name.
 fn meant_by_base(
     alloc: Global,
-    here: &Here<'_>,
-    enclosing: &Option<Text>,
+    _consts: &Consts,
+    place: &Place<'_>,
     base: &BaseNode,
 ) -> Result<Option<Target>, AllocError>
-    ensures { IfOk result (λ target. target ≡ meant_by_base (site_of here.now) enclosing.now (base_view base.now)) }
+    ensures { IfOk result (λ target. target ≡ meant_by_base (site_at _consts.now place.now) place.now.enclosing (base_view base.now)) }
 {
     match base {
         BaseNode::Name(name) => {
             let text = dotted(alloc, name.parts.as_slice())?;
-            here.names
-                .look_up(alloc, here.file, enclosing, text.as_str())
+            Ok(place.look_up(text.as_str()))
         }
         _ => Ok(None),
     }
@@ -40,17 +38,16 @@ fn meant_by_base(
 /// What the name of a value means; none of a value that is no name.
 fn meant_by_value(
     alloc: Global,
-    here: &Here<'_>,
-    enclosing: &Option<Text>,
+    _consts: &Consts,
+    place: &Place<'_>,
     value: &Value,
 ) -> Result<Option<Target>, AllocError>
-    ensures { IfOk result (λ target. target ≡ meant_by_value (site_of here.now) enclosing.now value.now) }
+    ensures { IfOk result (λ target. target ≡ meant_by_value (site_at _consts.now place.now) place.now.enclosing value.now) }
 {
     match value {
         Value::Name(name) => {
             let text = dotted(alloc, name.parts.as_slice())?;
-            here.names
-                .look_up(alloc, here.file, enclosing, text.as_str())
+            Ok(place.look_up(text.as_str()))
         }
         _ => Ok(None),
     }
@@ -78,19 +75,19 @@ fn is_enumerator_of(things: &[FileThings], kind: Option<Target>, value: Option<T
 fn check_enum_default(
     alloc: Global,
     best: &mut Option<Refusal>,
-    here: &Here<'_>,
-    enclosing: &Option<Text>,
+    consts: &Consts,
+    place: &Place<'_>,
     field: &Field,
     value: &Value,
 ) -> Result<(), AllocError>
-    ensures { OnOk result (best.new ≡ best_of best.old (refused_enum_default (site_of here.now) enclosing.now field.now value.now)) }
+    ensures { OnOk result (best.new ≡ best_of best.old (refused_enum_default (site_at consts.now place.now) place.now.enclosing field.now value.now)) }
 {
-    let kind = meant_by_base(alloc, here, enclosing, &field.kind.node().base)?;
-    let meant = meant_by_value(alloc, here, enclosing, value)?;
-    if is_enumerator_of(here.consts.files.as_slice(), kind, meant) {
+    let kind = meant_by_base(alloc, consts, place, &field.kind.node().base)?;
+    let meant = meant_by_value(alloc, consts, place, value)?;
+    if is_enumerator_of(consts.files.as_slice(), kind, meant) {
         Ok(())
     } else {
-        refuse_literal(alloc, best, here.file, &field.name)
+        refuse_literal(alloc, best, place.file(), &field.name)
     }
 }
 
@@ -99,20 +96,21 @@ fn check_enum_default(
 fn check_basic_default(
     alloc: Global,
     best: &mut Option<Refusal>,
-    here: &Here<'_>,
-    enclosing: &Option<Text>,
+    consts: &Consts,
+    place: &Place<'_>,
     field: &Field,
     value: &Value,
     kind: Basic,
 ) -> Result<(), AllocError>
-    ensures { OnOk result (best.new ≡ best_of best.old (refused_default_by (site_of here.now) enclosing.now field.now value.now (Some kind))) }
+    ensures { OnOk result (best.new ≡ best_of best.old
+        (refused_default_by (site_at consts.now place.now) place.now.enclosing field.now value.now (Some kind))) }
 {
     match kind {
-        Basic::Float | Basic::Double => refuse_literal(alloc, best, here.file, &field.name),
+        Basic::Float | Basic::Double => refuse_literal(alloc, best, place.file(), &field.name),
         kind => {
-            let known = here.value_of(alloc, enclosing, value)?;
+            let known = consts.value_of(alloc, place, value)?;
             let at = place_of_value(value);
-            check_known(alloc, best, here.file, &field.name, at, kind, known)
+            check_known(alloc, best, place.file(), &field.name, at, kind, known)
         }
     }
 }
@@ -121,17 +119,17 @@ fn check_basic_default(
 fn check_default_by(
     alloc: Global,
     best: &mut Option<Refusal>,
-    here: &Here<'_>,
-    enclosing: &Option<Text>,
+    consts: &Consts,
+    place: &Place<'_>,
     field: &Field,
     value: &Value,
     kind: Option<Basic>,
 ) -> Result<(), AllocError>
-    ensures { OnOk result (best.new ≡ best_of best.old (refused_default_by (site_of here.now) enclosing.now field.now value.now kind)) }
+    ensures { OnOk result (best.new ≡ best_of best.old (refused_default_by (site_at consts.now place.now) place.now.enclosing field.now value.now kind)) }
 {
     match kind {
-        Some(kind) => check_basic_default(alloc, best, here, enclosing, field, value, kind),
-        None => check_enum_default(alloc, best, here, enclosing, field, value),
+        Some(kind) => check_basic_default(alloc, best, consts, place, field, value, kind),
+        None => check_enum_default(alloc, best, consts, place, field, value),
     }
 }
 
@@ -146,11 +144,11 @@ fn is_string(kind: Option<Basic>) -> bool
 pub fn check_default(
     alloc: Global,
     best: &mut Option<Refusal>,
-    here: &Here<'_>,
-    enclosing: &Option<Text>,
+    consts: &Consts,
+    place: &Place<'_>,
     field: &Field,
 ) -> Result<(), AllocError>
-    ensures { OnOk result (best.new ≡ best_of best.old (refused_default (site_of here.now) enclosing.now field.now field.now.default)) }
+    ensures { OnOk result (best.new ≡ best_of best.old (refused_default (site_at consts.now place.now) place.now.enclosing field.now field.now.default)) }
 {
     let Some(value) = &field.default else {
         return Ok(());
@@ -158,8 +156,8 @@ pub fn check_default(
     let node = field.kind.node();
     let kind = basic_of_base(&node.base);
     if node.nullable && !is_string(kind) {
-        refuse_literal(alloc, best, here.file, &field.name)
+        refuse_literal(alloc, best, place.file(), &field.name)
     } else {
-        check_default_by(alloc, best, here, enclosing, field, value, kind)
+        check_default_by(alloc, best, consts, place, field, value, kind)
     }
 }

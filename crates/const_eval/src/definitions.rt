@@ -6,10 +6,11 @@ ghost use Rattle.mojom_files.specs.Refusals.{best_of};
 ghost use Rattle.mojom_files.specs.Views.{item_view};
 ghost use Rattle.const_eval.specs.Things.{numbered};
 ghost use Rattle.const_eval.specs.Refused.{refused_struct, refused_union, refused_interface};
-ghost use Rattle.const_eval.specs.steps.Views.{site_of};
+ghost use Rattle.const_eval.specs.steps.Views.{site_of, site_at};
 ghost use Rattle.const_eval.specs.Refused.{refused_item, refused_definition, refused_enumerator, refused_enumerators};
 ghost use Rattle.const_eval.specs.Evaluated.{refused_things};
 
+use crate::consts::Consts;
 use crate::file_things::FileThings;
 use crate::here::Here;
 use crate::members::{
@@ -20,7 +21,7 @@ use crate::things::behind;
 use crate::trees::enumerators_of;
 use crate::values::check_const;
 use crate::versions::check_versions;
-use mj_base::Text;
+use module_resolver::Place;
 use mojom_ast::{Interface, Struct, Union};
 use mojom_files::{DefinitionView, ItemView, NamedFile, Refusal, definitions};
 use std::alloc::{AllocError, Global};
@@ -29,15 +30,15 @@ use std::alloc::{AllocError, Global};
 fn check_struct(
     alloc: Global,
     best: &mut Option<Refusal>,
-    here: &Here<'_>,
-    inside: &Option<Text>,
+    consts: &Consts,
+    place: &Place<'_>,
     item: &Struct,
 ) -> Result<(), AllocError>
-    ensures { OnOk result (best.new ≡ best_of best.old (refused_struct (site_of here.now) inside.now item.now)) }
+    ensures { OnOk result (best.new ≡ best_of best.old (refused_struct (site_at consts.now place.now) place.now.enclosing item.now)) }
 {
-    check_struct_members(alloc, best, here, inside, item.members.as_slice())?;
+    check_struct_members(alloc, best, consts, place, item.members.as_slice())?;
     let members = struct_members(alloc, item.members.as_slice())?;
-    check_ordinals(best, here.file, members.as_slice());
+    check_ordinals(best, place.file(), members.as_slice());
     Ok(())
 }
 
@@ -45,15 +46,15 @@ fn check_struct(
 fn check_union(
     alloc: Global,
     best: &mut Option<Refusal>,
-    here: &Here<'_>,
-    inside: &Option<Text>,
+    consts: &Consts,
+    place: &Place<'_>,
     item: &Union,
 ) -> Result<(), AllocError>
-    ensures { OnOk result (best.new ≡ best_of best.old (refused_union (site_of here.now) inside.now item.now)) }
+    ensures { OnOk result (best.new ≡ best_of best.old (refused_union (site_at consts.now place.now) place.now.enclosing item.now)) }
 {
-    check_union_fields(alloc, best, here, inside, item.fields.as_slice())?;
+    check_union_fields(alloc, best, consts, place, item.fields.as_slice())?;
     let members = union_members(alloc, item.fields.as_slice())?;
-    check_ordinals(best, here.file, members.as_slice());
+    check_ordinals(best, place.file(), members.as_slice());
     Ok(())
 }
 
@@ -61,15 +62,15 @@ fn check_union(
 fn check_interface(
     alloc: Global,
     best: &mut Option<Refusal>,
-    here: &Here<'_>,
-    inside: &Option<Text>,
+    consts: &Consts,
+    place: &Place<'_>,
     item: &Interface,
 ) -> Result<(), AllocError>
-    ensures { OnOk result (best.new ≡ best_of best.old (refused_interface (site_of here.now) inside.now item.now)) }
+    ensures { OnOk result (best.new ≡ best_of best.old (refused_interface (site_at consts.now place.now) place.now.enclosing item.now)) }
 {
-    check_interface_members(alloc, best, here, inside, item.members.as_slice())?;
+    check_interface_members(alloc, best, consts, place, item.members.as_slice())?;
     let members = interface_members(alloc, item.members.as_slice())?;
-    check_ordinals(best, here.file, members.as_slice());
+    check_ordinals(best, place.file(), members.as_slice());
     Ok(())
 }
 
@@ -77,20 +78,36 @@ fn check_interface(
 fn check_item(
     alloc: Global,
     best: &mut Option<Refusal>,
-    here: &Here<'_>,
+    consts: &Consts,
+    place: &Place<'_>,
     thing: usize,
-    inside: &Option<Text>,
     item: ItemView<'_>,
 ) -> Result<(), AllocError>
-    ensures { OnOk result (best.new ≡ best_of best.old (refused_item (site_of here.now) thing inside.now (item_view item.entry))) }
+    ensures { OnOk result (best.new ≡ best_of best.old (refused_item (site_at consts.now place.now) thing place.now.enclosing (item_view item.entry))) }
 {
     match item {
-        ItemView::Struct(item) => check_struct(alloc, best, here, inside, item),
-        ItemView::Union(item) => check_union(alloc, best, here, inside, item),
-        ItemView::Interface(item) => check_interface(alloc, best, here, inside, item),
-        ItemView::Const(item) => check_const(alloc, best, here, thing, item),
+        ItemView::Struct(item) => check_struct(alloc, best, consts, place, item),
+        ItemView::Union(item) => check_union(alloc, best, consts, place, item),
+        ItemView::Interface(item) => check_interface(alloc, best, consts, place, item),
+        ItemView::Const(item) => check_const(alloc, best, consts, place, thing, item),
         ItemView::Enum(_) => Ok(()),
     }
+}
+
+/// Tests what stands in a definition, which is the thing of this number, but for its enumerators.
+fn check_within(
+    alloc: Global,
+    best: &mut Option<Refusal>,
+    here: &Here<'_>,
+    thing: usize,
+    definition: &DefinitionView<'_>,
+) -> Result<(), AllocError>
+    ensures { OnOk result (best.new ≡ best_of best.old (refused_item (site_of here.now) thing (Some definition.now.full) definition.now.item)) }
+{
+    let full = Some(definition.full(alloc)?);
+    let inside = here.names.place(here.file, &full);
+    let item = definition.item();
+    check_item(alloc, best, here.consts, &inside, thing, item)
 }
 
 /// Tests a definition, which is the thing of this number, but for its enumerators.
@@ -106,9 +123,9 @@ fn check_definition(
     let name = definition.name();
     let attributes = definition.attributes();
     let enclosing = definition.enclosing(alloc)?;
-    check_versions(alloc, best, here, &enclosing, name, attributes)?;
-    let inside = Some(definition.full(alloc)?);
-    check_item(alloc, best, here, thing, &inside, definition.item())
+    let around = here.names.place(here.file, &enclosing);
+    check_versions(alloc, best, here.consts, &around, name, attributes)?;
+    check_within(alloc, best, here, thing, definition)
 }
 
 /// Tests definitions, the first of which is the thing of this number, but for their enumerators.
@@ -139,9 +156,13 @@ fn check_enumerators_of(
     ensures { OnOk result (best.new ≡ best_of best.old
         (numbered (refused_enumerator (site_of here.now) (Some definition.now.full)) thing (enumerators_of definition.now.item))) }
 {
-    let inside = Some(definition.full(alloc)?);
     let enumerators = enumerators_of(definition);
-    check_enumerators(alloc, best, here, &inside, thing, enumerators)
+    let [_, ..] = enumerators else {
+        return Ok(());
+    };
+    let full = Some(definition.full(alloc)?);
+    let inside = here.names.place(here.file, &full);
+    check_enumerators(alloc, best, here.consts, &inside, thing, enumerators)
 }
 
 /// Tests the enumerators of definitions, the first of which is the thing of this number.

@@ -8,8 +8,7 @@ use crate::file_things::{FileThings, thing_of};
 use crate::literal::literal_of;
 use crate::trees::{basic_of_base, enumerators_of};
 use const_meanings::{Literal, Origin};
-use mj_base::Text;
-use module_resolver::Names;
+use module_resolver::{Names, Place};
 use mojom_ast::{Enumerator, Value};
 use mojom_files::{Basic, DefinitionView, ItemView, NamedFile, definitions, dotted};
 use std::alloc::{AllocError, Global};
@@ -48,41 +47,38 @@ impl Scope<'_> {
     ghost use Rattle.std.specs.List.{flat_map};
     ghost use Rattle.const_eval.specs.Origins.{origin_of_value, origin_of_definition, origin_or, origins_in_order, origins_of_enumerators, origins_in};
 
-    /// Where a value comes from that stands within the definition of this full name.
+    /// Where a value comes from that stands here.
     fn origin_of_value(
         &self,
         alloc: Global,
-        enclosing: &Option<Text>,
+        place: &Place<'_>,
         value: &Value,
     ) -> Result<Origin, AllocError>
-        ensures { IfOk result (λ origin. origin ≡ origin_of_value self.now.things.now self.now.names.now.files self.now.file enclosing.now value.now) }
+        ensures { IfOk result (λ origin. origin ≡ origin_of_value self.now.things.now place.now.files place.now.file place.now.enclosing value.now) }
     {
         let Value::Name(name) = value else {
             return Ok(or_missing(literal_of(alloc, value)?));
         };
         let text = dotted(alloc, name.parts.as_slice())?;
-        match self
-            .names
-            .look_up(alloc, self.file, enclosing, text.as_str())?
-        {
+        match place.look_up(text.as_str()) {
             Some(target) => Ok(of_thing(thing_of(self.things, target))),
             None => Ok(Origin::Missing),
         }
     }
 
-    /// Where a value comes from that may not be written; where it isn't, it comes from this.
+    /// Where a value comes from that stands here, if it is written; where it isn't, it comes from this.
     fn origin_or(
         &self,
         alloc: Global,
-        enclosing: &Option<Text>,
+        place: &Place<'_>,
         implied: Origin,
         value: &Option<Value>,
     ) -> Result<Origin, AllocError>
         ensures { IfOk result (λ origin. origin
-            ≡ origin_or implied (origin_of_value self.now.things.now self.now.names.now.files self.now.file enclosing.now) value.now) }
+            ≡ origin_or implied (origin_of_value self.now.things.now place.now.files place.now.file place.now.enclosing) value.now) }
     {
         match value {
-            Some(value) => self.origin_of_value(alloc, enclosing, value),
+            Some(value) => self.origin_of_value(alloc, place, value),
             None => Ok(implied),
         }
     }
@@ -102,7 +98,8 @@ impl Scope<'_> {
             Some(Basic::Float | Basic::Double) => Ok(Origin::Written(Literal::Float)),
             _ => {
                 let enclosing = definition.enclosing(alloc)?;
-                self.origin_of_value(alloc, &enclosing, &item.value)
+                let around = self.names.place(self.file, &enclosing);
+                self.origin_of_value(alloc, &around, &item.value)
             }
         }
     }
@@ -123,16 +120,16 @@ impl Scope<'_> {
         Ok(())
     }
 
-    /// Adds where the values of enumerators come from, which this definition encloses.
+    /// Adds where the values of enumerators come from, which stand here.
     fn add_in_order(
         &self,
         alloc: Global,
         origins: &mut Vec<Origin>,
-        enclosing: &Option<Text>,
+        place: &Place<'_>,
         enumerators: &[Enumerator],
     ) -> Result<(), AllocError>
         ensures { OnOk result (origins.new.items ≡ origins.old.items
-            ++ origins_in_order (origin_of_value self.now.things.now self.now.names.now.files self.now.file enclosing.now) enumerators.now) }
+            ++ origins_in_order (origin_of_value self.now.things.now place.now.files place.now.file place.now.enclosing) enumerators.now) }
     {
         let [first, rest @ ..] = enumerators else {
             return Ok(());
@@ -141,9 +138,9 @@ impl Scope<'_> {
             negative: false,
             magnitude: 0,
         });
-        origins.push(self.origin_or(alloc, enclosing, zero, &first.value)?)?;
+        origins.push(self.origin_or(alloc, place, zero, &first.value)?)?;
         for enumerator in rest {
-            origins.push(self.origin_or(alloc, enclosing, Origin::Next, &enumerator.value)?)?;
+            origins.push(self.origin_or(alloc, place, Origin::Next, &enumerator.value)?)?;
         }
         Ok(())
     }
@@ -158,8 +155,13 @@ impl Scope<'_> {
         ensures { OnOk result (origins.new.items ≡ origins.old.items
             ++ origins_of_enumerators self.now.things.now self.now.names.now.files self.now.file definition.now) }
     {
-        let inside = Some(definition.full(alloc)?);
-        self.add_in_order(alloc, origins, &inside, enumerators_of(definition))
+        let enumerators = enumerators_of(definition);
+        let [_, ..] = enumerators else {
+            return Ok(());
+        };
+        let full = Some(definition.full(alloc)?);
+        let inside = self.names.place(self.file, &full);
+        self.add_in_order(alloc, origins, &inside, enumerators)
     }
 
     /// Adds where the values of the enumerators of definitions come from.

@@ -6,10 +6,10 @@ ghost use Rattle.mojom_files.specs.Refusals.{best_of};
 ghost use Rattle.const_meanings.specs.Known.{known_view};
 ghost use Rattle.const_eval.specs.Kinds.{basic_of_base};
 ghost use Rattle.const_eval.specs.Refused.{place_of_value, refused_circle, refused_const_as, refused_const_value, refused_const};
-ghost use Rattle.const_eval.specs.steps.Views.{site_of};
+ghost use Rattle.const_eval.specs.steps.Views.{site_at};
 ghost use Rattle.const_eval.specs.Refused.{refused_known_enumerator, refused_enumerator};
 
-use crate::here::Here;
+use crate::consts::Consts;
 use crate::kinds::{check_known, check_value, refuse_literal};
 use crate::lengths::check_lengths;
 use crate::places::place_of_value;
@@ -17,6 +17,7 @@ use crate::trees::basic_of_base;
 use crate::versions::check_versions;
 use const_meanings::KnownView;
 use mj_base::Text;
+use module_resolver::Place;
 use mojom_ast::{Const, Enumerator, Identifier};
 use mojom_files::{Basic, Cause, NamedCause, Refusal, keep};
 use std::alloc::{AllocError, Global};
@@ -25,13 +26,14 @@ use std::alloc::{AllocError, Global};
 fn check_circle(
     alloc: Global,
     best: &mut Option<Refusal>,
-    here: &Here<'_>,
+    consts: &Consts,
+    place: &Place<'_>,
     thing: usize,
     name: &Identifier,
 ) -> Result<(), AllocError>
-    ensures { OnOk result (best.new ≡ best_of best.old (refused_circle (site_of here.now) thing name.now)) }
+    ensures { OnOk result (best.new ≡ best_of best.old (refused_circle (site_at consts.now place.now) thing name.now)) }
 {
-    if !here.consts.is_circular(thing) {
+    if !consts.is_circular(thing) {
         return Ok(());
     }
     let text = Text::from_str(alloc, name.text.as_str())?;
@@ -39,7 +41,7 @@ fn check_circle(
     keep(
         best,
         Refusal {
-            file: here.file,
+            file: place.file(),
             at: name.span.start,
             cause,
         },
@@ -73,29 +75,31 @@ fn check_const_as(
 fn check_const_value(
     alloc: Global,
     best: &mut Option<Refusal>,
-    here: &Here<'_>,
+    consts: &Consts,
+    place: &Place<'_>,
     thing: usize,
     constant: &Const,
 ) -> Result<(), AllocError>
-    ensures { OnOk result (best.new ≡ best_of best.old (refused_const_value (site_of here.now) thing constant.now)) }
+    ensures { OnOk result (best.new ≡ best_of best.old (refused_const_value (site_at consts.now place.now) thing constant.now)) }
 {
-    let known = here.consts.value_at(thing);
-    check_const_as(alloc, best, here.file, constant, known)
+    let known = consts.value_at(thing);
+    check_const_as(alloc, best, place.file(), constant, known)
 }
 
 /// Tests the constant of this number.
 pub fn check_const(
     alloc: Global,
     best: &mut Option<Refusal>,
-    here: &Here<'_>,
+    consts: &Consts,
+    place: &Place<'_>,
     thing: usize,
     constant: &Const,
 ) -> Result<(), AllocError>
-    ensures { OnOk result (best.new ≡ best_of best.old (refused_const (site_of here.now) thing constant.now)) }
+    ensures { OnOk result (best.new ≡ best_of best.old (refused_const (site_at consts.now place.now) thing constant.now)) }
 {
-    check_circle(alloc, best, here, thing, &constant.name)?;
-    check_const_value(alloc, best, here, thing, constant)?;
-    check_lengths(best, here.file, &constant.kind);
+    check_circle(alloc, best, consts, place, thing, &constant.name)?;
+    check_const_value(alloc, best, consts, place, thing, constant)?;
+    check_lengths(best, place.file(), &constant.kind);
     Ok(())
 }
 
@@ -113,17 +117,18 @@ fn place_of_enumerator(enumerator: &Enumerator) -> u64
 fn check_known_enumerator(
     alloc: Global,
     best: &mut Option<Refusal>,
-    here: &Here<'_>,
+    consts: &Consts,
+    place: &Place<'_>,
     thing: usize,
     enumerator: &Enumerator,
 ) -> Result<(), AllocError>
-    ensures { OnOk result (best.new ≡ best_of best.old (refused_known_enumerator (site_of here.now) thing enumerator.now)) }
+    ensures { OnOk result (best.new ≡ best_of best.old (refused_known_enumerator (site_at consts.now place.now) thing enumerator.now)) }
 {
-    match here.consts.value_at(thing) {
+    match consts.value_at(thing) {
         Some(value) => {
             let at = place_of_enumerator(enumerator);
             let name = &enumerator.name;
-            check_value(alloc, best, here.file, name, at, Basic::Int32, value)
+            check_value(alloc, best, place.file(), name, at, Basic::Int32, value)
         }
         None => Ok(()),
     }
@@ -133,15 +138,15 @@ fn check_known_enumerator(
 pub fn check_enumerator(
     alloc: Global,
     best: &mut Option<Refusal>,
-    here: &Here<'_>,
-    inside: &Option<Text>,
+    consts: &Consts,
+    place: &Place<'_>,
     thing: usize,
     enumerator: &Enumerator,
 ) -> Result<(), AllocError>
-    ensures { OnOk result (best.new ≡ best_of best.old (refused_enumerator (site_of here.now) inside.now thing enumerator.now)) }
+    ensures { OnOk result (best.new ≡ best_of best.old (refused_enumerator (site_at consts.now place.now) place.now.enclosing thing enumerator.now)) }
 {
-    check_circle(alloc, best, here, thing, &enumerator.name)?;
-    check_known_enumerator(alloc, best, here, thing, enumerator)?;
+    check_circle(alloc, best, consts, place, thing, &enumerator.name)?;
+    check_known_enumerator(alloc, best, consts, place, thing, enumerator)?;
     let attributes = enumerator.attributes.as_slice();
-    check_versions(alloc, best, here, inside, &enumerator.name, attributes)
+    check_versions(alloc, best, consts, place, &enumerator.name, attributes)
 }

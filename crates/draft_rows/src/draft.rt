@@ -2,10 +2,10 @@
 
 ghost use Rattle.std.specs.Prelude.{◌≡◌, ◌++◌, [], ◌∷◌, map, IfOk, OnOk};
 ghost use Rattle.draft_rows.specs.RowCounts.{after_all, no_rows};
-ghost use Rattle.draft_rows.specs.Drafts.{empty, join, row_at, method_order, methods_order, draft_of_interface, draft_of_item, draft_of_all, draft_from};
+ghost use Rattle.draft_rows.specs.Drafts.{empty, join, row_at, method_order, methods_order, draft_of_interface, draft_of_item, draft_of_definition};
 ghost use Rattle.draft_rows.specs.Drafts.{draft_of_struct, draft_of_union, draft_of_enum, draft_of_const};
 ghost use Rattle.kind_scope.specs.Scopes.{inside};
-ghost use Rattle.draft_rows.specs.Drafts.{draft_of};
+ghost use Rattle.draft_rows.specs.Drafts.{draft_of_all, draft_from, draft_of};
 ghost use Rattle.draft_rows.specs.steps.Views.{lists_view};
 ghost use Rattle.kind_scope.specs.Views.{scope_view};
 
@@ -257,12 +257,29 @@ fn add_item(
 {
     let enclosing = Some(view.full(alloc)?);
     let inner = ScopeView {
-        names: scope.names,
+        place: scope.place.within(&enclosing),
         consts: scope.consts,
-        file: scope.file,
-        enclosing: &enclosing,
     };
     add_within(alloc, lists, rows, scope, &inner, counts, view)
+}
+
+/// Adds the tables of a definition of a file, before which so many rows stand.
+fn add_definition(
+    alloc: Global,
+    lists: &mut DraftLists,
+    rows: &RowTable,
+    scope: &ScopeView<'_>,
+    counts: Counts,
+    view: &DefinitionView<'_>,
+) -> Result<(), AllocError>
+    ensures { OnOk result (lists_view lists.new ≡ join (lists_view lists.old) (draft_of_definition rows.now (scope_view scope.now) counts view.now)) }
+{
+    let enclosing = view.enclosing(alloc)?;
+    let around = ScopeView {
+        place: scope.place.within(&enclosing),
+        consts: scope.consts,
+    };
+    add_item(alloc, lists, rows, &around, counts, view)
 }
 
 /// Adds the tables of definitions of a file, where so many rows stand before them; how many stand
@@ -280,26 +297,19 @@ fn add_all(
 {
     let mut behind = counts;
     for view in views {
-        let enclosing = view.enclosing(alloc)?;
-        let around = ScopeView {
-            names: scope.names,
-            consts: scope.consts,
-            file: scope.file,
-            enclosing: &enclosing,
-        };
-        add_item(alloc, lists, rows, &around, behind, view)?;
+        add_definition(alloc, lists, rows, scope, behind, view)?;
         behind = after(behind, view.item()).ok_or(AllocError)?;
     }
     Ok(behind)
 }
 
 /// Adds the tables of files in their order.
-fn add_files(
+fn add_files<'a>(
     alloc: Global,
     lists: &mut DraftLists,
     rows: &RowTable,
-    names: &Names,
-    consts: &Consts,
+    names: &'a Names,
+    consts: &'a Consts,
     files: &[NamedFile],
     order: &[u32],
 ) -> Result<(), AllocError>
@@ -309,10 +319,8 @@ fn add_files(
     for number in order {
         let enclosing = None;
         let scope = ScopeView {
-            names,
+            place: names.place(*number, &enclosing),
             consts,
-            file: *number,
-            enclosing: &enclosing,
         };
         let views = definitions_at(alloc, files, *number)?;
         counts = add_all(alloc, lists, rows, &scope, counts, views.as_slice())?;

@@ -90,7 +90,7 @@ fn meant_kind(
     match meant {
         Meant::Basic(basic) => basic_kind(nullable, basic),
         Meant::Target(target) => {
-            let sort = scope.names.sort_of(target)?;
+            let sort = scope.place.sort_of(target)?;
             let counts = rows_before_target(rows, target)?;
             row_kind(nullable, sort, counts)
         }
@@ -111,7 +111,7 @@ fn interface_at(sort: DefinitionSort, counts: Counts) -> Option<u32>
 fn target_interface(rows: &RowTable, scope: &ScopeView<'_>, target: Target) -> Option<u32>
     ensures { result ≡ target_interface rows.now (scope_view scope.now) target }
 {
-    let sort = scope.names.sort_of(target)?;
+    let sort = scope.place.sort_of(target)?;
     let counts = rows_before_target(rows, target)?;
     interface_at(sort, counts)
 }
@@ -126,10 +126,7 @@ fn interface_number(
     ensures { IfOk result (λ number. number ≡ interface_number rows.now (scope_view scope.now) parts.now) }
 {
     let name = dotted(alloc, parts)?;
-    let found = scope
-        .names
-        .look_up(alloc, scope.file, scope.enclosing, name.as_str())?;
-    match found {
+    match scope.place.look_up(name.as_str()) {
         Some(target) => Ok(target_interface(rows, scope, target)),
         None => Ok(None),
     }

@@ -157,20 +157,18 @@ fn check_item(
 {
     let enclosing = Some(Text::from_str(alloc, full)?);
     let inner = ScopeView {
-        names: scope.names,
+        place: scope.place.within(&enclosing),
         consts: scope.consts,
-        file: scope.file,
-        enclosing: &enclosing,
     };
     check_within(alloc, best, scope, &inner, full, item)
 }
 
 /// Notes what is refused of a definition in the file of this number.
-fn check_definition(
+fn check_definition<'a>(
     alloc: Global,
     best: &mut Option<Refusal>,
-    names: &Names,
-    consts: &Consts,
+    names: &'a Names,
+    consts: &'a Consts,
     file: u32,
     view: &DefinitionView<'_>,
 ) -> Result<(), AllocError>
@@ -178,10 +176,8 @@ fn check_definition(
 {
     let enclosing = view.enclosing(alloc)?;
     let scope = ScopeView {
-        names,
+        place: names.place(file, &enclosing),
         consts,
-        file,
-        enclosing: &enclosing,
     };
     let full = view.full(alloc)?;
     check_item(alloc, best, &scope, full.as_str(), view.item())

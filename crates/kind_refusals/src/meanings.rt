@@ -70,7 +70,7 @@ pub fn is_number(scope: &ScopeView<'_>, meant: Option<Meant>) -> bool
 {
     match meant {
         Some(Meant::Basic(basic)) => is_number_basic(basic),
-        Some(Meant::Target(target)) => is_enum(scope.names.sort_of(target)),
+        Some(Meant::Target(target)) => is_enum(scope.place.sort_of(target)),
         None => false,
     }
 }
@@ -81,7 +81,7 @@ pub fn is_object(scope: &ScopeView<'_>, meant: Option<Meant>) -> bool
 {
     match meant {
         Some(Meant::Basic(basic)) => is_text_basic(basic),
-        Some(Meant::Target(target)) => is_struct_or_union(scope.names.sort_of(target)),
+        Some(Meant::Target(target)) => is_struct_or_union(scope.place.sort_of(target)),
         None => false,
     }
 }

@@ -26,7 +26,7 @@ pub fn refuse(
     if test {
         let text = Text::from_str(alloc, name.text.as_str())?;
         let next = Refusal {
-            file: scope.file,
+            file: scope.place.file(),
             at: name.span.start,
             cause: Cause::named(cause, text),
         };

@@ -22,4 +22,4 @@ numbered_view n = record { member = member_view n.member; ordinal = n.ordinal }
 
 -- what the code has of it
 abbrev pub scope_view : ScopeView → Scope
-scope_view s = record { names = s.names.now.files; consts = s.consts.now; file = s.file; enclosing = s.enclosing.now }
+scope_view s = record { names = s.place.files; consts = s.consts.now; file = s.place.file; enclosing = s.place.enclosing }

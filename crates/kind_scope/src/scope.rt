@@ -10,20 +10,16 @@ ghost use Rattle.kind_scope.specs.Views.{scope_view};
 use crate::meant::Meant;
 use const_eval::Consts;
 use const_meanings::KnownView;
-use mj_base::Text;
-use module_resolver::Names;
+use module_resolver::Place;
 use mojom_ast::{Identifier, Value};
 use mojom_files::{Basic, dotted};
 use std::alloc::{AllocError, Global};
 
-/// Where a name stands: the names of all files, what constants mean, the number of the file, and the
-/// full name of the definition around it where there is one.
-#[derive(Clone, Copy)]
+/// Where names stand, and what constants mean. It is made once for all names that stand there.
+#[derive(Drop)]
 pub struct ScopeView<'a> {
-    pub names: &'a Names,
+    pub place: Place<'a>,
     pub consts: &'a Consts,
-    pub file: u32,
-    pub enclosing: &'a Option<Text>,
 }
 
 /// The basic kind of a type's name.
@@ -48,10 +44,7 @@ pub fn meant_in(
         return Ok(Some(Meant::Basic(basic)));
     }
     let name = dotted(alloc, parts)?;
-    let found = scope
-        .names
-        .look_up(alloc, scope.file, scope.enclosing, name.as_str())?;
-    match found {
+    match scope.place.look_up(name.as_str()) {
         Some(target) => Ok(Some(Meant::Target(target))),
         None => Ok(None),
     }
@@ -60,12 +53,10 @@ pub fn meant_in(
 /// What a value is where it is written; none exactly for a name that has no value.
 pub fn known_in<'a>(
     alloc: Global,
-    scope: &ScopeView<'a>,
+    scope: &'a ScopeView<'_>,
     value: &'a Value,
 ) -> Result<Option<KnownView<'a>>, AllocError>
     ensures { IfOk result (λ found. option_map known_view found ≡ known_in (scope_view scope.now) value.now) }
 {
-    scope
-        .consts
-        .value_of(alloc, scope.names, scope.file, scope.enclosing, value)
+    scope.consts.value_of(alloc, &scope.place, value)
 }

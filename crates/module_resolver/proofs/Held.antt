@@ -23,7 +23,7 @@ use Rattle.module_resolver.specs.NamesOf.{texts_from, fronts_of}
 use Rattle.module_resolver.specs.steps.Owners.{file_of, first_seen, where_seen, owner, Notes}
 use Rattle.module_resolver.specs.steps.Held.{Adds, node_of, held, owner_below, IsSound, IsEntry, IsMeasured, Entered, NotedAt, KeepsNodes}
 use Rattle.module_resolver.proofs.Owned.{written}
-use Rattle.module_resolver.proofs.MarkedLengths.{no_both, within_len}
+use Rattle.module_resolver.proofs.MarkedLengths.{no_both}
 use Rattle.module_resolver.proofs.DotCounts.{dots_within}
 use Rattle.module_resolver.proofs.OneMore.{take_item, map_reverse}
 
@@ -32,16 +32,15 @@ none_kept own none None = refl
 none_kept own none (Some n) = none n
 
 -- a name is entered
-pub entered : (old new : NameIndex) → new.owners ≡ old.owners → new.marks ≡ old.marks → new.dots ≡ old.dots → IsSound old → IsNameTree new.tree
+pub entered : (old new : NameIndex) → new.owners ≡ old.owners → new.dots ≡ old.dots → IsSound old → IsNameTree new.tree
     → Grows (child old.tree) (count old.tree) (child new.tree) (count new.tree)
     → Entered old new
-entered old new owners marks dots sound tree grows = record {
+entered old new owners dots sound tree grows = record {
   sound = record {
     tree = tree;
     root = let one = sound.root in let more = grows.longer in omega (arith, one, more);
     inside = λ n le.
         ap (λ m. get nat_eq m n) owners ∙ sound.inside n (let more = grows.longer in omega (arith, more, le));
-    marked = λ name none. same name ∙ sound.marked name (ap (λ m. get_or m.items (length name) false) (sym marks) ∙ none);
     dotted = λ name none. same name ∙ sound.dotted name (ap (λ m. get_or m.items (dots_in name) false) (sym dots) ∙ none);
   };
   grows = grows;
@@ -78,11 +77,11 @@ node_there index sound node name found is = in_tree (child index.tree) (count in
 pub measured : (index : NameIndex) → IsSound index → (name : List ℕ) (entry : Entry) → IsEntry index name entry → IsMeasured index entry
 measured index sound name entry at = λ other also.
     let same : other ≡ name = one_text (child index.tree) (count index.tree) sound.tree.tree entry.node other name also at.is in
-    (ap (λ (t : List ℕ). length t) same ∙ at.long, ap dots_in same ∙ at.dotted)
+    ap dots_in same ∙ at.dotted
 
 -- a name stays where it stands
 pub entry_kept : (old new : NameIndex) → KeepsNodes old new → (name : List ℕ) (entry : Entry) → IsEntry old name entry → IsEntry new name entry
-entry_kept old new keeps name entry at = record { is = keeps name entry.node at.is; long = at.long; dotted = at.dotted }
+entry_kept old new keeps name entry at = record { is = keeps name entry.node at.is; dotted = at.dotted }
 
 -- nodes stay those of their names
 pub keeps_nodes : (old new : NameIndex) → Entered old new → KeepsNodes old new
@@ -90,18 +89,15 @@ keeps_nodes old new both = λ name node is. node_kept old new both 0 name node i
 
 -- a name is entered within the one that stands somewhere
 pub entry_within : (old new : NameIndex) → Entered old new → (outer name : List ℕ) (entry made : Entry) → IsEntry old outer entry
-    → node_of new entry.node name ≡ Some made.node → made.len ≡ entry.len + length name + 1 → made.dots ≡ entry.dots + dots_in name + 1
+    → node_of new entry.node name ≡ Some made.node → made.dots ≡ entry.dots + dots_in name + 1
     → IsEntry new (within outer name) made
-entry_within old new both outer name entry made at is len dots =
+entry_within old new both outer name entry made at is dots =
     let here : node_of new 0 outer ≡ Some entry.node = node_kept old new both 0 outer entry.node at.is in
-    let long = within_len outer name in
     let deep = dots_within outer name in
-    let one = at.long in
-    let two = at.dotted in
+    let one = at.dotted in
     record {
       is = walk_within (child new.tree) outer name entry.node here ∙ is;
-      long = omega (arith, long, one, len);
-      dotted = omega (arith, deep, two, dots);
+      dotted = omega (arith, deep, one, dots);
     }
 
 held_marked : (step : ℕ → List ℕ → Option ℕ) (old new : ℕ → Option (List Target)) (node size len : ℕ) (target : Target) (name : List ℕ) (o : Option ℕ)
@@ -120,25 +116,19 @@ held_marked step old new node size len target name (Some k) adds e long apart no
 -- a target is noted where a name stands
 pub noted : (old new : NameIndex) (entry : Entry) (target : Target) → new.tree ≡ old.tree → IsSound old → entry.node < count old.tree
     → IsMeasured old entry
-    → ((k : ℕ) → get_or new.marks.items k false ≡ (get_or old.marks.items k false || (k == entry.len)))
     → ((k : ℕ) → get_or new.dots.items k false ≡ (get_or old.dots.items k false || (k == entry.dots)))
     → Adds (get nat_eq old.owners) (get nat_eq new.owners) entry.node target
     → NotedAt old new entry.node target
-noted old new entry target tree sound there sizes marks dots adds = record {
+noted old new entry target tree sound there counts dots adds = record {
   sound = record {
     tree = subst (λ t. IsNameTree t) (sym tree) sound.tree;
     root = subst (λ t. 0 < count t) (sym tree) sound.root;
     inside = λ n le. beyond n (subst (λ t. count t ≤ n) tree le);
-    marked = λ name none.
-        let both = no_both (get_or old.marks.items (length name) false) (length name == entry.len) (sym (marks (length name)) ∙ none) in
-        ap (λ t. option_and_then (get nat_eq new.owners) (walk (child t) 0 [] name)) tree
-        ∙ held_marked (child old.tree) (get nat_eq old.owners) (get nat_eq new.owners) entry.node (length name) entry.len target name
-        (walk (child old.tree) 0 [] name) adds refl (λ is. (sizes name is).0) both.1 (sound.marked name both.0);
     dotted = λ name none.
         let both = no_both (get_or old.dots.items (dots_in name) false) (dots_in name == entry.dots) (sym (dots (dots_in name)) ∙ none) in
         ap (λ t. option_and_then (get nat_eq new.owners) (walk (child t) 0 [] name)) tree
         ∙ held_marked (child old.tree) (get nat_eq old.owners) (get nat_eq new.owners) entry.node (dots_in name) entry.dots target name
-        (walk (child old.tree) 0 [] name) adds refl (λ is. (sizes name is).1) both.1 (sound.dotted name both.0);
+        (walk (child old.tree) 0 [] name) adds refl (counts name) both.1 (sound.dotted name both.0);
   };
   tree = tree;
   notes = λ name is. subst

@@ -1,4 +1,4 @@
--- The greatest lengths of full names that are not above a length.
+-- The greatest numbers of dots of full names that are not above a number.
 use Rattle.std.proofs.Common.{◌≡◌, ℕ, zero, suc, ◌+◌, ◌-◌, ◌<◌, ◌≤◌, List, [], ◌∷◌, ◌++◌, length, drop}
 use Rattle.std.proofs.Common.{map, get_or, refl, sym, ◌∙◌, ap, subst, inl, inr, arith, length-append, length-drop, get_or-drop, drop-drop}
 use Rattle.std.specs.Prelude.{Bool, true, false, nat_lt, ◌⊎◌, Option, Some, None, is_some, if◌then◌else◌}
@@ -10,7 +10,7 @@ use Rattle.mj_base.specs.Names.{within}
 use Rattle.mojom_files.specs.Refusals.{first_of}
 use Rattle.module_resolver.specs.steps.Dots.{dots_in}
 use Rattle.module_resolver.specs.steps.Lengths.{IsLesser, IsBetween, reached}
-use Rattle.module_resolver.specs.steps.Owners.{owner, HaveMarks, HaveLengths, HaveDotMarks, HaveDots}
+use Rattle.module_resolver.specs.steps.Owners.{owner, HaveDotMarks, HaveDots}
 use Rattle.module_resolver.specs.declared.target.Target.{Target}
 use Rattle.module_resolver.proofs.DotCounts.{dots_within}
 use Rattle.module_resolver.proofs.OneMore.{drop_item}
@@ -82,12 +82,6 @@ unmarked marks lesser n is len above below = go (nat_lt len (length marks)) refl
         let long = is.long in
         let read : reached lesser len ≡ length lesser = get_or_past lesser len (length lesser) (omega (arith, past, long)) in
         get_or_past marks n false (omega (arith, read, above, long))
-
--- nothing has a name of a length between those that are kept
-pub have_lengths : (marks : List Bool) (lesser : List ℕ) (owners : List ℕ → Option (List Target)) → HaveMarks marks owners → IsLesser marks lesser
-    → HaveLengths lesser owners
-have_lengths marks lesser owners have is name between =
-    have name (unmarked marks lesser (length name) is between.len between.above between.below)
 
 -- nothing has a name of as many dots as stand between those that are kept
 pub have_dots : (marks : List Bool) (lesser : List ℕ) (owners : List ℕ → Option (List Target)) → HaveDotMarks marks owners → IsLesser marks lesser

@@ -9,3 +9,4 @@ pub mod Falls
 pub mod Held
 pub mod Enums
 pub mod FrontDots
+pub mod Places

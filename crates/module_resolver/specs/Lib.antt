@@ -1,4 +1,5 @@
 pub mod LookUp
 pub mod Enums
 pub mod NamesOf
+pub mod Places
 pub mod steps

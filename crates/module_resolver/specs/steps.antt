@@ -5,3 +5,4 @@ pub mod Seen
 pub mod Lengths
 pub mod Held
 pub mod Dots
+pub mod Places

@@ -1,25 +1,23 @@
 //! The look-up of a name.
 
-ghost use Rattle.std.specs.Prelude.{◌≡◌, ◌<◌, ◌≤◌, ◌+◌, ◌^◌, ℕ, [], length, get_or, Some, None, IfSome};
-ghost use Rattle.std.specs.Option.{unwrap_or};
-ghost use Rattle.mj_base.specs.Names.{within};
+ghost use Rattle.std.specs.Prelude.{◌≡◌, ◌<◌, ◌≤◌, ◌+◌, ◌^◌, ℕ, [], length, get_or, Some, None, IfSome, option_and_then};
+ghost use Rattle.std.specs.Option.{option_or, unwrap_or};
 ghost use Rattle.mojom_files.specs.Refusals.{first_of};
 ghost use Rattle.import_order.specs.Imports.{has};
 ghost use Rattle.module_resolver.specs.LookUp.{candidates};
-ghost use Rattle.module_resolver.specs.steps.Owners.{owner, HaveLengths, HaveDots};
+ghost use Rattle.module_resolver.specs.steps.Owners.{owner, HaveDots};
 ghost use Rattle.module_resolver.specs.steps.Dots.{dots_in};
-ghost use Rattle.module_resolver.specs.steps.Held.{node_of, held, AreNodes};
+ghost use Rattle.module_resolver.specs.steps.Held.{node_of, held, owner_below, AreNodes};
 ghost use Rattle.module_resolver.specs.steps.Lengths.{IsBetween};
 
 use crate::dots::dots_in;
-use crate::file_names::{FileNames, Names};
+use crate::file_names::FileNames;
 use crate::fronts::Fronts;
-use crate::lengths::{has_length, limit_of};
+use crate::lengths::limit_of;
 use crate::name_index::NameIndex;
 use crate::prefixes::behind_dot;
-use crate::target::{DefinitionSort, Target};
+use crate::target::Target;
 use mj_base::Text;
-use std::alloc::{AllocError, Global};
 
 /// The node of a full name, looked for from the node of another on where the name begins with that one.
 fn node_from(index: &NameIndex, around: &str, node: u32, name: &str) -> Option<u32>
@@ -44,25 +42,36 @@ fn node_in(index: &NameIndex, fronts: &Fronts, nodes: &[u32], name: &str) -> Opt
     node_from(index, fronts.at(0), nodes[0], name)
 }
 
-/// What has the full name of this in that in the files that are seen. It is looked for only where anything
-/// may have a name of its length.
+/// The node of the full name around something, where there is one, in a file where these are the nodes of the
+/// fronts of its module.
+pub(crate) fn node_around(
+    index: &NameIndex,
+    fronts: &Fronts,
+    nodes: &[u32],
+    enclosing: &Option<Text>,
+) -> Option<u32>
+    requires { AreNodes index.now fronts.now nodes.now }
+    ensures { result ≡ option_and_then (node_of index.now 0) enclosing.now }
+{
+    match enclosing {
+        Some(outer) => node_in(index, fronts, nodes, outer.as_str()),
+        None => None,
+    }
+}
+
+/// What has a name below a node in the files that are seen; nothing where there is no node.
 fn meant_within(
     index: &NameIndex,
-    lengths: &[usize],
-    nodes: &[u32],
     here: &FileNames,
-    outer: &str,
+    node: Option<u32>,
     name: &str,
 ) -> Option<Target>
-    requires lengths { HaveLengths lengths.now (held index.now) }
-    requires nodes { AreNodes index.now here.now.fronts nodes.now }
-    ensures { result ≡ owner (held index.now) (has here.now.seen) (within outer.now name.now) }
+    ensures { result ≡ option_and_then (λ n. owner_below index.now (has here.now.seen) n name.now) node }
 {
-    if !has_length(lengths, outer, name) {
-        return None;
+    match node {
+        Some(node) => index.meant(&here.seen, node, name),
+        None => None,
     }
-    let node = node_in(index, &here.fronts, nodes, outer)?;
-    index.meant(&here.seen, node, name)
 }
 
 /// The number of the first front, from this number on, in which a name of so many dots may have as many as
@@ -109,58 +118,24 @@ fn meant_in_fronts(
     index.meant(seen, 0, name)
 }
 
-/// What a name means in a file, where these are the nodes of the fronts of its module.
+/// What a name means in a file, where these are the nodes of the fronts of its module, and this is that of the
+/// full name around the name.
 pub(crate) fn look_up_from(
     index: &NameIndex,
-    lengths: &[usize],
     dots: &[usize],
     nodes: &[u32],
     here: &FileNames,
-    enclosing: &Option<Text>,
+    node: Option<u32>,
     name: &str,
 ) -> Option<Target>
-    requires lengths { HaveLengths lengths.now (held index.now) }
     requires dots { HaveDots dots.now (held index.now) }
     requires nodes { AreNodes index.now here.now.fronts nodes.now }
-    ensures { result ≡ first_of (owner (held index.now) (has here.now.seen)) (candidates enclosing.now here.now.fronts name.now) }
+    ensures { result ≡ option_or (option_and_then (λ n. owner_below index.now (has here.now.seen) n name.now) node)
+        (first_of (owner (held index.now) (has here.now.seen)) (candidates None here.now.fronts name.now)) }
 {
-    if let Some(outer) = enclosing {
-        let found = meant_within(index, lengths, nodes, here, outer.as_str(), name);
-        if found.is_some() {
-            return found;
-        }
+    let found = meant_within(index, here, node, name);
+    if found.is_some() {
+        return found;
     }
     meant_in_fronts(index, dots, nodes, here, name)
-}
-
-impl Names {
-    ghost use Rattle.std.specs.Prelude.{◌≡◌, IfOk};
-    ghost use Rattle.module_resolver.specs.LookUp.{look_up, sort_of};
-
-    /// What a name means in the file of this number, within the definition of this full name: none
-    /// exactly where nothing that the file sees has one of the full names for which it may stand.
-    pub fn look_up(
-        &self,
-        _alloc: Global,
-        file: u32,
-        enclosing: &Option<Text>,
-        name: &str,
-    ) -> Result<Option<Target>, AllocError>
-        ensures { IfOk result (λ target. target ≡ look_up self.now.files file enclosing.now name.now) }
-    {
-        Ok(self.files.look_up(file, enclosing, name))
-    }
-
-    /// What the definition is that a name means; none exactly where it means no definition.
-    pub fn sort_of(&self, target: Target) -> Option<DefinitionSort>
-        ensures { result ≡ sort_of self.now.files target }
-    {
-        match target {
-            Target::Definition { file, number } => {
-                let names = self.files.as_slice().get(file as usize)?;
-                names.sorts.as_slice().get(number).copied()
-            }
-            Target::Enumerator { .. } => None,
-        }
-    }
 }

@@ -28,9 +28,8 @@ fn enter_alone(alloc: Global, index: &mut NameIndex, name: &str) -> Result<Entry
     ensures is { IfOk result (λ made. IsEntry index.new name.now made) }
 {
     let node = index.enter(alloc, 0, name)?;
-    let len = name.len();
     let dots = dots_in(name);
-    Ok(Entry { node, len, dots })
+    Ok(Entry { node, dots })
 }
 
 /// Enters a name within the one that stands here.
@@ -46,9 +45,8 @@ fn enter_below(
     ensures is { IfOk result (λ made. (outer : List ℕ) → IsEntry index.old outer entry → IsEntry index.new (within outer name.now) made) }
 {
     let node = index.enter(alloc, entry.node, name)?;
-    let len = count_within(entry.len, name.len())?;
     let dots = count_within(entry.dots, dots_in(name))?;
-    Ok(Entry { node, len, dots })
+    Ok(Entry { node, dots })
 }
 
 /// Enters the name of a module; where it is that of the file's, which stands here, it is not walked through

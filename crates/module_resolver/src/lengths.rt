@@ -1,12 +1,11 @@
-//! The lengths of full names.
+//! Which numbers of dots full names have.
 
-ghost use Rattle.std.specs.Prelude.{◌≡◌, ◌+◌, ℕ, ◌||◌, ◌==◌, Bool, false, get_or, length, if◌then◌else◌, IfOk, OnOk};
-ghost use Rattle.mj_base.specs.Names.{within};
-ghost use Rattle.module_resolver.specs.steps.Lengths.{IsLesser, IsBetween, reached, limit_of};
+ghost use Rattle.std.specs.Prelude.{◌≡◌, ◌+◌, ℕ, ◌||◌, ◌==◌, Bool, false, get_or, if◌then◌else◌, IfOk, OnOk};
+ghost use Rattle.module_resolver.specs.steps.Lengths.{IsLesser, reached, limit_of};
 
 use std::alloc::{AllocError, Global};
 
-/// Marks a length.
+/// Marks a number.
 pub(crate) fn mark(lengths: &mut Vec<bool>, len: usize) -> Result<(), AllocError>
     ensures { OnOk result ((k : ℕ) → get_or lengths.new.items k false ≡ (get_or lengths.old.items k false || (k == len))) }
 {
@@ -17,14 +16,14 @@ pub(crate) fn mark(lengths: &mut Vec<bool>, len: usize) -> Result<(), AllocError
     Ok(())
 }
 
-/// The last length that is marked, where it was this one before.
+/// The last number that is marked, where it was this one before.
 fn last_marked(last: usize, len: usize, mark: bool) -> usize
     ensures { result ≡ (if mark then len else last) }
 {
     if mark { len } else { last }
 }
 
-/// For each length the greatest that is marked and not above it; 0 where there is none.
+/// For each number the greatest that is marked and not above it; 0 where there is none.
 pub(crate) fn lesser_of(alloc: Global, marks: &[bool]) -> Result<Vec<usize>, AllocError>
     ensures { IfOk result (λ lesser. IsLesser marks.now lesser.items) }
 {
@@ -37,8 +36,8 @@ pub(crate) fn lesser_of(alloc: Global, marks: &[bool]) -> Result<Vec<usize>, All
     Ok(lesser)
 }
 
-/// The greatest length of a full name that anything has, not above that of a name of so many bytes in an
-/// outer one of so many; or a length that is above those of all.
+/// The greatest number of dots of a full name that anything has, not above that of a name of so many in an
+/// outer one of so many; or a number that is above those of all.
 fn reached(lengths: &[usize], outer: usize, name: usize) -> usize
     ensures { result ≡ reached lengths.now (outer + name + 1) }
 {
@@ -52,8 +51,8 @@ fn reached(lengths: &[usize], outer: usize, name: usize) -> usize
     lengths.get(outer + name + 1).copied().unwrap_or(most)
 }
 
-/// How many bytes of an outer name at most, of so many, can stand in a full name that anything has,
-/// before a dot and so many bytes of a name; none where none can.
+/// How many dots an outer name, of no more than so many, may have where a full name that anything has is that
+/// of a name of so many in it; none where none can.
 pub(crate) fn limit_of(lengths: &[usize], outer: usize, name: usize) -> Option<usize>
     ensures { result ≡ limit_of lengths.now outer name }
 {
@@ -62,15 +61,5 @@ pub(crate) fn limit_of(lengths: &[usize], outer: usize, name: usize) -> Option<u
         Some(known - name - 1)
     } else {
         None
-    }
-}
-
-/// Whether the full name of this in that has a length with which anything may have it.
-pub(crate) fn has_length(lengths: &[usize], outer: &str, name: &str) -> bool
-    ensures { result ≡ false → IsBetween lengths.now (length (within outer.now name.now)) }
-{
-    match limit_of(lengths, outer.len(), name.len()) {
-        Some(limit) => limit >= outer.len(),
-        None => false,
     }
 }

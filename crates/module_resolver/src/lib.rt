@@ -15,7 +15,9 @@ mod lengths;
 mod module_nodes;
 mod name_index;
 mod owners;
+mod place;
 mod prefixes;
+mod seat;
 mod seen;
 mod target;
 
@@ -23,4 +25,5 @@ pub use enumerator_names::{EnumNames, EnumeratorNames};
 pub use file_names::{FileNames, Names};
 pub use gather::names_of;
 pub use import_order::{ResolveError, one_order, order};
+pub use place::Place;
 pub use target::{DefinitionSort, Target};

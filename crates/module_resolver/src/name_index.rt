@@ -14,12 +14,11 @@ use name_tree::NameTree;
 use std::alloc::{AllocError, Global};
 
 /// What has each full name in any file: the names in a tree, what has the name of a node, and marks of
-/// how many bytes and how many dots the names that anything has have.
+/// how many dots the names that anything has have.
 #[derive(Drop)]
 pub struct NameIndex {
     tree: NameTree,
     owners: IndexMap<u32, Owners>,
-    marks: Vec<bool>,
     dots: Vec<bool>,
 }
 
@@ -43,7 +42,7 @@ impl NameIndex {
     ghost use Rattle.std.specs.Prelude.{◌≡◌, ◌<◌, ℕ, List, Some, None, IfOk, OnOk};
     ghost use Rattle.import_order.specs.Imports.{has};
     ghost use Rattle.name_tree.specs.Trees.{count};
-    ghost use Rattle.module_resolver.specs.steps.Owners.{HaveLengths, HaveDots};
+    ghost use Rattle.module_resolver.specs.steps.Owners.{HaveDots};
     ghost use Rattle.module_resolver.specs.steps.Held.{node_of, held, owner_below, IsSound, IsMeasured, Entered, NotedAt};
 
     /// An index of no names.
@@ -54,7 +53,6 @@ impl NameIndex {
         NameIndex {
             tree: NameTree::new(alloc),
             owners: IndexMap::new(alloc),
-            marks: Vec::new(alloc),
             dots: Vec::new(alloc),
         }
     }
@@ -82,17 +80,8 @@ impl NameIndex {
         requires measured { IsMeasured self.old entry }
         ensures { OnOk result (NotedAt self.old self.new entry.node target) }
     {
-        mark(&mut self.marks, entry.len)?;
         mark(&mut self.dots, entry.dots)?;
         add_owner(alloc, &mut self.owners, entry.node, target)
-    }
-
-    /// For each length in bytes the greatest, not above it, of a full name that anything has.
-    pub(crate) fn lengths(&self, alloc: Global) -> Result<Vec<usize>, AllocError>
-        requires { IsSound self.now }
-        ensures { IfOk result (λ lengths. HaveLengths lengths.items (held self.now)) }
-    {
-        lesser_of(alloc, self.marks.as_slice())
     }
 
     /// For each number of dots the greatest, not above it, that a full name has that anything has.

@@ -6,8 +6,7 @@ ghost use Rattle.mojom_files.specs.Refusals.{best_of};
 ghost use Rattle.name_refusals.specs.Uses.{Use, is_basic, is_min_version, uses_in_type, uses_in_value, uses_in_option, uses_in_attribute, uses_in_attributes};
 ghost use Rattle.name_refusals.specs.NameRefusals.{place_of, fits_sort, fits, refused_use, refused_uses};
 
-use mj_base::Text;
-use module_resolver::{DefinitionSort, Names, Target};
+use module_resolver::{DefinitionSort, Place, Target};
 use mojom_ast::{Attribute, BaseNode, Identifier, Type, Value};
 use mojom_files::{Basic, Cause, NamedCause, Refusal, dotted, keep};
 use std::alloc::{AllocError, Global};
@@ -47,11 +46,11 @@ fn fits_sort(wanted: Wanted, sort: DefinitionSort) -> bool
 }
 
 /// Whether what is meant can stand where this is wanted.
-fn fits(names: &Names, wanted: Wanted, target: Target) -> bool
-    ensures { result ≡ fits names.now.files wanted target }
+fn fits(place: &Place<'_>, wanted: Wanted, target: Target) -> bool
+    ensures { result ≡ fits place.now.files wanted target }
 {
     match target {
-        Target::Definition { .. } => match names.sort_of(target) {
+        Target::Definition { .. } => match place.sort_of(target) {
             Some(sort) => fits_sort(wanted, sort),
             None => false,
         },
@@ -62,21 +61,20 @@ fn fits(names: &Names, wanted: Wanted, target: Target) -> bool
 /// Refuses a name that nothing has, or that means what can't stand there, and keeps the first refusal.
 fn check_use(
     alloc: Global,
-    names: &Names,
-    file: u32,
-    enclosing: &Option<Text>,
+    place: &Place<'_>,
     parts: &[Identifier],
     wanted: Wanted,
     best: &mut Option<Refusal>,
 ) -> Result<(), AllocError>
-    ensures { let used : Use = record { enclosing = enclosing.now; parts = parts.now; wanted = wanted } in
-        OnOk result (best.new ≡ best_of best.old (refused_use names.now.files file used)) }
+    ensures { let used : Use = record { enclosing = place.now.enclosing; parts = parts.now; wanted = wanted } in
+        OnOk result (best.new ≡ best_of best.old (refused_use place.now.files place.now.file used)) }
 {
     let name = dotted(alloc, parts)?;
     let at = place_of(parts);
-    match names.look_up(alloc, file, enclosing, name.as_str())? {
+    let file = place.file();
+    match place.look_up(name.as_str()) {
         Some(target) => {
-            if !fits(names, wanted, target) {
+            if !fits(place, wanted, target) {
                 let cause = Cause::named(NamedCause::WrongSort, name);
                 keep(best, Refusal { file, at, cause });
             }
@@ -103,13 +101,11 @@ fn is_basic(parts: &[Identifier]) -> bool
 #[cycle(types)]
 fn check_base(
     alloc: Global,
-    names: &Names,
-    file: u32,
-    enclosing: &Option<Text>,
+    place: &Place<'_>,
     base: &BaseNode,
     best: &mut Option<Refusal>,
 ) -> Result<(), AllocError>
-    ensures { OnOk result (best.new ≡ best_of best.old (refused_uses names.now.files file (uses_in_type enclosing.now (base_view base.now)))) }
+    ensures { OnOk result (best.new ≡ best_of best.old (refused_uses place.now.files place.now.file (uses_in_type place.now.enclosing (base_view base.now)))) }
 {
     match base {
         BaseNode::Name(name) => {
@@ -117,25 +113,17 @@ fn check_base(
             if is_basic(parts) {
                 return Ok(());
             }
-            check_use(alloc, names, file, enclosing, parts, Wanted::Kind, best)
+            check_use(alloc, place, parts, Wanted::Kind, best)
         }
-        BaseNode::Array { of, .. } => check_base(alloc, names, file, enclosing, &of.base, best),
+        BaseNode::Array { of, .. } => check_base(alloc, place, &of.base, best),
         BaseNode::Map { key, value } => {
-            check_base(alloc, names, file, enclosing, &key.base, best)?;
-            check_base(alloc, names, file, enclosing, &value.base, best)
+            check_base(alloc, place, &key.base, best)?;
+            check_base(alloc, place, &value.base, best)
         }
         BaseNode::Handle(_) => Ok(()),
         BaseNode::Pending { interface, .. } => {
             let parts = interface.parts.as_slice();
-            check_use(
-                alloc,
-                names,
-                file,
-                enclosing,
-                parts,
-                Wanted::Interface,
-                best,
-            )
+            check_use(alloc, place, parts, Wanted::Interface, best)
         }
     }
 }
@@ -143,32 +131,28 @@ fn check_base(
 /// Refuses names of a type, as `check_use` does.
 pub fn check_type(
     alloc: Global,
-    names: &Names,
-    file: u32,
-    enclosing: &Option<Text>,
+    place: &Place<'_>,
     kind: &Type,
     best: &mut Option<Refusal>,
 ) -> Result<(), AllocError>
-    ensures { OnOk result (best.new ≡ best_of best.old (refused_uses names.now.files file (uses_in_type enclosing.now kind.now.base))) }
+    ensures { OnOk result (best.new ≡ best_of best.old (refused_uses place.now.files place.now.file (uses_in_type place.now.enclosing kind.now.base))) }
 {
-    check_base(alloc, names, file, enclosing, &kind.node().base, best)
+    check_base(alloc, place, &kind.node().base, best)
 }
 
 /// Refuses the name that a value is, as `check_use` does.
 pub fn check_value(
     alloc: Global,
-    names: &Names,
-    file: u32,
-    enclosing: &Option<Text>,
+    place: &Place<'_>,
     value: &Value,
     best: &mut Option<Refusal>,
 ) -> Result<(), AllocError>
-    ensures { OnOk result (best.new ≡ best_of best.old (refused_uses names.now.files file (uses_in_value enclosing.now value.now))) }
+    ensures { OnOk result (best.new ≡ best_of best.old (refused_uses place.now.files place.now.file (uses_in_value place.now.enclosing value.now))) }
 {
     match value {
         Value::Name(name) => {
             let parts = name.parts.as_slice();
-            check_use(alloc, names, file, enclosing, parts, Wanted::Value, best)
+            check_use(alloc, place, parts, Wanted::Value, best)
         }
         Value::String(_) | Value::Bool { .. } | Value::Number { .. } => Ok(()),
     }
@@ -177,16 +161,14 @@ pub fn check_value(
 /// Refuses the name that a value is where there is a value, as `check_use` does.
 pub fn check_option(
     alloc: Global,
-    names: &Names,
-    file: u32,
-    enclosing: &Option<Text>,
+    place: &Place<'_>,
     value: &Option<Value>,
     best: &mut Option<Refusal>,
 ) -> Result<(), AllocError>
-    ensures { OnOk result (best.new ≡ best_of best.old (refused_uses names.now.files file (uses_in_option enclosing.now value.now))) }
+    ensures { OnOk result (best.new ≡ best_of best.old (refused_uses place.now.files place.now.file (uses_in_option place.now.enclosing value.now))) }
 {
     match value {
-        Some(value) => check_value(alloc, names, file, enclosing, value, best),
+        Some(value) => check_value(alloc, place, value, best),
         None => Ok(()),
     }
 }
@@ -201,16 +183,14 @@ fn is_min_version(attribute: &Attribute) -> bool
 /// Refuses the name that is the value of `MinVersion`, as `check_use` does.
 fn check_attribute(
     alloc: Global,
-    names: &Names,
-    file: u32,
-    enclosing: &Option<Text>,
+    place: &Place<'_>,
     attribute: &Attribute,
     best: &mut Option<Refusal>,
 ) -> Result<(), AllocError>
-    ensures { OnOk result (best.new ≡ best_of best.old (refused_uses names.now.files file (uses_in_attribute enclosing.now attribute.now))) }
+    ensures { OnOk result (best.new ≡ best_of best.old (refused_uses place.now.files place.now.file (uses_in_attribute place.now.enclosing attribute.now))) }
 {
     if is_min_version(attribute) {
-        check_option(alloc, names, file, enclosing, &attribute.value, best)
+        check_option(alloc, place, &attribute.value, best)
     } else {
         Ok(())
     }
@@ -219,16 +199,14 @@ fn check_attribute(
 /// Refuses the names that are values of `MinVersion`, as `check_use` does.
 pub fn check_attributes(
     alloc: Global,
-    names: &Names,
-    file: u32,
-    enclosing: &Option<Text>,
+    place: &Place<'_>,
     attributes: &[Attribute],
     best: &mut Option<Refusal>,
 ) -> Result<(), AllocError>
-    ensures { OnOk result (best.new ≡ best_of best.old (refused_uses names.now.files file (uses_in_attributes enclosing.now attributes.now))) }
+    ensures { OnOk result (best.new ≡ best_of best.old (refused_uses place.now.files place.now.file (uses_in_attributes place.now.enclosing attributes.now))) }
 {
     for attribute in attributes {
-        check_attribute(alloc, names, file, enclosing, attribute, best)?;
+        check_attribute(alloc, place, attribute, best)?;
     }
     Ok(())
 }

@@ -1,5 +1,5 @@
 -- What has each full name, as the code keeps it: at the nodes of a tree of names.
-use Rattle.std.specs.Prelude.{ℕ, ◌≡◌, ◌==◌, ◌<◌, ◌≤◌, nat_eq, Bool, if◌then◌else◌, List, [], length, map, Option, Some, None, option_and_then}
+use Rattle.std.specs.Prelude.{ℕ, ◌≡◌, ◌==◌, ◌<◌, ◌≤◌, nat_eq, Bool, if◌then◌else◌, List, [], map, Option, Some, None, option_and_then}
 use Rattle.std.specs.Option.{option_or, unwrap_or}
 use Rattle.std.specs.Str.{bytes_eq}
 use Rattle.indexmap.specs.IndexMap.{get}
@@ -10,7 +10,7 @@ use Rattle.module_resolver.specs.declared.file_names.FileNames.{FileNames}
 use Rattle.module_resolver.specs.declared.name_index.NameIndex.{NameIndex}
 use Rattle.module_resolver.specs.declared.entry.Entry.{Entry}
 use Rattle.module_resolver.specs.steps.Dots.{dots_in}
-use Rattle.module_resolver.specs.steps.Owners.{file_of, first_seen, where_seen, Notes, AreOwners, HaveMarks, HaveLengths, HaveDotMarks, HaveDots}
+use Rattle.module_resolver.specs.steps.Owners.{file_of, first_seen, where_seen, Notes, AreOwners, HaveDotMarks, HaveDots}
 
 -- a target is added to what a node has, behind all that it has already
 pub record Adds (old new : ℕ → Option (List Target)) (node : ℕ) (target : Target) : Type 0 where
@@ -30,23 +30,21 @@ held index name = option_and_then (get nat_eq index.owners) (node_of index 0 nam
 abbrev pub owner_below : NameIndex → (ℕ → Bool) → ℕ → List ℕ → Option Target
 owner_below index seen node name = first_seen seen (unwrap_or (option_and_then (get nat_eq index.owners) (node_of index node name)) [])
 
--- the names stand in a tree, nothing is kept beyond its nodes, and the lengths and dots of all that anything has are marked
+-- the names stand in a tree, nothing is kept beyond its nodes, and the dots of all that anything has are marked
 pub record IsSound (index : NameIndex) : Type 0 where
   pub tree : IsNameTree index.tree
   pub root : 0 < count index.tree
   pub inside : (n : ℕ) → count index.tree ≤ n → get nat_eq index.owners n ≡ None
-  pub marked : HaveMarks index.marks.items (held index)
   pub dotted : HaveDotMarks index.dots.items (held index)
 
 -- a name stands here
 pub record IsEntry (index : NameIndex) (name : List ℕ) (entry : Entry) : Type 0 where
   pub is : node_of index 0 name ≡ Some entry.node
-  pub long : length name ≡ entry.len
   pub dotted : dots_in name ≡ entry.dots
 
--- what stands at a node has so many bytes and dots
+-- what stands at a node has so many dots
 abbrev pub IsMeasured : NameIndex → Entry → Type 0
-IsMeasured index entry = (name : List ℕ) → node_of index 0 name ≡ Some entry.node → (length name ≡ entry.len) × (dots_in name ≡ entry.dots)
+IsMeasured index entry = (name : List ℕ) → node_of index 0 name ≡ Some entry.node → dots_in name ≡ entry.dots
 
 -- a name is entered: all nodes stay, and nothing has a name that didn't have it before
 pub record Entered (old new : NameIndex) : Type 0 where
@@ -75,8 +73,7 @@ HaveNodes index files nodes =
     map (λ (here : FileNames). map (node_of index 0) here.fronts) files ≡ map (λ (ns : List ℕ). map (λ (n : ℕ). Some n) ns) nodes
 
 -- what is kept beside the names of files for look-ups
-pub record IsIndex (files : List FileNames) (index : NameIndex) (lengths dots : List ℕ) (nodes : List (List ℕ)) : Type 0 where
+pub record IsIndex (files : List FileNames) (index : NameIndex) (dots : List ℕ) (nodes : List (List ℕ)) : Type 0 where
   pub are_owners : AreOwners files (held index)
-  pub have_lengths : HaveLengths lengths (held index)
   pub have_dots : HaveDots dots (held index)
   pub have_nodes : HaveNodes index files nodes

@@ -1,5 +1,5 @@
 -- What has each full name, as the code keeps it for look-ups.
-use Rattle.std.specs.Prelude.{ℕ, ◌≡◌, Bool, false, if◌then◌else◌, List, [], length, find, filter, get_or, slice_get, Option, Some, None}
+use Rattle.std.specs.Prelude.{ℕ, ◌≡◌, Bool, false, if◌then◌else◌, List, [], find, filter, get_or, slice_get, Option, Some, None}
 use Rattle.std.specs.Option.{option_or, unwrap_or}
 use Rattle.import_order.specs.Imports.{has}
 use Rattle.module_resolver.specs.LookUp.{meant_by}
@@ -38,14 +38,6 @@ AreOwners files owners =
 -- each file sees files in this order
 abbrev pub SeeInOrder : List FileNames → List ℕ → Type 0
 SeeInOrder files order = (file : ℕ) (here : FileNames) → slice_get files file ≡ Some here → filter (has here.seen) order ≡ here.seen
-
--- where the length of a name has no mark, nothing has the name
-abbrev pub HaveMarks : List Bool → (List ℕ → Option (List Target)) → Type 0
-HaveMarks marks owners = (name : List ℕ) → get_or marks (length name) false ≡ false → owners name ≡ None
-
--- where the length of a name stands between two of full names, nothing has the name
-abbrev pub HaveLengths : List ℕ → (List ℕ → Option (List Target)) → Type 0
-HaveLengths lengths owners = (name : List ℕ) → IsBetween lengths (length name) → owners name ≡ None
 
 -- where the number of a name's dots has no mark, nothing has the name
 abbrev pub HaveDotMarks : List Bool → (List ℕ → Option (List Target)) → Type 0

@@ -1,12 +1,12 @@
 use Rattle.const_eval.specs.Refused.{refused_parameter}
-use Rattle.const_eval.specs.steps.Views.{site_of}
+use Rattle.const_eval.specs.steps.Views.{site_at}
 use Rattle.const_eval.proofs.Steps.{best_step}
 use Rattle.const_eval.proofs.members.check_each_parameter.Goals as goal
 
 pub loop-parameter-preserved : goal.loop-parameter-preserved
 loop-parameter-preserved c =
     best_step
-    (refused_parameter (site_of c.args.here.now) c.args.inside.now)
+    (refused_parameter (site_at c.args.consts.now c.args.place.now) c.args.place.now.enclosing)
     c.loop-parameter.best
     c.check_parameter.new.best
     _

@@ -1,12 +1,12 @@
 use Rattle.const_eval.specs.Refused.{refused_union_field}
-use Rattle.const_eval.specs.steps.Views.{site_of}
+use Rattle.const_eval.specs.steps.Views.{site_at}
 use Rattle.const_eval.proofs.Steps.{best_step}
 use Rattle.const_eval.proofs.members.check_union_fields.Goals as goal
 
 pub loop-field-preserved : goal.loop-field-preserved
 loop-field-preserved c =
     best_step
-    (refused_union_field (site_of c.args.here.now) c.args.inside.now)
+    (refused_union_field (site_at c.args.consts.now c.args.place.now) c.args.place.now.enclosing)
     c.loop-field.best
     c.check_union_field.new.best
     _

@@ -7,5 +7,5 @@ use Rattle.name_refusals.proofs.members.check_enum.Given as goal
 
 abbrev pub invariant-loop-enumerator : goal.invariant-loop-enumerator
 invariant-loop-enumerator l =
-    let uses = flat_map (uses_in_enum l.enclosing) (take l.enumerator-index l.enumerators) in
-    l.best ≡ best_of l.fn.best (refused_uses l.names.files l.file uses)
+    let uses = flat_map (uses_in_enum l.place.enclosing) (take l.enumerator-index l.enumerators) in
+    l.best ≡ best_of l.fn.best (refused_uses l.place.files l.place.file uses)

@@ -7,5 +7,5 @@ use Rattle.name_refusals.proofs.members.check_methods.Given as goal
 
 abbrev pub invariant-loop-member : goal.invariant-loop-member
 invariant-loop-member l =
-    let uses = flat_map (uses_in_interface l.enclosing) (take l.member-index l.members) in
-    l.best ≡ best_of l.fn.best (refused_uses l.names.files l.file uses)
+    let uses = flat_map (uses_in_interface l.place.enclosing) (take l.member-index l.members) in
+    l.best ≡ best_of l.fn.best (refused_uses l.place.files l.place.file uses)

@@ -7,5 +7,5 @@ use Rattle.name_refusals.proofs.members.check_parameters.Given as goal
 
 abbrev pub invariant-loop-parameter : goal.invariant-loop-parameter
 invariant-loop-parameter l =
-    let uses = flat_map (uses_in_parameter l.enclosing) (take l.parameter-index l.parameters) in
-    l.best ≡ best_of l.fn.best (refused_uses l.names.files l.file uses)
+    let uses = flat_map (uses_in_parameter l.place.enclosing) (take l.parameter-index l.parameters) in
+    l.best ≡ best_of l.fn.best (refused_uses l.place.files l.place.file uses)

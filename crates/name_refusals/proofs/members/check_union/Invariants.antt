@@ -7,5 +7,5 @@ use Rattle.name_refusals.proofs.members.check_union.Given as goal
 
 abbrev pub invariant-loop-field : goal.invariant-loop-field
 invariant-loop-field l =
-    let uses = flat_map (uses_in_union l.enclosing) (take l.field-index l.fields) in
-    l.best ≡ best_of l.fn.best (refused_uses l.names.files l.file uses)
+    let uses = flat_map (uses_in_union l.place.enclosing) (take l.field-index l.fields) in
+    l.best ≡ best_of l.fn.best (refused_uses l.place.files l.place.file uses)

@@ -6,4 +6,4 @@ use Rattle.name_refusals.proofs.uses.check_attributes.Given as goal
 
 abbrev pub invariant-loop-attribute : goal.invariant-loop-attribute
 invariant-loop-attribute l =
-    l.best ≡ best_of l.fn.best (refused_uses l.names.files l.file (uses_in_attributes l.enclosing (take l.attribute-index l.attributes)))
+    l.best ≡ best_of l.fn.best (refused_uses l.place.files l.place.file (uses_in_attributes l.place.enclosing (take l.attribute-index l.attributes)))

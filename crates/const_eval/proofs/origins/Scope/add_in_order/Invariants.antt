@@ -7,7 +7,7 @@ use Rattle.const_eval.proofs.origins.Scope.add_in_order.Given as goal
 abbrev pub invariant-loop-enumerator : goal.invariant-loop-enumerator
 invariant-loop-enumerator l =
     l.origins.items
-    ++ map (λ (e : Enumerator). origin_or Next (origin_of_value l.self.things.now l.self.names.now.files l.self.file l.enclosing) e.value)
+    ++ map (λ (e : Enumerator). origin_or Next (origin_of_value l.self.things.now l.place.files l.place.file l.place.enclosing) e.value)
     (drop l.enumerator-index l.rest)
     ≡ l.fn.origins.items
-    ++ origins_in_order (origin_of_value l.self.things.now l.self.names.now.files l.self.file l.enclosing) l.enumerators
+    ++ origins_in_order (origin_of_value l.self.things.now l.place.files l.place.file l.place.enclosing) l.enumerators

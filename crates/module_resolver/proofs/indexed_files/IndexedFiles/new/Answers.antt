@@ -25,7 +25,6 @@ invariant_of-result c =
           ∙ (c.in_ok-index.ensures.is (has here.seen) name
           ∙ (ap (λ (ns : List FileNames). meant_by ns (filter (has here.seen) order) name) c.as_slice.ensures
           ∙ ap (λ (seen : List ℕ). meant_by names seen name) (see file here is)));
-      have_lengths = λ name between. both.same name ∙ c.in_ok-lengths.ensures name between;
       have_dots = λ name between. both.same name ∙ c.in_ok-dots.ensures name between;
       have_nodes =
           ap (map (λ (here : FileNames). map (node_of new 0) here.fronts)) c.requires

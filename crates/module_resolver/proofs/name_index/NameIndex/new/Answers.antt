@@ -14,7 +14,6 @@ returns-clause-sound c =
       tree = c.new.ensures.tree;
       root = omega (arith, root);
       inside = λ n le. empty n;
-      marked = λ name none. none_kept (get nat_eq c.new-2.result) empty (walk (child c.new.result) 0 [] name);
       dotted = λ name none. none_kept (get nat_eq c.new-2.result) empty (walk (child c.new.result) 0 [] name);
     }
 

@@ -8,5 +8,5 @@ returns c =
     on_ok_then c.add_owner.result
     (λ adds.
     noted c.args.self.now _ c.args.entry c.args.target refl c.requires.sound c.requires.there c.requires.measured c.in_ok-mark.ensures
-    c.in_ok-mark-2.ensures adds)
+    adds)
     c.add_owner.ensures
