@@ -46,8 +46,8 @@ message_fits schema side target t number means fits depth =
     record {
       number = number;
       means = means;
-      spells = subst (λ (kind : KindTree). Spells (value schema MAX_BRACKETS (StructKind number false)) t (spell schema kind t)) (sym (kind_is schema side m means))
-          (shows.spelled schema MAX_BRACKETS (StructKind number false) t fits depth);
+      spells = subst (λ (kind : KindTree). Spells (value schema MAX_BRACKETS (StructKind number false)) t (spell schema kind t))
+          (sym (kind_is schema side m means)) (shows.spelled schema MAX_BRACKETS (StructKind number false) t fits depth);
     }
 
 -- what is said of a command has its text

@@ -114,7 +114,8 @@ module _ (schema : Schema) (kind : KindTree) where
 
 -- the parameters of a message
 abbrev Parameters : Schema → Message → Target × Tree → Type 0
-Parameters schema m p = (p.0 ≡ m.target) × Spells (value schema MAX_BRACKETS (StructKind m.parameters false)) p.1 (spell schema (StructKind m.parameters false) p.1)
+Parameters schema m p = (p.0 ≡ m.target)
+    × Spells (value schema MAX_BRACKETS (StructKind m.parameters false)) p.1 (spell schema (StructKind m.parameters false) p.1)
 
 -- the text of parameters between blanks
 abbrev parameters_spelled : Schema → Message → Target × Tree → List ℕ

@@ -16,8 +16,8 @@ ghost use Rattle.value_text.specs.declared.text_error.TextError.{TextError};
 /// A law: two texts of one value of a kind are the same. It does nothing.
 #[tactic(auto, using(crate::proofs::OneText::same_text))]
 pub fn one_text()
-    ensures { (schema : Schema) (k : KindTree) (t : Tree) (one other : List ℕ) → Spells (value schema MAX_BRACKETS k) t one → Spells (value schema MAX_BRACKETS k) t other
-        → one ≡ other }
+    ensures { (schema : Schema) (k : KindTree) (t : Tree) (one other : List ℕ) → Spells (value schema MAX_BRACKETS k) t one
+        → Spells (value schema MAX_BRACKETS k) t other → one ≡ other }
 {}
 
 /// A law: what is written for a value of its kind, with at most 512 brackets open at once, is read
