@@ -3,8 +3,11 @@ mod WhoTakes
 mod Untouched
 mod NearAsked
 mod Leasts
+mod Leastness
 mod FirstReady
 mod Covering
 pub mod SoleStepper
 mod Leaving
+mod CauseLists
+mod Waking
 mod Crossing

@@ -1,4 +1,4 @@
--- An event makes no take ready but at the end that it is about, and at its peer.
+-- An event makes nobody take, whatever ends wait for, but at the end that it is about, and at its peer.
 use Rattle.bind_model.specs.declared.told.Noted.TheVariants as noted
 use Rattle.std.proofs.Common.{◌≡◌, ℕ, Bool, true, false, List, [], ◌∷◌, ◌++◌, length, drop, refl, sym, ap, ◌∙◌}
 use Rattle.std.specs.Prelude.{◌==◌, ◌||◌, if◌then◌else◌, Option, Some, None, is_some}
@@ -15,13 +15,13 @@ use Rattle.bind_model.specs.declared.event.Event.{Event}
 use Rattle.bind_model.specs.declared.told.Told.{Told}
 use Rattle.bind_model.specs.declared.told.Told.TheVariants.{Associated, Attached, Bound, Closed, Control, Dropped, Sent, Taken, Wrote, Notified as Informed}
 use Rattle.bind_model.specs.Machine.{changes, endpoint_at, gone_by, is_gone, is_local, peer, puts, taken, takes, unread, written}
-use Rattle.bind_model.specs.Ready.{is_ready, meant}
+use Rattle.bind_model.specs.Ready.{is_takeable, meant}
 use Rattle.bind_model.specs.Wire.{Wire}
 use Rattle.bind_model.proofs.Outcomes.{left_false, right_false}
 use Rattle.bind_core.specs.steps.Watching.{is_near}
 use Rattle.bind_core.specs.steps.Takers.{taker_at}
 use Rattle.core_state.proofs.After.{gone_after}
-use Rattle.bind_core.proofs.WhoTakes.{same_taker, some_taker, taker_closed, Unpaused}
+use Rattle.bind_core.proofs.WhoTakes.{same_taker, some_taker, taker_closed}
 
 abbrev pub bound_end : Told → Option EndId
 bound_end (Bound x) = Some x
@@ -122,6 +122,6 @@ module _ (wire : Wire) (past : List Event) (y : EndId) where
         (changes_far event.told event.asked far) false (is_gone past y) (front_of (unread wire (event ∷ past) y)) (front_of (unread wire past y)) (sym before)
         (ap (λ ms. front_of ms) (unread_far (is_gone past y) (is_gone (event ∷ past) y) before e)))) ∙ h
 
-    -- a take that is ready there was ready before
-    pub ready_far : Unpaused wire past y → Unpaused wire (event ∷ past) y → is_ready wire (event ∷ past) y ≡ true → is_ready wire past y ≡ true
-    ready_far old now h = sym (some_taker wire past y old) ∙ open_now (is_gone (event ∷ past) y) refl (some_taker wire (event ∷ past) y now ∙ h)
+    -- who would take there would have before
+    pub takeable_far : is_takeable wire (event ∷ past) y ≡ true → is_takeable wire past y ≡ true
+    takeable_far h = sym (some_taker wire past y) ∙ open_now (is_gone (event ∷ past) y) refl (some_taker wire (event ∷ past) y ∙ h)

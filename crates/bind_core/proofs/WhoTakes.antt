@@ -3,7 +3,7 @@ use Rattle.control_bytes.specs.declared.control.Control.{Control}
 use Rattle.control_bytes.specs.declared.control.Control.TheVariants as says
 use Rattle.bind_model.specs.Replies.{heard, is_older, version_of}
 use Rattle.bind_model.specs.Notices.{query_pends}
-use Rattle.std.proofs.Common.{◌≡◌, ℕ, Bool, true, false, List, [], ◌∷◌, length, refl, ap, ◌∙◌}
+use Rattle.std.proofs.Common.{◌≡◌, ℕ, Bool, true, false, List, [], ◌∷◌, length, refl, sym, ap, ◌∙◌}
 use Rattle.std.specs.Prelude.{◌==◌, ◌&&◌, ◌||◌, not, if◌then◌else◌, Option, Some, None, Result, Ok, Err, is_some, option_and_then}
 use Rattle.std.proofs.lemmas.Bool.{eq-eqb}
 use Rattle.mj_base.specs.declared.fault.Fault.{Fault}
@@ -26,18 +26,19 @@ use Rattle.bind_model.specs.declared.event.Event.{Event}
 use Rattle.bind_model.specs.Notices.{first_unmet, waits}
 use Rattle.bind_model.specs.declared.told.Told.{Told}
 use Rattle.bind_model.specs.declared.told.Told.TheVariants.{No}
-use Rattle.bind_model.specs.declared.told.Why.TheVariants.{NoName, Disconnected, Empty, PeerClosed}
+use Rattle.bind_model.specs.declared.told.Why.TheVariants.{NoName, Disconnected, Empty, PeerClosed, Paused}
 use Rattle.bind_model.specs.Machine.{endpoint_at, first_strange, is_gone, peer, unread}
-use Rattle.bind_model.specs.Ready.{is_ready, is_settled, meant, on_of, or_else, settles, taker}
-use Rattle.bind_model.specs.Replies.{at_endpoint, at_state, bad, controlled, first_of, got_known, headed, is_asked, is_none, is_response, judged, took}
+use Rattle.bind_model.specs.Ready.{is_ready, is_settled, is_takeable, meant, on_of, or_else, settles, settles_unpaused, taker}
+use Rattle.bind_model.specs.Replies.{at_endpoint, at_state, bad, controlled, first_of, got_known, headed, is_asked, is_none, is_response, judged, took_open}
 use Rattle.bind_model.specs.Replies.{took_front, unless}
 use Rattle.bind_model.specs.Wire.{Content, Header, Wire}
 use Rattle.bind_model.specs.WireOf.{header_in, wire_of}
 use Rattle.bind_model.specs.declared.told.BadWhy.TheVariants as bads
+use Rattle.bind_model.proofs.CoreFacts.{ready_takeable, takeable_ready}
 use Rattle.bind_model.proofs.Fresh.{kept}
 use Rattle.core_state.specs.Routers.{found_at}
 use Rattle.core_state.specs.Agreement.{Holds, past_of, schema_of, wire_in}
-use Rattle.bind_core.specs.steps.Takers.{id_in, id_meant, taker_at, taker_for, taker_front, taker_in, taker_meant, taker_of, taker_open}
+use Rattle.bind_core.specs.steps.Takers.{id_in, id_meant, ready_taker, taker_at, taker_for, taker_front, taker_in, taker_meant, taker_of, taker_open, unless_paused}
 use Rattle.core_state.specs.declared.state.State.{State}
 use Rattle.core_state.proofs.Facts.{closed_is, unread_is}
 use Rattle.core_state.proofs.Steady.{found_is}
@@ -196,36 +197,68 @@ module _ (wire : Wire) (past : List Event) (y : EndId) where
   by_open true (Some r) = none_settled (told_at (Some r) true) (taker_with (on_of (Some r)) (unread wire past y)) (λ t. refl)
   by_open false (Some r) = by_front (on_of (Some r)) (unread wire past y)
 
-  -- where the end doesn't wait
-  abbrev pub Unpaused : Type 0
-  Unpaused = first_unmet past (waits past y) ≡ None
+  settles_is : (o : Option SeqId) → settles_told (told_at (endpoint_at wire past y 0) (is_gone past y)) o ≡ settles_unpaused wire past y o
+  settles_is None = refl
+  settles_is (Some t) = refl
 
-  settles_is : Unpaused → (o : Option SeqId) → settles_told (told_at (endpoint_at wire past y 0) (is_gone past y)) o ≡ settles wire past y o
-  settles_is free None = refl
-  settles_is free (Some t) = rw free (go (is_some (endpoint_at wire past y 0)) (not (is_gone past y)))
-    where
-      go : (a b : Bool) → is_settled (first_of (unless a NoName ∷ unless b Disconnected ∷ []) (took_front wire past t y (unread wire past y)))
-          ≡ is_settled (first_of (unless a NoName ∷ unless b Disconnected ∷ None ∷ []) (took_front wire past t y (unread wire past y)))
-      go true true = refl
-      go true false = refl
-      go false b = refl
+  -- who takes at the end, where somebody would, whatever it waits for
+  pub taker_is : taker_at (λ n. meant wire n) (endpoint_at wire past y) (is_gone past y) (front_of (unread wire past y))
+      ≡ (if is_takeable wire past y then taker wire past y else None)
+  taker_is = by_open (is_gone past y) (endpoint_at wire past y 0) ∙ ap (λ (b : Bool). taken_if b (taker wire past y)) (settles_is (taker wire past y))
 
-  -- who takes at the end, where a take there is ready
-  pub taker_is : Unpaused → taker_at (λ n. meant wire n) (endpoint_at wire past y) (is_gone past y) (front_of (unread wire past y))
-      ≡ (if is_ready wire past y then taker wire past y else None)
-  taker_is free = by_open (is_gone past y) (endpoint_at wire past y 0) ∙ ap (λ (b : Bool). taken_if b (taker wire past y)) (settles_is free (taker wire past y))
-
-  pub some_taker : Unpaused
-      → is_some (taker_at (λ n. meant wire n) (endpoint_at wire past y) (is_gone past y) (front_of (unread wire past y))) ≡ is_ready wire past y
-  some_taker free = ap (λ (o : Option SeqId). is_some o) (taker_is free) ∙ go (taker wire past y)
+  pub some_taker : is_some (taker_at (λ n. meant wire n) (endpoint_at wire past y) (is_gone past y) (front_of (unread wire past y)))
+      ≡ is_takeable wire past y
+  some_taker = ap (λ (o : Option SeqId). is_some o) taker_is ∙ go (taker wire past y)
     where
       when : (b : Bool) (t : SeqId) → is_some (taken_if b (Some t)) ≡ b
       when true t = refl
       when false t = refl
 
-      go : (o : Option SeqId) → is_some (taken_if (settles wire past y o) o) ≡ settles wire past y o
+      go : (o : Option SeqId) → is_some (taken_if (settles_unpaused wire past y o) o) ≡ settles_unpaused wire past y o
       go None = refl
-      go (Some t) = when (is_settled (took wire past t y)) t
+      go (Some t) = when (is_settled (took_open wire past t y)) t
+
+  -- nothing is ready at an end that waits
+  paused_unready : (w : EndId) → first_unmet past (waits past y) ≡ Some w → is_ready wire past y ≡ false
+  paused_unready w e = go (taker wire past y)
+    where
+      refused : (a b : Bool) (done : Told)
+          → is_settled (first_of (unless a NoName ∷ unless b Disconnected ∷ Some (Paused w) ∷ []) done) ≡ false
+      refused true true done = refl
+      refused true false done = refl
+      refused false b done = refl
+
+      go : (o : Option SeqId) → settles wire past y o ≡ false
+      go None = refl
+      go (Some t) =
+          rw e (refused (is_some (endpoint_at wire past y 0)) (not (is_gone past y)) (took_front wire past t y (unread wire past y)))
+
+  -- so what is ready waits for none
+  pub ready_free : is_ready wire past y ≡ true → first_unmet past (waits past y) ≡ None
+  ready_free h = go (first_unmet past (waits past y)) refl
+    where
+      go : (o : Option EndId) → first_unmet past (waits past y) ≡ o → o ≡ None
+      go None e = refl
+      go (Some w) e = absurd (let n : is_ready wire past y ≡ false = paused_unready w e in cc)
+
+  -- at one that doesn't a take is ready where somebody would take
+  free_ready : first_unmet past (waits past y) ≡ None → is_takeable wire past y ≡ is_ready wire past y
+  free_ready e = go (is_takeable wire past y) (is_ready wire past y) (takeable_ready wire past y e) (ready_takeable wire past y)
+    where
+      go : (a b : Bool) → (a ≡ true → b ≡ true) → (b ≡ true → a ≡ true) → a ≡ b
+      go true b f g = sym (f refl)
+      go false true f g = g refl
+      go false false f g = refl
+
+  -- who takes at the end, where a take there is ready
+  pub ready_is : unless_paused (first_unmet past (waits past y)) (if is_takeable wire past y then taker wire past y else None)
+      ≡ (if is_ready wire past y then taker wire past y else None)
+  ready_is = go (first_unmet past (waits past y)) refl
+    where
+      go : (o : Option EndId) → first_unmet past (waits past y) ≡ o
+          → unless_paused o (if is_takeable wire past y then taker wire past y else None) ≡ (if is_ready wire past y then taker wire past y else None)
+      go None e = ap (λ (b : Bool). if b then taker wire past y else None) (free_ready e)
+      go (Some w) e = sym (ap (λ (b : Bool). if b then taker wire past y else None) (paused_unready w e))
 
 -- ## By the state
 
@@ -239,3 +272,10 @@ module _ (s : State) (h : Holds s) (y : EndId) where
       (front_of (unread (wire_in s) (past_of s) y))
       (closed_is (wire_in s) (past_of s) k s.pipes s.endpoints h.agrees y)
       (ap (λ (ms : List Message). front_of ms) (unread_is (wire_in s) (past_of s) k s.pipes s.endpoints h.agrees y))
+
+  -- who takes there, where a take is ready
+  pub ready_taker_is : ready_taker s y ≡ (if is_ready (wire_in s) (past_of s) y then taker (wire_in s) (past_of s) y else None)
+  ready_taker_is =
+      ap (λ (o : Option SeqId). unless_paused (first_unmet (past_of s) (waits (past_of s) y)) o)
+      (taker_of_is ∙ taker_is (wire_in s) (past_of s) y)
+      ∙ ready_is (wire_in s) (past_of s) y

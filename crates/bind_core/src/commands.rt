@@ -11,6 +11,8 @@ use core_ends::attach::attach;
 use core_ends::{bind, close_endpoint, close_handle, close_pending, join, mint};
 use core_sending::answer::{answer, close_responder};
 use core_sending::call;
+use core_sending::notify::notify;
+use core_sending::pause::pause;
 use core_sending::raw::raw;
 use core_state::State;
 use core_taking::take;
@@ -62,11 +64,15 @@ fn dispatch(
             associate(state, alloc, seq, end, side, interface)
         }
         Command::Attach(pending, on) => attach(state, seq, pending, on),
-        Command::Call(end, id, prepared, handles, pendings) => {
-            call::call(state, alloc, seq, end, id, prepared, handles, pendings)
+        Command::Call(end, id, prepared, handles, pendings, moment) => {
+            call::call(
+                state, alloc, seq, end, id, prepared, handles, pendings, moment,
+            )
         }
-        Command::Answer(responder, prepared, handles, pendings) => {
-            answer(state, alloc, seq, responder, prepared, handles, pendings)
+        Command::Answer(responder, prepared, handles, pendings, moment) => {
+            answer(
+                state, alloc, seq, responder, prepared, handles, pendings, moment,
+            )
         }
         Command::Raw(handle, bytes, handles) => raw(state, alloc, seq, handle, bytes, handles),
         Command::Take(end) => take::take(state, alloc, seq, end),
@@ -76,6 +82,8 @@ fn dispatch(
             close_responder(state, alloc, seq, responder)
         }
         Command::Close(ToClose::Endpoint(end, id)) => close_endpoint(state, alloc, seq, end, id),
+        Command::Notify(end, notice) => notify(state, alloc, seq, end, notice),
+        Command::Pause(end, other, flush) => pause(state, alloc, seq, end, other, flush),
         Command::Skip(line) => Ok(skip(state, seq, line)),
     }
 }

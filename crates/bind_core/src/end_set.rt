@@ -6,9 +6,10 @@ ghost use Rattle.handle_table.specs.Things.{same_end};
 ghost use Rattle.bind_core.specs.steps.Watching.{KeepsTaken};
 ghost use Rattle.bind_core.specs.EndSets.{has_end};
 ghost use Rattle.bind_core.specs.steps.FirstTaken.{Ascends, first_taken};
-ghost use Rattle.bind_core.specs.steps.Takers.{taker_of};
+ghost use Rattle.bind_core.specs.steps.Takers.{ready_taker};
+ghost use Rattle.core_state.specs.Agreement.{Holds};
 
-use crate::takers::taker;
+use crate::takers::ready_taker;
 use core_state::State;
 use handle_table::Thing;
 use mj_base::{EndId, SeqId};
@@ -59,15 +60,17 @@ impl EndSet {
 
     /// Takes an end away where no take is ready.
     pub(crate) fn settle(&mut self, state: &State, end: EndId)
+        requires { Holds state.now }
         ensures { KeepsTaken state.now self.old self.new }
     {
-        if taker(state, end).is_none() {
+        if ready_taker(state, end).is_none() {
             self.remove(end);
         }
     }
 
     /// Takes those of these away where no take is ready.
     pub(crate) fn settle_all(&mut self, state: &State, things: &[Thing])
+        requires { Holds state.now }
         ensures { KeepsTaken state.now self.old self.new }
     {
         for thing in things {
@@ -79,11 +82,12 @@ impl EndSet {
 
     /// The first end where a take is ready, behind the sequence that takes there.
     pub(crate) fn first_taken(&self, state: &State) -> Option<(SeqId, EndId)>
-        ensures first { result ≡ first_taken (taker_of state.now) self.now }
+        requires { Holds state.now }
+        ensures first { result ≡ first_taken (ready_taker state.now) self.now }
         ensures ascends { Ascends self.now }
     {
         for end in self.ends.iter() {
-            if let Some(seq) = taker(state, *end) {
+            if let Some(seq) = ready_taker(state, *end) {
                 return Some((seq, *end));
             }
         }

@@ -7,7 +7,9 @@ mod end_set;
 mod left;
 mod machine;
 mod takers;
+mod waiting;
 mod watch;
+mod woken;
 
 pub use alone::Alone;
 pub use machine::Core;

@@ -17,10 +17,13 @@ ghost use Rattle.reply_laws.specs.Own.{AllOwn};
 ghost use Rattle.bind_core.specs.Play.{told_at};
 
 use crate::end_set::EndSet;
+use crate::waiting::Waiting;
 use crate::watch::{end_named, unwatch, watch};
+use crate::woken::{forget_all, least_woken};
 use crate::{commands, left};
 use bind_model::{Command, History, Pendings, Refused, Reply, Responders};
 use core_state::{Rights, Routers, State};
+use end_notices::NoticeTable;
 use handle_table::{Ended, Thing};
 use message_pipe::Pipes;
 use mj_base::limits::MAX_EVENTS;
@@ -35,8 +38,11 @@ use wire_encoder::laws::passed_is_encodable;
 /// how many sequences it has, and all events.
 pub struct Core {
     state: State,
-    // Each end where a take is ready, and maybe others: `ready` need not walk over all ends.
+    // Each end where a take is ready, but for those of the last event, and maybe others: `ready` need not walk over
+    // all ends.
     watched: EndSet,
+    // Each end that waits, by what ends its waits.
+    waiting: Waiting,
 }
 
 impl Model for Core {
@@ -53,7 +59,7 @@ impl Model for Core {
 
     ghost view = { λ core. record { schema = schema_of core.state; seqs = core.state.seqs; events = core.state.log.events } };
 
-    ghost invariant = { λ core. Stands core.state core.watched };
+    ghost invariant = { λ core. Stands core.state core.watched core.waiting };
 }
 
 /// Hands a command back: for want of memory, unless the history is full.
@@ -80,12 +86,14 @@ impl Core {
                 log: History::new(alloc),
                 pipes: Pipes::new(alloc),
                 endpoints: Routers::new(alloc),
+                notices: NoticeTable::new(alloc),
                 rights: Rights {
                     responders: Responders::new(alloc),
                     pendings: Pendings::new(alloc),
                 },
             },
             watched: EndSet::new(alloc),
+            waiting: Waiting::new(alloc),
         }
     }
 
@@ -110,9 +118,20 @@ impl Core {
         ensures spent { IfErr result (λ refused. IsSpentAt (length self.old.events) refused) }
     {
         let end = end_named(&command);
-        if watch(&mut self.watched, &self.state, end).is_err() {
+        let Ok(looked) = watch(
+            &mut self.watched,
+            &mut self.waiting,
+            &self.state,
+            alloc,
+            &command,
+        ) else {
             return Err(hand_back(&self.state, command));
-        }
+        };
+        forget_all(
+            &mut self.state.notices,
+            &self.state.pipes,
+            looked.as_slice(),
+        );
         let outcome = commands::step(&mut self.state, alloc, seq, command);
         unwatch(&mut self.watched, &self.state, end, &outcome);
         outcome
@@ -160,11 +179,13 @@ impl Core {
     }
 
     /// The least end where a take would consume a message or find it bad, behind the sequence that takes
-    /// there; none exactly where there is no such end. Takes no memory.
+    /// there; none exactly where there is no such end. An end that waits for another isn't such. Takes no
+    /// memory.
     pub fn ready(&self) -> Option<(SeqId, EndId)>
         ensures { result ≡ ready (wire_of self.now.schema) (reverse self.now.events) }
     {
-        self.watched.first_taken(&self.state)
+        let found = self.watched.first_taken(&self.state);
+        least_woken(&self.state, &self.waiting, found)
     }
 
     /// What isn't closed: the ends before the tokens, both by sequence and by number. Takes time in
@@ -180,13 +201,18 @@ impl Core {
         ensures events { result.0.events ≡ self.events }
         ensures legal { Legal (wire_of self.schema) self.seqs result.0.events }
     {
-        let Core { state, watched: _ } = self;
+        let Core {
+            state,
+            watched: _,
+            waiting: _,
+        } = self;
         let State {
             schema: _,
             seqs: _,
             log,
             pipes,
             endpoints: _,
+            notices: _,
             rights: _,
         } = state;
         let over = pipes.end();

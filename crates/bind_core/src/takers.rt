@@ -2,10 +2,11 @@
 
 ghost use Rattle.std.specs.Prelude.{◌≡◌, Some};
 ghost use Rattle.bind_model.specs.Ready.{on_of};
-ghost use Rattle.bind_core.specs.steps.Takers.{id_meant, taker_for, taker_of};
+ghost use Rattle.bind_core.specs.steps.Takers.{id_meant, ready_taker, taker_for, taker_of};
+ghost use Rattle.core_state.specs.Agreement.{Holds};
 
 use bind_model::{Endpoint, State as EndpointState};
-use core_state::State;
+use core_state::{State, paused_by};
 use message_header::{CONTROL_ID, read_header};
 use mj_base::{EndId, SeqId};
 
@@ -43,8 +44,8 @@ fn id_meant(bytes: &[u8]) -> Option<u32>
     }
 }
 
-/// The sequence whose take at an end would consume a message or find it bad.
-pub(crate) fn taker(state: &State, end: EndId) -> Option<SeqId>
+/// The sequence whose take at an end would consume a message or find it bad, whatever the end waits for.
+fn taker(state: &State, end: EndId) -> Option<SeqId>
     ensures { result ≡ taker_of state.now end }
 {
     let main = state.endpoints.find(end, 0)?;
@@ -55,5 +56,16 @@ pub(crate) fn taker(state: &State, end: EndId) -> Option<SeqId>
     match id_meant(message.bytes.as_slice()) {
         Some(id) => taker_for(bound_on(main), state.endpoints.find(end, id)),
         None => bound_on(main),
+    }
+}
+
+/// The sequence whose take at an end is ready: none while the end waits for another.
+pub(crate) fn ready_taker(state: &State, end: EndId) -> Option<SeqId>
+    requires { Holds state.now }
+    ensures { result ≡ ready_taker state.now end }
+{
+    match paused_by(state, end) {
+        Some(_) => None,
+        None => taker(state, end),
     }
 }

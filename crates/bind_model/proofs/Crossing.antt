@@ -66,9 +66,11 @@ ruleset parts = (
   pending_list.the_send,
   responder.the_send,
   to_close.the_field_send,
+  notice.the_field_send,
   why.the_field_send,
   bad_why.the_field_send,
   noted.the_field_send,
+  notified.the_field_send,
 )
 
 prepared_send : IsSend prepared.the_field.row

@@ -1,5 +1,5 @@
 -- The plain forms of commands and replies: things in place of their handles.
-use Rattle.std.specs.Prelude.{ℕ, ◌≡◌, ◌<◌, ◌≤◌, List, [], ◌∷◌, map, Option, Some, None}
+use Rattle.std.specs.Prelude.{ℕ, ℤ, ◌≡◌, ◌<◌, ◌≤◌, List, [], ◌∷◌, map, Option, Some, None}
 use Rattle.mj_base.specs.declared.ids.EndId.{EndId}
 use Rattle.mj_base.specs.declared.limits.TheConstants.{MAX_EVENTS}
 use Rattle.mj_schema.specs.declared.schema.Schema.{Schema}
@@ -27,9 +27,11 @@ use Rattle.bind_model.specs.declared.told.Told.TheVariants as tells
 use Rattle.bind_model.specs.declared.commands.ToClose.{ToClose}
 use Rattle.bind_model.specs.declared.commands.ToClose.TheVariants as close
 use Rattle.bind_model.specs.declared.commands.Command.{Command}
-use Rattle.bind_model.specs.declared.commands.Command.TheVariants.{Pipe, Join, Mint, Bind, Associate, Attach, Call, Answer, Raw, Take, Close, Skip}
+use Rattle.bind_model.specs.declared.commands.Command.TheVariants.{Pipe, Join, Mint, Bind, Associate, Attach, Call, Answer, Raw, Take, Close, Notify}
+use Rattle.bind_model.specs.declared.commands.Command.TheVariants.{Pause, Skip}
 use Rattle.bind_model.specs.declared.commands.Reply.{Reply}
-use Rattle.bind_model.specs.declared.commands.Reply.TheVariants.{Made, Bound, Associated, Attached, Sent, Wrote, Got, Dropped, Control, Bad, Closed, Skipped, No}
+use Rattle.bind_model.specs.declared.commands.Reply.TheVariants.{Made, Bound, Associated, Attached, Sent, Wrote, Got, Dropped, Control, Bad, Closed}
+use Rattle.bind_model.specs.declared.commands.Reply.TheVariants.{Notified, Pausing, Skipped, No}
 use Rattle.bind_model.specs.declared.commands.Refused.{Refused}
 use Rattle.bind_model.specs.declared.commands.Refused.TheVariants.{Memory, Spent}
 
@@ -40,14 +42,14 @@ closing_of (close.Pending pending) = closings.Pending pending.name
 closing_of (close.Responder responder) = closings.Responder responder
 closing_of (close.Endpoint end id) = closings.Endpoint end id
 
--- what is sent, with these handles and pendings
-abbrev pub outgoing_of : Prepared → List Thing → List Half → Outgoing
-outgoing_of prepared handles pendings = record {
+-- what is sent, with these handles and pendings, and this moment
+abbrev pub outgoing_of : Prepared → List Thing → List Half → Option ℤ → Outgoing
+outgoing_of prepared handles pendings moment = record {
   target = prepared.target;
   parameters = view prepared.value;
   handles = handles;
   pendings = names_of pendings;
-  moment = None;
+  moment = moment;
 }
 
 -- the end that a handle is of; no token was ever written from
@@ -63,11 +65,13 @@ asked_of (Mint sort) = asks.Mint sort
 asked_of (Bind handle side interface) = asks.Bind handle side interface
 asked_of (Associate end side interface) = asks.Associate end side interface
 asked_of (Attach pending seq) = asks.Attach pending.name seq
-asked_of (Call end id prepared handles pendings) = asks.Call end id (outgoing_of prepared handles pendings)
-asked_of (Answer responder prepared handles pendings) = asks.Answer responder (outgoing_of prepared handles pendings)
+asked_of (Call end id prepared handles pendings moment) = asks.Call end id (outgoing_of prepared handles pendings moment)
+asked_of (Answer responder prepared handles pendings moment) = asks.Answer responder (outgoing_of prepared handles pendings moment)
 asked_of (Raw handle bytes handles) = asks.Raw handle bytes handles
 asked_of (Take end) = asks.Take end
 asked_of (Close thing) = asks.Close (closing_of thing)
+asked_of (Notify end notice) = asks.Notify end notice
+asked_of (Pause end other flush) = asks.Pause end other flush
 asked_of (Skip line) = asks.Skip line
 
 -- what a reply tells
@@ -92,13 +96,15 @@ told_of (Dropped id gone) = tells.Dropped id gone
 told_of (Control id) = tells.Control id
 told_of (Bad why gone) = tells.Bad why gone
 told_of (Closed gone) = tells.Closed gone
+told_of (Notified what) = tells.Notified what
+told_of Pausing = tells.Pausing
 told_of Skipped = tells.Skipped
 told_of (No why command) = tells.No why
 
 -- what a command sends was prepared for this schema
 abbrev pub IsOf : Schema → Command → Type 0
-IsOf schema (Call end id prepared handles pendings) = IsPrepared schema prepared
-IsOf schema (Answer responder prepared handles pendings) = IsPrepared schema prepared
+IsOf schema (Call end id prepared handles pendings moment) = IsPrepared schema prepared
+IsOf schema (Answer responder prepared handles pendings moment) = IsPrepared schema prepared
 IsOf schema command = Unit {0}
 
 -- bytes were written from the end that the command has

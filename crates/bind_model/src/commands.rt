@@ -1,9 +1,10 @@
 //! Commands and replies, with the handles and the rights that they take and hand out.
 
+use crate::asked::Notice;
 use crate::parameters::Parameters;
 use crate::pending::{Pending, PendingList};
 use crate::responder::Responder;
-use crate::told::{BadWhy, Noted, Why};
+use crate::told::{BadWhy, Noted, Notified, Why};
 use handle_table::{Ended, Handle, Handles, Thing, TokenSort};
 use mj_base::{EndId, Items, SeqId};
 use wire_encoder::{EndpointSide, Prepared};
@@ -36,16 +37,22 @@ pub enum Command {
     /// To bind an endpoint that was received on a sequence.
     Attach(Pending, SeqId),
     /// A request from the endpoint of this id at an end, with the handles and the pendings that its
-    /// parameters name.
-    Call(EndId, u32, Prepared, Handles, PendingList),
-    /// The response to a request, with the handles and the pendings that its parameters name.
-    Answer(Responder, Prepared, Handles, PendingList),
+    /// parameters name, and a moment, which is carried and has no other effect.
+    Call(EndId, u32, Prepared, Handles, PendingList, Option<i64>),
+    /// The response to a request, with the handles and the pendings that its parameters name, and a
+    /// moment.
+    Answer(Responder, Prepared, Handles, PendingList, Option<i64>),
     /// To write bytes from an end that isn't bound, as they are, with handles. They are judged where they
     /// are taken.
     Raw(Handle, Items<u8>, Handles),
     /// The oldest unread message at an end.
     Take(EndId),
     Close(ToClose),
+    /// To write a control from an end that is bound: to ask for a version, to require one, or to flush.
+    Notify(EndId, Notice),
+    /// To take nothing at the first end until the second has consumed the flush of this number, or is
+    /// closed.
+    Pause(EndId, EndId, u32),
     /// Nothing: what the line of this number of a script needs isn't there.
     Skip(u32),
 }
@@ -88,6 +95,10 @@ pub enum Reply {
     Bad(BadWhy, Items<Thing>),
     /// All that went.
     Closed(Items<Thing>),
+    /// The other end gets a control.
+    Notified(Notified),
+    /// The end takes nothing till the wait is met.
+    Pausing,
     Skipped,
     No(Why, Command),
 }
@@ -118,11 +129,11 @@ impl Command {
         match self {
             Command::Bind(handle, _, _) => handle.retire(over),
             Command::Attach(pending, _) => pending.retire(over),
-            Command::Call(_, _, _, handles, pendings) => {
+            Command::Call(_, _, _, handles, pendings, _) => {
                 handles.retire(over);
                 pendings.retire(over);
             }
-            Command::Answer(responder, _, handles, pendings) => {
+            Command::Answer(responder, _, handles, pendings, _) => {
                 responder.retire(over);
                 handles.retire(over);
                 pendings.retire(over);
@@ -137,6 +148,8 @@ impl Command {
             | Command::Mint(_)
             | Command::Associate(_, _, _)
             | Command::Take(_)
+            | Command::Notify(_, _)
+            | Command::Pause(_, _, _)
             | Command::Skip(_) => {}
         }
     }
@@ -180,6 +193,8 @@ impl Reply {
             | Reply::Control(_)
             | Reply::Bad(_, _)
             | Reply::Closed(_)
+            | Reply::Notified(_)
+            | Reply::Pausing
             | Reply::Skipped => {}
         }
     }

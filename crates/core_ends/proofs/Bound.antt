@@ -25,7 +25,7 @@ use Rattle.core_ends.proofs.Binding.{bound_agrees}
 use Rattle.core_state.proofs.Facts.{out_unbound}
 
 module _ (old new : State) (seq : SeqId) (able : HasRoom old seq) (schema : schema_of new ≡ schema_of old) (seqs : new.seqs ≡ old.seqs)
-    (unmoved : new.rights ≡ old.rights) where
+    (unmoved : new.rights ≡ old.rights) (unnoticed : new.notices ≡ old.notices) where
   abbrev done_with : Thing → EndId → EndpointSide → ℕ → Type 0
   done_with handle x side interface = Done old new seq (commands.Bind handle side interface) (replies.Bound x)
 
@@ -39,8 +39,9 @@ module _ (old new : State) (seq : SeqId) (able : HasRoom old seq) (schema : sche
       let k = kept (wire_in old) old.seqs (past_of old) able.holds.legal in
       let q : Puts (End x) places.Bound old.pipes new.pipes = subst (λ (z : Thing). Puts z places.Bound old.pipes new.pipes) h p in
       subst (λ (z : Thing). done_with z x side interface) (sym h)
-      (finish old new seq (commands.Bind (End x) side interface) (replies.Bound x) able schema seqs unmoved
-      (record { none = refl; handed = λ wire. refl; after = λ rs. refl; gives = refl; hands = refl; halves = λ wire past. refl }) events (sym t)
+      (finish old new seq (commands.Bind (End x) side interface) (replies.Bound x) able schema seqs unmoved unnoticed
+      (record { none = refl; handed = λ wire. refl; after = λ rs. refl; gives = refl; hands = refl; halves = λ wire past. refl })
+      refl events (sym t)
       (bound_agrees (wire_in old) (past_of old) k seq x side interface o
       (undrawn (wire_in old) old.seqs (past_of old) able.holds.legal x 0
       (out_unbound (wire_in old) (past_of old) k x 0 o)) old.pipes new.pipes old.endpoints new.endpoints q g able.holds.agrees) tt)

@@ -32,7 +32,7 @@ use Rattle.core_state.proofs.Quiet.{IsQuiet}
 use Rattle.core_state.proofs.Closed.{handle_told, handle_closed, end_told, end_closed}
 
 module _ (old new : State) (seq : SeqId) (able : HasRoom old seq) (schema : schema_of new ≡ schema_of old) (seqs : new.seqs ≡ old.seqs)
-    (unmoved : new.rights ≡ old.rights) (goes told : List Thing) (t : told ≡ goes) where
+    (unmoved : new.rights ≡ old.rights) (unnoticed : new.notices ≡ old.notices) (goes told : List Thing) (t : told ≡ goes) where
   -- the event of a closing of this, with which these went
   abbrev event_with : ToClose → List Thing → Event
   event_with what things = record { seq = seq; asked = asks.Close (closing_of what); told = tells.Closed things }
@@ -43,7 +43,7 @@ module _ (old new : State) (seq : SeqId) (able : HasRoom old seq) (schema : sche
       → Agrees (wire_in old) (event_with what goes ∷ past_of old) new.pipes new.endpoints
       → Done old new seq (commands.Close what) (replies.Closed told)
   close_done what quiet events answered agrees =
-      finish old new seq (commands.Close what) (replies.Closed told) able schema seqs unmoved quiet
+      finish old new seq (commands.Close what) (replies.Closed told) able schema seqs unmoved unnoticed quiet refl
       (events ∙ ap (λ (things : List Thing). old.log.events ++ event_with what things ∷ []) (sym t))
       (ap (λ (things : List Thing). tells.Closed things) t ∙ answered)
       (subst (λ (things : List Thing). Agrees (wire_in old) (event_with what things ∷ past_of old) new.pipes new.endpoints) (sym t) agrees)

@@ -50,7 +50,7 @@ use Rattle.core_state.specs.Turns.{AssociatesAt, CanAssociate, IsSame, TurnsAt}
 use Rattle.core_state.specs.declared.state.State.{State}
 use Rattle.core_ends.proofs.Binding.{interfaces_of}
 use Rattle.core_state.proofs.Facts.{closed_is}
-use Rattle.core_state.proofs.Held.{event_of, finish_with}
+use Rattle.core_state.proofs.Held.{event_of, finish_with, unstirred}
 use Rattle.core_state.proofs.Quiet.{counts_still}
 use Rattle.core_state.proofs.Steady.{AllAgree, found_is}
 use Rattle.core_state.proofs.Still.{still_with}
@@ -198,7 +198,7 @@ module _ (s : State) (seq : SeqId) (able : HasRoom s seq) (y : EndId) (side : En
 
     pub associate_done : (new : State) (id : ℕ) (pending : Half) (mid : Routers) (names : List (EndpointName × Bool))
         → schema_of new ≡ schema_of s → new.seqs ≡ s.seqs → new.pipes ≡ s.pipes → new.rights.responders ≡ s.rights.responders
-        → id ≡ own_id (router_at s.endpoints y)
+        → new.notices ≡ s.notices → id ≡ own_id (router_at s.endpoints y)
         → ((x : EndId) → IsSame (router_at s.endpoints x) (router_at mid x))
         → AssociatesAt (bound_on seq side interface) y mid new.endpoints
         → pending ≡ record { name = record { end = y; id = id }; side = other_side side; interface = interface }
@@ -207,7 +207,7 @@ module _ (s : State) (seq : SeqId) (able : HasRoom s seq) (y : EndId) (side : En
         → new.log.events ≡ s.log.events
         ++ record { seq = seq; asked = asks.Associate y side interface; told = tells.Associated (record { end = y; id = id }) } ∷ []
         → Done s new seq (commands.Associate y side interface) (replies.Associated pending)
-    associate_done new id pending mid names schema seqs pipes kept own same t given before more events =
+    associate_done new id pending mid names schema seqs pipes kept unnoticed own same t given before more events =
         let e : id ≡ next.id = own ∙ id_is in
         let is : pending ≡ half =
         given ∙ ap (λ (n : ℕ). half_of n) e in
@@ -222,7 +222,8 @@ module _ (s : State) (seq : SeqId) (able : HasRoom s seq) (y : EndId) (side : En
         refl
         (outs_now names new.rights.pendings before
         (subst (λ (n : ℕ). (p : PendingId) → is_out new.rights.pendings p ≡ (same_pending (record { end = y; id = n }) p || is_out names p)) e more))
-        refl)
+        refl
+        (unstirred s new seq (commands.Associate y side interface) (replies.Associated half) able unnoticed refl))
 
 -- ## An endpoint that was received is bound
 
@@ -323,11 +324,11 @@ module _ (s : State) (seq : SeqId) (able : HasRoom s seq) (p : PendingId) (t : S
 
     pub attach_done : (new : State) (pending : Half) → pending.name ≡ p
         → schema_of new ≡ schema_of s → new.seqs ≡ s.seqs → new.pipes ≡ s.pipes → new.rights.responders ≡ s.rights.responders
-        → TurnsAt (in_state (states.Bound t)) p.end p.id s.endpoints new.endpoints
+        → new.notices ≡ s.notices → TurnsAt (in_state (states.Bound t)) p.end p.id s.endpoints new.endpoints
         → ((q : PendingId) → is_out new.rights.pendings q ≡ (is_out s.rights.pendings q && not (same_pending p q)))
         → new.log.events ≡ s.log.events ++ record { seq = seq; asked = asks.Attach p t; told = tells.Attached p.id } ∷ []
         → Done s new seq (commands.Attach pending t) (replies.Attached p.id)
-    attach_done new pending name schema seqs pipes kept u less events =
+    attach_done new pending name schema seqs pipes kept unnoticed u less events =
         finish_with s new seq (commands.Attach pending t) (replies.Attached p.id) able schema seqs
         (events ∙ ap (λ (q : PendingId). s.log.events ++ record { seq = seq; asked = asks.Attach q t; told = tells.Attached p.id } ∷ []) (sym name))
         (sym told ∙ ap (λ (q : PendingId). told_to s seq (asks.Attach q t)) (sym name))
@@ -347,3 +348,4 @@ module _ (s : State) (seq : SeqId) (able : HasRoom s seq) (p : PendingId) (t : S
         KnowsPendings (record { seq = seq; asked = asks.Attach q t; told = tells.Attached p.id } ∷ past_of s) new.rights.pendings) (sym name)
         (spent_now new.rights.pendings less))
         refl
+        (unstirred s new seq (commands.Attach pending t) (replies.Attached p.id) able unnoticed refl)

@@ -39,7 +39,7 @@ use Rattle.core_state.specs.Doing.{Done, HasRoom, told_to}
 use Rattle.core_state.specs.Turns.{TurnsAt}
 use Rattle.core_state.specs.steps.Unsent.{is_received}
 use Rattle.core_state.specs.declared.state.State.{State}
-use Rattle.core_state.proofs.Held.{event_of, finish_with}
+use Rattle.core_state.proofs.Held.{event_of, finish_with, unstirred}
 use Rattle.core_state.proofs.Quiet.{counts_still}
 use Rattle.core_state.proofs.Steady.{AllAgree, found_is}
 use Rattle.core_state.proofs.Still.{still_with}
@@ -131,11 +131,11 @@ module _ (s : State) (seq : SeqId) (able : HasRoom s seq) (p : PendingId) where
 
     pub unsent_done : (new : State) (pending : Half) (noted told : List Thing) → p ≡ pending.name → noted ≡ [] → told ≡ []
         → schema_of new ≡ schema_of s → new.seqs ≡ s.seqs → new.pipes ≡ s.pipes → new.rights.responders ≡ s.rights.responders
-        → TurnsAt marked p.end p.id s.endpoints new.endpoints
+        → new.notices ≡ s.notices → TurnsAt marked p.end p.id s.endpoints new.endpoints
         → ((q : PendingId) → is_out new.rights.pendings q ≡ (is_out s.rights.pendings q && not (same_pending p q)))
         → new.log.events ≡ s.log.events ++ record { seq = seq; asked = asks.Close (closings.Pending p); told = tells.Closed noted } ∷ []
         → Done s new seq (commands.Close (close.Pending pending)) (replies.Closed told)
-    unsent_done new pending noted told name n t schema seqs pipes kept u less events =
+    unsent_done new pending noted told name n t schema seqs pipes kept unnoticed u less events =
         finish_with s new seq (commands.Close (close.Pending pending)) (replies.Closed told) able schema seqs
         (events ∙ rw (n, t, name) refl)
         (rw (t, ← name) (sym (closed_told held)))
@@ -148,3 +148,4 @@ module _ (s : State) (seq : SeqId) (able : HasRoom s seq) (p : PendingId) where
         refl
         (rw (← name) (spent_now new.rights.pendings less))
         refl
+        (unstirred s new seq (commands.Close (close.Pending pending)) (replies.Closed told) able unnoticed refl)

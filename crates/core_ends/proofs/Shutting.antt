@@ -117,14 +117,14 @@ module _ (s : State) (seq : SeqId) (able : HasRoom s seq) (y : EndId) (id : ℕ)
         (shut_adds pipes e) (close_turns (wire_in s) (past_of s) seq s.endpoints after able.holds.agrees.routers y id [] t) able.holds.agrees
 
     pub shut_done : (new : State) (noted told : List Thing) → noted ≡ [] → told ≡ []
-        → schema_of new ≡ schema_of s → new.seqs ≡ s.seqs → new.rights ≡ s.rights
+        → schema_of new ≡ schema_of s → new.seqs ≡ s.seqs → new.rights ≡ s.rights → new.notices ≡ s.notices
         → told_to s seq (asks.Close (closings.Endpoint y id)) ≡ tells.Closed []
         → EmitsTo (peer_of (end_of s.pipes.ends y)) (controls_at s.endpoints y (id ∷ [])) s.pipes new.pipes
         → TurnsAt (in_state states.Closed) y id s.endpoints new.endpoints
         → new.log.events ≡ s.log.events ++ record { seq = seq; asked = asks.Close (closings.Endpoint y id); told = tells.Closed noted } ∷ []
         → Done s new seq (commands.Close (close.Endpoint y id)) (replies.Closed told)
-    shut_done new noted told n t schema seqs unmoved answered e turns events =
-        close_done s new seq able schema seqs unmoved noted told (t ∙ sym n) (close.Endpoint y id)
+    shut_done new noted told n t schema seqs unmoved unnoticed answered e turns events =
+        close_done s new seq able schema seqs unmoved unnoticed noted told (t ∙ sym n) (close.Endpoint y id)
         (record { none = refl; handed = λ wire. refl; after = λ rs. refl; gives = refl; hands = refl; halves = λ wire past. refl }) events
         (ap tells.Closed n ∙ sym answered)
         (subst (λ (things : List Thing).

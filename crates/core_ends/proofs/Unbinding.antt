@@ -44,7 +44,7 @@ use Rattle.core_state.specs.steps.Unsent.{is_received}
 use Rattle.core_state.specs.declared.state.State.{State}
 use Rattle.core_ends.proofs.Adding.{IsAdding, adds_agree, adds_nothing}
 use Rattle.core_state.proofs.Facts.{closed_is}
-use Rattle.core_state.proofs.Held.{event_of, finish_with}
+use Rattle.core_state.proofs.Held.{event_of, finish_with, unstirred}
 use Rattle.core_state.proofs.Quiet.{counts_still}
 use Rattle.core_ends.proofs.Retiring.{closed_told, spent_now}
 use Rattle.core_ends.proofs.Shutting.{none_gone, shut_adds, shut_named, shut_peer, shut_row}
@@ -161,14 +161,14 @@ module _ (s : State) (seq : SeqId) (able : HasRoom s seq) (p : PendingId) (held 
       (adds_now pipes e) (closed_now after u) able.holds.agrees
 
   pub received_done : (new : State) (pending : Half) (noted told : List Thing) → p ≡ pending.name → noted ≡ [] → told ≡ []
-      → schema_of new ≡ schema_of s → new.seqs ≡ s.seqs → new.rights.responders ≡ s.rights.responders
+      → schema_of new ≡ schema_of s → new.seqs ≡ s.seqs → new.rights.responders ≡ s.rights.responders → new.notices ≡ s.notices
       → EmitsUnless (is_closed (end_of s.pipes.ends p.end)) (peer_of (end_of s.pipes.ends p.end)) (controls_at s.endpoints p.end (p.id ∷ []))
       s.pipes new.pipes
       → TurnsAt (in_state states.Closed) p.end p.id s.endpoints new.endpoints
       → ((q : PendingId) → is_out new.rights.pendings q ≡ (is_out s.rights.pendings q && not (same_pending p q)))
       → new.log.events ≡ s.log.events ++ record { seq = seq; asked = asks.Close (closings.Pending p); told = tells.Closed noted } ∷ []
       → Done s new seq (commands.Close (close.Pending pending)) (replies.Closed told)
-  received_done new pending noted told name n t schema seqs same e u less events =
+  received_done new pending noted told name n t schema seqs same unnoticed e u less events =
       finish_with s new seq (commands.Close (close.Pending pending)) (replies.Closed told) able schema seqs
       (events ∙ rw (n, t, name) refl)
       (rw (t, ← name) (sym (closed_told s seq able p held)))
@@ -181,3 +181,4 @@ module _ (s : State) (seq : SeqId) (able : HasRoom s seq) (p : PendingId) (held 
       refl
       (rw (← name) (spent_now s seq able p new.rights.pendings less))
       refl
+      (unstirred s new seq (commands.Close (close.Pending pending)) (replies.Closed told) able unnoticed refl)

@@ -55,7 +55,7 @@ use Rattle.core_state.specs.declared.state.State.{State}
 use Rattle.core_sending.proofs.Calling.{goes, open_ok, way_refused, way_sends}
 use Rattle.core_sending.proofs.Fitted.{Fits, passed}
 use Rattle.core_state.proofs.Facts.{peer_is}
-use Rattle.core_state.proofs.Held.{event_of, finish_with}
+use Rattle.core_state.proofs.Held.{event_of, finish_with, unstirred}
 use Rattle.core_state.proofs.Numbers.{drawn_few, next_fresh}
 use Rattle.core_state.proofs.Opening.{opened_bound, opened_there}
 use Rattle.core_state.proofs.Quiet.{counts_still, pendings_spent}
@@ -87,23 +87,23 @@ module _ (old : State) (seq : SeqId) (r : Request) (can : CanDo old seq (command
   pub call_refused : (why : Why) → way_named names ≡ Err why → told_in old seq (command_of r) ≡ tells.No why
   call_refused why h =
       way_refused (schema_of old) old.seqs (past_of old) k old.pipes old.endpoints can.able.holds.agrees can.able.holds.legal few_past can.able.holds.early
-      old.rights.pendings can.able.holds.pendings seq r.end r.id r.prepared can.prepared names why h
+      old.rights.pendings can.able.holds.pendings seq r.end r.id r.prepared can.prepared names r.moment why h
 
   -- what is asked, and what is told where it is sent
   abbrev out : Outgoing
-  out = outgoing_named r.prepared names
+  out = outgoing_named r.prepared names r.moment
 
   abbrev number : ℕ
   number = request_id (past_of old) r.end r.id r.prepared
 
   abbrev bytes_for : ℕ → List ℕ
-  bytes_for request = sealed_bytes r.id request (ids_of names.pendings) r.prepared
+  bytes_for request = sealed_bytes r.id request r.moment (ids_of names.pendings) r.prepared
 
   module _ (x : EndId) (free : way_named names ≡ Ok x) where
     g : (is_response r.prepared.target.side ≡ false) × Fits (past_of old) old.pipes r.end r.prepared names x
     g =
         goes (schema_of old) old.seqs (past_of old) k old.pipes old.endpoints can.able.holds.agrees can.able.holds.legal few_past can.able.holds.early
-        old.rights.pendings can.able.holds.pendings seq r.end r.id r.prepared can.prepared names x free
+        old.rights.pendings can.able.holds.pendings seq r.end r.id r.prepared can.prepared names r.moment x free
 
     -- its ids may be written
     pub wanted : length (ids_of names.pendings) ≡ length r.prepared.endpoints.items
@@ -119,7 +119,7 @@ module _ (old : State) (seq : SeqId) (r : Request) (can : CanDo old seq (command
     sends : told_in old seq (command_of r) ≡ tells.Sent number (bytes_for number)
     sends =
         way_sends (schema_of old) old.seqs (past_of old) k old.pipes old.endpoints can.able.holds.agrees can.able.holds.legal few_past can.able.holds.early
-        old.rights.pendings can.able.holds.pendings seq r.end r.id r.prepared can.prepared names x g.0 free
+        old.rights.pendings can.able.holds.pendings seq r.end r.id r.prepared can.prepared names r.moment x g.0 free
 
     known : Writes (wire_in old) (past_of old) r.end r.carried.handles × ((e : Endpoint) × Open (wire_in old) (past_of old) seq r.end r.id e)
     known =
@@ -146,7 +146,7 @@ module _ (old : State) (seq : SeqId) (r : Request) (can : CanDo old seq (command
     opens : (e : Endpoint) × (open_here ≡ Ok e)
     opens =
         open_ok (schema_of old) old.seqs (past_of old) k old.pipes old.endpoints can.able.holds.agrees can.able.holds.legal few_past can.able.holds.early
-        old.rights.pendings can.able.holds.pendings seq r.end r.id r.prepared can.prepared names open_here x
+        old.rights.pendings can.able.holds.pendings seq r.end r.id r.prepared can.prepared names r.moment open_here x
         (passed (not (all_own old.pipes old.rights.pendings names)) NoName _ x free).1
 
     stands : endpoint_at (wire_in old) (past_of old) r.end r.id ≡ Some opens.0
@@ -187,7 +187,7 @@ module _ (old : State) (seq : SeqId) (r : Request) (can : CanDo old seq (command
     next_is request m false e f = e
 
     module _ (new : State) (schema : schema_of new ≡ schema_of old) (seqs : new.seqs ≡ old.seqs)
-        (kept : new.rights.responders ≡ old.rights.responders) where
+        (kept : new.rights.responders ≡ old.rights.responders) (unnoticed : new.notices ≡ old.notices) where
       abbrev reply_with : ℕ → List ℕ → Reply
       reply_with request bytes = replies.Sent request bytes
 
@@ -224,7 +224,7 @@ module _ (old : State) (seq : SeqId) (r : Request) (can : CanDo old seq (command
 
       named_done : (request : ℕ) (w : Written) (mid : Contents) (reserved : Routers)
           → request ≡ number_of old.endpoints r.end r.id r.prepared
-          → AreOf r.prepared names (bytes_for request) w
+          → AreOf r.prepared names r.moment (bytes_for request) w
           → Becomes x (with_message w.message) old.pipes mid → PutsAll r.carried.handles (places.Unread x) mid new.pipes
           → SpendsAll names.pendings old.rights.pendings new.rights.pendings
           → new.log.events ≡ old.log.events ++ record { seq = seq; asked = asks.Call r.end r.id w.outgoing; told = tells.Sent request w.noted } ∷ []
@@ -243,13 +243,14 @@ module _ (old : State) (seq : SeqId) (r : Request) (can : CanDo old seq (command
           (pendings_spent (event_with request w.told) (past_of old) names.pendings old.rights.pendings new.rights.pendings refl refl spent
           can.able.holds.pendings)
           refl
+          (unstirred old new seq (command_of r) (reply_with request w.told) can.able unnoticed refl)
         where
           message : w.message ≡ record { bytes = w.told; handles = r.carried.handles; emitted = false }
           message = a.message ∙ rw a.told refl
 
       pub call_done : (request : ℕ) (ns : CarriedNames) (w : Written) (mid : Contents) (reserved : Routers)
           → request ≡ number_of old.endpoints r.end r.id r.prepared → ns ≡ names
-          → AreOf r.prepared ns (sealed_bytes r.id request (ids_of ns.pendings) r.prepared) w
+          → AreOf r.prepared ns r.moment (sealed_bytes r.id request r.moment (ids_of ns.pendings) r.prepared) w
           → Becomes x (with_message w.message) old.pipes mid → PutsAll r.carried.handles (places.Unread x) mid new.pipes
           → SpendsAll names.pendings old.rights.pendings new.rights.pendings
           → new.log.events ≡ old.log.events ++ record { seq = seq; asked = asks.Call r.end r.id w.outgoing; told = tells.Sent request w.noted } ∷ []
@@ -258,5 +259,5 @@ module _ (old : State) (seq : SeqId) (r : Request) (can : CanDo old seq (command
           → Done old new seq (command_of r) (replies.Sent request w.told)
       call_done request ns w mid reserved n e a b p spent events same sent =
           named_done request w mid reserved n
-          (subst (λ (ms : CarriedNames). AreOf r.prepared ms (sealed_bytes r.id request (ids_of ms.pendings) r.prepared) w) e a)
+          (subst (λ (ms : CarriedNames). AreOf r.prepared ms r.moment (sealed_bytes r.id request r.moment (ids_of ms.pendings) r.prepared) w) e a)
           b p spent events same sent

@@ -1,7 +1,7 @@
 -- What a call is told, by its way.
 use Rattle.core_state.specs.Early.{IsEarly}
 use Rattle.core_state.proofs.Early.{unbusy}
-use Rattle.std.proofs.Common.{◌≡◌, ◌≤◌, ℕ, ◌+◌, Bool, true, false, List, ◌∷◌, length, refl, sym, ap, ◌∙◌}
+use Rattle.std.proofs.Common.{◌≡◌, ◌≤◌, ℕ, ℤ, ◌+◌, Bool, true, false, List, ◌∷◌, length, refl, sym, ap, ◌∙◌}
 use Rattle.std.specs.Prelude.{if◌then◌else◌, ◌&&◌, not, ◌==◌, is_some, Option, Some, None, Result, Ok, Err}
 use Rattle.std.specs.List.{list_all}
 use Rattle.mj_base.specs.declared.limits.TheConstants.{MAX_EVENTS}
@@ -65,25 +65,26 @@ responds_is : (schema : Schema) (prepared : Prepared) → IsPrepared schema prep
 unfolding wire_of
 responds_is schema prepared p h = rw p.flags (responds_by (method_of schema prepared.target) prepared.target h)
 
-pub sealed_is : (schema : Schema) (prepared : Prepared) → IsPrepared schema prepared → (id request : ℕ) (ids : List ℕ)
-    → (wire_of schema).sealed prepared.target (view prepared.value) (record { id = id; request = request; ids = ids; moment = None })
-    ≡ sealed_bytes id request ids prepared
+pub sealed_is : (schema : Schema) (prepared : Prepared) → IsPrepared schema prepared → (id request : ℕ) (moment : Option ℤ) (ids : List ℕ)
+    → (wire_of schema).sealed prepared.target (view prepared.value) (record { id = id; request = request; ids = ids; moment = moment })
+    ≡ sealed_bytes id request moment ids prepared
 unfolding wire_of
-sealed_is schema prepared p id request ids = rw (← p.flags, ← p.payload) refl
+sealed_is schema prepared p id request moment ids = rw (← p.flags, ← p.payload) refl
 
 -- ## Calls
 
 module _ (schema : Schema) (seqs : ℕ) (past : List Event) (k : Kept (wire_of schema) past) (pipes : Contents) (endpoints : Routers)
     (a : Agrees (wire_of schema) past pipes endpoints) (h : legal (wire_of schema) seqs past) (few : length past ≤ MAX_EVENTS) (young : IsEarly past)
     (table : List (EndpointName × Bool)) (known : KnowsPendings past table)
-    (seq : SeqId) (y : EndId) (id : ℕ) (prepared : Prepared) (p : IsPrepared schema prepared) (names : CarriedNames) where
+    (seq : SeqId) (y : EndId) (id : ℕ) (prepared : Prepared) (p : IsPrepared schema prepared) (names : CarriedNames)
+    (moment : Option ℤ) where
   abbrev pub outgoing : Outgoing
-  outgoing = outgoing_named prepared names
+  outgoing = outgoing_named prepared names moment
 
   abbrev pub sent : Told
   sent = Sent (request_of (wire_of schema) past y id prepared.target)
       ((wire_of schema).sealed prepared.target (view prepared.value)
-      (record { id = id; request = request_of (wire_of schema) past y id prepared.target; ids = ids_of names.pendings; moment = None }))
+      (record { id = id; request = request_of (wire_of schema) past y id prepared.target; ids = ids_of names.pendings; moment = moment }))
 
   abbrev pub tests_of : Endpoint → List (Option Why)
   tests_of r =
@@ -143,11 +144,11 @@ module _ (schema : Schema) (seqs : ℕ) (past : List Event) (k : Kept (wire_of s
 
   -- the number and the bytes of a call that is sent
   sent_is : is_response prepared.target.side ≡ false
-      → sent ≡ Sent (request_id past y id prepared) (sealed_bytes id (request_id past y id prepared) (ids_of names.pendings) prepared)
+      → sent ≡ Sent (request_id past y id prepared) (sealed_bytes id (request_id past y id prepared) moment (ids_of names.pendings) prepared)
   sent_is e =
       let n : request_of (wire_of schema) past y id prepared.target
       ≡ request_id past y id prepared = rw (responds_is schema prepared p e) (flip (prepared.flags == 0)) in
-      rw (n, sealed_is schema prepared p id (request_id past y id prepared) (ids_of names.pendings)) refl
+      rw (n, sealed_is schema prepared p id (request_id past y id prepared) moment (ids_of names.pendings)) refl
     where
       flip : (b : Bool) → (if not b then length (drawn past y id) + 1 else 0) ≡ (if b then 0 else length (drawn past y id) + 1)
       flip true = refl
@@ -159,7 +160,7 @@ module _ (schema : Schema) (seqs : ℕ) (past : List Event) (k : Kept (wire_of s
 
   pub way_sends : (x : EndId) → is_response prepared.target.side ≡ false → here ≡ Ok x
       → answer (wire_of schema) seqs past seq (Call y id outgoing)
-      ≡ Sent (request_id past y id prepared) (sealed_bytes id (request_id past y id prepared) (ids_of names.pendings) prepared)
+      ≡ Sent (request_id past y id prepared) (sealed_bytes id (request_id past y id prepared) moment (ids_of names.pendings) prepared)
   way_sends x side e = sym way_told ∙ (ap (λ (w : Result EndId Why). told_of_way sent w) e ∙ sent_is side)
 
   -- ## What its way says

@@ -293,7 +293,7 @@ module _ (schema : Schema) (seqs : ℕ) (past : List Event) (k : Kept (wire_of s
     found : (x : EndId) (id : ℕ) → found_at endpoints x id ≡ endpoint_at (wire_of schema) past x id
     found x id = found_is a x id
 
-    suits_is : suits prepared names endpoints ≡ tokens_right (wire_of schema) past (outgoing_named prepared names)
+    suits_is : suits prepared names endpoints ≡ tokens_right (wire_of schema) past (outgoing_named prepared names None)
     suits_is =
         ap (λ (n : ℕ). (length names.things == n) && all_fit endpoints names.pendings prepared.endpoints.items) (sym (handles_of_wire schema prepared p))
         ∙ (ap (λ (ws : List WantedEndpoint). (length names.things == (wire_of schema).handles prepared.target (view prepared.value))
@@ -316,10 +316,10 @@ module _ (schema : Schema) (seqs : ℕ) (past : List Event) (k : Kept (wire_of s
 
     pub with_told : busy past names.things ≡ None → has (made past) (End y) ≡ true → (done : Told)
         → told_of_way done (way_with prepared names pipes endpoints y peer_closed)
-        ≡ first_of (wrong_tokens (wire_of schema) past (outgoing_named prepared names) ∷ machine.wrong_pipe past y names.pendings ∷ tests) done
+        ≡ first_of (wrong_tokens (wire_of schema) past (outgoing_named prepared names None) ∷ machine.wrong_pipe past y names.pendings ∷ tests) done
     with_told free m done =
         ap (λ (b : Bool). told_of_way done (if not b then Err WrongTokens else way_unless (wrong_pipe endpoints y names.pendings) rest)) suits_is
-        ∙ test_not (tokens_right (wire_of schema) past (outgoing_named prepared names)) WrongTokens
+        ∙ test_not (tokens_right (wire_of schema) past (outgoing_named prepared names None)) WrongTokens
         (way_unless (wrong_pipe endpoints y names.pendings) rest) (machine.wrong_pipe past y names.pendings ∷ tests) done (pipe_tests free m done)
 
     pub with_fits : (x : EndId) → way_with prepared names pipes endpoints y peer_closed ≡ Ok x → Fits past pipes y prepared names x

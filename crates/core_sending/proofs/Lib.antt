@@ -6,3 +6,5 @@ mod RawWays
 mod Called
 mod Replying
 mod Replied
+mod Notifying
+mod Waiting

@@ -200,16 +200,17 @@ module _ (old : State) (seq : SeqId) (r : RawBytes) (can : CanDo old seq (comman
         can.able.holds.agrees)
 
     pub raw_done : (new : State) (things : List Thing) (message : Message) (mid : Contents) → schema_of new ≡ schema_of old → new.seqs ≡ old.seqs
-        → new.rights ≡ old.rights → new.endpoints ≡ old.endpoints → things ≡ r.handles
+        → new.rights ≡ old.rights → new.notices ≡ old.notices → new.endpoints ≡ old.endpoints → things ≡ r.handles
         → message ≡ record { bytes = r.bytes; handles = things; emitted = false }
         → Becomes x (with_message message) old.pipes mid → PutsAll r.handles (places.Unread x) mid new.pipes
         → new.log.events ≡ old.log.events
         ++ record { seq = seq; asked = asks.Raw r.handle r.bytes things; told = tells.Wrote (end_written r.handle) } ∷ []
         → Done old new seq (command_of r) (replies.Wrote r.handle)
-    raw_done new things message mid schema seqs unmoved same e m b p events =
+    raw_done new things message mid schema seqs unmoved unnoticed same e m b p events =
         let is : message ≡ record { bytes = r.bytes; handles = r.handles; emitted = false } = m ∙ rw e refl in
-        finish old new seq (command_of r) (replies.Wrote r.handle) can.able schema seqs unmoved
+        finish old new seq (command_of r) (replies.Wrote r.handle) can.able schema seqs unmoved unnoticed
         (record { none = refl; handed = λ wire. refl; after = λ rs. refl; gives = refl; hands = refl; halves = λ wire past. refl })
+        refl
         (events ∙ rw e refl)
         (sym writes_now)
         (subst (λ (tables : Routers). Agrees (wire_in old) (event_at r.handle ∷ past_of old) new.pipes tables) (sym same)

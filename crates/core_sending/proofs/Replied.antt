@@ -52,7 +52,7 @@ use Rattle.core_sending.specs.declared.writing.Writes.{Writes as Written}
 use Rattle.core_state.specs.declared.state.State.{State}
 use Rattle.core_sending.proofs.Fitted.{Fits}
 use Rattle.core_state.proofs.Facts.{peer_is}
-use Rattle.core_state.proofs.Held.{event_of, finish_with}
+use Rattle.core_state.proofs.Held.{event_of, finish_with, unstirred}
 use Rattle.core_sending.proofs.Replying.{back_goes, back_refused, back_sends}
 use Rattle.core_state.proofs.Responding.{counts_spent, out_counted}
 use Rattle.core_sending.proofs.Sending.{IsWriting, sent_agrees}
@@ -87,19 +87,20 @@ module _ (old : State) (seq : SeqId) (r : Response) (can : CanDo old seq (comman
   pub answer_refused : (why : Why) → way_named names ≡ Err why → told_in old seq (command_of r) ≡ tells.No why
   answer_refused why h =
       back_refused (schema_of old) old.seqs (past_of old) k old.pipes old.endpoints can.able.holds.agrees can.able.holds.legal few_past can.able.holds.early
-      old.rights.pendings can.able.holds.pendings old.rights.responders can.able.holds.responders seq r.responder r.prepared can.prepared names why h
+      old.rights.pendings can.able.holds.pendings old.rights.responders can.able.holds.responders seq r.responder r.prepared can.prepared names r.moment why h
 
   abbrev out : Outgoing
-  out = outgoing_named r.prepared names
+  out = outgoing_named r.prepared names r.moment
 
   abbrev bytes : List ℕ
-  bytes = sealed_bytes r.responder.id r.responder.request (ids_of names.pendings) r.prepared
+  bytes = sealed_bytes r.responder.id r.responder.request r.moment (ids_of names.pendings) r.prepared
 
   module _ (x : EndId) (free : way_named names ≡ Ok x) where
     g : (not (count_of old.rights.responders r.responder == 0) ≡ true) × Fits (past_of old) old.pipes r.responder.end r.prepared names x
     g =
         back_goes (schema_of old) old.seqs (past_of old) k old.pipes old.endpoints can.able.holds.agrees can.able.holds.legal few_past can.able.holds.early
-        old.rights.pendings can.able.holds.pendings old.rights.responders can.able.holds.responders seq r.responder r.prepared can.prepared names x free
+        old.rights.pendings can.able.holds.pendings old.rights.responders can.able.holds.responders seq r.responder r.prepared can.prepared names r.moment
+        x free
 
     -- the caller has the responder
     pub spendable : not (count_of old.rights.responders r.responder == 0) ≡ true
@@ -119,7 +120,8 @@ module _ (old : State) (seq : SeqId) (r : Response) (can : CanDo old seq (comman
     sends : told_in old seq (command_of r) ≡ tells.Sent r.responder.request bytes
     sends =
         back_sends (schema_of old) old.seqs (past_of old) k old.pipes old.endpoints can.able.holds.agrees can.able.holds.legal few_past can.able.holds.early
-        old.rights.pendings can.able.holds.pendings old.rights.responders can.able.holds.responders seq r.responder r.prepared can.prepared names x free
+        old.rights.pendings can.able.holds.pendings old.rights.responders can.able.holds.responders seq r.responder r.prepared can.prepared names r.moment
+        x free
 
     known : Writes (wire_in old) (past_of old) r.responder.end r.carried.handles
         × ((e : Endpoint) × Open (wire_in old) (past_of old) seq r.responder.end r.responder.id e)
@@ -140,7 +142,8 @@ module _ (old : State) (seq : SeqId) (r : Response) (can : CanDo old seq (comman
     pub there : is_some (end_of old.pipes.ends x) ≡ true
     there = ap (λ (o : Option PipeEnd). is_some o) (can.able.holds.agrees.ends x) ∙ rw (peer_here, k.peers r.responder.end made_here) refl
 
-    module _ (new : State) (schema : schema_of new ≡ schema_of old) (seqs : new.seqs ≡ old.seqs) (same : new.endpoints ≡ old.endpoints) where
+    module _ (new : State) (schema : schema_of new ≡ schema_of old) (seqs : new.seqs ≡ old.seqs) (same : new.endpoints ≡ old.endpoints)
+        (unnoticed : new.notices ≡ old.notices) where
       abbrev event_with : List ℕ → Event
       event_with told = event_of seq (command_of r) (replies.Sent r.responder.request told)
 
@@ -162,7 +165,7 @@ module _ (old : State) (seq : SeqId) (r : Response) (can : CanDo old seq (comman
           sent_writes : IsWriting (tells.Sent r.responder.request told) (asks.Answer r.responder out)
           sent_writes = record { made = refl; gone = refl; handed = refl; takes = λ z. refl; peer = λ z before. refl }
 
-      named_done : (w : Written) (mid : Contents) → AreOf r.prepared names bytes w
+      named_done : (w : Written) (mid : Contents) → AreOf r.prepared names r.moment bytes w
           → Becomes x (with_message w.message) old.pipes mid → PutsAll r.carried.handles (places.Unread x) mid new.pipes
           → SpendsAll names.pendings old.rights.pendings new.rights.pendings
           → ((q : ResponderId) → count_of new.rights.responders q + (if same_responder r.responder q then 1 else 0) ≡ count_of old.rights.responders q)
@@ -180,12 +183,13 @@ module _ (old : State) (seq : SeqId) (r : Response) (can : CanDo old seq (comman
           refl
           (pendings_spent (event_with w.told) (past_of old) names.pendings old.rights.pendings new.rights.pendings refl refl spent can.able.holds.pendings)
           refl
+          (unstirred old new seq (command_of r) (replies.Sent r.responder.request w.told) can.able unnoticed refl)
         where
           message : w.message ≡ record { bytes = w.told; handles = r.carried.handles; emitted = false }
           message = a.message ∙ rw a.told refl
 
       pub answer_done : (ns : CarriedNames) (w : Written) (mid : Contents) → ns ≡ names
-          → AreOf r.prepared ns (sealed_bytes r.responder.id r.responder.request (ids_of ns.pendings) r.prepared) w
+          → AreOf r.prepared ns r.moment (sealed_bytes r.responder.id r.responder.request r.moment (ids_of ns.pendings) r.prepared) w
           → Becomes x (with_message w.message) old.pipes mid → PutsAll r.carried.handles (places.Unread x) mid new.pipes
           → SpendsAll names.pendings old.rights.pendings new.rights.pendings
           → ((q : ResponderId) → count_of new.rights.responders q + (if same_responder r.responder q then 1 else 0) ≡ count_of old.rights.responders q)
@@ -195,7 +199,7 @@ module _ (old : State) (seq : SeqId) (r : Response) (can : CanDo old seq (comman
       answer_done ns w mid e a b p spent less events =
           named_done w mid
           (subst (λ (ms : CarriedNames).
-          AreOf r.prepared ms (sealed_bytes r.responder.id r.responder.request (ids_of ms.pendings) r.prepared) w) e a)
+          AreOf r.prepared ms r.moment (sealed_bytes r.responder.id r.responder.request r.moment (ids_of ms.pendings) r.prepared) w) e a)
           b p spent less events
 
 -- ## The closing of a responder
@@ -220,12 +224,12 @@ module _ (old : State) (seq : SeqId) (able : HasRoom old seq) (r : ResponderId) 
   closing_refused h = closing_told ∙ rw h refl
 
   pub closing_done : (new : State) → not (count_of old.rights.responders r == 0) ≡ true → schema_of new ≡ schema_of old → new.seqs ≡ old.seqs
-      → new.pipes ≡ old.pipes → new.endpoints ≡ old.endpoints → new.rights.pendings ≡ old.rights.pendings
+      → new.pipes ≡ old.pipes → new.endpoints ≡ old.endpoints → new.notices ≡ old.notices → new.rights.pendings ≡ old.rights.pendings
       → ((q : ResponderId) → count_of new.rights.responders q + (if same_responder r q then 1 else 0) ≡ count_of old.rights.responders q)
       → (noted told : List Thing) → noted ≡ [] → told ≡ []
       → new.log.events ≡ old.log.events ++ record { seq = seq; asked = asks.Close (closings.Responder r); told = tells.Closed noted } ∷ []
       → Done old new seq (commands.Close (close.Responder r)) (replies.Closed told)
-  closing_done new here schema seqs pipes endpoints kept less noted told n t events =
+  closing_done new here schema seqs pipes endpoints unnoticed kept less noted told n t events =
       finish_with old new seq (commands.Close (close.Responder r)) (replies.Closed told) able schema seqs
       (events ∙ rw (n, t) refl)
       (rw t (sym (closing_told ∙ rw here refl)))
@@ -242,3 +246,4 @@ module _ (old : State) (seq : SeqId) (able : HasRoom old seq) (r : ResponderId) 
       (subst (λ (names : List (EndpointName × Bool)). KnowsPendings (event ∷ past_of old) names) (sym kept)
       (pendings_still event (past_of old) old.rights.pendings refl refl able.holds.pendings))
       refl
+      (unstirred old new seq (commands.Close (close.Responder r)) (replies.Closed told) able unnoticed refl)

@@ -1,7 +1,7 @@
 -- What an answer is told, by its way.
 use Rattle.core_state.specs.Early.{IsEarly}
 use Rattle.core_state.proofs.Early.{unbusy}
-use Rattle.std.proofs.Common.{◌≡◌, ◌≤◌, ℕ, Bool, true, false, List, ◌∷◌, length, refl, sym, ap, ◌∙◌}
+use Rattle.std.proofs.Common.{◌≡◌, ◌≤◌, ℕ, ℤ, Bool, true, false, List, ◌∷◌, length, refl, sym, ap, ◌∙◌}
 use Rattle.std.specs.Prelude.{if◌then◌else◌, ◌||◌, ◌&&◌, not, ◌==◌, Option, Some, None, Result, Ok, Err}
 use Rattle.std.specs.List.{list_all, list_any}
 use Rattle.mj_base.specs.declared.limits.TheConstants.{MAX_EVENTS}
@@ -79,9 +79,10 @@ module _ (schema : Schema) (seqs : ℕ) (past : List Event) (k : Kept (wire_of s
     (a : Agrees (wire_of schema) past pipes endpoints) (h : legal (wire_of schema) seqs past) (few : length past ≤ MAX_EVENTS) (young : IsEarly past)
     (table : List (EndpointName × Bool)) (known : KnowsPendings past table)
     (counts : List (ResponderName × ℕ)) (c : CountsResponders (wire_of schema) past counts)
-    (seq : SeqId) (r : ResponderId) (prepared : Prepared) (p : IsPrepared schema prepared) (names : CarriedNames) where
+    (seq : SeqId) (r : ResponderId) (prepared : Prepared) (p : IsPrepared schema prepared) (names : CarriedNames)
+    (moment : Option ℤ) where
   abbrev pub outgoing : Outgoing
-  outgoing = outgoing_named prepared names
+  outgoing = outgoing_named prepared names moment
 
   abbrev done : Told
   done = sent (wire_of schema) r.id outgoing r.request
@@ -173,11 +174,11 @@ module _ (schema : Schema) (seqs : ℕ) (past : List Event) (k : Kept (wire_of s
   back_refused why e = sym way_told ∙ ap (λ (w : Result EndId Why). told_of_way done w) e
 
   pub back_sends : (x : EndId) → here ≡ Ok x
-      → answer (wire_of schema) seqs past seq (Answer r outgoing) ≡ Sent r.request (sealed_bytes r.id r.request (ids_of names.pendings) prepared)
+      → answer (wire_of schema) seqs past seq (Answer r outgoing) ≡ Sent r.request (sealed_bytes r.id r.request moment (ids_of names.pendings) prepared)
   back_sends x e =
       sym way_told
       ∙ (ap (λ (w : Result EndId Why). told_of_way done w) e
-      ∙ ap (λ (bytes : List ℕ). Sent r.request bytes) (sealed_is schema prepared p r.id r.request (ids_of names.pendings)))
+      ∙ ap (λ (bytes : List ℕ). Sent r.request bytes) (sealed_is schema prepared p r.id r.request moment (ids_of names.pendings)))
 
   -- ## What its way says
 

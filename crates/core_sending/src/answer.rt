@@ -23,11 +23,12 @@ use std::alloc::{AllocError, Global};
 use wire_encoder::Prepared;
 use wire_model::{MessageSide, Target};
 
-/// What answers a request: the right to do so, what is sent, and what goes with that.
+/// What answers a request: the right to do so, what is sent, and what goes with that, a moment too.
 struct Response {
     responder: Responder,
     prepared: Prepared,
     carried: Carried,
+    moment: Option<i64>,
 }
 
 impl Response {
@@ -41,14 +42,15 @@ impl Response {
             responder,
             prepared,
             carried,
+            moment,
         } = self;
         let Carried { handles, pendings } = carried;
-        Command::Answer(responder, prepared, handles, pendings)
+        Command::Answer(responder, prepared, handles, pendings, moment)
     }
 }
 
 /// Sends a prepared response to the request of a responder, with the handles and the pendings that its
-/// parameters name.
+/// parameters name, and a moment.
 pub fn answer(
     state: &mut State,
     alloc: Global,
@@ -57,15 +59,17 @@ pub fn answer(
     prepared: Prepared,
     handles: Handles,
     pendings: PendingList,
+    moment: Option<i64>,
 ) -> Result<Reply, Refused>
-    requires { CanDo state.old seq (Command.Answer responder prepared handles pendings) }
-    ensures done { IfOk result (λ reply. Done state.old state.new seq (Command.Answer responder prepared handles pendings) reply) }
-    ensures undone { IfErr result (λ refused. Undone state.old state.new (Command.Answer responder prepared handles pendings) refused) }
+    requires { CanDo state.old seq (Command.Answer responder prepared handles pendings moment) }
+    ensures done { IfOk result (λ reply. Done state.old state.new seq (Command.Answer responder prepared handles pendings moment) reply) }
+    ensures undone { IfErr result (λ refused. Undone state.old state.new (Command.Answer responder prepared handles pendings moment) refused) }
 {
     let response = Response {
         responder,
         prepared,
         carried: Carried { handles, pendings },
+        moment,
     };
     respond(state, alloc, seq, response)
 }
@@ -173,9 +177,9 @@ fn way(
 
 /// The plain form of an answer with these names.
 fn asked(alloc: Global, response: &Response, names: CarriedNames) -> Result<Asked, AllocError>
-    ensures { IfOk result (λ asked. asked ≡ asks.Answer response.now.responder (outgoing_named response.now.prepared names)) }
+    ensures { IfOk result (λ asked. asked ≡ asks.Answer response.now.responder (outgoing_named response.now.prepared names response.now.moment)) }
 {
-    let outgoing = outgoing(alloc, &response.prepared, names)?;
+    let outgoing = outgoing(alloc, &response.prepared, names, response.moment)?;
     Ok(Asked::Answer(response.responder.id(), outgoing))
 }
 
@@ -197,7 +201,8 @@ fn send(
     ensures undone { IfErr result (λ refused. Undone state.old state.new (command_of response) refused) }
 {
     let id = response.responder.id();
-    let Ok(writes) = writes_of(alloc, &response.prepared, id.id, id.request, names) else {
+    let moment = response.moment;
+    let Ok(writes) = writes_of(alloc, &response.prepared, id.id, id.request, names, moment) else {
         return Err(Refused::Memory(response.into_command()));
     };
     let Ok(()) = put_message(&mut state.pipes, peer, writes.message) else {
@@ -207,6 +212,7 @@ fn send(
         responder,
         prepared: _,
         carried,
+        moment: _,
     } = response;
     let Carried { handles, pendings } = carried;
     put_all(&mut state.pipes, handles, Place::Unread(peer));

@@ -24,12 +24,14 @@ use std::alloc::{AllocError, Global};
 use wire_encoder::{EndpointSide, Prepared};
 use wire_model::{MessageSide, Target};
 
-/// What is called: the endpoint of an id at an end, what is sent from it, and what goes with that.
+/// What is called: the endpoint of an id at an end, what is sent from it, and what goes with that, a moment
+/// too.
 struct Request {
     end: EndId,
     id: u32,
     prepared: Prepared,
     carried: Carried,
+    moment: Option<i64>,
 }
 
 impl Request {
@@ -44,13 +46,15 @@ impl Request {
             id,
             prepared,
             carried,
+            moment,
         } = self;
         let Carried { handles, pendings } = carried;
-        Command::Call(end, id, prepared, handles, pendings)
+        Command::Call(end, id, prepared, handles, pendings, moment)
     }
 }
 
-/// Sends a prepared request from an endpoint, with the handles and the pendings that its parameters name.
+/// Sends a prepared request from an endpoint, with the handles and the pendings that its parameters name, and
+/// a moment, which is carried and has no other effect.
 pub fn call(
     state: &mut State,
     alloc: Global,
@@ -60,16 +64,18 @@ pub fn call(
     prepared: Prepared,
     handles: Handles,
     pendings: PendingList,
+    moment: Option<i64>,
 ) -> Result<Reply, Refused>
-    requires { CanDo state.old seq (Command.Call end id prepared handles pendings) }
-    ensures done { IfOk result (λ reply. Done state.old state.new seq (Command.Call end id prepared handles pendings) reply) }
-    ensures undone { IfErr result (λ refused. Undone state.old state.new (Command.Call end id prepared handles pendings) refused) }
+    requires { CanDo state.old seq (Command.Call end id prepared handles pendings moment) }
+    ensures done { IfOk result (λ reply. Done state.old state.new seq (Command.Call end id prepared handles pendings moment) reply) }
+    ensures undone { IfErr result (λ refused. Undone state.old state.new (Command.Call end id prepared handles pendings moment) refused) }
 {
     let request = Request {
         end,
         id,
         prepared,
         carried: Carried { handles, pendings },
+        moment,
     };
     request_from(state, alloc, seq, request)
 }
@@ -101,7 +107,7 @@ fn request_from(
 }
 
 /// The side that makes no calls.
-fn is_receiver(side: EndpointSide) -> bool
+pub(crate) fn is_receiver(side: EndpointSide) -> bool
     ensures { result ≡ replies.is_receiver side }
 {
     match side {
@@ -148,9 +154,9 @@ fn way(
 
 /// The plain form of a call with these names.
 fn asked(alloc: Global, request: &Request, names: CarriedNames) -> Result<Asked, AllocError>
-    ensures { IfOk result (λ asked. asked ≡ asks.Call request.now.end request.now.id (outgoing_named request.now.prepared names)) }
+    ensures { IfOk result (λ asked. asked ≡ asks.Call request.now.end request.now.id (outgoing_named request.now.prepared names request.now.moment)) }
 {
-    let outgoing = outgoing(alloc, &request.prepared, names)?;
+    let outgoing = outgoing(alloc, &request.prepared, names, request.moment)?;
     Ok(Asked::Call(request.end, request.id, outgoing))
 }
 
@@ -210,7 +216,15 @@ fn send(
     ensures undone { IfErr result (λ refused. Undone state.old state.new (command_of request) refused) }
 {
     let request_id = request_id_of(state, &request);
-    let Ok(writes) = writes_of(alloc, &request.prepared, request.id, request_id, names) else {
+    let moment = request.moment;
+    let Ok(writes) = writes_of(
+        alloc,
+        &request.prepared,
+        request.id,
+        request_id,
+        names,
+        moment,
+    ) else {
         return Err(Refused::Memory(request.into_command()));
     };
     let Ok(()) = reserve_sent(&mut state.endpoints, request.end, request.id, request_id) else {
@@ -224,6 +238,7 @@ fn send(
         id,
         prepared,
         carried,
+        moment: _,
     } = request;
     let Carried { handles, pendings } = carried;
     put_all(&mut state.pipes, handles, Place::Unread(peer));

@@ -98,13 +98,14 @@ pub(crate) fn put_message(pipes: &mut Pipes, end: EndId, message: Message) -> Re
     }
 }
 
-/// What goes out with these names, as plain data.
+/// What goes out with these names and this moment, as plain data.
 pub(crate) fn outgoing(
     alloc: Global,
     prepared: &Prepared,
     names: CarriedNames,
+    moment: Option<i64>,
 ) -> Result<Outgoing, AllocError>
-    ensures { IfOk result (λ outgoing. outgoing ≡ outgoing_named prepared.now names) }
+    ensures { IfOk result (λ outgoing. outgoing ≡ outgoing_named prepared.now names moment) }
 {
     let parameters = Parameters::new(copy_value(alloc, &prepared.value)?);
     Ok(Outgoing {
@@ -112,7 +113,7 @@ pub(crate) fn outgoing(
         parameters,
         handles: names.things,
         pendings: names.pendings,
-        moment: None,
+        moment,
     })
 }
 
@@ -137,30 +138,31 @@ pub(crate) struct Writes {
     pub(crate) told: Items<u8>,
 }
 
-/// Makes all that is written for the endpoint of an id, with this request id.
+/// Makes all that is written for the endpoint of an id, with this request id and this moment.
 pub(crate) fn writes_of(
     alloc: Global,
     prepared: &Prepared,
     id: u32,
     request_id: u64,
     names: CarriedNames,
+    moment: Option<i64>,
 ) -> Result<Writes, AllocError>
     requires wanted { length (ids_of names.pendings) ≡ length prepared.now.endpoints.items }
     requires ids { AreIds (ids_of names.pendings) }
-    ensures { IfOk result (λ writes. AreOf prepared.now names (sealed_bytes id request_id (ids_of names.pendings) prepared.now) writes) }
+    ensures { IfOk result (λ writes. AreOf prepared.now names moment (sealed_bytes id request_id moment (ids_of names.pendings) prepared.now) writes) }
 {
     let ids = ids_of(alloc, names.pendings.as_slice())?;
     let head = Head {
         interface_id: id,
         request_id,
-        moment: None,
+        moment,
         ids: ids.as_slice(),
     };
     let bytes = Items::from_vec(seal(alloc, prepared, &head)?);
     let noted = bytes.copy(alloc)?;
     let told = bytes.copy(alloc)?;
     let carried = names.things.copy(alloc)?;
-    let outgoing = outgoing(alloc, prepared, names)?;
+    let outgoing = outgoing(alloc, prepared, names, moment)?;
     let message = Message {
         bytes,
         handles: carried,

@@ -1,5 +1,5 @@
 -- What a step that is done makes of a state that holds.
-use Rattle.std.proofs.Common.{◌≡◌, ℕ, List, [], ◌∷◌, ◌++◌, length, sym, ap, ◌∙◌, arith, subst}
+use Rattle.std.proofs.Common.{◌≡◌, ℕ, false, List, [], ◌∷◌, ◌++◌, length, sym, ap, ◌∙◌, arith, subst}
 use Rattle.std.specs.Prelude.{reverse}
 use Rattle.std.proofs.lemmas.List.{reverse-append, length-append}
 use Rattle.mj_base.specs.declared.ids.SeqId.{SeqId}
@@ -18,6 +18,9 @@ use Rattle.bind_model.specs.Pendings.{KnowsPendings}
 use Rattle.core_state.specs.declared.state.Rights.{Rights}
 use Rattle.core_state.specs.declared.state.State.{State}
 use Rattle.core_state.specs.Early.{IsEarly}
+use Rattle.end_notices.specs.Agreement.{AllAgree as NoticesAgree}
+use Rattle.end_notices.specs.Table.{Lines}
+use Rattle.end_notices.proofs.Quieting.{all_quiet, stirs}
 use Rattle.core_state.proofs.Early.{early}
 use Rattle.core_state.proofs.Quiet.{IsQuiet, counts_still, pendings_still}
 
@@ -45,8 +48,9 @@ module _ (old new : State) (seq : SeqId) (command : Command) (reply : Reply) whe
       → HandsResponders (wire_in old) command reply
       → KnowsPendings (event_of seq command reply ∷ past_of old) new.rights.pendings
       → HandsPendings (wire_in old) (event_of seq command reply ∷ past_of old) command reply
+      → NoticesAgree (event_of seq command reply ∷ past_of old) new.notices
       → Done old new seq command reply
-  finish_with can schema seqs events told agrees responders back hands pendings halves =
+  finish_with can schema seqs events told agrees responders back hands pendings halves notices =
       let past : past_of new ≡ event_of seq command reply ∷ past_of old = ap reverse events ∙ reverse-snoc old.log.events (event_of seq command reply) in
       record {
         holds = record {
@@ -57,6 +61,7 @@ module _ (old new : State) (seq : SeqId) (command : Command) (reply : Reply) whe
           agrees =
               subst (λ (w : Schema). Agrees (wire_of w) (past_of new) new.pipes new.endpoints) (sym schema)
               (subst (λ (p : List Event). Agrees (wire_in old) p new.pipes new.endpoints) (sym past) agrees);
+          notices = subst (λ (p : List Event). NoticesAgree p new.notices) (sym past) notices;
           responders =
               subst (λ (w : Schema). CountsResponders (wire_of w) (past_of new) new.rights.responders) (sym schema)
               (subst (λ (p : List Event). CountsResponders (wire_in old) p new.rights.responders) (sym past) responders);
@@ -74,8 +79,15 @@ module _ (old new : State) (seq : SeqId) (command : Command) (reply : Reply) whe
         few = can.few;
       }
 
-  -- where no responder moves
-  pub finish : HasRoom old seq
+  -- what ends keep of controls still agrees, where the event is of none that they write
+  pub unstirred : HasRoom old seq → new.notices ≡ old.notices → stirs (told_of reply) (asked_of command) ≡ false
+      → NoticesAgree (event_of seq command reply ∷ past_of old) new.notices
+  unstirred can same still =
+      subst (λ (lines : Lines). NoticesAgree (event_of seq command reply ∷ past_of old) lines) (sym same)
+      (all_quiet (event_of seq command reply) (past_of old) old.notices still can.holds.notices)
+
+  -- where no right moves
+  pub finish_noting : HasRoom old seq
       → schema_of new ≡ schema_of old
       → new.seqs ≡ old.seqs
       → new.rights ≡ old.rights
@@ -84,8 +96,9 @@ module _ (old new : State) (seq : SeqId) (command : Command) (reply : Reply) whe
       → told_of reply ≡ told_in old seq command
       → Agrees (wire_in old) (event_of seq command reply ∷ past_of old) new.pipes new.endpoints
       → HandsBack command reply
+      → NoticesAgree (event_of seq command reply ∷ past_of old) new.notices
       → Done old new seq command reply
-  finish can schema seqs same quiet events told agrees back =
+  finish_noting can schema seqs same quiet events told agrees back notices =
       finish_with can schema seqs events told agrees
       (subst (λ (rights : Rights). CountsResponders (wire_in old) (event_of seq command reply ∷ past_of old) rights.responders) (sym same)
       (counts_still (wire_in old) (event_of seq command reply) (past_of old) old.rights.responders (quiet.handed (wire_in old))
@@ -95,3 +108,20 @@ module _ (old new : State) (seq : SeqId) (command : Command) (reply : Reply) whe
       (subst (λ (rights : Rights). KnowsPendings (event_of seq command reply ∷ past_of old) rights.pendings) (sym same)
       (pendings_still (event_of seq command reply) (past_of old) old.rights.pendings quiet.gives quiet.hands can.holds.pendings))
       (quiet.halves (wire_in old) (event_of seq command reply ∷ past_of old))
+      notices
+
+  -- and the event is of no control that ends write
+  pub finish : HasRoom old seq
+      → schema_of new ≡ schema_of old
+      → new.seqs ≡ old.seqs
+      → new.rights ≡ old.rights
+      → new.notices ≡ old.notices
+      → IsQuiet command reply
+      → stirs (told_of reply) (asked_of command) ≡ false
+      → new.log.events ≡ old.log.events ++ event_of seq command reply ∷ []
+      → told_of reply ≡ told_in old seq command
+      → Agrees (wire_in old) (event_of seq command reply ∷ past_of old) new.pipes new.endpoints
+      → HandsBack command reply
+      → Done old new seq command reply
+  finish can schema seqs same unnoticed quiet still events told agrees back =
+      finish_noting can schema seqs same quiet events told agrees back (unstirred can unnoticed still)

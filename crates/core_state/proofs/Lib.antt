@@ -18,3 +18,4 @@ pub mod Numbers
 pub mod Quiet
 pub mod Responding
 pub mod Early
+pub mod Pausing

@@ -22,6 +22,8 @@ use Rattle.bind_model.specs.declared.commands.Refused.TheVariants.{Memory}
 use Rattle.mj_base.specs.declared.limits.TheConstants.{MAX_EVENTS}
 use Rattle.core_state.specs.Agreement.{Agrees, Holds, end_in, past_of, wire_in}
 use Rattle.core_state.specs.declared.state.State.{State}
+use Rattle.end_notices.specs.Table.{AllSame, Lines}
+use Rattle.end_notices.proofs.Quieting.{all_same as notices_same}
 use Rattle.core_state.specs.Doing.{Undone}
 use Rattle.core_state.proofs.After.{out_after, gone_still, end_still}
 use Rattle.core_state.proofs.Steady.{AllAgree, IsSteady, all_same, steady}
@@ -103,15 +105,17 @@ unseen wire past pipes before after s a = record {
 }
 
 -- so a command that changed no more than that comes back
-pub undone : (s : State) (pipes : Contents) (after : Routers) (command back : Command) → Holds s → pipes ≡ s.pipes
-    → ((x : EndId) → IsSame (router_at s.endpoints x) (router_at after x)) → back ≡ command → length s.log.events < MAX_EVENTS
-    → Undone s (record s { pipes = pipes; endpoints = after }) command (Memory back)
-undone s pipes after command back h e same given few = record {
+pub undone : (s : State) (pipes : Contents) (after : Routers) (lines : Lines) (command back : Command) → Holds s → pipes ≡ s.pipes
+    → ((x : EndId) → IsSame (router_at s.endpoints x) (router_at after x)) → AllSame s.notices lines → back ≡ command
+    → length s.log.events < MAX_EVENTS
+    → Undone s (record s { pipes = pipes; endpoints = after; notices = lines }) command (Memory back)
+undone s pipes after lines command back h e same alike given few = record {
   holds = record {
     legal = h.legal;
     agrees =
         subst (λ (p : Contents). Agrees (wire_in s) (past_of s) p after) (sym e)
         (unseen (wire_in s) (past_of s) s.pipes s.endpoints after same h.agrees);
+    notices = notices_same (past_of s) s.notices lines alike h.notices;
     responders = h.responders;
     pendings = h.pendings;
     few = h.few;

@@ -21,6 +21,7 @@ use Rattle.bind_model.specs.Machine.{made, out, gone, peer, is_gone, unread}
 use Rattle.bind_model.specs.Replies.{legal, serials, tokens}
 use Rattle.bind_model.specs.Pendings.{KnowsPendings}
 use Rattle.bind_model.specs.Responders.{CountsResponders}
+use Rattle.end_notices.specs.Agreement.{AllAgree as NoticesAgree}
 use Rattle.endpoint_router.specs.Agreement.{Agrees as AgreesAt}
 use Rattle.core_state.specs.Early.{IsEarly}
 use Rattle.core_state.specs.Routers.{Routers, router_at}
@@ -72,6 +73,7 @@ wire_in s = wire_of (schema_of s)
 pub record Holds (s : State) : Type 0 where
   pub legal : legal (wire_in s) s.seqs (past_of s)
   pub agrees : Agrees (wire_in s) (past_of s) s.pipes s.endpoints
+  pub notices : NoticesAgree (past_of s) s.notices
   pub responders : CountsResponders (wire_in s) (past_of s) s.rights.responders
   pub pendings : KnowsPendings (past_of s) s.rights.pendings
   pub few : length s.log.events ≤ MAX_EVENTS

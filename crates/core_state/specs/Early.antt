@@ -1,13 +1,11 @@
--- Histories in which no end waits and no data pipe is: until their commands are there.
+-- Histories in which no data pipe is: until their commands are there.
 use Rattle.std.specs.Prelude.{◌≡◌, Bool, true, false, List, [], ◌∷◌}
 use Rattle.bind_model.specs.declared.asked.Asked.{Asked}
-use Rattle.bind_model.specs.declared.asked.Asked.TheVariants.{Notify, Pause, Data, Flow}
+use Rattle.bind_model.specs.declared.asked.Asked.TheVariants.{Data, Flow}
 use Rattle.bind_model.specs.declared.event.Event.{Event}
 
--- whether a command neither notifies, nor pauses, nor is about a data pipe
+-- whether a command is about no data pipe
 abbrev pub is_early : Asked → Bool
-is_early (Notify y notice) = false
-is_early (Pause b a k) = false
 is_early (Data size) = false
 is_early (Flow x f) = false
 is_early asked = true

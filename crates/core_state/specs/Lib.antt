@@ -1,6 +1,7 @@
 pub mod Agreement
 pub mod Doing
 pub mod Early
+pub mod Forgets
 pub mod Emitting
 pub mod Entries
 pub mod Opens

@@ -1,5 +1,6 @@
 //! What a core keeps, and what that is of its history: pipes with the places of all handles, the routers of all ends,
-//! and the rights that are with callers; what each step does to it, and the controls that the machine writes.
+//! what they keep of controls, and the rights that are with callers; what each step does to it, whom ends wait for,
+//! and the controls that the machine writes.
 #![tactic(auto)]
 
 mod copy;
@@ -8,6 +9,7 @@ pub mod emit;
 mod entries;
 mod goes;
 mod open_endpoint;
+mod paused;
 mod router_list;
 mod routers;
 mod sides;
@@ -20,6 +22,7 @@ pub use distinct::all_differ;
 pub use entries::Entering;
 pub use goes::{Goes, goes_with};
 pub use open_endpoint::open_at;
+pub use paused::{forget_met, paused_by};
 pub use router_list::enter_one;
 pub use routers::Routers;
 pub use sides::other_side;

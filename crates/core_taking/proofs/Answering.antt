@@ -136,13 +136,14 @@ module _ (s : State) (seq : SeqId) (able : HasRoom s seq) (y : EndId) (id v : �
   abbrev event : Event
   event = record { seq = seq; asked = asks.Take y; told = tells.Control (noted.Queried id (Some v)) }
 
-  pub answer_done : (new : State) (sent : Contents) → schema_of new ≡ schema_of s → new.seqs ≡ s.seqs → new.rights ≡ s.rights
+  pub answer_done : (new : State) (sent : Contents) → schema_of new ≡ schema_of s → new.seqs ≡ s.seqs → new.rights ≡ s.rights → new.notices ≡ s.notices
       → new.log.events ≡ s.log.events ++ event ∷ [] → new.endpoints ≡ s.endpoints
       → EmitsTo (peer_of (end_of s.pipes.ends y)) (emitted_at (λ n. Version n v) s.endpoints y (id ∷ [])) s.pipes sent
       → Becomes y without_front sent new.pipes → Done s new seq (commands.Take y) (replies.Control (noted.Queried id (Some v)))
-  answer_done new sent schema seqs unmoved events same g b =
-      finish s new seq (commands.Take y) (replies.Control (noted.Queried id (Some v))) able schema seqs unmoved
-      (record { none = refl; handed = λ wire. refl; after = λ rs. refl; gives = refl; hands = refl; halves = λ wire past. refl }) events (sym told)
+  answer_done new sent schema seqs unmoved unnoticed events same g b =
+      finish s new seq (commands.Take y) (replies.Control (noted.Queried id (Some v))) able schema seqs unmoved unnoticed
+      (record { none = refl; handed = λ wire. refl; after = λ rs. refl; gives = refl; hands = refl; halves = λ wire past. refl })
+      refl events (sym told)
       (taken_agrees (wire_in s) event (past_of s) y _ keeps (kept (wire_in s) s.seqs (event ∷ past_of s) (able.within, sym told, able.holds.legal))
       (queried_takes (wire_in s) s.seqs (past_of s) seq y keeps was.0 was.1 id v) s.pipes sent new.pipes new.pipes new.pipes s.endpoints new.endpoints
       (emits_is (schema_of s) (λ n. Version n v) (past_of s) keeps s.pipes s.endpoints able.holds.agrees y made_here (id ∷ []) sent g) b

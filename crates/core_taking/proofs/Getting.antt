@@ -123,41 +123,63 @@ control_read wire past seq y id = record {
   peer = λ x. refl;
 }
 
--- what one does that is only told
-pub silent_read : (wire : Wire) (past : List Event) (seq : SeqId) (y : EndId) (c : Noted) → IsSilent c
+-- what a control says that writes nothing back and closes no endpoint
+abbrev pub IsNoted : Noted → Type 0
+IsNoted (noted.Closed id) = ⊥
+IsNoted (noted.Queried id (Some v)) = ⊥
+IsNoted c = Unit {0}
+
+pub silent_noted : (c : Noted) → IsSilent c → IsNoted c
+silent_noted (noted.Closed id) silent = absurd silent
+silent_noted (noted.Queried id (Some v)) silent = absurd silent
+silent_noted (noted.Queried id None) silent = tt
+silent_noted (noted.Version id v) silent = tt
+silent_noted (noted.Required id v) silent = tt
+silent_noted (noted.Flushed k) silent = tt
+
+pub noted_read : (wire : Wire) (past : List Event) (seq : SeqId) (y : EndId) (c : Noted) → IsNoted c
     → IsReading wire (record { seq = seq; asked = Take y; told = Control c }) past y
-silent_read wire past seq y c silent = record {
+noted_read wire past seq y c plain = record {
   made = refl;
   given = refl;
   takes = λ x. one_taken (same_end y x) (Control c);
-  puts = none c silent;
+  puts = none c plain;
   peer = λ x. refl;
 }
   where
-    none : (c : Noted) → IsSilent c → (x : EndId) → puts wire past (written wire past) (endpoint_at wire past) (Control c) (Take y) x ≡ []
-    none (noted.Closed id) silent x = absurd silent
-    none (noted.Queried id (Some v)) silent x = absurd silent
-    none (noted.Queried id None) silent x = refl
-    none (noted.Version id v) silent x = refl
-    none (noted.Required id v) silent x = refl
-    none (noted.Flushed k) silent x = refl
+    none : (c : Noted) → IsNoted c → (x : EndId) → puts wire past (written wire past) (endpoint_at wire past) (Control c) (Take y) x ≡ []
+    none (noted.Closed id) plain x = absurd plain
+    none (noted.Queried id (Some v)) plain x = absurd plain
+    none (noted.Queried id None) plain x = refl
+    none (noted.Version id v) plain x = refl
+    none (noted.Required id v) plain x = refl
+    none (noted.Flushed k) plain x = refl
 
-pub silent_steady : (wire : Wire) (past : List Event) (seq : SeqId) (y : EndId) (c : Noted) → IsSilent c
+pub noted_steady : (wire : Wire) (past : List Event) (seq : SeqId) (y : EndId) (c : Noted) → IsNoted c
     → IsSteady wire (record { seq = seq; asked = Take y; told = Control c }) past
-silent_steady wire past seq y c silent = record {
+noted_steady wire past seq y c plain = record {
   draws = λ x id. refl;
   answers = λ x id. refl;
   associates = λ x. refl;
-  endpoints = same c silent;
+  endpoints = same c plain;
 }
   where
-    same : (c : Noted) → IsSilent c → (x : EndId) (id : ℕ)
+    same : (c : Noted) → IsNoted c → (x : EndId) (id : ℕ)
         → changes wire past (written wire past) (endpoint_at wire past) seq (Control c) (Take y) x id ≡ endpoint_at wire past x id
-    same (noted.Closed n) silent x id = absurd silent
-    same (noted.Queried n v) silent x id = refl
-    same (noted.Version n v) silent x id = refl
-    same (noted.Required n v) silent x id = refl
-    same (noted.Flushed k) silent x id = refl
+    same (noted.Closed n) plain x id = absurd plain
+    same (noted.Queried n v) plain x id = refl
+    same (noted.Version n v) plain x id = refl
+    same (noted.Required n v) plain x id = refl
+    same (noted.Flushed k) plain x id = refl
+
+-- what one does that is only told
+pub silent_read : (wire : Wire) (past : List Event) (seq : SeqId) (y : EndId) (c : Noted) → IsSilent c
+    → IsReading wire (record { seq = seq; asked = Take y; told = Control c }) past y
+silent_read wire past seq y c silent = noted_read wire past seq y c (silent_noted c silent)
+
+pub silent_steady : (wire : Wire) (past : List Event) (seq : SeqId) (y : EndId) (c : Noted) → IsSilent c
+    → IsSteady wire (record { seq = seq; asked = Take y; told = Control c }) past
+silent_steady wire past seq y c silent = noted_steady wire past seq y c (silent_noted c silent)
 
 -- one that asks for a version that there is
 pub queried_steady : (wire : Wire) (past : List Event) (seq : SeqId) (y : EndId) (n v : ℕ)

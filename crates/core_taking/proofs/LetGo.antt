@@ -208,14 +208,15 @@ module _ (s : State) (seq : SeqId) (able : HasRoom s seq) (y : EndId) (id : ℕ)
       seen
 
   pub drop_done : (new : State) (copy : List Thing) (mid : Routers) (sent popped : Contents) → schema_of new ≡ schema_of s → new.seqs ≡ s.seqs
-      → copy ≡ gone → new.rights ≡ s.rights
+      → copy ≡ gone → new.rights ≡ s.rights → new.notices ≡ s.notices
       → new.log.events ≡ s.log.events ++ record { seq = seq; asked = asks.Take y; told = tells.Dropped id gone } ∷ []
       → ((x : EndId) → IsSame (router_at s.endpoints x) (router_at mid x))
       → EmitsTo (peer_of (end_of s.pipes.ends y)) (controls_at mid y a.closed.items) s.pipes sent
       → Becomes y without_front sent popped → Closes gone popped new.pipes → AllEnterAt a.entries.items y mid new.endpoints
       → Done s new seq (commands.Take y) (replies.Dropped id copy)
-  drop_done new copy mid sent popped schema seqs c unmoved events same g b f t =
+  drop_done new copy mid sent popped schema seqs c unmoved unnoticed events same g b f t =
       subst (λ (z : List Thing). Done s new seq (commands.Take y) (replies.Dropped id z)) (sym c)
-      (finish s new seq (commands.Take y) (replies.Dropped id gone) able schema seqs unmoved
-      (record { none = refl; handed = λ wire. refl; after = λ rs. refl; gives = refl; hands = refl; halves = λ wire past. refl }) events drop_told
+      (finish s new seq (commands.Take y) (replies.Dropped id gone) able schema seqs unmoved unnoticed
+      (record { none = refl; handed = λ wire. refl; after = λ rs. refl; gives = refl; hands = refl; halves = λ wire past. refl })
+      refl events drop_told
       (agrees_now mid same sent popped new.pipes new.endpoints g b f t) tt)

@@ -1,6 +1,5 @@
 -- What a take is told, by what is found at the end.
 use Rattle.bind_model.specs.Notices.{first_unmet, waits}
-use Rattle.core_state.proofs.Early.{unpaused}
 use Rattle.std.proofs.Common.{◌≡◌, Bool, true, false, List, [], ◌∷◌, refl, sym, ap, ◌∙◌}
 use Rattle.std.specs.Prelude.{if◌then◌else◌, not, is_some, Option, Some, None, Result, Ok, Err}
 use Rattle.mj_base.specs.declared.ids.EndId.{EndId}
@@ -16,18 +15,18 @@ use Rattle.bind_model.specs.declared.endpoint.Endpoint.{Endpoint}
 use Rattle.bind_model.specs.declared.told.Told.{Told}
 use Rattle.bind_model.specs.declared.told.Told.TheVariants.{No}
 use Rattle.bind_model.specs.declared.told.Why.{Why}
-use Rattle.bind_model.specs.declared.told.Why.TheVariants.{NoName, Disconnected, Empty, PeerClosed}
+use Rattle.bind_model.specs.declared.told.Why.TheVariants.{NoName, Disconnected, Empty, PeerClosed, Paused}
 use Rattle.bind_model.specs.declared.event.Event.{Event}
 use Rattle.bind_model.specs.Wire.{Wire}
 use Rattle.bind_model.specs.Machine.{made, peer, is_gone, unread, endpoint_at}
-use Rattle.bind_model.specs.Replies.{first_of, unless, headed, took, took_front}
+use Rattle.bind_model.specs.Replies.{first_of, unless, headed, pause_of, took, took_front}
 use Rattle.bind_model.proofs.Fresh.{kept}
 use Rattle.bind_model.proofs.Kept.{Kept, bound_made}
 use Rattle.core_state.specs.Routers.{Routers, found_at}
 use Rattle.core_taking.specs.steps.Founds.{front_at}
 use Rattle.core_state.specs.Agreement.{Agrees, Holds, past_of, wire_in}
 use Rattle.core_state.specs.Doing.{told_to}
-use Rattle.core_taking.specs.steps.Taking.{front_found, front_bound, front_open}
+use Rattle.core_taking.specs.steps.Taking.{front_bound, front_found, front_free, front_in, front_open}
 use Rattle.core_state.specs.declared.state.State.{State}
 use Rattle.core_state.proofs.Facts.{closed_is, unread_is, peer_is}
 use Rattle.core_state.proofs.Steady.{found_is}
@@ -54,31 +53,30 @@ module _ (wire : Wire) (past : List Event) (k : Kept wire past) (pipes : Content
   open_told m [] = nothing_told m
   open_told m (n ∷ ms) = refl
 
-  bound_told : (o : Option Endpoint) → endpoint_at wire past y 0 ≡ o
-      → told_of_front next (front_bound pipes y o)
-      ≡ first_of (unless (is_some o) NoName ∷ unless (not (is_gone past y)) Disconnected ∷ []) (took_front wire past seq y (unread wire past y))
-  bound_told None e = refl
-  bound_told (Some main) e =
+  bound_told : (pause : Option EndId) (o : Option Endpoint) → endpoint_at wire past y 0 ≡ o
+      → told_of_front next (front_bound pipes y pause o)
+      ≡ first_of (unless (is_some o) NoName ∷ unless (not (is_gone past y)) Disconnected ∷ pause_of pause ∷ [])
+      (took_front wire past seq y (unread wire past y))
+  bound_told pause None e = refl
+  bound_told None (Some main) e =
       rw (closed_is wire past k pipes endpoints a y, unread_is wire past k pipes endpoints a y) (go (is_gone past y))
     where
       m : has (made past) (End y) ≡ true
       m = bound_made wire past k (End y) (k.endpoints y 0 main e)
 
       go : (b : Bool) → told_of_front next (if b then Err Disconnected else front_open pipes y (front_of (unread wire past y)))
-          ≡ first_of (unless true NoName ∷ unless (not b) Disconnected ∷ []) (took_front wire past seq y (unread wire past y))
+          ≡ first_of (unless true NoName ∷ unless (not b) Disconnected ∷ None ∷ []) (took_front wire past seq y (unread wire past y))
       go true = refl
       go false = open_told m (unread wire past y)
-
-  pub front_told : first_unmet past (waits past y) ≡ None → told_of_front next (front_found pipes endpoints y) ≡ took wire past seq y
-  front_told free =
-      rw (found_is a y 0, free) (bound_told (endpoint_at wire past y 0) refl
-      ∙ go (is_some (endpoint_at wire past y 0)) (not (is_gone past y)) (took_front wire past seq y (unread wire past y)))
+  bound_told (Some x) (Some main) e = rw (closed_is wire past k pipes endpoints a y) (go (is_gone past y))
     where
-      go : (b c : Bool) (t : Told) → first_of (unless b NoName ∷ unless c Disconnected ∷ []) t
-          ≡ first_of (unless b NoName ∷ unless c Disconnected ∷ None ∷ []) t
-      go true true t = refl
-      go true false t = refl
-      go false c t = refl
+      go : (b : Bool) → told_of_front next (if b then Err Disconnected else Err (Paused x))
+          ≡ first_of (unless true NoName ∷ unless (not b) Disconnected ∷ Some (Paused x) ∷ []) (took_front wire past seq y (unread wire past y))
+      go true = refl
+      go false = refl
+
+  pub front_told : told_of_front next (front_found pipes endpoints y (first_unmet past (waits past y))) ≡ took wire past seq y
+  front_told = rw (found_is a y 0) (bound_told (first_unmet past (waits past y)) (endpoint_at wire past y 0) refl)
 
 -- what is found is the oldest unread message
 module _ (wire : Wire) (past : List Event) (k : Kept wire past) (pipes : Contents) (endpoints : Routers)
@@ -87,37 +85,39 @@ module _ (wire : Wire) (past : List Event) (k : Kept wire past) (pipes : Content
   found_open m None e = cc
   found_open m (Some n) e = cc
 
-  found_bound : (m : Message) (o : Option Endpoint) → front_bound pipes y o ≡ Ok m → front_of (unread_at pipes.ends y) ≡ Some m
-  found_bound m None e = cc
-  found_bound m (Some main) e = go (is_closed (end_of pipes.ends y)) e
-    where
-      go : (b : Bool) → (if b then Err Disconnected else front_open pipes y (front_of (unread_at pipes.ends y))) ≡ Ok m
-          → front_of (unread_at pipes.ends y) ≡ Some m
-      go true e = cc
-      go false e = found_open m (front_of (unread_at pipes.ends y)) e
+  found_free : (m : Message) (pause : Option EndId) → front_free pipes y pause ≡ Ok m → front_of (unread_at pipes.ends y) ≡ Some m
+  found_free m (Some x) e = cc
+  found_free m None e = found_open m (front_of (unread_at pipes.ends y)) e
 
-  pub found_front : (m : Message) → front_found pipes endpoints y ≡ Ok m → front_at wire past y ≡ Some m
-  found_front m e =
-      sym (ap (λ (ms : List Message). front_of ms) (unread_is wire past k pipes endpoints a y)) ∙ found_bound m (found_at endpoints y 0) e
+  found_bound : (m : Message) (pause : Option EndId) (o : Option Endpoint) → front_bound pipes y pause o ≡ Ok m
+      → front_of (unread_at pipes.ends y) ≡ Some m
+  found_bound m pause None e = cc
+  found_bound m pause (Some main) e = go (is_closed (end_of pipes.ends y)) e
+    where
+      go : (b : Bool) → (if b then Err Disconnected else front_free pipes y pause) ≡ Ok m → front_of (unread_at pipes.ends y) ≡ Some m
+      go true e = cc
+      go false e = found_free m pause e
+
+  pub found_front : (m : Message) (pause : Option EndId) → front_found pipes endpoints y pause ≡ Ok m → front_at wire past y ≡ Some m
+  found_front m pause e =
+      sym (ap (λ (ms : List Message). front_of ms) (unread_is wire past k pipes endpoints a y)) ∙ found_bound m pause (found_at endpoints y 0) e
 
 -- what a state says of a take, by what is found
 module _ (s : State) (h : Holds s) (y : EndId) where
   kept_here : Kept (wire_in s) (past_of s)
   kept_here = kept (wire_in s) s.seqs (past_of s) h.legal
 
-  free : first_unmet (past_of s) (waits (past_of s) y) ≡ None
-  free = unpaused (wire_in s) s.seqs (past_of s) h.legal h.early y
+  pub front_is : (m : Message) → front_in s y ≡ Ok m → front_at (wire_in s) (past_of s) y ≡ Some m
+  front_is m e =
+      found_front (wire_in s) (past_of s) kept_here s.pipes s.endpoints h.agrees y m (first_unmet (past_of s) (waits (past_of s) y)) e
 
-  pub front_is : (m : Message) → front_found s.pipes s.endpoints y ≡ Ok m → front_at (wire_in s) (past_of s) y ≡ Some m
-  front_is m e = found_front (wire_in s) (past_of s) kept_here s.pipes s.endpoints h.agrees y m e
-
-  pub front_read : (seq : SeqId) (m : Message) → front_found s.pipes s.endpoints y ≡ Ok m
+  pub front_read : (seq : SeqId) (m : Message) → front_in s y ≡ Ok m
       → headed (wire_in s) (past_of s) seq y m ((wire_in s).header m.bytes) ≡ told_to s seq (asks.Take y)
   front_read seq m e =
       ap (told_of_front (λ (n : Message). headed (wire_in s) (past_of s) seq y n ((wire_in s).header n.bytes))) (sym e)
-      ∙ front_told (wire_in s) (past_of s) kept_here s.pipes s.endpoints h.agrees seq y free
+      ∙ front_told (wire_in s) (past_of s) kept_here s.pipes s.endpoints h.agrees seq y
 
-  pub front_refused : (seq : SeqId) (why : Why) → front_found s.pipes s.endpoints y ≡ Err why → told_to s seq (asks.Take y) ≡ No why
+  pub front_refused : (seq : SeqId) (why : Why) → front_in s y ≡ Err why → told_to s seq (asks.Take y) ≡ No why
   front_refused seq why e =
-      sym (front_told (wire_in s) (past_of s) kept_here s.pipes s.endpoints h.agrees seq y free)
+      sym (front_told (wire_in s) (past_of s) kept_here s.pipes s.endpoints h.agrees seq y)
       ∙ ap (told_of_front (λ (n : Message). headed (wire_in s) (past_of s) seq y n ((wire_in s).header n.bytes))) e

@@ -53,7 +53,7 @@ use Rattle.core_state.specs.Turns.{IsSame}
 use Rattle.core_state.proofs.Emitted.{emits_is}
 use Rattle.core_taking.proofs.Fronts.{goes_is, got_there, lie_there}
 use Rattle.control_bytes.specs.declared.control.Control.TheVariants.{Closed}
-use Rattle.core_state.proofs.Held.{event_of, finish_with}
+use Rattle.core_state.proofs.Held.{event_of, finish_with, unstirred}
 use Rattle.core_taking.proofs.LetGo.{are_named, are_new, has_peer, made_here, main_row, still_there}
 use Rattle.core_taking.proofs.PendingsOut.{got_hands, got_known, names_from}
 use Rattle.core_state.proofs.Responding.{counts_made, handed_is}
@@ -227,14 +227,14 @@ module _ (s : State) (seq : SeqId) (able : HasRoom s seq) (y : EndId) (a : Arriv
     name_is : names ≡ names_of (halves_from y entries)
     name_is = sym (names_from y entries)
 
-    done_named : (new : State) (responder : Option ResponderId) → schema_of new ≡ schema_of s → new.seqs ≡ s.seqs
+    done_named : (new : State) (responder : Option ResponderId) → schema_of new ≡ schema_of s → new.seqs ≡ s.seqs → new.notices ≡ s.notices
         → new.log.events ≡ noted names
         → Agrees (wire_in s) (event ∷ past_of s) new.pipes new.endpoints
         → responder ≡ responder_due (wire_in s) y a.id a.target a.request
         → ((q : ResponderId) → count_of new.rights.responders q ≡ count_of s.rights.responders q + times_in responder q)
         → ((p : PendingId) → is_out new.rights.pendings p ≡ (has_pending names p || is_out s.rights.pendings p))
         → Done s new seq (commands.Take y) (replies.Got (received responder a.named (halves_from y entries)))
-    done_named new responder schema seqs events agrees due counts outs =
+    done_named new responder schema seqs unnoticed events agrees due counts outs =
         finish_with s new seq (commands.Take y) (replies.Got (received responder a.named (halves_from y entries))) able schema seqs
         (events ∙ ap (λ (ps : List PendingId). noted ps) name_is)
         (ap (λ (ps : List PendingId). tells.Taken (got_of ps b.gone)) (sym name_is) ∙ got_told)
@@ -251,6 +251,7 @@ module _ (s : State) (seq : SeqId) (able : HasRoom s seq) (y : EndId) (a : Arriv
         able.holds.pendings)
         (got_hands (wire_in s) (past_of s) seq y (received responder a.named (halves_from y entries)) entries
         (got_entering (names_of (halves_from y entries)) b.gone) once refl)
+        (unstirred s new seq (commands.Take y) (replies.Got (received responder a.named (halves_from y entries))) able unnoticed refl)
 
     pub got_lie : (o : Option EndId) (messages : List Message) (sent popped shut : Contents) → EmitsTo o messages s.pipes sent
         → Becomes y without_front sent popped → Closes b.gone popped shut → LieThere shut b.things
@@ -264,7 +265,8 @@ module _ (s : State) (seq : SeqId) (able : HasRoom s seq) (y : EndId) (a : Arriv
         unmoved (Some p) e = f.table ∙ e.table
 
     pub got_done : (new : State) (responder : Option ResponderId) (handles : List Thing) (pendings : List Half) (mid entered : Routers)
-        (sent popped shut : Contents) → schema_of new ≡ schema_of s → new.seqs ≡ s.seqs → handles ≡ b.things → pendings ≡ halves_from y entries
+        (sent popped shut : Contents) → schema_of new ≡ schema_of s → new.seqs ≡ s.seqs → new.notices ≡ s.notices → handles ≡ b.things
+        → pendings ≡ halves_from y entries
         → new.log.events ≡ s.log.events ++ record { seq = seq; asked = asks.Take y; told = tells.Taken b.noted } ∷ []
         → responder ≡ responder_due (wire_in s) y a.id a.target a.request
         → ((q : ResponderId) → count_of new.rights.responders q ≡ count_of s.rights.responders q + times_in responder q)
@@ -274,10 +276,10 @@ module _ (s : State) (seq : SeqId) (able : HasRoom s seq) (y : EndId) (a : Arriv
         → Becomes y without_front sent popped → Closes b.gone popped shut → PutsAll b.things places.Out shut new.pipes
         → AllEnterAt entries y mid entered → AnswersAt y a.id a.request a.target.side entered new.endpoints
         → Done s new seq (commands.Take y) (replies.Got (received responder handles pendings))
-    got_done new responder handles pendings mid entered sent popped shut schema seqs h l events due counts outs same e f c p t n =
+    got_done new responder handles pendings mid entered sent popped shut schema seqs unnoticed h l events due counts outs same e f c p t n =
         subst (λ (hs : List Thing). Done s new seq (commands.Take y) (replies.Got (received responder hs pendings))) (sym (h ∙ brought.things))
         (subst (λ (halves : List Half). Done s new seq (commands.Take y) (replies.Got (received responder a.named halves))) (sym l)
-        (done_named new responder schema seqs
+        (done_named new responder schema seqs unnoticed
         (events ∙ ap (λ (x : Got). s.log.events ++ record { seq = seq; asked = asks.Take y; told = tells.Taken x } ∷ []) brought.noted)
         (agrees_now mid entered same sent popped shut new.pipes new.endpoints e f c
         (subst (λ (things : List Thing). PutsAll things places.Out shut new.pipes) brought.things p) t n)

@@ -2,9 +2,11 @@
 
 ghost use Rattle.std.specs.Prelude.{◌≡◌};
 ghost use Rattle.bind_model.specs.Machine.{endpoint_at};
+ghost use Rattle.bind_model.specs.Notices.{query_pends};
 ghost use Rattle.bind_model.specs.Replies.{heard, is_older, version_of};
 ghost use Rattle.bind_model.specs.WireOf.{version_in, wire_of};
 ghost use Rattle.core_state.specs.Agreement.{Holds, past_of, wire_in};
+ghost use Rattle.end_notices.specs.Agreement.{is_awaited};
 ghost use Rattle.core_taking.specs.steps.Founds.{Tells};
 
 use crate::reading::Found;
@@ -62,6 +64,34 @@ fn is_older(version: Option<u32>, least: u32) -> bool
     }
 }
 
+/// Whether a version is awaited at an endpoint where so many queries wait: none is once it is closed, or
+/// knows that its peer is.
+fn is_awaited(queries: u32, endpoint: Option<Endpoint>) -> bool
+    ensures { result ≡ is_awaited queries endpoint }
+{
+    let Some(found) = endpoint else {
+        return false;
+    };
+    if found.peer_closed {
+        return false;
+    }
+    match found.state {
+        EndpointState::Closed => false,
+        EndpointState::Pending | EndpointState::Bound(_) => queries > 0,
+    }
+}
+
+/// Whether a version is awaited at the endpoint of an id at an end.
+fn awaits(state: &State, end: EndId, id: u32) -> bool
+    requires { Holds state.now }
+    ensures { result ≡ query_pends (past_of state.now) end id (endpoint_at (wire_in state.now) (past_of state.now) end id) }
+{
+    is_awaited(
+        state.notices.queries(end, id),
+        state.endpoints.find(end, id),
+    )
+}
+
 /// What a control says at an end, and when it is bad there.
 pub(crate) fn hear(state: &State, end: EndId, control: Control) -> Found
     requires { Holds state.now }
@@ -70,8 +100,13 @@ pub(crate) fn hear(state: &State, end: EndId, control: Control) -> Found
     match control {
         Control::Closed(id) => Found::Control(Noted::Closed(id)),
         Control::Query(id) => Found::Control(Noted::Queried(id, version_at(state, end, id))),
-        // No command asks for one yet.
-        Control::Version(_, _) => Found::Bad(BadWhy::Unasked(0)),
+        Control::Version(id, version) => {
+            if awaits(state, end, id) {
+                Found::Control(Noted::Version(id, version))
+            } else {
+                Found::Bad(BadWhy::Unasked(0))
+            }
+        }
         Control::Require(id, least) => {
             if is_older(version_at(state, end, id), least) {
                 Found::Bad(BadWhy::TooOld(least))

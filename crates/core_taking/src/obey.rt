@@ -83,6 +83,47 @@ fn tell_version(
     Ok(Reply::Control(Noted::Queried(id, Some(version))))
 }
 
+/// Takes a version away: a query that waited for it has it.
+fn end_query(state: &mut State, seq: SeqId, end: EndId, id: u32, version: u32) -> Reply
+    requires able { HasRoom state.old seq }
+    requires told { told_to state.old seq (asks.Take end) ≡ tells.Control (noted.Version id version) }
+    ensures { Done state.old state.new seq (Command.Take end) result }
+{
+    let _front = state.pipes.pop_front(end);
+    state.notices.answer(end, id);
+    state.log.push_reserved(Event {
+        seq,
+        asked: Asked::Take(end),
+        told: Told::Control(Noted::Version(id, version)),
+    });
+    Reply::Control(Noted::Version(id, version))
+}
+
+/// Takes a flush away, and notes that it was consumed. Without memory nothing happens.
+fn meet_flush(
+    state: &mut State,
+    alloc: Global,
+    seq: SeqId,
+    end: EndId,
+    flush: u32,
+) -> Result<Reply, Refused>
+    requires able { HasRoom state.old seq }
+    requires told { told_to state.old seq (asks.Take end) ≡ tells.Control (noted.Flushed flush) }
+    ensures done { IfOk result (λ reply. Done state.old state.new seq (Command.Take end) reply) }
+    ensures undone { IfErr result (λ refused. Undone state.old state.new (Command.Take end) refused) }
+{
+    let Ok(()) = state.notices.meet(alloc, end, flush) else {
+        return Err(Refused::Memory(Command::Take(end)));
+    };
+    let _front = state.pipes.pop_front(end);
+    state.log.push_reserved(Event {
+        seq,
+        asked: Asked::Take(end),
+        told: Told::Control(Noted::Flushed(flush)),
+    });
+    Ok(Reply::Control(Noted::Flushed(flush)))
+}
+
 /// Takes a control away, and does what it says. Without memory nothing happens.
 pub(crate) fn obey(
     state: &mut State,
@@ -100,8 +141,8 @@ pub(crate) fn obey(
         Noted::Closed(id) => Ok(close_peer(state, seq, end, id)),
         Noted::Queried(id, Some(version)) => tell_version(state, alloc, seq, end, id, version),
         Noted::Queried(id, None) => Ok(heed(state, seq, end, Noted::Queried(id, None))),
-        Noted::Version(id, version) => Ok(heed(state, seq, end, Noted::Version(id, version))),
+        Noted::Version(id, version) => Ok(end_query(state, seq, end, id, version)),
         Noted::Required(id, version) => Ok(heed(state, seq, end, Noted::Required(id, version))),
-        Noted::Flushed(flush) => Ok(heed(state, seq, end, Noted::Flushed(flush))),
+        Noted::Flushed(flush) => meet_flush(state, alloc, seq, end, flush),
     }
 }

@@ -8,14 +8,14 @@ ghost use Rattle.bind_model.specs.Replies.{bad};
 ghost use Rattle.core_taking.specs.steps.Founds.{Tells, things_in};
 ghost use Rattle.core_state.specs.Agreement.{Holds, past_of, wire_in};
 ghost use Rattle.core_state.specs.Doing.{CanDo, Done, HasRoom, Undone, told_to};
-ghost use Rattle.core_taking.specs.steps.Taking.{front_found, nothing_at};
+ghost use Rattle.core_taking.specs.steps.Taking.{front_in, nothing_at};
 
 use crate::dropping::discard;
 use crate::obey::obey;
 use crate::reading::{Found, read};
 use crate::receive::receive;
 use bind_model::{Asked, BadWhy, Command, Event, Refused, Reply, Told, Why};
-use core_state::{Goes, State, goes_with, refuse};
+use core_state::{Goes, State, goes_with, paused_by, refuse};
 use handle_table::Thing;
 use message_pipe::{Message, Pipes};
 use mj_base::{EndId, Items, SeqId};
@@ -23,8 +23,8 @@ use std::alloc::{AllocError, Global};
 
 /// Takes the oldest unread message at an end. A request or a response is got, with the handles that its
 /// parameters name, and a request with the right to answer it where its method has a response; a message
-/// whose endpoint isn't there or is closed is dropped; a control is obeyed; a bad one closes the end. Without
-/// memory nothing happens.
+/// whose endpoint isn't there or is closed is dropped; a control is obeyed; a bad one closes the end. Nothing is
+/// taken while the end waits for another. Without memory nothing happens.
 pub fn take(state: &mut State, alloc: Global, seq: SeqId, end: EndId) -> Result<Reply, Refused>
     requires { CanDo state.old seq (Command.Take end) }
     ensures done { IfOk result (λ reply. Done state.old state.new seq (Command.Take end) reply) }
@@ -51,16 +51,20 @@ fn look(state: &State, alloc: Global, seq: SeqId, end: EndId) -> Result<Found, A
     }
 }
 
-/// The oldest unread message at a bound end that is open, or why nothing is taken there.
+/// The oldest unread message at a bound end that is open and takes, or why nothing is taken there.
 fn front(state: &State, end: EndId) -> Result<&Message, Why>
-    ensures ok { IfOk result (λ message. front_found state.now.pipes state.now.endpoints end ≡ Ok message.now) }
-    ensures err { IfErr result (λ why. front_found state.now.pipes state.now.endpoints end ≡ Err why) }
+    requires { Holds state.now }
+    ensures ok { IfOk result (λ message. front_in state.now end ≡ Ok message.now) }
+    ensures err { IfErr result (λ why. front_in state.now end ≡ Err why) }
 {
     if state.endpoints.find(end, 0).is_none() {
         return Err(Why::NoName);
     }
     if state.pipes.is_closed(end) {
         return Err(Why::Disconnected);
+    }
+    if let Some(other) = paused_by(state, end) {
+        return Err(Why::Paused(other));
     }
     match state.pipes.front(end) {
         Some(message) => Ok(message),

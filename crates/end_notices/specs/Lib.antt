@@ -1,2 +1,4 @@
 pub mod Kept
+pub mod Seen
+pub mod Table
 pub mod Agreement

@@ -1,5 +1,5 @@
 -- How many requests were seen at an endpoint never falls, and a call that is sent has the next number.
-use Rattle.std.proofs.Common.{◌≡◌, ◌≤◌, ◌+◌, ◌==◌, ℕ, suc, Bool, true, false, List, [], ◌∷◌, ◌++◌, ◌⊎◌, inl, inr, ⊎_elim, length, reverse, refl, sym, ap, ◌∙◌, subst, arith, length-append}
+use Rattle.std.proofs.Common.{◌≡◌, ◌≤◌, ◌+◌, ◌==◌, ℕ, ℤ, suc, Bool, true, false, List, [], ◌∷◌, ◌++◌, ◌⊎◌, inl, inr, ⊎_elim, length, reverse, refl, sym, ap, ◌∙◌, subst, arith, length-append}
 use Rattle.std.specs.Prelude.{Option, Some, None, Result, Ok, Err, IfOk, IfErr, IfSome, is_some, if◌then◌else◌, cond, not, ◌&&◌, ◌||◌}
 use Rattle.std.specs.FinMap.{FinMap, get, insert}
 use Rattle.std.proofs.lemmas.List.{reverse-append}
@@ -151,12 +151,12 @@ module _ {C : Type 0} where
 
 -- the events that a call's reply is read off, and the number of its request
 module _ (schema : Schema) (seqs : ℕ) (alone : Bool) (me : SeqId) (seen now : List Event) (end : EndId) (id : ℕ) (prepared : Prepared)
-    (handles : List Thing) (pendings : List Half) where
+    (handles : List Thing) (pendings : List Half) (moment : Option ℤ) where
   abbrev call : Command
-  call = commands.Call end id prepared handles pendings
+  call = commands.Call end id prepared handles pendings moment
 
   call_told : (reply : Reply) → Saw schema seqs alone me seen now call reply
-      → (before : List Event) × (told_of reply ≡ called (wire_of schema) (reverse before) me end id (outgoing_of prepared handles pendings)
+      → (before : List Event) × (told_of reply ≡ called (wire_of schema) (reverse before) me end id (outgoing_of prepared handles pendings moment)
       (endpoint_at (wire_of schema) (reverse before) end id))
   call_told reply saw = (saw.before, saw.told)
 
@@ -165,7 +165,8 @@ module _ (schema : Schema) (seqs : ℕ) (alone : Bool) (me : SeqId) (seen now : 
   is_answered reply saw =
       let told = call_told reply saw in
       subst AnswersCall (sym told.1)
-      (answers_call (wire_of schema) (reverse told.0) me end id (outgoing_of prepared handles pendings) (endpoint_at (wire_of schema) (reverse told.0) end id))
+      (answers_call (wire_of schema) (reverse told.0) me end id (outgoing_of prepared handles pendings moment)
+      (endpoint_at (wire_of schema) (reverse told.0) end id))
 
   pub next_request : (request : ℕ) (bytes : List ℕ) → Saw schema seqs alone me seen now call (replies.Sent request bytes)
       → (wire_of schema).responds prepared.target.interface prepared.target.method ≡ true
@@ -174,7 +175,7 @@ module _ (schema : Schema) (seqs : ℕ) (alone : Bool) (me : SeqId) (seen now : 
     saw.before,
     saw.others,
     next_number ((wire_of schema).responds prepared.target.interface prepared.target.method) (count saw.before end id) request responds
-        (call_request (wire_of schema) (reverse saw.before) me end id (outgoing_of prepared handles pendings)
+        (call_request (wire_of schema) (reverse saw.before) me end id (outgoing_of prepared handles pendings moment)
         (endpoint_at (wire_of schema) (reverse saw.before) end id) request bytes saw.told),
   )
 
@@ -200,21 +201,21 @@ module _ (schema : Schema) (seqs : ℕ) (alone : Bool) (me : SeqId) (seen now : 
       by (request == 0) refl ((wire_of schema).responds prepared.target.interface prepared.target.method) refl
     where
       number : request ≡ request_of (wire_of schema) (reverse saw.before) end id prepared.target
-      number = call_request (wire_of schema) (reverse saw.before) me end id (outgoing_of prepared handles pendings)
+      number = call_request (wire_of schema) (reverse saw.before) me end id (outgoing_of prepared handles pendings moment)
           (endpoint_at (wire_of schema) (reverse saw.before) end id) request bytes saw.told
 
       counted : count now end id
-          ≡ count saw.before end id + length (draws (tells.Sent request bytes) (asks.Call end id (outgoing_of prepared handles pendings)) end id)
+          ≡ count saw.before end id + length (draws (tells.Sent request bytes) (asks.Call end id (outgoing_of prepared handles pendings moment)) end id)
       counted =
           ap (λ events. count events end id) saw.event
           ∙ count_step saw.before _
-          ∙ ap (λ t. count saw.before end id + length (draws t (asks.Call end id (outgoing_of prepared handles pendings)) end id)) (sym saw.told)
+          ∙ ap (λ t. count saw.before end id + length (draws t (asks.Call end id (outgoing_of prepared handles pendings moment)) end id)) (sym saw.told)
 
       by : (b : Bool) → (request == 0) ≡ b → (r : Bool) → (wire_of schema).responds prepared.target.interface prepared.target.method ≡ r
           → request ≤ count now end id
       by true e r f = let zero : request ≡ 0 = eqb-true request 0 e in omega arith
       by false e true f =
-          let one : length (draws (tells.Sent request bytes) (asks.Call end id (outgoing_of prepared handles pendings)) end id) ≡ 1 =
+          let one : length (draws (tells.Sent request bytes) (asks.Call end id (outgoing_of prepared handles pendings moment)) end id) ≡ 1 =
           rw (same_end-refl end, eq-eqb id id refl, e) refl in
           let next : request ≡ suc (count saw.before end id) = next_number _ (count saw.before end id) request f number in
           omega (arith, counted, one, next)
@@ -242,10 +243,10 @@ module _ {C : Type 0} where
 
   -- where a job came with a call, none waits under its request yet
   pub absent_yet : (schema : Schema) (seqs : ℕ) (alone : Bool) (me : SeqId) (seen now : List Event) (end : EndId) (id : ℕ) (prepared : Prepared)
-      (handles : List Thing) (pendings : List Half) (waiting : FinMap key_cmp (Waiting C)) (request : ℕ) (bytes : List ℕ) (job : Option C)
-      → Saw schema seqs alone me seen now (commands.Call end id prepared handles pendings) (replies.Sent request bytes)
+      (handles : List Thing) (pendings : List Half) (moment : Option ℤ) (waiting : FinMap key_cmp (Waiting C)) (request : ℕ) (bytes : List ℕ) (job : Option C)
+      → Saw schema seqs alone me seen now (commands.Call end id prepared handles pendings moment) (replies.Sent request bytes)
       → is_some job ≡ (wire_of schema).responds prepared.target.interface prepared.target.method → AreDrawn seen waiting
       → IfSome job (λ given. get waiting (record { end = end; id = id; request = request }) ≡ None)
-  absent_yet schema seqs alone me seen now end id prepared handles pendings waiting request bytes None saw wanted are = tt
-  absent_yet schema seqs alone me seen now end id prepared handles pendings waiting request bytes (Some job) saw wanted are =
-      no_job_yet schema seqs alone me seen now end id prepared handles pendings waiting request bytes saw (sym wanted) are
+  absent_yet schema seqs alone me seen now end id prepared handles pendings moment waiting request bytes None saw wanted are = tt
+  absent_yet schema seqs alone me seen now end id prepared handles pendings moment waiting request bytes (Some job) saw wanted are =
+      no_job_yet schema seqs alone me seen now end id prepared handles pendings moment waiting request bytes saw (sym wanted) are

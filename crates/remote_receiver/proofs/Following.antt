@@ -1,6 +1,6 @@
 -- What a desk keeps follows each of its steps.
 use Rattle.bind_model.specs.declared.told.Noted.TheVariants as noted
-use Rattle.std.proofs.Common.{◌≡◌, ◌==◌, ℕ, Bool, true, false, List, [], ◌∷◌, ◌++◌, ◌⊎◌, inl, inr, refl, sym, ap, ◌∙◌, subst}
+use Rattle.std.proofs.Common.{◌≡◌, ◌==◌, ℕ, ℤ, Bool, true, false, List, [], ◌∷◌, ◌++◌, ◌⊎◌, inl, inr, refl, sym, ap, ◌∙◌, subst}
 use Rattle.std.specs.Prelude.{Option, Some, None, IfSome, length, if◌then◌else◌, not, ◌&&◌, cond}
 use Rattle.std.specs.FinMap.{empty, get, insert}
 use Rattle.std.proofs.lemmas.Bool.{true≢false}
@@ -208,7 +208,7 @@ module _ {C : Type 0} (promises : C → Answered → ℕ → Type 0) where
 
   pub follows_close : (command : Command) → IsOther command → (told : Told) (old new : Kept C) → AfterClose (ended_by command) told old new
       → Follows promises old (record { asked = asked_of command; told = told; job = None }) new
-  follows_close (commands.Call end id prepared handles pendings) other told old new after = absurd other
+  follows_close (commands.Call end id prepared handles pendings moment) other told old new after = absurd other
   follows_close (commands.Take end) other told old new after = absurd other
   follows_close (commands.Close (closes.Endpoint end id)) other (tells.Closed gone) old new after =
       follows_end (record { asked = asks.Close (closings.Endpoint end id); told = tells.Closed gone; job = None }) old new refl (λ key. refl)
@@ -234,15 +234,18 @@ module _ {C : Type 0} (promises : C → Answered → ℕ → Type 0) where
       (follows_close command other (told_of reply) old new (subst (λ o. AfterClose o (told_of reply) old new) is after))
 
   -- a call that was sent
-  pub called : (end : EndId) (id : ℕ) (prepared : Prepared) (handles : List Thing) (pendings : List Half) (request : ℕ) (bytes : List ℕ)
+  pub called : (end : EndId) (id : ℕ) (prepared : Prepared) (handles : List Thing) (pendings : List Half) (moment : Option ℤ) (request : ℕ)
+      (bytes : List ℕ)
       (job : Option C) (before old new : Kept C)
       → old ≡ before → IfSome job (λ given. get old.waiting (record { end = end; id = id; request = request }) ≡ None)
       → Keeps (record { end = end; id = id; request = request }) job old new
-      → Follows promises before (step_of (commands.Call end id prepared handles pendings) (replies.Sent request bytes) job) new
-  called end id prepared handles pendings request bytes None before old new kept absent same =
-      subst (Follows promises before (step_of (commands.Call end id prepared handles pendings) (replies.Sent request bytes) None)) (sym (same ∙ kept))
-      (follows_same (step_of (commands.Call end id prepared handles pendings) (replies.Sent request bytes) None) before refl (λ key. refl) (λ key. refl))
-  called end id prepared handles pendings request bytes (Some job) before old new kept absent keeps =
-      subst (λ (k : Kept C). Follows promises k (step_of (commands.Call end id prepared handles pendings) (replies.Sent request bytes) (Some job)) new) kept
-      (follows_given (step_of (commands.Call end id prepared handles pendings) (replies.Sent request bytes) (Some job)) old new
+      → Follows promises before (step_of (commands.Call end id prepared handles pendings moment) (replies.Sent request bytes) job) new
+  called end id prepared handles pendings moment request bytes None before old new kept absent same =
+      subst (Follows promises before (step_of (commands.Call end id prepared handles pendings moment) (replies.Sent request bytes) None)) (sym (same ∙ kept))
+      (follows_same (step_of (commands.Call end id prepared handles pendings moment) (replies.Sent request bytes) None) before refl (λ key. refl)
+      (λ key. refl))
+  called end id prepared handles pendings moment request bytes (Some job) before old new kept absent keeps =
+      subst (λ (k : Kept C).
+      Follows promises k (step_of (commands.Call end id prepared handles pendings moment) (replies.Sent request bytes) (Some job)) new) kept
+      (follows_given (step_of (commands.Call end id prepared handles pendings moment) (replies.Sent request bytes) (Some job)) old new
       (record { end = end; id = id; request = request }, job) refl (λ key. refl) (λ key. refl) absent keeps.0 keeps.1)

@@ -13,7 +13,7 @@ use Rattle.remote_receiver.specs.declared.call.CallRefused.TheVariants.{No, Memo
 
 -- neither a call nor a take
 abbrev pub IsOther : Command → Type 0
-IsOther (Call end id prepared handles pendings) = ⊥
+IsOther (Call end id prepared handles pendings moment) = ⊥
 IsOther (Take end) = ⊥
 IsOther command = Unit {0}
 

@@ -5,7 +5,8 @@ ghost use Rattle.std.specs.FinMap as map;
 ghost use Rattle.bind_model.specs.WireOf.{wire_of};
 ghost use Rattle.bind_model.specs.Plain.{IsOf};
 ghost use Rattle.bind_model.specs.Seen.{Saw, Waited};
-ghost use Rattle.bind_model.specs.declared.commands.Command.TheVariants.{Answer, Call, Take};
+ghost use Rattle.bind_model.specs.declared.asked.Notice.TheVariants.{Query, Require, Flush};
+ghost use Rattle.bind_model.specs.declared.commands.Command.TheVariants.{Answer, Call, Notify, Pause, Take};
 ghost use Rattle.bind_model.specs.declared.commands.Reply.TheVariants as replies;
 ghost use Rattle.wire_encoder.specs.Prepared.{IsPrepared};
 ghost use Rattle.remote_receiver.specs.Calls.{IsOther, NotSent};
@@ -20,7 +21,7 @@ use crate::jobs::Jobs;
 use crate::note::Note;
 use crate::rest::Rest;
 use crate::told::{ended_by, tell_closed, tell_taken};
-use bind_model::{Command, PendingList, Refused, Reply, Responder, Stepper};
+use bind_model::{Command, Notice, PendingList, Refused, Reply, Responder, Stepper};
 use handle_table::Handles;
 use mj_base::EndId;
 use response_map::Key;
@@ -97,7 +98,8 @@ impl<C: Promise, P: Stepper> Desk<C, P> {
     }
 
     /// Calls from the endpoint of this id at an end, with a job exactly where the method has a response.
-    /// Where the call isn't sent, the command and the job come back.
+    /// The moment is carried, and has no other effect. Where the call isn't sent, the command and the job
+    /// come back.
     pub fn call(
         &mut self,
         alloc: Global,
@@ -107,6 +109,7 @@ impl<C: Promise, P: Stepper> Desk<C, P> {
         handles: Handles,
         pendings: PendingList,
         job: Option<C>,
+        moment: Option<i64>,
     ) -> Result<Sent, CallRefused<C>>
         requires seq { (P.me self.old.stepper).0 < P.seqs self.old.stepper }
         requires prepared { IsPrepared (P.schema self.old.stepper) prepared }
@@ -116,14 +119,14 @@ impl<C: Promise, P: Stepper> Desk<C, P> {
         ensures home { P.home self.new.stepper ≡ P.home self.old.stepper }
         ensures event { IfOk result (λ sent. Saw (P.schema self.old.stepper) (P.seqs self.old.stepper) (P.alone self.old.stepper)
             (P.me self.old.stepper) (P.seen self.old.stepper) (P.seen self.new.stepper)
-            (Call end id prepared handles pendings) (replies.Sent sent.request sent.bytes)) }
+            (Call end id prepared handles pendings moment) (replies.Sent sent.request sent.bytes)) }
         ensures kept { IfOk result (λ sent. Follows C.promises (kept_of self.old.jobs)
-            (step_of (Call end id prepared handles pendings) (replies.Sent sent.request sent.bytes) job) (kept_of self.new.jobs)) }
+            (step_of (Call end id prepared handles pendings moment) (replies.Sent sent.request sent.bytes) job) (kept_of self.new.jobs)) }
         ensures refused { IfErr result (λ refused. NotSent (P.schema self.old.stepper) (P.seqs self.old.stepper) (P.alone self.old.stepper)
-            (P.me self.old.stepper) (P.seen self.old.stepper) (P.seen self.new.stepper) (Call end id prepared handles pendings) job refused) }
+            (P.me self.old.stepper) (P.seen self.old.stepper) (P.seen self.new.stepper) (Call end id prepared handles pendings moment) job refused) }
         ensures unsent { OnErr result (kept_of self.new.jobs ≡ kept_of self.old.jobs) }
     {
-        let command = Command::Call(end, id, prepared, handles, pendings);
+        let command = Command::Call(end, id, prepared, handles, pendings, moment);
         if self.jobs.reserve().is_err() {
             return Err(CallRefused::Memory(command, job));
         }
@@ -163,7 +166,7 @@ impl<C: Promise, P: Stepper> Desk<C, P> {
         Ok(reply)
     }
 
-    /// Answers a request.
+    /// Answers a request. The moment is carried, and has no other effect.
     pub fn reply(
         &mut self,
         alloc: Global,
@@ -171,6 +174,7 @@ impl<C: Promise, P: Stepper> Desk<C, P> {
         prepared: Prepared,
         handles: Handles,
         pendings: PendingList,
+        moment: Option<i64>,
     ) -> Result<Reply, Refused>
         requires seq { (P.me self.old.stepper).0 < P.seqs self.old.stepper }
         requires prepared { IsPrepared (P.schema self.old.stepper) prepared }
@@ -178,17 +182,96 @@ impl<C: Promise, P: Stepper> Desk<C, P> {
             × (P.alone self.new.stepper ≡ P.alone self.old.stepper) × (P.me self.new.stepper ≡ P.me self.old.stepper) }
         ensures home { P.home self.new.stepper ≡ P.home self.old.stepper }
         ensures event { IfOk result (λ reply. Saw (P.schema self.old.stepper) (P.seqs self.old.stepper) (P.alone self.old.stepper)
-            (P.me self.old.stepper) (P.seen self.old.stepper) (P.seen self.new.stepper) (Answer responder prepared handles pendings) reply) }
+            (P.me self.old.stepper) (P.seen self.old.stepper) (P.seen self.new.stepper) (Answer responder prepared handles pendings moment) reply) }
         ensures kept { IfOk result (λ reply. Follows C.promises (kept_of self.old.jobs)
-            (step_of (Answer responder prepared handles pendings) reply None) (kept_of self.new.jobs)) }
+            (step_of (Answer responder prepared handles pendings moment) reply None) (kept_of self.new.jobs)) }
         ensures refused { IfErr result (λ refused. Waited (P.schema self.old.stepper) (P.seqs self.old.stepper) (P.alone self.old.stepper)
-            (P.me self.old.stepper) (P.seen self.old.stepper) (P.seen self.new.stepper) (Answer responder prepared handles pendings) refused) }
+            (P.me self.old.stepper) (P.seen self.old.stepper) (P.seen self.new.stepper) (Answer responder prepared handles pendings moment) refused) }
         ensures unmoved { OnErr result (kept_of self.new.jobs ≡ kept_of self.old.jobs) }
     {
         self.step(
             alloc,
-            Command::Answer(responder, prepared, handles, pendings),
+            Command::Answer(responder, prepared, handles, pendings, moment),
         )
+    }
+
+    /// Asks for the version of the receiver that the endpoint of this id at an end speaks to. A later take is
+    /// told it.
+    pub fn query(&mut self, alloc: Global, end: EndId, id: u32) -> Result<Reply, Refused>
+        requires { (P.me self.old.stepper).0 < P.seqs self.old.stepper }
+        ensures same { (P.schema self.new.stepper ≡ P.schema self.old.stepper) × (P.seqs self.new.stepper ≡ P.seqs self.old.stepper)
+            × (P.alone self.new.stepper ≡ P.alone self.old.stepper) × (P.me self.new.stepper ≡ P.me self.old.stepper) }
+        ensures home { P.home self.new.stepper ≡ P.home self.old.stepper }
+        ensures event { IfOk result (λ reply. Saw (P.schema self.old.stepper) (P.seqs self.old.stepper) (P.alone self.old.stepper)
+            (P.me self.old.stepper) (P.seen self.old.stepper) (P.seen self.new.stepper) (Notify end (Query id)) reply) }
+        ensures kept { IfOk result (λ reply. Follows C.promises (kept_of self.old.jobs) (step_of (Notify end (Query id)) reply None) (kept_of self.new.jobs)) }
+        ensures refused { IfErr result (λ refused. Waited (P.schema self.old.stepper) (P.seqs self.old.stepper) (P.alone self.old.stepper)
+            (P.me self.old.stepper) (P.seen self.old.stepper) (P.seen self.new.stepper) (Notify end (Query id)) refused) }
+        ensures unmoved { OnErr result (kept_of self.new.jobs ≡ kept_of self.old.jobs) }
+    {
+        self.step(alloc, Command::Notify(end, Notice::Query(id)))
+    }
+
+    /// Requires this version of the receiver that the endpoint of this id at an end speaks to: where its
+    /// interface has an older one, its end is closed as it takes this.
+    pub fn require(
+        &mut self,
+        alloc: Global,
+        end: EndId,
+        id: u32,
+        version: u32,
+    ) -> Result<Reply, Refused>
+        requires { (P.me self.old.stepper).0 < P.seqs self.old.stepper }
+        ensures same { (P.schema self.new.stepper ≡ P.schema self.old.stepper) × (P.seqs self.new.stepper ≡ P.seqs self.old.stepper)
+            × (P.alone self.new.stepper ≡ P.alone self.old.stepper) × (P.me self.new.stepper ≡ P.me self.old.stepper) }
+        ensures home { P.home self.new.stepper ≡ P.home self.old.stepper }
+        ensures event { IfOk result (λ reply. Saw (P.schema self.old.stepper) (P.seqs self.old.stepper) (P.alone self.old.stepper)
+            (P.me self.old.stepper) (P.seen self.old.stepper) (P.seen self.new.stepper) (Notify end (Require id version)) reply) }
+        ensures kept { IfOk result (λ reply. Follows C.promises (kept_of self.old.jobs)
+            (step_of (Notify end (Require id version)) reply None) (kept_of self.new.jobs)) }
+        ensures refused { IfErr result (λ refused. Waited (P.schema self.old.stepper) (P.seqs self.old.stepper) (P.alone self.old.stepper)
+            (P.me self.old.stepper) (P.seen self.old.stepper) (P.seen self.new.stepper) (Notify end (Require id version)) refused) }
+        ensures unmoved { OnErr result (kept_of self.new.jobs ≡ kept_of self.old.jobs) }
+    {
+        self.step(alloc, Command::Notify(end, Notice::Require(id, version)))
+    }
+
+    /// Writes a flush from an end, behind all that was written from it before. The reply has its number.
+    pub fn flush(&mut self, alloc: Global, end: EndId) -> Result<Reply, Refused>
+        requires { (P.me self.old.stepper).0 < P.seqs self.old.stepper }
+        ensures same { (P.schema self.new.stepper ≡ P.schema self.old.stepper) × (P.seqs self.new.stepper ≡ P.seqs self.old.stepper)
+            × (P.alone self.new.stepper ≡ P.alone self.old.stepper) × (P.me self.new.stepper ≡ P.me self.old.stepper) }
+        ensures home { P.home self.new.stepper ≡ P.home self.old.stepper }
+        ensures event { IfOk result (λ reply. Saw (P.schema self.old.stepper) (P.seqs self.old.stepper) (P.alone self.old.stepper)
+            (P.me self.old.stepper) (P.seen self.old.stepper) (P.seen self.new.stepper) (Notify end Flush) reply) }
+        ensures kept { IfOk result (λ reply. Follows C.promises (kept_of self.old.jobs) (step_of (Notify end Flush) reply None) (kept_of self.new.jobs)) }
+        ensures refused { IfErr result (λ refused. Waited (P.schema self.old.stepper) (P.seqs self.old.stepper) (P.alone self.old.stepper)
+            (P.me self.old.stepper) (P.seen self.old.stepper) (P.seen self.new.stepper) (Notify end Flush) refused) }
+        ensures unmoved { OnErr result (kept_of self.new.jobs ≡ kept_of self.old.jobs) }
+    {
+        self.step(alloc, Command::Notify(end, Notice::Flush))
+    }
+
+    /// Has an end take nothing until another has consumed the flush of this number, or is closed.
+    pub fn pause(
+        &mut self,
+        alloc: Global,
+        end: EndId,
+        other: EndId,
+        flush: u32,
+    ) -> Result<Reply, Refused>
+        requires { (P.me self.old.stepper).0 < P.seqs self.old.stepper }
+        ensures same { (P.schema self.new.stepper ≡ P.schema self.old.stepper) × (P.seqs self.new.stepper ≡ P.seqs self.old.stepper)
+            × (P.alone self.new.stepper ≡ P.alone self.old.stepper) × (P.me self.new.stepper ≡ P.me self.old.stepper) }
+        ensures home { P.home self.new.stepper ≡ P.home self.old.stepper }
+        ensures event { IfOk result (λ reply. Saw (P.schema self.old.stepper) (P.seqs self.old.stepper) (P.alone self.old.stepper)
+            (P.me self.old.stepper) (P.seen self.old.stepper) (P.seen self.new.stepper) (Pause end other flush) reply) }
+        ensures kept { IfOk result (λ reply. Follows C.promises (kept_of self.old.jobs) (step_of (Pause end other flush) reply None) (kept_of self.new.jobs)) }
+        ensures refused { IfErr result (λ refused. Waited (P.schema self.old.stepper) (P.seqs self.old.stepper) (P.alone self.old.stepper)
+            (P.me self.old.stepper) (P.seen self.old.stepper) (P.seen self.new.stepper) (Pause end other flush) refused) }
+        ensures unmoved { OnErr result (kept_of self.new.jobs ≡ kept_of self.old.jobs) }
+    {
+        self.step(alloc, Command::Pause(end, other, flush))
     }
 }
 

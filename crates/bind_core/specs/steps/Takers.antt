@@ -7,12 +7,14 @@ use Rattle.message_pipe.specs.Ends.{end_of, is_closed, unread_at}
 use Rattle.message_pipe.specs.Mail.{front_of}
 use Rattle.message_pipe.specs.declared.message.Message.{Message}
 use Rattle.wire_model.specs.HeaderMarks.{CONTROL_ID}
+use Rattle.bind_model.specs.Notices.{first_unmet, waits}
 use Rattle.bind_model.specs.Ready.{on_of}
 use Rattle.bind_model.specs.Wire.{Header}
 use Rattle.bind_model.specs.WireOf.{header_in}
 use Rattle.bind_model.specs.declared.endpoint.Endpoint.{Endpoint}
 use Rattle.bind_model.specs.declared.endpoint.State.{State as EndpointState}
 use Rattle.bind_model.specs.declared.endpoint.State.TheVariants as states
+use Rattle.core_state.specs.Agreement.{past_of}
 use Rattle.core_state.specs.Routers.{found_at}
 use Rattle.core_state.specs.declared.state.State.{State}
 
@@ -57,6 +59,15 @@ module _ (meant : Message → Option ℕ) (endpoints : ℕ → Option Endpoint) 
   abbrev pub taker_at : Bool → Option Message → Option SeqId
   taker_at closed front = taker_open closed front (endpoints 0)
 
--- the sequence whose take at an end would consume a message or find it bad
+-- the sequence whose take at an end would consume a message or find it bad, whatever the end waits for
 abbrev pub taker_of : State → EndId → Option SeqId
 taker_of s x = taker_at (λ m. id_meant m.bytes) (found_at s.endpoints x) (is_closed (end_of s.pipes.ends x)) (front_of (unread_at s.pipes.ends x))
+
+-- nobody takes at an end that waits for another
+abbrev pub unless_paused : Option EndId → Option SeqId → Option SeqId
+unless_paused None takes = takes
+unless_paused (Some x) takes = None
+
+-- the sequence whose take at an end is ready
+abbrev pub ready_taker : State → EndId → Option SeqId
+ready_taker s x = unless_paused (first_unmet (past_of s) (waits (past_of s) x)) (taker_of s x)

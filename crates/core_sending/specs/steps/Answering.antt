@@ -22,7 +22,7 @@ use Rattle.bind_model.specs.declared.commands.Command.TheVariants.{Answer}
 
 -- the command that a response came with
 abbrev pub command_of : Response → Command
-command_of r = Answer r.responder r.prepared r.carried.handles r.carried.pendings
+command_of r = Answer r.responder r.prepared r.carried.handles r.carried.pendings r.moment
 
 -- an endpoint in this state isn't closed, nor on another sequence
 abbrev pub reached_in : SeqId → Endpoint → State → Result Endpoint Why

@@ -79,10 +79,12 @@ pub record IsGot (wire : Wire) (past : List Event) (y : EndId) (a : Arrived) (to
     moment = a.moment;
   })
 
--- what a control says that neither closes an endpoint nor asks for a version that there is
+-- what a control says that is only told: it closes no endpoint, asks for no version that there is and tells none, and is no flush
 abbrev pub IsSilent : Noted → Type 0
 IsSilent (noted.Closed id) = ⊥
 IsSilent (noted.Queried id (Some v)) = ⊥
+IsSilent (noted.Version id v) = ⊥
+IsSilent (noted.Flushed k) = ⊥
 IsSilent c = Unit {0}
 
 -- a take at y is told what was found there

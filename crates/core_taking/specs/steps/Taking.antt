@@ -8,12 +8,15 @@ use Rattle.message_pipe.specs.Contents.{Contents}
 use Rattle.message_pipe.specs.Ends.{carried_in, end_of, is_closed, peer_of, spread, unread_at}
 use Rattle.message_pipe.specs.Mail.{front_of}
 use Rattle.message_pipe.specs.declared.message.Message.{Message}
+use Rattle.bind_model.specs.Notices.{first_unmet, waits}
 use Rattle.bind_model.specs.Replies.{pendings_at}
 use Rattle.bind_model.specs.declared.endpoint.Endpoint.{Endpoint}
 use Rattle.bind_model.specs.declared.told.Got.{Got}
 use Rattle.bind_model.specs.declared.told.Why.{Why}
-use Rattle.bind_model.specs.declared.told.Why.TheVariants.{NoName, Disconnected, Empty, PeerClosed}
+use Rattle.bind_model.specs.declared.told.Why.TheVariants.{NoName, Disconnected, Empty, PeerClosed, Paused}
+use Rattle.core_state.specs.Agreement.{past_of}
 use Rattle.core_state.specs.Routers.{Routers, found_at}
+use Rattle.core_state.specs.declared.state.State.{State}
 use Rattle.core_taking.specs.steps.Founds.{pending_ids}
 use Rattle.core_taking.specs.declared.reading.Arrived.{Arrived}
 use Rattle.core_taking.specs.declared.receive.Brings.{Brings}
@@ -28,14 +31,23 @@ abbrev pub front_open : Contents → EndId → Option Message → Result Message
 front_open pipes y (Some m) = Ok m
 front_open pipes y None = Err (nothing_at pipes (peer_of (end_of pipes.ends y)))
 
--- that of an end with this endpoint 0
-abbrev pub front_bound : Contents → EndId → Option Endpoint → Result Message Why
-front_bound pipes y None = Err NoName
-front_bound pipes y (Some main) = if is_closed (end_of pipes.ends y) then Err Disconnected else front_open pipes y (front_of (unread_at pipes.ends y))
+-- that of an open end that waits for this one, or for none
+abbrev pub front_free : Contents → EndId → Option EndId → Result Message Why
+front_free pipes y (Some x) = Err (Paused x)
+front_free pipes y None = front_open pipes y (front_of (unread_at pipes.ends y))
 
--- the oldest unread message at a bound end that is open, or why nothing is taken there
-abbrev pub front_found : Contents → Routers → EndId → Result Message Why
-front_found pipes endpoints y = front_bound pipes y (found_at endpoints y 0)
+-- that of an end with this endpoint 0
+abbrev pub front_bound : Contents → EndId → Option EndId → Option Endpoint → Result Message Why
+front_bound pipes y pause None = Err NoName
+front_bound pipes y pause (Some main) = if is_closed (end_of pipes.ends y) then Err Disconnected else front_free pipes y pause
+
+-- the oldest unread message at a bound end that is open and takes, or why nothing is taken there
+abbrev pub front_found : Contents → Routers → EndId → Option EndId → Result Message Why
+front_found pipes endpoints y pause = front_bound pipes y pause (found_at endpoints y 0)
+
+-- the same, where the state says whom the end waits for
+abbrev pub front_in : State → EndId → Result Message Why
+front_in s y = front_found s.pipes s.endpoints y (first_unmet (past_of s) (waits (past_of s) y))
 
 -- the handles of these are kept, and none stands twice
 pub record LieThere (pipes : Contents) (things : List Thing) : Type 0 where

@@ -17,7 +17,7 @@ associate-requires c =
 pub returns-clause-done : goal.returns-clause-done
 returns-clause-done c =
     associate_done c.args.state.now c.args.seq c.requires.able c.args.end c.args.side c.args.interface c.requires.told _ c.next_id-number.result
-    c.make-pending.result c.reserve.new.self c.reserve-2.new.self refl refl refl refl c.next_id-number.ensures c.reserve.ensures.same c.associate.ensures
+    c.make-pending.result c.reserve.new.self c.reserve-2.new.self refl refl refl refl refl c.next_id-number.ensures c.reserve.ensures.same c.associate.ensures
     (subst (λ (z : EndpointSide). c.make-pending.result
     ≡ record { name = record { end = c.args.end; id = c.next_id-number.result }; side = z; interface = c.args.interface })
     c.other_side.ensures c.make-pending.ensures.made)

@@ -17,7 +17,7 @@ returns c =
     let s = c.args.state.now in
     attach_done s c.args.seq c.requires.able c.id-id.result c.args.on
     (subst (λ (p : PendingId). why_here s c.args.seq c.requires.able p c.args.on ≡ None) (sym c.id-id.ensures) c.requires.free)
-    _ c.args.pending (sym c.id-id.ensures) refl refl refl refl c.turn.ensures
+    _ c.args.pending (sym c.id-id.ensures) refl refl refl refl refl c.turn.ensures
     (subst (λ (p : PendingId). (q : PendingId) → is_out c.spend.new.self q ≡ (is_out s.rights.pendings q && not (same_pending p q)))
     (sym c.id-id.ensures) c.spend.ensures)
     c.push_reserved.ensures.events

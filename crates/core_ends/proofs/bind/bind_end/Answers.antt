@@ -27,7 +27,7 @@ enter-requires c =
 pub returns-clause-done : goal.returns-clause-done
 returns-clause-done c =
     let s = c.args.state.now in
-    bind_done s _ c.args.seq c.requires.able refl refl refl c.args.handle c.args.end c.args.side c.args.interface c.requires.end c.requires.held
+    bind_done s _ c.args.seq c.requires.able refl refl refl refl c.args.handle c.args.end c.args.side c.args.interface c.requires.end c.requires.held
     (bind_told (schema_of s) s.seqs (past_of s) c.args.seq (End c.args.end) c.args.side c.args.interface true (sym c.requires.held)
     (lt-ltb _ _ c.requires.there))
     (ok_of c.enter.result (sym c.is_err.ensures.value ∙ c.if-is_err.false) c.enter.ensures.ok)

@@ -8,6 +8,6 @@ pub returns-clause-done : goal.returns-clause-done
 returns-clause-done c =
     let state = c.args.state.now in
     let goes = c.in_ok-goes.goes in
-    end_done state _ c.args.seq c.requires.able refl refl refl goes.noted goes.told c.in_ok-goes.ensures.told c.args.end
+    end_done state _ c.args.seq c.requires.able refl refl refl refl goes.noted goes.told c.in_ok-goes.ensures.told c.args.end
     c.requires.told c.in_ok-goes.ensures.noted c.turn.ensures c.push_reserved.ensures.events
     (subst (λ (things : List Thing). Closes things state.pipes c.close.new.self) c.as_slice.ensures c.close.ensures)

@@ -16,7 +16,7 @@ returns-clause-done c =
     let state = c.args.state.now in
     let goes = c.in-Ok.goes in
     let event : Thing → Event = λ z. record { seq = c.args.seq; asked = Close (Handle z); told = Closed goes.noted } in
-    handle_done state _ c.args.seq c.requires.able refl refl refl goes.noted goes.told c.in-Ok.ensures.told c.args.handle c.put.new.self
+    handle_done state _ c.args.seq c.requires.able refl refl refl refl goes.noted goes.told c.in-Ok.ensures.told c.args.handle c.put.new.self
     (ap (λ (z : Thing). is_out (place_of state.pipes.table z)) (sym c.thing-thing.ensures) ∙ (sym c.is_out.ensures ∙ c.if-not-is_out.false))
     (c.in-Ok.ensures.noted ∙ ap (λ (z : Thing). spread (carried_in state.pipes.ends None) state.pipes.made (z ∷ [])) c.thing-thing.ensures)
     refl

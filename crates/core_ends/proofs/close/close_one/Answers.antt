@@ -15,4 +15,4 @@ turn-requires c = shut_row c.args.state.now c.args.seq c.requires.able c.args.en
 pub returns-clause-done : goal.returns-clause-done
 returns-clause-done c =
     shut_done c.args.state.now c.args.seq c.requires.able c.args.end c.args.id c.requires.here c.requires.other _ c.new.result c.new-2.result
-    c.new.ensures c.new-2.ensures refl refl refl c.requires.told c.in_ok-emit_one.ensures.ok c.turn.ensures c.push_reserved.ensures.events
+    c.new.ensures c.new-2.ensures refl refl refl refl c.requires.told c.in_ok-emit_one.ensures.ok c.turn.ensures c.push_reserved.ensures.events

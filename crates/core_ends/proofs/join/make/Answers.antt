@@ -8,7 +8,7 @@ make-requires c = few_made c.args.state.now c.args.seq c.requires.able
 
 pub returns-in-Ok-clause-done : goal.returns-in-Ok-clause-done
 returns-in-Ok-clause-done c command asked =
-    pipe_done c.args.state.now _ c.args.seq c.requires.able refl refl refl c.args.other c.args.asked command
+    pipe_done c.args.state.now _ c.args.seq c.requires.able refl refl refl refl c.args.other c.args.asked command
     c.from_vec-in-Ok.result c.from_vec.result c.in-Ok.pipe.0 c.in-Ok.pipe.1 asked c.requires.told refl c.push_reserved-in-Ok-4.ensures.events
     (two_of c.in_ok-things.things.items c.push_reserved.new.self.items c.push_reserved-in-Ok.new.self.items c.from_vec.result
     c.thing.result c.thing-in-Ok.result c.in-Ok.pipe.0 c.in-Ok.pipe.1 c.in_ok-things.ensures.items c.push_reserved.ensures.items

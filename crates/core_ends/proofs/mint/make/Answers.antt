@@ -8,7 +8,7 @@ mint-requires c = few_made c.args.state.now c.args.seq c.requires
 
 pub returns-in-Ok-clause-done : goal.returns-in-Ok-clause-done
 returns-in-Ok-clause-done c =
-    token_done c.args.state.now _ c.args.seq c.requires refl refl refl c.args.sort c.from_vec-in-Ok.result c.from_vec.result c.in-Ok.handle
+    token_done c.args.state.now _ c.args.seq c.requires refl refl refl refl c.args.sort c.from_vec-in-Ok.result c.from_vec.result c.in-Ok.handle
     refl c.push_reserved-in-Ok-2.ensures.events
     (one_of c.in_ok-things.things.items c.push_reserved.new.self.items c.from_vec.result c.thing.result c.in-Ok.handle
     c.in_ok-things.ensures.items c.push_reserved.ensures.items c.from_vec.ensures c.thing.ensures)

@@ -35,7 +35,7 @@ returns-clause-done c =
     received_done s c.args.seq c.requires.able c.id-id.result
     (subst (λ (p : PendingId). is_out s.rights.pendings p ≡ true) (sym c.id-id.ensures) c.requires.held)
     (subst (λ (p : PendingId). is_received (found_at s.endpoints p.end p.id) ≡ true) (sym c.id-id.ensures) c.requires.received)
-    _ c.args.pending c.new.result c.new-2.result c.id-id.ensures c.new.ensures c.new-2.ensures refl refl refl
+    _ c.args.pending c.new.result c.new-2.result c.id-id.ensures c.new.ensures c.new-2.ensures refl refl refl refl
     c.in-Ok.ensures.ok c.turn.ensures
     (subst (λ (p : PendingId). (q : PendingId) → is_out c.spend.new.self q ≡ (is_out s.rights.pendings q && not (same_pending p q)))
     (sym c.id-id.ensures) c.spend.ensures)

@@ -19,7 +19,7 @@ returns-clause-done c =
     closing_done c.args.state.now c.args.seq c.requires.able c.args.responder _
     (ap (λ (q : ResponderId). not (count_of c.args.state.now.rights.responders q == 0)) (sym c.id-id.ensures)
     ∙ (sym c.is_out.ensures ∙ c.if-not-is_out.false))
-    refl refl refl refl refl c.spend.ensures c.new.result c.new-2.result c.new.ensures c.new-2.ensures
+    refl refl refl refl refl refl c.spend.ensures c.new.result c.new-2.result c.new.ensures c.new-2.ensures
     (subst
     (λ (q : ResponderId). c.push_reserved.new.self.events ≡ c.args.state.now.log.events
     ++ record { seq = c.args.seq; asked = asks.Close (closings.Responder q); told = tells.Closed c.new.result } ∷ [])

@@ -43,11 +43,13 @@ returns-clause-done c =
       log = c.push_reserved.new.self;
       pipes = c.put_all.new.pipes;
       endpoints = s.endpoints;
+      notices = s.notices;
       rights = record { responders = c.spend.new.self; pendings = c.spend_all.new.table };
     } in
     subst (λ (q : ResponderId). Done s new c.args.seq (command_of r) (replies.Sent q.request c.in-Ok.writes.told)) (sym c.id-id.ensures)
-    (answer_done s c.args.seq r c.requires.can c.args.peer c.requires.free new refl refl refl ns c.in-Ok.writes c.put_message.new.pipes c.requires.same
-    (subst (λ (q : ResponderId). AreOf r.prepared ns (sealed_bytes q.id q.request (ids_of ns.pendings) r.prepared) c.in-Ok.writes) c.id-id.ensures
+    (answer_done s c.args.seq r c.requires.can c.args.peer c.requires.free new refl refl refl refl ns c.in-Ok.writes c.put_message.new.pipes c.requires.same
+    (subst (λ (q : ResponderId).
+    AreOf r.prepared ns r.moment (sealed_bytes q.id q.request r.moment (ids_of ns.pendings) r.prepared) c.in-Ok.writes) c.id-id.ensures
     c.in-Ok.ensures)
     c.in-Ok-put_message.ensures.ok c.put_all.ensures c.spend_all.ensures c.spend.ensures
     (subst

@@ -11,7 +11,7 @@ pub refuse-requires-clause-asked : goal.refuse-requires-clause-asked
 refuse-requires-clause-asked c =
     let r = c.args.request in
     c.in-Ok-asked.ensures
-    ∙ (ap (λ (ns : CarriedNames). asks.Call r.end r.id (outgoing_named r.prepared ns)) c.in-Ok.ensures
+    ∙ (ap (λ (ns : CarriedNames). asks.Call r.end r.id (outgoing_named r.prepared ns r.moment)) c.in-Ok.ensures
     ∙ sym (ap asked_of c.into_command-in-Ok-asked.ensures))
 
 pub refuse-requires-clause-why : goal.refuse-requires-clause-why

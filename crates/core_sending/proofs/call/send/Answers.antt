@@ -31,7 +31,7 @@ note_sent-requires c =
 
 pub returns-clause-done : goal.returns-clause-done
 returns-clause-done c =
-    call_done c.args.state.now c.args.seq c.args.request c.requires.can c.args.peer c.requires.free _ refl refl refl
+    call_done c.args.state.now c.args.seq c.args.request c.requires.can c.args.peer c.requires.free _ refl refl refl refl
     c.request_id_of-request_id.result c.args.names c.in-Ok.writes c.put_message.new.pipes c.reserve_sent.new.endpoints
     c.request_id_of-request_id.ensures c.requires.same c.in-Ok.ensures
     c.in-Ok-put_message.ensures.ok c.put_all.ensures c.spend_all.ensures c.push_reserved.ensures.events c.reserve_sent.ensures.same c.note_sent.ensures

@@ -18,7 +18,7 @@ returns-clause-done c =
     let s = c.args.state.now in
     let r = c.args.raw in
     let noted : c.end_written.result ≡ end_written r.handle = c.end_written.ensures ∙ ap (λ (z : Thing). end_written z) c.thing-thing.ensures in
-    raw_done s c.args.seq r c.requires.can c.args.peer c.requires.free _ c.args.things c.in-Ok.message c.put_message.new.pipes refl refl refl refl
+    raw_done s c.args.seq r c.requires.can c.args.peer c.requires.free _ c.args.things c.in-Ok.message c.put_message.new.pipes refl refl refl refl refl
     c.requires.same c.in-Ok.ensures c.in-Ok-put_message.ensures.ok c.put_all.ensures
     (c.push_reserved.ensures.events
     ∙ (ap (λ (z : Thing).

@@ -9,8 +9,9 @@ use Rattle.core_state.proofs.state.refuse.Goals as goal
 
 pub returns-clause-done : goal.returns-clause-done
 returns-clause-done c =
-    finish c.args.state.now _ c.args.seq c.args.command _ c.requires.can.able refl refl refl
+    finish c.args.state.now _ c.args.seq c.args.command _ c.requires.can.able refl refl refl refl
     (record { none = refl; handed = λ wire. refl; after = λ rs. refl; gives = refl; hands = refl; halves = λ wire past. refl })
+    refl
     (c.push_reserved.ensures.events
     ∙ ap (λ (a : Asked). c.args.state.now.log.events ++ record { seq = c.args.seq; asked = a; told = No c.args.why } ∷ [])
     c.requires.asked)

@@ -38,7 +38,7 @@ enter_all-requires c =
 pub returns-clause-done : goal.returns-clause-done
 returns-clause-done c =
     drop_done c.args.state.now c.args.seq c.requires.able c.args.end c.args.id c.args.admitted c.requires.told c.in-Ok.goes.noted c.in-Ok.ensures.noted
-    _ c.in-Ok.goes.told c.place_all.new.self c.emit.new.pipes c.pop_front-front.new.self refl refl c.in-Ok.ensures.told refl c.push_reserved.ensures.events
+    _ c.in-Ok.goes.told c.place_all.new.self c.emit.new.pipes c.pop_front-front.new.self refl refl c.in-Ok.ensures.told refl refl c.push_reserved.ensures.events
     c.place_all.ensures.same
     (subst (λ (ids : List ℕ). EmitsTo (peer_of (end_of c.args.state.now.pipes.ends c.args.end)) (controls_at c.place_all.new.self c.args.end ids)
     c.args.state.now.pipes c.emit.new.pipes) c.as_slice-closed.ensures.value c.in-Ok-emit.ensures.ok)

@@ -9,5 +9,5 @@ pop_front-front-requires c =
 
 pub returns : goal.returns
 returns c =
-    obey_done c.args.state.now c.args.seq c.requires.able c.args.end c.args.id c.requires.told _ refl refl refl c.push_reserved.ensures.events
+    obey_done c.args.state.now c.args.seq c.requires.able c.args.end c.args.id c.requires.told _ refl refl refl refl c.push_reserved.ensures.events
     c.mark_peer.ensures c.pop_front-front.ensures.rest

@@ -7,5 +7,5 @@ pop_front-front-requires c = obey_there c.args.state.now c.args.seq c.requires.a
 
 pub returns : goal.returns
 returns c =
-    heed_done c.args.state.now c.args.seq c.requires.able c.args.end c.args.said c.requires.told c.requires.silent _ refl refl refl
+    heed_done c.args.state.now c.args.seq c.requires.able c.args.end c.args.said c.requires.told c.requires.silent _ refl refl refl refl
     c.push_reserved.ensures.events refl c.pop_front-front.ensures.rest

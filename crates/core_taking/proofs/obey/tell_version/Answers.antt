@@ -18,4 +18,4 @@ pop_front-front-requires c =
 pub returns-clause-done : goal.returns-clause-done
 returns-clause-done c =
     answer_done c.args.state.now c.args.seq c.requires.able c.args.end c.args.id c.args.version c.requires.told
-    _ c.emit_version.new.pipes refl refl refl c.push_reserved.ensures.events refl c.in-Ok.ensures.ok c.pop_front-front.ensures.rest
+    _ c.emit_version.new.pipes refl refl refl refl c.push_reserved.ensures.events refl c.in-Ok.ensures.ok c.pop_front-front.ensures.rest

@@ -63,7 +63,7 @@ pub returns-clause-done : goal.returns-clause-done
 returns-clause-done c =
     got_done c.args.state.now c.args.seq c.requires.able c.args.end c.args.arrived c.requires.told c.in-Ok-gather.brings c.in-Ok-gather.ensures
     _ c.make_due-responder.result c.hand_out-handles.result c.make_pending-pendings.result c.make_places.new.endpoints c.enter_all.new.self
-    c.emit.new.pipes c.pop_front-front.new.self c.close.new.self refl refl
+    c.emit.new.pipes c.pop_front-front.new.self c.close.new.self refl refl refl
     (c.hand_out-handles.ensures.handles ∙ c.as_slice-2.ensures)
     (c.make_pending-pendings.ensures.made ∙ ap (λ (es : List Entry). halves_from c.args.end es) c.as_slice-entries.ensures.value)
     (c.push_reserved.ensures.events ∙ ap (λ (event : Event). c.args.state.now.log.events ++ event ∷ []) c.event_of.ensures)

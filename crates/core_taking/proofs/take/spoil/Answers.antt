@@ -7,5 +7,5 @@ use Rattle.core_taking.proofs.take.spoil.Goals as goal
 pub returns-clause-done : goal.returns-clause-done
 returns-clause-done c =
     bad_done c.args.state.now _ c.args.seq c.requires.able refl refl c.args.end c.args.why c.in-Ok.goes.noted c.in-Ok.goes.told
-    c.in-Ok.ensures.told c.requires.told c.in-Ok.ensures.noted refl refl c.push_reserved.ensures.events
+    c.in-Ok.ensures.told c.requires.told c.in-Ok.ensures.noted refl refl refl c.push_reserved.ensures.events
     (subst (λ (ts : List Thing). Closes ts c.args.state.now.pipes c.close.new.self) c.as_slice.ensures c.close.ensures)

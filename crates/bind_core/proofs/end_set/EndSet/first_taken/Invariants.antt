@@ -1,6 +1,6 @@
 use Rattle.std.proofs.Common.{◌≡◌}
 use Rattle.bind_core.specs.steps.FirstTaken.{first_taken}
-use Rattle.bind_core.specs.steps.Takers.{taker_of}
+use Rattle.bind_core.specs.steps.Takers.{ready_taker}
 use Rattle.bind_core.proofs.end_set.EndSet.first_taken.Given as goal
 
 -- the first of what is left is the first of all
@@ -8,5 +8,5 @@ abbrev pub invariant-loop-end : goal.invariant-loop-end
 invariant-loop-end l = record {
   can_next : (goal.iterator-loop-end).can_next l.end-iterator;
   is_finite : (goal.iterator-loop-end).is_finite l.end-iterator;
-  first : first_taken (taker_of l.state) l.end-iterator ≡ first_taken (taker_of l.state) l.self;
+  first : first_taken (ready_taker l.state) l.end-iterator ≡ first_taken (ready_taker l.state) l.self;
 }

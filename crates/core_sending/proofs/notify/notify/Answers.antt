@@ -1,0 +1,10 @@
+use Rattle.std.proofs.Common.{sym}
+use Rattle.core_sending.proofs.Notifying.{notify_refused}
+use Rattle.core_sending.proofs.notify.notify.Goals as goal
+
+pub refuse-requires-clause-why : goal.refuse-requires-clause-why
+refuse-requires-clause-why c =
+    notify_refused c.args.state.now c.args.seq c.args.end c.args.notice c.requires c.in-Err.why (sym c.in-Err.ensures)
+
+pub write-requires-clause-free : goal.write-requires-clause-free
+write-requires-clause-free c = sym c.in-Ok.ensures
