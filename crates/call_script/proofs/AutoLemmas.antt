@@ -13,7 +13,7 @@ use Rattle.wire_encoder.specs.declared.prepared.Prepared.{Prepared}
 use Rattle.call_script.specs.declared.commands.Stop.{Stop}
 use Rattle.call_script.specs.declared.commands.Stop.TheVariants as stops
 use Rattle.call_script.specs.declared.script_error.LineRefusal.TheVariants.{BadLine, DoubleName, UnknownName, BadValue, TooManyLines}
-use Rattle.call_script.specs.Forms.{Auto}
+use Rattle.script_forms.specs.Forms.{Auto}
 use Rattle.call_script.specs.Script.{knows, IsNoBareValue, HasNoValue}
 use Rattle.call_script.specs.Targets.{methods_of, method_named, target_in, target_between, target_named, split_word, message_named}
 use Rattle.call_script.specs.steps.Commands.{Values, Replies}

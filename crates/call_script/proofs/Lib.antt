@@ -1,17 +1,13 @@
 pub mod Dots
-pub mod Endpoints
-pub mod Hexes
 pub mod NameBytes
 pub mod WordBytes
 pub mod Interfaces
 pub mod NameLemmas
 pub mod TableLemmas
-pub mod Sayings
 pub mod SaidLemmas
 pub mod PartLemmas
 pub mod LineLemmas
 pub mod LoopLemmas
-pub mod OneForm
 pub mod OneName
 pub mod OwnNames
 pub mod OneValue

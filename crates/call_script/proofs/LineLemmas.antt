@@ -1,7 +1,7 @@
 -- One line more.
 use Rattle.std.proofs.Common.{◌≡◌, ◌<◌, ◌≤◌, ℕ, List, [], ◌∷◌, ◌++◌, append-nil, refl, sym, ◌∙◌, ap, subst}
 use Rattle.std.specs.Prelude.{Bool, true, false, ◌||◌, ◌&&◌, ◌^◌, not, reverse, Result, Ok, Err}
-use Rattle.call_script.proofs.OneForm.{form_one}
+use Rattle.script_forms.proofs.OneForm.{form_one}
 use Rattle.std.specs.List.{list_all}
 use Rattle.std.proofs.lemmas.List.{reverse-append}
 use Rattle.mj_base.specs.declared.limits.TheConstants.{MAX_SCRIPT_LINES}
@@ -14,7 +14,7 @@ use Rattle.call_script.specs.declared.name_table.NameTable.{NameTable}
 use Rattle.call_script.specs.declared.additions.Part.{Part as WrittenPart}
 use Rattle.call_script.specs.declared.additions.Part.TheVariants as parts
 use Rattle.call_script.specs.declared.reading.Reader.{Reader}
-use Rattle.call_script.specs.Forms.{Form, Auto, IsForm, form_words, is_setup, sequences, AreThere, sets, answers}
+use Rattle.script_forms.specs.Forms.{Form, Auto, IsForm, form_words, is_setup, sequences, AreThere, sets, answers}
 use Rattle.call_script.specs.Script.{is_placed, names_set, methods_answered, line_number, doubles, finds, knows}
 use Rattle.call_script.specs.Script.{IsFormOf, IsReply, IsTaken, IsRefused}
 use Rattle.call_script.specs.Script.{Part, OfLine, OfReply, lines_in, replies_in}

@@ -13,7 +13,7 @@ use Rattle.call_script.specs.declared.script.Script.{Script}
 use Rattle.call_script.specs.declared.script_error.LineRefusal.{LineRefusal}
 use Rattle.call_script.specs.declared.script_error.ScriptError.{ScriptError}
 use Rattle.call_script.specs.declared.reading.Reader.{Reader}
-use Rattle.call_script.specs.Forms.{Form, form_words, header_words, AreSequences}
+use Rattle.script_forms.specs.Forms.{Form, form_words, header_words, AreSequences}
 use Rattle.call_script.specs.Script.{line_number, AreScript, IsRefusedBehind}
 use Rattle.script_words.specs.declared.splitting.Words.{Words}
 use Rattle.script_words.specs.Words.{words_now}

@@ -10,11 +10,11 @@ use Rattle.call_script.specs.declared.script.Script.{Script}
 use Rattle.call_script.specs.declared.script_error.LineRefusal.{LineRefusal}
 use Rattle.call_script.specs.declared.script_error.LineRefusal.TheVariants.{BadLine, DoubleName, UnknownName, BadValue, TooManyLines}
 use Rattle.script_words.specs.Pieces.{text_words}
-use Rattle.call_script.specs.declared.script.TheConstants.{MAX_SEQUENCES}
-use Rattle.call_script.specs.Forms.{Form, IsForm, form_words, header_words, sequences, AreThere, AreSequences}
+use Rattle.script_forms.specs.declared.sequences.TheConstants.{MAX_SEQUENCES}
+use Rattle.script_forms.specs.Forms.{Form, IsForm, form_words, header_words, sequences, AreThere, AreSequences}
 use Rattle.call_script.specs.Script.{names_set, line_number, doubles, knows, IsFormOf, Part, IsTaken, AreTaken, AreScript, IsRefused, IsRefusedBehind}
 use Rattle.call_script.specs.Script.{HasNoValue, AreRefused, IsScriptOf, IsFirstRefusal}
-use Rattle.call_script.proofs.OneForm.{form_one}
+use Rattle.script_forms.proofs.OneForm.{form_one}
 use Rattle.call_script.proofs.OneValue.{has_value}
 
 -- ## One line

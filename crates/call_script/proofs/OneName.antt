@@ -8,7 +8,7 @@ use Rattle.std.specs.Str.{bytes_eq}
 use Rattle.std.proofs.lemmas.Slice.Eq.{bytes_eq-Decides}
 use Rattle.mj_schema.specs.declared.schema.Schema.{Schema}
 use Rattle.call_script.specs.declared.script.NameId.{NameId}
-use Rattle.call_script.specs.Forms.{Form, sets, sets_own}
+use Rattle.script_forms.specs.Forms.{Form, sets, sets_own}
 use Rattle.call_script.specs.Script.{has_name, doubled, sets_again, names_set, IsNamed, AreNamed, Part, AreTaken}
 use Rattle.call_script.specs.steps.Names.{number_of}
 use Rattle.call_script.proofs.NameLemmas.{number_more}

@@ -8,10 +8,11 @@ use Rattle.call_script.specs.declared.script.Command.{Command}
 use Rattle.call_script.specs.declared.script.Command.TheVariants as commands
 use Rattle.call_script.specs.declared.script.Script.{Script}
 use Rattle.script_words.specs.Pieces.{text_words}
-use Rattle.call_script.specs.Forms.{Form, Join, Auto, Of, Pipe, Mint, Bind, Associate, Attach, Call, Take, Answer, Raw, CloseToken, CloseEndpoint}
+use Rattle.script_forms.specs.Forms.{Form, Join, Auto, Of, Pipe, Mint, Bind, Associate, Attach, Call, Take, Answer, Raw, CloseToken, CloseEndpoint}
+use Rattle.script_forms.specs.Forms.{Notify, Pause}
 use Rattle.call_script.specs.Same.{SameCommand, SameLine, SameLines, SameReply, SameReplies, SameScript}
 use Rattle.call_script.specs.Script.{names_set, IsValueOf, Asks, IsAuto, Part, OfLine, OfReply, IsPart, lines_in, replies_in, AreTaken, AreScript, IsScriptOf}
-use Rattle.call_script.proofs.Hexes.{hex_one}
+use Rattle.script_forms.proofs.Hexes.{hex_one}
 use Rattle.call_script.proofs.OneName.{Numbered, numbered, id_one, ids_one}
 use Rattle.call_script.proofs.OneValue.{one_found, prepared_one}
 use Rattle.call_script.proofs.OneAnswer.{same_forms}
@@ -60,7 +61,7 @@ module _ (schema : Schema) (before names : List (List ℕ)) (all : Numbered name
       let ids = ids_one names all tokens tokens' _ one.2 also.2 in cc
   same_command (Of seq (Raw x word ts)) (commands.Raw i bytes tokens) b one also = absurd also
   same_command (Of seq (Raw x word ts)) a b one also = absurd one
-  same_command (Of seq (Call x id method word ts)) (commands.Call i n p tokens) (commands.Call i' n' p' tokens') one also =
+  same_command (Of seq (Call x id method word ts at)) (commands.Call i n p tokens m) (commands.Call i' n' p' tokens' m') one also =
       let value = one.3 in
       let other = also.3 in
       let found = one_found p.target p'.target value.0 other.0 (sym value.1 ∙ other.1) in (
@@ -68,24 +69,26 @@ module _ (schema : Schema) (before names : List (List ℕ)) (all : Numbered name
         one.1 ∙ sym also.1,
         prepared_one schema value.0 word p p' found.0 value.2 (subst (λ (n : ℕ). IsValueOf schema n word p') (sym found.1) other.2),
         ids_one names all tokens tokens' _ one.2 also.2,
+        one.4 ∙ sym also.4,
       )
-  same_command (Of seq (Call x id method word ts)) (commands.Call i n p tokens) b one also = absurd also
-  same_command (Of seq (Call x id method word ts)) a b one also = absurd one
+  same_command (Of seq (Call x id method word ts at)) (commands.Call i n p tokens m) b one also = absurd also
+  same_command (Of seq (Call x id method word ts at)) a b one also = absurd one
   same_command (Of seq (Take x ns)) (commands.Take i got) (commands.Take i' got') one also =
       let id = id_one names all i i' _ one.0 also.0 in
       let ids = ids_one names all got got' _ one.1 also.1 in cc
   same_command (Of seq (Take x ns)) (commands.Take i got) b one also = absurd also
   same_command (Of seq (Take x ns)) a b one also = absurd one
-  same_command (Of seq (Answer x method word ts)) (commands.Answer i p tokens) (commands.Answer i' p' tokens') one also =
+  same_command (Of seq (Answer x method word ts at)) (commands.Answer i p tokens m) (commands.Answer i' p' tokens' m') one also =
       let value = one.2 in
       let other = also.2 in
       let found = one_found p.target p'.target value.0 other.0 (sym value.1 ∙ other.1) in (
         id_one names all i i' _ one.0 also.0,
         prepared_one schema value.0 word p p' found.0 value.2 (subst (λ (n : ℕ). IsValueOf schema n word p') (sym found.1) other.2),
         ids_one names all tokens tokens' _ one.1 also.1,
+        one.3 ∙ sym also.3,
       )
-  same_command (Of seq (Answer x method word ts)) (commands.Answer i p tokens) b one also = absurd also
-  same_command (Of seq (Answer x method word ts)) a b one also = absurd one
+  same_command (Of seq (Answer x method word ts at)) (commands.Answer i p tokens m) b one also = absurd also
+  same_command (Of seq (Answer x method word ts at)) a b one also = absurd one
   same_command (Of seq (CloseToken x)) (commands.CloseToken i) (commands.CloseToken i') one also = let id = id_one names all i i' _ one also in cc
   same_command (Of seq (CloseToken x)) (commands.CloseToken i) b one also = absurd also
   same_command (Of seq (CloseToken x)) a b one also = absurd one
@@ -94,6 +97,17 @@ module _ (schema : Schema) (before names : List (List ℕ)) (all : Numbered name
       let ids = one.1 ∙ sym also.1 in cc
   same_command (Of seq (CloseEndpoint x n)) (commands.CloseEndpoint i m) b one also = absurd also
   same_command (Of seq (CloseEndpoint x n)) a b one also = absurd one
+  same_command (Of seq (Notify x notice)) (commands.Notify i m) (commands.Notify i' m') one also =
+      let id = id_one names all i i' _ one.0 also.0 in
+      let notices = one.1 ∙ sym also.1 in cc
+  same_command (Of seq (Notify x notice)) (commands.Notify i m) b one also = absurd also
+  same_command (Of seq (Notify x notice)) a b one also = absurd one
+  same_command (Of seq (Pause x y flush)) (commands.Pause i j k) (commands.Pause i' j' k') one also =
+      let first = id_one names all i i' _ one.0 also.0 in
+      let second = id_one names all j j' _ one.1 also.1 in
+      let flushes = one.2 ∙ sym also.2 in cc
+  same_command (Of seq (Pause x y flush)) (commands.Pause i j k) b one also = absurd also
+  same_command (Of seq (Pause x y flush)) a b one also = absurd one
 
 -- an automatic reply is one
 same_auto : (schema : Schema) (asker : ℕ) (method word : List ℕ) (a b : AutoReply) → IsAuto schema asker method word a → IsAuto schema asker method word b

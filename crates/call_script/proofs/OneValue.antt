@@ -18,7 +18,7 @@ use Rattle.wire_encoder.specs.declared.refusal.PrepareError.TheVariants.{Misfit,
 use Rattle.call_script.specs.declared.script.Command.{Command}
 use Rattle.call_script.specs.declared.script.Command.TheVariants as commands
 use Rattle.call_script.specs.declared.script.AutoReply.{AutoReply}
-use Rattle.call_script.specs.Forms.{Form, Auto, Of, Call, Answer}
+use Rattle.script_forms.specs.Forms.{Form, Auto, Of, Call, Answer}
 use Rattle.call_script.specs.Same.{SamePrepared}
 use Rattle.call_script.specs.Script.{parameters_rule, names_set, IsValueOf, IsReason, HasNoValue, WantsTokens, IsNoBareValue, Asks, IsAuto, IsPart}
 use Rattle.call_script.specs.Script.{Part, OfLine, OfReply}
@@ -79,16 +79,16 @@ wants_some schema target number word prepared same value wants tree spells =
 -- a line with a value has one
 command_value : (schema : Schema) (before names : List (List ℕ)) (form : Form) (command : Command) → HasNoValue schema form
     → Asks schema before names form command → ⊥
-command_value schema before names (Of seq (Call x id method word ts)) (commands.Call end id' prepared tokens) none asks =
+command_value schema before names (Of seq (Call x id method word ts at)) (commands.Call end id' prepared tokens m) none asks =
     let value = asks.3 in
     let refused = none prepared.target value.0 value.1 (view prepared.value) value.2.0 in
     not_refused schema prepared refused.0 value.2.1 refused.1 refused.2
-command_value schema before names (Of seq (Call x id method word ts)) command none asks = absurd asks
-command_value schema before names (Of seq (Answer x method word ts)) (commands.Answer responder prepared tokens) none asks =
+command_value schema before names (Of seq (Call x id method word ts at)) command none asks = absurd asks
+command_value schema before names (Of seq (Answer x method word ts at)) (commands.Answer responder prepared tokens m) none asks =
     let value = asks.2 in
     let refused = none prepared.target value.0 value.1 (view prepared.value) value.2.0 in
     not_refused schema prepared refused.0 value.2.1 refused.1 refused.2
-command_value schema before names (Of seq (Answer x method word ts)) command none asks = absurd asks
+command_value schema before names (Of seq (Answer x method word ts at)) command none asks = absurd asks
 command_value schema before names (Auto seq method word) command none asks = absurd asks
 command_value schema before names form command none asks = absurd none
 

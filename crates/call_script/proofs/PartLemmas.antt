@@ -5,7 +5,7 @@ use Rattle.call_script.specs.declared.commands.Stop.{Stop}
 use Rattle.call_script.specs.declared.name_table.NameTable.{NameTable}
 use Rattle.call_script.specs.declared.name_table.Scope.{Scope}
 use Rattle.call_script.specs.declared.script.Command.TheVariants as commands
-use Rattle.call_script.specs.Forms.{Said, Form, Join, Auto, Of}
+use Rattle.script_forms.specs.Forms.{Said, Form, Join, Auto, Of}
 use Rattle.call_script.specs.steps.Commands.{Gives, Commands, Says, Replies, Parts}
 use Rattle.call_script.proofs.TableLemmas.{slice_behind, slice_second}
 

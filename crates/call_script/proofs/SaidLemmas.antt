@@ -1,27 +1,17 @@
--- What is said by words, and what a take asks.
-use Rattle.std.proofs.Common.{◌≡◌, ℕ, List, length, refl, sym, ◌∙◌, ap, subst, true, Ok}
+-- What a take asks.
+use Rattle.std.proofs.Common.{◌≡◌, ℕ, List, length, refl, sym, ◌∙◌, ap, Ok}
 use Rattle.std.proofs.lemmas.List.{length-map}
-use Rattle.std.specs.Prelude.{map, Option}
-use Rattle.std.specs.Str.{bytes_eq}
-use Rattle.std.proofs.lemmas.Slice.Eq.{bytes_eq-Decides}
+use Rattle.std.specs.Prelude.{map}
 use Rattle.std.specs.List.{range_with_len}
 use Rattle.mj_schema.specs.declared.schema.Schema.{Schema}
-use Rattle.call_script.specs.declared.form.Said.{Said as WrittenSaid}
-use Rattle.call_script.specs.steps.Forms.{SpellsBehind, SpellsSaid}
 use Rattle.call_script.specs.declared.name_table.Scope.{Scope}
 use Rattle.call_script.specs.declared.script.NameId.{NameId}
 use Rattle.call_script.specs.declared.script.Command.TheVariants as commands
 use Rattle.script_words.specs.Letters.{own_word}
-use Rattle.call_script.specs.Forms.{Take}
+use Rattle.script_forms.specs.Forms.{Take}
 use Rattle.call_script.specs.steps.Names.{FindsAt}
 use Rattle.call_script.specs.steps.Commands.{Says}
 use Rattle.call_script.proofs.TableLemmas.{named_range}
-
--- what stands behind a command, by its word
-pub said_as : (seqs : ℕ) (command word : List ℕ) (words : List (List ℕ)) (found : Option WrittenSaid) → true ≡ bytes_eq command word
-    → SpellsSaid word words found → SpellsBehind seqs command words found
-said_as seqs command word words found same said =
-    subst (λ c. SpellsBehind seqs c words found) (sym ((bytes_eq-Decides command word).0 (sym same))) (said seqs)
 
 -- the names of a take are those that follow
 pub says_take : (schema : Schema) (scope : Scope) (x : List ℕ) (ns : List (List ℕ)) (id : NameId) (ids : List NameId) → FindsAt scope x id

@@ -1,6 +1,6 @@
 -- A script's lines send no more ids than its text has bytes: each comes of a name of a line's words, or of two letters of a word.
 use Rattle.std.proofs.Common.{◌≡◌, ◌≤◌, ℕ, suc, ◌+◌, Bool, true, false, List, [], ◌∷◌, ◌++◌, length, refl, ap, ◌∙◌, arith, length-append}
-use Rattle.std.specs.Prelude.{◌==◌, ◌&&◌, if◌then◌else◌, map, reverse}
+use Rattle.std.specs.Prelude.{◌==◌, ◌&&◌, if◌then◌else◌, map, reverse, Some, None}
 use Rattle.std.proofs.lemmas.List.{length-map, reverse-append}
 use Rattle.hex.specs.Hex.{lower_digits}
 use Rattle.hex.proofs.HexLemmas.{length-encode_with}
@@ -12,8 +12,9 @@ use Rattle.call_script.specs.declared.script.Line.{Line}
 use Rattle.call_script.specs.declared.script.Script.{Script}
 use Rattle.script_words.specs.Pieces.{Place, Outside, behind, line_words, onto, parts_words, pieces, text_lines, text_words, without_empty_last, words_at}
 use Rattle.script_words.specs.Letters.{are_names, hex_word, is_name}
-use Rattle.call_script.specs.Forms.{Form, Join, Of, Pipe, Mint, Bind, Associate, Attach, Call, Take, Answer, Raw, CloseToken, CloseEndpoint}
-use Rattle.call_script.specs.Forms.{IsForm, form_words}
+use Rattle.script_forms.specs.Forms.{Form, Join, Of, Pipe, Mint, Bind, Associate, Attach, Call, Take, Answer, Raw, CloseToken, CloseEndpoint}
+use Rattle.script_forms.specs.Forms.{Notify, Pause}
+use Rattle.script_forms.specs.Forms.{IsForm, form_words}
 use Rattle.call_script.specs.Script.{AreNamed, AreScript, AreTaken, Asks, IsTaken, Part, OfLine, OfReply, lines_in}
 use Rattle.call_script.specs.Sound.{most_ids, most_ids_of}
 use Rattle.call_script.proofs.LoopLemmas.{forms_more}
@@ -102,9 +103,13 @@ hex_few (b ∷ bytes) = omega (arith, length-encode_with lower_digits (b ∷ byt
 
 command_sends : (schema : Schema) (before names : List (List ℕ)) (form : Form) (command : Command) → IsForm form → Asks schema before names form command
     → most_ids command ≤ letters (form_words form)
-command_sends schema before names (Of seq (Call x id method word ts)) (commands.Call i n p tokens) is asks =
+command_sends schema before names (Of seq (Call x id method word ts None)) (commands.Call i n p tokens m) is asks =
     omega (arith, tokens_few names _ tokens ts asks.2 is.4)
-command_sends schema before names (Of seq (Answer x method word ts)) (commands.Answer i p tokens) is asks =
+command_sends schema before names (Of seq (Call x id method word ts (Some at))) (commands.Call i n p tokens m) is asks =
+    omega (arith, tokens_few names _ tokens ts asks.2 is.4)
+command_sends schema before names (Of seq (Answer x method word ts None)) (commands.Answer i p tokens m) is asks =
+    omega (arith, tokens_few names _ tokens ts asks.1 is.3)
+command_sends schema before names (Of seq (Answer x method word ts (Some at))) (commands.Answer i p tokens m) is asks =
     omega (arith, tokens_few names _ tokens ts asks.1 is.3)
 command_sends schema before names (Of seq (Raw x word ts)) (commands.Raw i bytes tokens) is asks =
     omega (arith, hex_few bytes, ap (λ (w : List ℕ). length w) asks.1.1)
@@ -117,6 +122,8 @@ command_sends schema before names (Of seq (Attach x other)) (commands.Attach i o
 command_sends schema before names (Of seq (Take x ns)) (commands.Take i got) is asks = omega arith
 command_sends schema before names (Of seq (CloseToken x)) (commands.CloseToken i) is asks = omega arith
 command_sends schema before names (Of seq (CloseEndpoint x n)) (commands.CloseEndpoint i m) is asks = omega arith
+command_sends schema before names (Of seq (Notify x notice)) (commands.Notify i m) is asks = omega arith
+command_sends schema before names (Of seq (Pause x y flush)) (commands.Pause i j k) is asks = omega arith
 command_sends schema before names form command is asks = absurd asks
 
 -- ## What the lines send

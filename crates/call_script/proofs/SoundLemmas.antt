@@ -11,8 +11,9 @@ use Rattle.call_script.specs.declared.script.Command.TheVariants as commands
 use Rattle.call_script.specs.declared.script.Script.{Script}
 use Rattle.call_script.specs.declared.script_error.ScriptError.{ScriptError}
 use Rattle.mj_base.specs.declared.ids.SeqId.{SeqId}
-use Rattle.call_script.specs.Forms.{Form, Join, Auto, Of, Pipe, Mint, Bind, Associate, Attach, Call, Take, Answer, Raw, CloseToken, CloseEndpoint}
-use Rattle.call_script.specs.Forms.{sequences, AreThere, sets as line_sets}
+use Rattle.script_forms.specs.Forms.{Form, Join, Auto, Of, Pipe, Mint, Bind, Associate, Attach, Call, Take, Answer, Raw, CloseToken, CloseEndpoint}
+use Rattle.script_forms.specs.Forms.{Notify, Pause}
+use Rattle.script_forms.specs.Forms.{sequences, AreThere, sets as line_sets}
 use Rattle.call_script.specs.Script.{names_set, seq_of, IsNamed, AreNamed, Asks, IsPart, Part, OfLine, OfReply, lines_in, replies_in, AreTaken, AreScript}
 use Rattle.call_script.specs.Sound.{sets, needs, others, AreWithin, IsReadWith, IsLine, IsReply, IsScript}
 use Rattle.call_script.specs.steps.Lines.{AnswersAll}
@@ -47,10 +48,12 @@ module _ (names : List (List ℕ)) (count : ℕ) (few : length names ≤ count) 
   sets_within schema before (Of seq (Associate x side word y)) (commands.Associate i s n p) asks = (one_within p _ asks.3, tt)
   sets_within schema before (Of seq (Attach x other)) (commands.Attach i o) asks = tt
   sets_within schema before (Of seq (Raw x word ts)) (commands.Raw i bytes tokens) asks = tt
-  sets_within schema before (Of seq (Call x id method word ts)) (commands.Call i n p tokens) asks = tt
-  sets_within schema before (Of seq (Answer x method word ts)) (commands.Answer i p tokens) asks = tt
+  sets_within schema before (Of seq (Call x id method word ts at)) (commands.Call i n p tokens m) asks = tt
+  sets_within schema before (Of seq (Answer x method word ts at)) (commands.Answer i p tokens m) asks = tt
   sets_within schema before (Of seq (CloseToken x)) (commands.CloseToken i) asks = tt
   sets_within schema before (Of seq (CloseEndpoint x n)) (commands.CloseEndpoint i m) asks = tt
+  sets_within schema before (Of seq (Notify x notice)) (commands.Notify i m) asks = tt
+  sets_within schema before (Of seq (Pause x y flush)) (commands.Pause i j k) asks = tt
   sets_within schema before form command asks = absurd asks
 
   needs_within : (schema : Schema) (before : List (List ℕ)) (form : Form) (command : Command) → Asks schema before names form command
@@ -63,17 +66,19 @@ module _ (names : List (List ℕ)) (count : ℕ) (few : length names ≤ count) 
   needs_within schema before (Of seq (Associate x side word y)) (commands.Associate i s n p) asks = (one_within i _ asks.0, tt)
   needs_within schema before (Of seq (Attach x other)) (commands.Attach i o) asks = (one_within i _ asks.0, tt)
   needs_within schema before (Of seq (Raw x word ts)) (commands.Raw i bytes tokens) asks = (one_within i _ asks.0, all_within tokens _ asks.2)
-  needs_within schema before (Of seq (Call x id method word ts)) (commands.Call i n p tokens) asks = (one_within i _ asks.0, all_within tokens _ asks.2)
-  needs_within schema before (Of seq (Answer x method word ts)) (commands.Answer i p tokens) asks = (one_within i _ asks.0, all_within tokens _ asks.1)
+  needs_within schema before (Of seq (Call x id method word ts at)) (commands.Call i n p tokens m) asks = (one_within i _ asks.0, all_within tokens _ asks.2)
+  needs_within schema before (Of seq (Answer x method word ts at)) (commands.Answer i p tokens m) asks = (one_within i _ asks.0, all_within tokens _ asks.1)
   needs_within schema before (Of seq (CloseToken x)) (commands.CloseToken i) asks = (one_within i _ asks, tt)
   needs_within schema before (Of seq (CloseEndpoint x n)) (commands.CloseEndpoint i m) asks = (one_within i _ asks.0, tt)
+  needs_within schema before (Of seq (Notify x notice)) (commands.Notify i m) asks = (one_within i _ asks.0, tt)
+  needs_within schema before (Of seq (Pause x y flush)) (commands.Pause i j k) asks = (one_within i _ asks.0, (one_within j _ asks.1, tt))
   needs_within schema before form command asks = absurd asks
 
 -- its value or its bytes
 read_with : (schema : Schema) (before names : List (List ℕ)) (form : Form) (command : Command) → Asks schema before names form command
     → IsReadWith schema command
-read_with schema before names (Of seq (Call x id method word ts)) (commands.Call i n p tokens) asks = asks.3.2.1
-read_with schema before names (Of seq (Answer x method word ts)) (commands.Answer i p tokens) asks = asks.2.2.1
+read_with schema before names (Of seq (Call x id method word ts at)) (commands.Call i n p tokens m) asks = asks.3.2.1
+read_with schema before names (Of seq (Answer x method word ts at)) (commands.Answer i p tokens m) asks = asks.2.2.1
 read_with schema before names (Join seq other x y) (commands.Join o f g) asks = tt
 read_with schema before names (Of seq (Pipe x y)) (commands.Pipe f g) asks = tt
 read_with schema before names (Of seq (Mint sort x)) (commands.Mint s i) asks = tt
@@ -84,6 +89,8 @@ read_with schema before names (Of seq (Take x ns)) (commands.Take i got) asks = 
 read_with schema before names (Of seq (Bind x side word)) (commands.Bind i s n) asks = tt
 read_with schema before names (Of seq (CloseToken x)) (commands.CloseToken i) asks = tt
 read_with schema before names (Of seq (CloseEndpoint x n)) (commands.CloseEndpoint i m) asks = tt
+read_with schema before names (Of seq (Notify x notice)) (commands.Notify i m) asks = tt
+read_with schema before names (Of seq (Pause x y flush)) (commands.Pause i j k) asks = tt
 read_with schema before names form command asks = absurd asks
 
 -- its sequence
@@ -104,12 +111,14 @@ others_within schema seqs before names (Of seq (Pipe x y)) (commands.Pipe f g) t
 others_within schema seqs before names (Of seq (Mint sort x)) (commands.Mint s i) there asks = tt
 others_within schema seqs before names (Of seq (Bind x side word)) (commands.Bind i s n) there asks = tt
 others_within schema seqs before names (Of seq (Associate x side word y)) (commands.Associate i s n p) there asks = tt
-others_within schema seqs before names (Of seq (Call x id method word ts)) (commands.Call i n p tokens) there asks = tt
+others_within schema seqs before names (Of seq (Call x id method word ts at)) (commands.Call i n p tokens m) there asks = tt
 others_within schema seqs before names (Of seq (Take x ns)) (commands.Take i got) there asks = tt
-others_within schema seqs before names (Of seq (Answer x method word ts)) (commands.Answer i p tokens) there asks = tt
+others_within schema seqs before names (Of seq (Answer x method word ts at)) (commands.Answer i p tokens m) there asks = tt
 others_within schema seqs before names (Of seq (Raw x word ts)) (commands.Raw i bytes tokens) there asks = tt
 others_within schema seqs before names (Of seq (CloseToken x)) (commands.CloseToken i) there asks = tt
 others_within schema seqs before names (Of seq (CloseEndpoint x n)) (commands.CloseEndpoint i m) there asks = tt
+others_within schema seqs before names (Of seq (Notify x notice)) (commands.Notify i m) there asks = tt
+others_within schema seqs before names (Of seq (Pause x y flush)) (commands.Pause i j k) there asks = tt
 others_within schema seqs before names form command there asks = absurd asks
 
 -- what a form adds, where there are so many sequences and so many names are set at last

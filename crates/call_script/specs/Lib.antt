@@ -1,5 +1,4 @@
 pub mod Targets
-pub mod Forms
 pub mod Script
 pub mod Same
 pub mod Sound

@@ -19,10 +19,10 @@ pub record SamePrepared (one other : Prepared) : Type 0 where
 
 -- the same is asked
 abbrev pub SameCommand : Command → Command → Type 0
-SameCommand (Call end id prepared tokens) (Call end' id' prepared' tokens') =
-    (end ≡ end') × (id ≡ id') × SamePrepared prepared prepared' × (tokens ≡ tokens')
-SameCommand (Answer responder prepared tokens) (Answer responder' prepared' tokens') =
-    (responder ≡ responder') × SamePrepared prepared prepared' × (tokens ≡ tokens')
+SameCommand (Call end id prepared tokens moment) (Call end' id' prepared' tokens' moment') =
+    (end ≡ end') × (id ≡ id') × SamePrepared prepared prepared' × (tokens ≡ tokens') × (moment ≡ moment')
+SameCommand (Answer responder prepared tokens moment) (Answer responder' prepared' tokens' moment') =
+    (responder ≡ responder') × SamePrepared prepared prepared' × (tokens ≡ tokens') × (moment ≡ moment')
 SameCommand one other = one ≡ other
 
 -- the same sequence answers with the same

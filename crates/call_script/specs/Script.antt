@@ -31,8 +31,9 @@ use Rattle.call_script.specs.declared.script_error.LineRefusal.TheVariants.{BadL
 use Rattle.script_words.specs.Pieces.{text_words}
 use Rattle.call_script.specs.Targets.{message_named}
 use Rattle.script_words.specs.Letters.{own_word, IsHexOf}
-use Rattle.call_script.specs.Forms.{Form, Join, Auto, Of, Pipe, Mint, Bind, Associate, Attach, Call, Take, Answer, Raw, CloseToken, CloseEndpoint}
-use Rattle.call_script.specs.Forms.{form_words, header_words, AreSequences, IsForm, sequences, AreThere, is_setup, sets, sets_own, answers, needs}
+use Rattle.script_forms.specs.Forms.{Form, Join, Auto, Of, Pipe, Mint, Bind, Associate, Attach, Call, Take, Answer, Raw, CloseToken, CloseEndpoint}
+use Rattle.script_forms.specs.Forms.{Notify, Pause}
+use Rattle.script_forms.specs.Forms.{form_words, header_words, AreSequences, IsForm, sequences, AreThere, is_setup, sets, sets_own, answers, needs}
 
 -- ## What stands before a line
 
@@ -90,8 +91,8 @@ doubles past form = sets_again (names_set past) form || doubled (methods_answere
 abbrev pub finds : Schema → Form → Bool
 finds schema (Of seq (Bind end side interface)) = is_some (interface_named schema.interfaces interface)
 finds schema (Of seq (Associate end side interface pending)) = is_some (interface_named schema.interfaces interface)
-finds schema (Of seq (Call end id method word tokens)) = is_some (message_named schema Request method)
-finds schema (Of seq (Answer responder method word tokens)) = is_some (message_named schema Response method)
+finds schema (Of seq (Call end id method word tokens moment)) = is_some (message_named schema Request method)
+finds schema (Of seq (Answer responder method word tokens moment)) = is_some (message_named schema Response method)
 finds schema (Auto seq method word) = is_some (message_named schema Response method)
 finds schema form = true
 
@@ -136,9 +137,9 @@ IsNoBareValue schema target number word = (tree : Tree) → Spells (parameters_r
 
 -- the value of a line isn't one
 abbrev pub HasNoValue : Schema → Form → Type 0
-HasNoValue schema (Of seq (Call end id method word tokens)) =
+HasNoValue schema (Of seq (Call end id method word tokens moment)) =
     (target : Target) (number : ℕ) → message_named schema Request method ≡ Some (target, number) → IsNoValue schema target number word
-HasNoValue schema (Of seq (Answer responder method word tokens)) =
+HasNoValue schema (Of seq (Answer responder method word tokens moment)) =
     (target : Target) (number : ℕ) → message_named schema Response method ≡ Some (target, number) → IsNoValue schema target number word
 HasNoValue schema (Auto seq method word) =
     (target : Target) (number : ℕ) → message_named schema Response method ≡ Some (target, number) → IsNoBareValue schema target number word
@@ -169,18 +170,23 @@ Asks schema before names (Of seq (Associate x side interface p)) (commands.Assoc
     IsNamed names end (meant before seq x) × (side' ≡ side) × (interface_named schema.interfaces interface ≡ Some number)
     × IsNamed names pending (own_word seq p)
 Asks schema before names (Of seq (Attach p other)) (commands.Attach pending other') = IsNamed names pending (meant before seq p) × (other'.0 ≡ other)
-Asks schema before names (Of seq (Call x id method word ts)) (commands.Call end id' prepared tokens) =
+Asks schema before names (Of seq (Call x id method word ts moment)) (commands.Call end id' prepared tokens moment') =
     IsNamed names end (meant before seq x) × (id' ≡ id) × AreNamed names tokens (map (meant before seq) ts)
     × ((number : ℕ) × (message_named schema Request method ≡ Some (prepared.target, number)) × IsValueOf schema number word prepared)
+    × (moment' ≡ moment)
 Asks schema before names (Of seq (Take x ns)) (commands.Take end got) =
     IsNamed names end (meant before seq x) × AreNamed names got (map (own_word seq) ns)
-Asks schema before names (Of seq (Answer x method word ts)) (commands.Answer responder prepared tokens) =
+Asks schema before names (Of seq (Answer x method word ts moment)) (commands.Answer responder prepared tokens moment') =
     IsNamed names responder (meant before seq x) × AreNamed names tokens (map (meant before seq) ts)
     × ((number : ℕ) × (message_named schema Response method ≡ Some (prepared.target, number)) × IsValueOf schema number word prepared)
+    × (moment' ≡ moment)
 Asks schema before names (Of seq (Raw x word ts)) (commands.Raw end bytes tokens) =
     IsNamed names end (meant before seq x) × IsHexOf word bytes × AreNamed names tokens (map (meant before seq) ts)
 Asks schema before names (Of seq (CloseToken x)) (commands.CloseToken token) = IsNamed names token (meant before seq x)
 Asks schema before names (Of seq (CloseEndpoint x id)) (commands.CloseEndpoint end id') = IsNamed names end (meant before seq x) × (id' ≡ id)
+Asks schema before names (Of seq (Notify x notice)) (commands.Notify end notice') = IsNamed names end (meant before seq x) × (notice' ≡ notice)
+Asks schema before names (Of seq (Pause x y flush)) (commands.Pause end other flush') =
+    IsNamed names end (meant before seq x) × IsNamed names other (meant before seq y) × (flush' ≡ flush)
 Asks schema before names form command = ⊥
 
 -- the line of a form behind these

@@ -11,9 +11,10 @@ use Rattle.call_script.specs.declared.script.AutoReply.{AutoReply}
 use Rattle.call_script.specs.declared.script.NameId.{NameId}
 use Rattle.call_script.specs.declared.script.Command.{Command}
 use Rattle.call_script.specs.declared.script.Command.TheVariants.{Join, Pipe, Mint, Bind, Associate, Attach, Call, Take, Answer, Raw, CloseToken, CloseEndpoint}
+use Rattle.call_script.specs.declared.script.Command.TheVariants.{Notify, Pause}
 use Rattle.call_script.specs.declared.script.Line.{Line}
 use Rattle.call_script.specs.declared.script.Script.{Script}
-use Rattle.call_script.specs.Forms.{AreSequences}
+use Rattle.script_forms.specs.Forms.{AreSequences}
 
 -- the names that a command sets
 abbrev pub sets : Command → List NameId
@@ -29,12 +30,14 @@ abbrev pub needs : Command → List NameId
 needs (Bind end side interface) = end ∷ []
 needs (Associate end side interface pending) = end ∷ []
 needs (Attach pending seq) = pending ∷ []
-needs (Call end id prepared tokens) = end ∷ tokens
+needs (Call end id prepared tokens moment) = end ∷ tokens
 needs (Take end names) = end ∷ []
-needs (Answer responder prepared tokens) = responder ∷ tokens
+needs (Answer responder prepared tokens moment) = responder ∷ tokens
 needs (Raw end bytes tokens) = end ∷ tokens
 needs (CloseToken token) = token ∷ []
 needs (CloseEndpoint end id) = end ∷ []
+needs (Notify end notice) = end ∷ []
+needs (Pause end other flush) = end ∷ other ∷ []
 needs command = []
 
 -- the sequences that a command names besides the one that asks
@@ -45,15 +48,15 @@ others command = []
 
 -- what a call or an answer sends was prepared with the schema, and what is sent raw is bytes
 abbrev pub IsReadWith : Schema → Command → Type 0
-IsReadWith schema (Call end id prepared tokens) = IsPrepared schema prepared
-IsReadWith schema (Answer responder prepared tokens) = IsPrepared schema prepared
+IsReadWith schema (Call end id prepared tokens moment) = IsPrepared schema prepared
+IsReadWith schema (Answer responder prepared tokens moment) = IsPrepared schema prepared
 IsReadWith schema (Raw end bytes tokens) = IsBytes bytes
 IsReadWith schema command = Unit {0}
 
 -- how many endpoint ids the message of a command can carry: one for each of its names, or for each of its bytes
 abbrev pub most_ids : Command → ℕ
-most_ids (Call end id prepared tokens) = length tokens
-most_ids (Answer responder prepared tokens) = length tokens
+most_ids (Call end id prepared tokens moment) = length tokens
+most_ids (Answer responder prepared tokens moment) = length tokens
 most_ids (Raw end bytes tokens) = length bytes
 most_ids command = 0
 

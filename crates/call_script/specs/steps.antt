@@ -1,6 +1,4 @@
 -- Definitions that serve proofs alone: no public clause cites them.
-pub mod Numbers
-pub mod Forms
 pub mod Names
 pub mod Interfaces
 pub mod Commands

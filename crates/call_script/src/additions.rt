@@ -1,20 +1,20 @@
 //! What a line adds to a script.
 
 ghost use Rattle.std.specs.Prelude.{◌≡◌, ◌<◌, ◌^◌, true};
-ghost use Rattle.call_script.specs.Forms.{Auto, IsForm};
+ghost use Rattle.script_forms.specs.Forms.{Auto, IsForm};
 ghost use Rattle.script_words.specs.Letters.{is_method_word};
-ghost use Rattle.call_script.specs.steps.Forms.{form_view};
+ghost use Rattle.script_forms.specs.Views.{form_view};
 ghost use Rattle.call_script.specs.steps.Interfaces.{IsIndexed};
 ghost use Rattle.call_script.specs.steps.Commands.{Replies, Parts};
 
 use crate::commands::{Stop, said_command, value_of};
-use crate::form::Form;
 use crate::indexed_schema::IndexedSchema;
 use crate::name_table::{NameTable, Scope};
 use crate::script::{AutoReply, Command, Line, NameId};
 use crate::script_error::LineRefusal;
 use crate::targets::message_named;
 use mj_base::SeqId;
+use script_forms::Form;
 use std::alloc::Global;
 use wire_model::MessageSide;
 

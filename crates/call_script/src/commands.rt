@@ -4,21 +4,22 @@ ghost use Rattle.std.specs.Prelude.{◌≡◌, ◌<◌, ◌^◌, ◌+◌, IfOk, 
 ghost use Rattle.std.specs.List.{range_with_len};
 ghost use Rattle.wire_encoder.specs.Prepared.{parameters_of};
 ghost use Rattle.call_script.specs.declared.script.NameId.{NameId};
-ghost use Rattle.call_script.specs.Forms.{Bind, Associate, Attach, Call, Take, Answer, Raw, CloseToken, CloseEndpoint, IsSaid};
+ghost use Rattle.script_forms.specs.Forms.{Bind, Associate, Attach, Call, Take, Answer, Raw, CloseToken, CloseEndpoint, IsSaid};
+ghost use Rattle.script_forms.specs.Forms.{Notify, Pause};
 ghost use Rattle.script_words.specs.Letters.{is_name, are_names, is_interface_word, is_method_word, IsHexWord};
-ghost use Rattle.call_script.specs.steps.Forms.{said_view};
+ghost use Rattle.script_forms.specs.Views.{said_view};
 ghost use Rattle.call_script.specs.steps.Interfaces.{IsIndexed};
 ghost use Rattle.call_script.specs.steps.Commands.{FindsAll, Named, AllNamed, StopsFor, Values, Says};
 
-use crate::form::Said;
 use crate::indexed_schema::{IndexedSchema, interface_named};
 use crate::name_table::{Scope, find_name};
-use crate::numbers::hex_bytes;
 use crate::script::{Command, NameId};
 use crate::script_error::LineRefusal;
 use crate::targets::{message_named, parameters_kind};
+use bind_model::Notice;
 use mj_base::{Items, SeqId};
 use mj_schema::Schema;
+use script_forms::{Said, hex_bytes};
 use std::alloc::{AllocError, Global};
 use value_text::{TextError, read_value};
 use wire_encoder::{EndpointSide, PrepareError, Prepared, prepare};
@@ -183,14 +184,13 @@ fn attach_command(
     Ok(Command::Attach(pending, SeqId(other)))
 }
 
-/// The words of a call.
+/// What a call or an answer sends, as words: a method, a value, names of tokens, and a moment.
 #[derive(Clone, Copy)]
-struct CallWords<'w, 'a> {
-    end: &'a [u8],
-    id: u32,
+struct SentWords<'w, 'a> {
     method: &'a [u8],
     value: &'a [u8],
     tokens: &'w [&'a [u8]],
+    moment: Option<i64>,
 }
 
 /// What a call asks.
@@ -198,31 +198,24 @@ fn call_command(
     alloc: Global,
     indexed: &IndexedSchema,
     scope: &Scope,
-    call: &CallWords,
+    end: &[u8],
+    id: u32,
+    sent: &SentWords,
 ) -> Result<Command, Stop>
     requires indexed { IsIndexed indexed.now }
-    requires end { is_name call.now.end.now ≡ true }
-    requires method { is_method_word call.now.method.now ≡ true }
-    requires tokens { are_names (map (λ name. name.now) call.now.tokens.now) ≡ true }
-    ensures { Says indexed.now.schema.now scope.now (Call call.now.end.now call.now.id call.now.method.now call.now.value.now
-        (map (λ name. name.now) call.now.tokens.now)) result }
+    requires end { is_name end.now ≡ true }
+    requires method { is_method_word sent.now.method.now ≡ true }
+    requires tokens { are_names (map (λ name. name.now) sent.now.tokens.now) ≡ true }
+    ensures { Says indexed.now.schema.now scope.now (Call end.now id sent.now.method.now sent.now.value.now
+        (map (λ name. name.now) sent.now.tokens.now) sent.now.moment) result }
 {
-    let Some((target, number)) = message_named(indexed, MessageSide::Request, call.method) else {
+    let Some((target, number)) = message_named(indexed, MessageSide::Request, sent.method) else {
         return Err(Stop::Refused(LineRefusal::UnknownName));
     };
-    let end = named(alloc, scope, call.end)?;
-    let tokens = all_named(alloc, scope, call.tokens)?;
-    let prepared = value_of(alloc, indexed.schema, target, number, call.value)?;
-    Ok(Command::Call(end, call.id, prepared, tokens))
-}
-
-/// The words of an answer.
-#[derive(Clone, Copy)]
-struct AnswerWords<'w, 'a> {
-    responder: &'a [u8],
-    method: &'a [u8],
-    value: &'a [u8],
-    tokens: &'w [&'a [u8]],
+    let end = named(alloc, scope, end)?;
+    let tokens = all_named(alloc, scope, sent.tokens)?;
+    let prepared = value_of(alloc, indexed.schema, target, number, sent.value)?;
+    Ok(Command::Call(end, id, prepared, tokens, sent.moment))
 }
 
 /// What an answer asks.
@@ -230,22 +223,23 @@ fn answer_command(
     alloc: Global,
     indexed: &IndexedSchema,
     scope: &Scope,
-    answer: &AnswerWords,
+    responder: &[u8],
+    sent: &SentWords,
 ) -> Result<Command, Stop>
     requires indexed { IsIndexed indexed.now }
-    requires responder { is_name answer.now.responder.now ≡ true }
-    requires method { is_method_word answer.now.method.now ≡ true }
-    requires tokens { are_names (map (λ name. name.now) answer.now.tokens.now) ≡ true }
-    ensures { Says indexed.now.schema.now scope.now (Answer answer.now.responder.now answer.now.method.now answer.now.value.now
-        (map (λ name. name.now) answer.now.tokens.now)) result }
+    requires responder { is_name responder.now ≡ true }
+    requires method { is_method_word sent.now.method.now ≡ true }
+    requires tokens { are_names (map (λ name. name.now) sent.now.tokens.now) ≡ true }
+    ensures { Says indexed.now.schema.now scope.now (Answer responder.now sent.now.method.now sent.now.value.now
+        (map (λ name. name.now) sent.now.tokens.now) sent.now.moment) result }
 {
-    let Some((target, number)) = message_named(indexed, MessageSide::Response, answer.method) else {
+    let Some((target, number)) = message_named(indexed, MessageSide::Response, sent.method) else {
         return Err(Stop::Refused(LineRefusal::UnknownName));
     };
-    let responder = named(alloc, scope, answer.responder)?;
-    let tokens = all_named(alloc, scope, answer.tokens)?;
-    let prepared = value_of(alloc, indexed.schema, target, number, answer.value)?;
-    Ok(Command::Answer(responder, prepared, tokens))
+    let responder = named(alloc, scope, responder)?;
+    let tokens = all_named(alloc, scope, sent.tokens)?;
+    let prepared = value_of(alloc, indexed.schema, target, number, sent.value)?;
+    Ok(Command::Answer(responder, prepared, tokens, sent.moment))
 }
 
 /// What a take asks, which sets so many names.
@@ -319,6 +313,39 @@ fn close_endpoint_command(
     Ok(Command::CloseEndpoint(end, id))
 }
 
+/// What it asks to write a control from the end of this name.
+fn notify_command(
+    alloc: Global,
+    schema: &Schema,
+    scope: &Scope,
+    end: &[u8],
+    notice: Notice,
+) -> Result<Command, Stop>
+    requires { is_name end.now ≡ true }
+    ensures { Says schema.now scope.now (Notify end.now notice) result }
+{
+    let end = named(alloc, scope, end)?;
+    Ok(Command::Notify(end, notice))
+}
+
+/// What it asks to take nothing at the end of this name until that of another has consumed a flush.
+fn pause_command(
+    alloc: Global,
+    schema: &Schema,
+    scope: &Scope,
+    end: &[u8],
+    other: &[u8],
+    flush: u32,
+) -> Result<Command, Stop>
+    requires end { is_name end.now ≡ true }
+    requires other { is_name other.now ≡ true }
+    ensures { Says schema.now scope.now (Pause end.now other.now flush) result }
+{
+    let end = named(alloc, scope, end)?;
+    let other = named(alloc, scope, other)?;
+    Ok(Command::Pause(end, other, flush))
+}
+
 /// What is asked by what is said to a sequence.
 pub(crate) fn said_command(
     alloc: Global,
@@ -342,28 +369,31 @@ pub(crate) fn said_command(
             associate_command(alloc, indexed, scope, *end, *side, *interface, *pending)
         }
         Said::Attach(pending, other) => { attach_command(alloc, schema, scope, *pending, *other) }
-        Said::Call(end, id, method, value, tokens) => {
-            let call = CallWords {
-                end: *end,
-                id: *id,
+        Said::Call(end, id, method, value, tokens, moment) => {
+            let sent = SentWords {
                 method: *method,
                 value: *value,
                 tokens: *tokens,
+                moment: *moment,
             };
-            call_command(alloc, indexed, scope, &call)
+            call_command(alloc, indexed, scope, *end, *id, &sent)
         }
         Said::Take(end, names) => take_command(alloc, schema, scope, *end, *names),
-        Said::Answer(responder, method, value, tokens) => {
-            let answer = AnswerWords {
-                responder: *responder,
+        Said::Answer(responder, method, value, tokens, moment) => {
+            let sent = SentWords {
                 method: *method,
                 value: *value,
                 tokens: *tokens,
+                moment: *moment,
             };
-            answer_command(alloc, indexed, scope, &answer)
+            answer_command(alloc, indexed, scope, *responder, &sent)
         }
         Said::Raw(end, word, tokens) => { raw_command(alloc, schema, scope, *end, *word, *tokens) }
         Said::CloseToken(token) => close_command(alloc, schema, scope, *token),
         Said::CloseEndpoint(end, id) => { close_endpoint_command(alloc, schema, scope, *end, *id) }
+        Said::Notify(end, notice) => notify_command(alloc, schema, scope, *end, *notice),
+        Said::Pause(end, other, flush) => {
+            pause_command(alloc, schema, scope, *end, *other, *flush)
+        }
     }
 }

@@ -1,13 +1,13 @@
 //! Reads a whole script.
 
 ghost use Rattle.std.specs.Prelude.{◌≡◌, ◌∷◌, IfOk, Err, length, map, ℕ};
-ghost use Rattle.call_script.specs.Forms.{IsForm, AreSequences, is_setup, answers};
+ghost use Rattle.script_forms.specs.Forms.{IsForm, AreSequences, is_setup, answers};
 ghost use Rattle.call_script.specs.Script.{IsScriptOf, IsFirstRefusal};
 ghost use Rattle.call_script.specs.Sound.{IsScript};
 ghost use Rattle.call_script.specs.declared.script_error.LineRefusal.{LineRefusal};
 ghost use Rattle.call_script.specs.declared.script_error.ScriptError.TheVariants as errors;
 ghost use Rattle.call_script.specs.steps.Commands.{part_view};
-ghost use Rattle.call_script.specs.steps.Forms.{form_view};
+ghost use Rattle.script_forms.specs.Views.{form_view};
 ghost use Rattle.call_script.specs.steps.Interfaces.{IsIndexed};
 ghost use Rattle.script_words.specs.Words.{words_now};
 ghost use Rattle.call_script.specs.steps.Names.{Adds, Sets};
@@ -15,15 +15,14 @@ ghost use Rattle.call_script.specs.steps.Lines.{Pushes, TakesForm, ReadsOn, Answ
 
 use crate::additions::{Part, part_of};
 use crate::commands::Stop;
-use crate::form::{Form, Said, read_form};
 use crate::indexed_schema::{IndexedSchema, index};
 use crate::name_table::{NameTable, add_all, add_method, add_own, no_names};
-use crate::numbers::sequences_of;
 use crate::script::{AutoReply, Line, Script};
 use crate::script_error::{LineRefusal, ScriptError};
 use mj_base::Items;
 use mj_base::limits::MAX_SCRIPT_LINES;
 use mj_schema::Schema;
+use script_forms::{Form, Said, read_form, sequences_of};
 use script_words::{Words, text_words};
 use std::alloc::{AllocError, Global};
 

@@ -1,11 +1,9 @@
 //! What a script says.
 
+use bind_model::Notice;
 use handle_table::TokenSort;
 use mj_base::{Items, SeqId};
 use wire_encoder::{EndpointSide, Prepared};
-
-/// The most sequences that a script has; it has one at least.
-pub const MAX_SEQUENCES: u32 = 16;
 
 /// A name of a script, by its number: names are numbered from 0 in the order in which lines set them,
 /// those of joins and all sequences' own in one row. So a name that two sequences set has two numbers,
@@ -30,18 +28,22 @@ pub enum Command {
     Associate(NameId, EndpointSide, u32, NameId),
     /// To bind the pending endpoint of this name on that sequence.
     Attach(NameId, SeqId),
-    /// A request from the endpoint of this id at an end, with these handles and endpoints.
-    Call(NameId, u32, Prepared, Items<NameId>),
+    /// A request from the endpoint of this id at an end, with these handles and endpoints, at this moment.
+    Call(NameId, u32, Prepared, Items<NameId>, Option<i64>),
     /// The oldest unread message at an end, and names for what comes with it.
     Take(NameId, Items<NameId>),
-    /// The response of the responder of this name, with these handles and endpoints.
-    Answer(NameId, Prepared, Items<NameId>),
+    /// The response of the responder of this name, with these handles and endpoints, at this moment.
+    Answer(NameId, Prepared, Items<NameId>, Option<i64>),
     /// These bytes as a message from an end that isn't bound, with these handles.
     Raw(NameId, Items<u8>, Items<NameId>),
     /// To close what has this name.
     CloseToken(NameId),
     /// To close the endpoint of this id at an end.
     CloseEndpoint(NameId, u32),
+    /// To write a control from an end.
+    Notify(NameId, Notice),
+    /// To take nothing at the first end until the second has consumed the flush of this number, or is closed.
+    Pause(NameId, NameId, u32),
 }
 
 /// A line that asks: its number in the text, from 1; the sequence that asks; and what it asks.

@@ -1,6 +1,7 @@
 pub mod SmallLists
 pub mod SmallSaid
 mod SmallReplies
+mod ShortReplies
 pub mod SmallMail
 pub mod SmallThings
 mod SmallWire

@@ -64,8 +64,8 @@ module _ (schema : Schema) where
   asked_said (asks.Raw x bytes handles) i m = i
   asked_said (asks.Take y) i m = i
   asked_said (asks.Close closing) i m = closing_said closing i
-  asked_said (asks.Notify y notice) i m = absurd i
-  asked_said (asks.Pause b a flush) i m = absurd i
+  asked_said (asks.Notify y notice) i m = i
+  asked_said (asks.Pause b a flush) i m = i
   asked_said (asks.Data size) i m = absurd i
   asked_said (asks.Flow x flow) i m = absurd i
   asked_said (asks.Skip line) i m = i

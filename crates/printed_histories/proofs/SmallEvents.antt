@@ -9,7 +9,8 @@ use Rattle.line_parts.specs.Printable.{IsSequence, AreAll}
 use Rattle.printed_histories.specs.Asked.{BecomeBytes, IsSmallAsked}
 use Rattle.printed_histories.proofs.SmallFaults.{HasLowSlots}
 use Rattle.printed_histories.proofs.SmallMail.{small_past}
-use Rattle.printed_histories.proofs.SmallReplies.{IsSmallPast, short_answer, small_answer}
+use Rattle.printed_histories.proofs.ShortReplies.{short_answer}
+use Rattle.printed_histories.proofs.SmallReplies.{IsSmallPast, small_answer}
 use Rattle.printed_histories.proofs.SmallSaid.{IsSmallEvent, IsSmallTold, IsShort}
 use Rattle.printed_histories.proofs.SmallWireOf.{small_wire, HasSmallVersions}
 
@@ -33,7 +34,7 @@ module _ (schema : Schema) (low : HasLowSlots schema × HasSmallVersions schema)
         i,
         subst IsSmallTold (sym h.1) (small_answer (BecomeBytes schema) wire (small_wire schema low) past known event.seq seqs event.asked small i),
         subst (IsShort event.asked) (sym h.1)
-            (short_answer (BecomeBytes schema) wire (small_wire schema low) past known event.seq seqs event.asked),
+            (short_answer wire past event.seq seqs event.asked),
       )
 
   -- all of them

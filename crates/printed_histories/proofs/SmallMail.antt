@@ -16,8 +16,9 @@ use Rattle.wire_encoder.specs.declared.endpoint.WantedEndpoint.{WantedEndpoint}
 use Rattle.wire_model.specs.Trees.{Tree}
 use Rattle.wire_model.specs.declared.target.Target.{Target}
 use Rattle.bind_model.specs.declared.asked.Asked.{Asked}
-use Rattle.bind_model.specs.declared.asked.Asked.TheVariants.{Bind, Associate, Attach, Call, Answer, Raw, Take, Close}
+use Rattle.bind_model.specs.declared.asked.Asked.TheVariants.{Bind, Associate, Attach, Call, Answer, Raw, Take, Close, Notify, Pause}
 use Rattle.bind_model.specs.declared.asked.Closing.TheVariants as closings
+use Rattle.bind_model.specs.declared.asked.Notice.TheVariants.{Flush}
 use Rattle.control_bytes.specs.declared.control.Control.{Control as ControlType}
 use Rattle.control_bytes.specs.declared.control.Control.TheVariants as controls
 use Rattle.bind_model.specs.declared.endpoint.Endpoint.{Endpoint}
@@ -26,16 +27,17 @@ use Rattle.bind_model.specs.declared.event.Event.{Event}
 use Rattle.bind_model.specs.declared.limits.TheConstants.{REMOTE_IDS}
 use Rattle.bind_model.specs.declared.told.Told.{Told}
 use Rattle.bind_model.specs.declared.told.Noted.TheVariants as noted
+use Rattle.bind_model.specs.declared.told.Notified.TheVariants.{Flushing}
 use Rattle.bind_model.specs.declared.told.Told.TheVariants.{Made, Bound, Associated, Attached, Sent, Wrote, Taken, Dropped, Control, Closed, Notified as Informed, Pausing, Flowed}
 use Rattle.bind_model.specs.Data.{Begun, Nothing, begun, begun_by}
-use Rattle.bind_model.specs.Notices.{Wait, first_unmet, waits, waits_by}
-use Rattle.bind_model.specs.Machine.{Endpoints, Entry, associated, made, made_by, peer, is_gone, is_local, is_peer_closed, is_remote, is_strange, written, endpoint_at, unread, consumed, puts, lands, emits, changes, enters, enters_from, entries_of, entry_in, endpoint_named, closed_endpoint, pending_as, named_in, content_at, ids_in, closed_ids, bound_on, with_state, with_peer_closed, front_of}
+use Rattle.bind_model.specs.Notices.{Wait, first_unmet, flushed, flushes, is_met, waits, waits_by}
+use Rattle.bind_model.specs.Machine.{Endpoints, Entry, associated, made, made_by, peer, is_gone, is_local, is_peer_closed, is_remote, is_strange, written, endpoint_at, unread, consumed, puts, lands, control_of, emits, changes, enters, enters_from, entries_of, entry_in, endpoint_named, closed_endpoint, pending_as, named_in, content_at, ids_in, closed_ids, bound_on, with_state, with_peer_closed, front_of}
 use Rattle.bind_model.specs.Replies.{Drawn, busy, drawn, draws, next_id, pause_of, paused}
 use Rattle.bind_model.specs.Wire.{Wire, Named}
 use Rattle.bind_model.proofs.TurnOf.{associated_few}
-use Rattle.history_reader.specs.Printable.{IsSmall, IsSequence, IsThing, AreAll}
+use Rattle.history_reader.specs.Printable.{IsSmall, IsSequence, IsEnd, IsThing, AreAll}
 use Rattle.printed_histories.proofs.SmallLists.{all_both, all_dropped}
-use Rattle.printed_histories.proofs.SmallReplies.{IsWithin, IsSmallPast}
+use Rattle.printed_histories.proofs.SmallReplies.{IsWithin, IsSmallPast, IsSmallTest}
 use Rattle.printed_histories.specs.Asked.{IsSmallAsked}
 use Rattle.printed_histories.proofs.SmallSaid.{IsSmallTold, IsSmallEvent, IsShort, IsFine, IsFineMessage, IsSmallWire}
 
@@ -61,6 +63,20 @@ few_drawn (event ∷ past) x id = omega (
   draws_one event.told event.asked x id,
   length-append (drawn past x id) (draws event.told event.asked x id),
 )
+
+-- how many flushes were written
+flushes_one : (told : Told) (asked : Asked) (x : EndId) → length (flushes told asked x) ≤ 1
+flushes_one (Informed (Flushing k)) (Notify y Flush) x = go (same_end y x)
+  where
+    go : (b : Bool) → length {A = ℕ} (if b then k ∷ [] else []) ≤ 1
+    go true = omega arith
+    go false = omega arith
+flushes_one told asked x = omega arith
+
+few_flushed : (past : List Event) (x : EndId) → length (flushed past x) ≤ length past
+few_flushed [] x = omega arith
+few_flushed (event ∷ past) x =
+    omega (arith, few_flushed past x, flushes_one event.told event.asked x, length-append (flushed past x) (flushes event.told event.asked x))
 
 -- ## Messages
 
@@ -114,7 +130,8 @@ module _ (F : Target → Tree → Type 0) (wire : Wire) (w : IsSmallWire F wire)
   puts_fine past (Control (noted.Version id v)) (Take y) i t s x = tt
   puts_fine past (Control (noted.Required id v)) (Take y) i t s x = tt
   puts_fine past (Control (noted.Flushed k)) (Take y) i t s x = tt
-  puts_fine past (Informed told) asked i t s x = absurd t
+  puts_fine past (Informed told) (Notify y notice) i t s x =
+      lands_fine past y (wire.control (control_of notice told)) [] x (w.control (control_of notice told))
   puts_fine past told asked i t s x = tt
 
   written_fine : (past : List Event) → AreAll (IsSmallEvent F) past → (x : EndId) → AreAll IsFineMessage (written wire past x)
@@ -279,17 +296,33 @@ module _ (F : Target → Tree → Type 0) (wire : Wire) where
       go true = omega (arith, few, associated_few past y)
       go false = omega (arith, few, associated_few past y)
 
-  -- no end waits
-  none_wait : (told : Told) (asked : Asked) → IsSmallTold told → (x : EndId) → waits_by told asked x ≡ []
-  none_wait Pausing asked i x = absurd i
-  none_wait told asked i x = refl
+  -- an end waits for ends whose numbers are of their widths
+  abbrev IsSmallWait : Wait → Type 0
+  IsSmallWait wait = IsEnd wait.end
 
-  no_waits : (past : List Event) → AreAll (IsSmallEvent F) past → (x : EndId) → waits past x ≡ []
-  no_waits [] a x = refl
-  no_waits (event ∷ past) a x = rw (no_waits past a.1 x) (none_wait event.told event.asked a.0.2 x)
+  wait_small : (told : Told) (asked : Asked) → IsSmallAsked F asked → (x : EndId) → AreAll IsSmallWait (waits_by told asked x)
+  wait_small Pausing (Pause b a flush) i x = go (same_end b x)
+    where
+      go : (t : Bool) → AreAll IsSmallWait (if t then record { end = a; flush = flush } ∷ [] else [])
+      go true = (i.1.0, tt)
+      go false = tt
+  wait_small told asked i x = tt
 
-  all_open : (past : List Event) → AreAll (IsSmallEvent F) past → (x : EndId) → paused past x ≡ None
-  all_open past a x = ap (λ (ws : List Wait). pause_of (first_unmet past ws)) (no_waits past a x)
+  all_waits : (past : List Event) → AreAll (IsSmallEvent F) past → (x : EndId) → AreAll IsSmallWait (waits past x)
+  all_waits [] a x = tt
+  all_waits (event ∷ past) a x =
+      all_both IsSmallWait (waits past x) (waits_by event.told event.asked x) (all_waits past a.1 x) (wait_small event.told event.asked a.0.1 x)
+
+  unmet_small : (past : List Event) (ws : List Wait) → AreAll IsSmallWait ws → IsSmallTest (pause_of (first_unmet past ws))
+  unmet_small past [] a = tt
+  unmet_small past (wait ∷ ws) a = go (is_met past wait) (unmet_small past ws a.1)
+    where
+      go : (met : Bool) → IsSmallTest (pause_of (first_unmet past ws)) → IsSmallTest (pause_of (if met then first_unmet past ws else Some wait.end))
+      go true rest = rest
+      go false rest = a.0
+
+  all_paused : (past : List Event) → AreAll (IsSmallEvent F) past → (x : EndId) → IsSmallTest (paused past x)
+  all_paused past a x = unmet_small past (waits past x) (all_waits past a x)
 
   -- nothing was begun at a token
   none_begun : (told : Told) (asked : Asked) → IsSmallTold told → (t : TokenId) (b : Begun) → begun_by told asked t b ≡ b
@@ -315,6 +348,7 @@ module _ (F : Target → Tree → Type 0) (wire : Wire) where
         tokens = λ seq. omega (arith, few, m, count_by-le-length (λ x. not (is_end x) && (seq_of x == seq)) (made past));
         drawn = λ y id. omega (arith, few, few_drawn past y id);
         next = next_small past few;
-        unpaused = all_open past a;
+        flushed = λ y. omega (arith, few, few_flushed past y);
+        paused = all_paused past a;
         idle = all_idle past a;
       }

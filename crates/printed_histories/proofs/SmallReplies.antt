@@ -2,7 +2,6 @@
 use Rattle.std.proofs.Common.{◌≡◌, ◌<◌, ◌≤◌, ℕ, suc, ◌+◌, ◌^◌, Bool, true, false, List, [], ◌∷◌, length, refl, sym, ap, subst, arith}
 use Rattle.std.specs.Prelude.{Option, Some, None, Result, Ok, Err, if◌then◌else◌, map, not, ◌&&◌, ◌||◌, ◌==◌, nat_le, nat_lt, is_some}
 use Rattle.std.specs.List.{list_any}
-use Rattle.std.proofs.lemmas.Bool.{leb-true}
 use Rattle.mj_base.specs.declared.ids.EndId.{EndId}
 use Rattle.mj_base.specs.declared.ids.SeqId.{SeqId}
 use Rattle.mj_base.specs.declared.fault.Fault.{Fault}
@@ -21,6 +20,8 @@ use Rattle.bind_model.specs.declared.asked.Asked.{Asked}
 use Rattle.bind_model.specs.declared.asked.Asked.TheVariants.{Pipe, Join, Mint, Bind, Associate, Attach, Call, Answer, Raw, Take, Close, Notify, Pause, Data, Flow as Move, Skip}
 use Rattle.bind_model.specs.declared.asked.Closing.{Closing}
 use Rattle.bind_model.specs.declared.asked.Closing.TheVariants as closings
+use Rattle.bind_model.specs.declared.asked.Notice.{Notice}
+use Rattle.bind_model.specs.declared.asked.Notice.TheVariants.{Query, Require, Flush}
 use Rattle.bind_model.specs.declared.asked.Outgoing.{Outgoing}
 use Rattle.control_bytes.specs.declared.control.Control.{Control as ControlType}
 use Rattle.control_bytes.specs.declared.control.Control.TheVariants as controls
@@ -34,18 +35,19 @@ use Rattle.bind_model.specs.declared.limits.TheConstants.{MAX_RAW_BYTES, MAX_RAW
 use Rattle.bind_model.specs.declared.told.BadWhy.TheVariants as bads
 use Rattle.bind_model.specs.declared.told.Noted.TheVariants as noted
 use Rattle.bind_model.specs.declared.told.Told.{Told}
-use Rattle.bind_model.specs.declared.told.Told.TheVariants.{Associated, Attached, Closed, Control, No, Wrote}
+use Rattle.bind_model.specs.declared.told.Told.TheVariants.{Associated, Attached, Closed, Control, No, Notified as Informed, Pausing, Wrote}
 use Rattle.bind_model.specs.declared.told.Why.{Why}
-use Rattle.bind_model.specs.declared.told.Why.TheVariants.{NoName, Disconnected, Unbound, Elsewhere, WrongSide, WrongMethod, WrongTokens, WrongPipe, SelfSend, TooLong, TooManyHandles, Full, Empty, PeerClosed}
+use Rattle.bind_model.specs.declared.told.Why.TheVariants.{NoName, Disconnected, Unbound, Elsewhere, WrongSide, WrongMethod, WrongTokens, WrongPipe, SelfSend, TooLong, TooManyHandles, Full, Empty, PeerClosed, SelfPause}
 use Rattle.bind_model.specs.Machine.{Endpoints, peer, is_gone, is_local, is_strange, out, endpoint_at, unread, is_closed, first_strange, goes_with}
-use Rattle.bind_model.specs.Notices.{query_pends}
+use Rattle.bind_model.specs.Notices.{flushed as flushes_at, query_pends}
 use Rattle.bind_model.specs.Replies.{is_response, is_asked, drawn, serials, tokens, same_responder, responders_out, has_pending, pendings_out, first_of, unless, all_out, all_pending, unbound, elsewhere, is_receiver, suits, all_suit, tokens_right, wrong_tokens, wrong_pipe, cannot_write, is_full, same_target, busy, joined, bound_as, next_id, request_of, ids_of, picked, pendings_at, half_closed, sent, called, answered_with, wrote_at, bad, got_known, got_asked, judged, at_state, at_endpoint, is_none, version_of, is_older, heard, controlled, headed, took_front, paused, closed_at, closed, answer}
+use Rattle.bind_model.specs.Replies.{from_id, is_flush, notified, pausing, told_of}
 use Rattle.bind_model.specs.Wire.{Wire, Header, Named, Content}
 use Rattle.bind_model.proofs.Outcomes.{Passes, held}
-use Rattle.history_reader.specs.Printable.{IsSmall, IsSequence, IsEnd, IsThing, IsPending, IsWide, IsMoment, IsVersion, AreAll, IsWhy}
+use Rattle.history_reader.specs.Printable.{IsSmall, IsSequence, IsEnd, IsThing, IsPending, IsWide, IsMoment, IsVersion, AreAll, IsNotice, IsNotified, IsWhy}
 use Rattle.printed_histories.proofs.SmallLists.{If}
 use Rattle.printed_histories.specs.Asked.{IsSmallAsked, IsSmallClosing, IsSmallOut, IsSmallResponder}
-use Rattle.printed_histories.proofs.SmallSaid.{IsSmallTold, IsShort, IsFineMessage, IsSmallControl, IsSmallWire}
+use Rattle.printed_histories.proofs.SmallSaid.{IsSmallTold, IsFineMessage, IsSmallControl, IsSmallWire}
 
 -- the reason of a test that fails
 abbrev pub IsSmallTest : Option Why → Type 0
@@ -125,8 +127,9 @@ pub record IsSmallPast (wire : Wire) (past : List Event) : Type 0 where
   pub tokens : (seq : ℕ) → tokens past seq < 2 ^ 32
   pub drawn : (y : EndId) (id : ℕ) → length (drawn past y id) + 1 < 2 ^ 64
   pub next : (y : EndId) → IsSmall (next_id wire past y)
-  -- no end waits, and nothing was begun at a token
-  pub unpaused : (y : EndId) → paused past y ≡ None
+  pub flushed : (y : EndId) → length (flushes_at past y) + 1 < 2 ^ 32
+  pub paused : (y : EndId) → IsSmallTest (paused past y)
+  -- nothing was begun at a token
   pub idle : (things : List Thing) → busy past things ≡ None
 
 module _ (F : Target → Tree → Type 0) (wire : Wire) (w : IsSmallWire F wire) (past : List Event) (k : IsSmallPast wire past) (seq : SeqId) where
@@ -353,41 +356,59 @@ module _ (F : Target → Tree → Type 0) (wire : Wire) (w : IsSmallWire F wire)
       )
       (λ p. i)
 
-  -- what is written isn't too long
-  first_short : (y : Thing) (bytes : List ℕ) (handles : List Thing) (tests : List (Option Why)) (done : Told)
-      → (Passes tests → IsShort (Raw y bytes handles) done) → IsShort (Raw y bytes handles) (first_of tests done)
-  first_short y bytes handles [] done d = d tt
-  first_short y bytes handles (None ∷ ts) done d = first_short y bytes handles ts done (λ p. d (refl, p))
-  first_short y bytes handles (Some why ∷ ts) done d = tt
+  -- ## Controls that are written, and pauses
 
-  wrote_short : (y x : Thing) (bytes : List ℕ) (handles : List Thing) → IsShort (Raw y bytes handles) (wrote_at wire past x bytes handles)
-  wrote_short y (Token t) bytes handles = tt
-  wrote_short y (End x) bytes handles = first_short y bytes handles (
-      unless (nat_le (length bytes) MAX_RAW_BYTES) TooLong
-      ∷ unless (nat_le (length handles) MAX_RAW_HANDLES) TooManyHandles
-      ∷ cannot_write wire past x false handles)
-      (Wrote x)
-      (λ p. let few : length bytes ≤ MAX_RAW_BYTES = leb-true (length bytes) MAX_RAW_BYTES (held (nat_le (length bytes) MAX_RAW_BYTES) TooLong p.0) in
-      omega (arith, few))
+  told_small : (y : EndId) (notice : Notice) → IsNotified (told_of past y notice)
+  told_small y (Query id) = tt
+  told_small y (Require id v) = tt
+  told_small y Flush = k.flushed y
 
-  pub short_answer : (seqs : ℕ) (asked : Asked) → IsShort asked (answer wire seqs past seq asked)
-  short_answer seqs Pipe = tt
-  short_answer seqs (Join t) = tt
-  short_answer seqs (Mint sort) = tt
-  short_answer seqs (Bind x side interface) = tt
-  short_answer seqs (Associate y side interface) = tt
-  short_answer seqs (Attach p t) = tt
-  short_answer seqs (Call y id o) = tt
-  short_answer seqs (Answer r o) = tt
-  short_answer seqs (Raw x bytes handles) = first_short x bytes handles (unless (all_out past (x ∷ handles)) NoName ∷ []) (wrote_at wire past x bytes handles)
-      (λ p. wrote_short x x bytes handles)
-  short_answer seqs (Take y) = tt
-  short_answer seqs (Close closing) = tt
-  short_answer seqs (Notify y notice) = tt
-  short_answer seqs (Pause b a flush) = tt
-  short_answer seqs (Data size) = tt
-  short_answer seqs (Move x flow) = tt
-  short_answer seqs (Skip line) = tt
+  from_small : (notice : Notice) → IsNotice notice → IsSmall (from_id notice)
+  from_small (Query id) i = i
+  from_small (Require id v) i = i.0
+  from_small Flush i = omega arith
+
+  notified_small : (y : EndId) (notice : Notice) (o : Option Endpoint) → IsWithin o → IsNotice notice → IsSmallTold (notified wire past seq y notice o)
+  notified_small y notice None v i = tt
+  notified_small y notice (Some r) v i = first_small (
+      unless (not (is_gone past y || is_closed r)) Disconnected
+      ∷ unbound (from_id notice) r
+      ∷ elsewhere seq r
+      ∷ unless (is_flush notice || not (is_receiver r.side)) WrongSide
+      ∷ cannot_write wire past y (not (is_flush notice) && r.peer_closed) [])
+      (Informed (told_of past y notice)) (
+        unless_small (not (is_gone past y || is_closed r)) Disconnected tt,
+        (
+          unbound_small (from_id notice) r (from_small notice i),
+          (
+            elsewhere_small seq r v,
+            (
+              unless_small (is_flush notice || not (is_receiver r.side)) WrongSide tt,
+              write_small y (not (is_flush notice) && r.peer_closed) [],
+            ),
+          ),
+        ),
+      )
+      (λ p. told_small y notice)
+
+  pausing_small : (b a : EndId) (at_b at_a : Option Endpoint) → IsWithin at_b → IsWithin at_a → IsSmallTold (pausing past seq b a at_b at_a)
+  pausing_small b a None at_a v u = tt
+  pausing_small b a (Some rb) None v u = tt
+  pausing_small b a (Some rb) (Some ra) v u = first_small (
+      unless (not (is_gone past b)) Disconnected
+      ∷ elsewhere seq rb
+      ∷ (if is_gone past a then None else elsewhere seq ra)
+      ∷ unless (not (same_end b a)) SelfPause
+      ∷ [])
+      Pausing (
+        unless_small (not (is_gone past b)) Disconnected tt,
+        (elsewhere_small seq rb v, (open_small (is_gone past a), (unless_small (not (same_end b a)) SelfPause tt, tt))),
+      )
+      (λ p. tt)
+    where
+      open_small : (gone : Bool) → IsSmallTest (if gone then None else elsewhere seq ra)
+      open_small true = tt
+      open_small false = elsewhere_small seq ra u
 
   -- ## Closings, and all replies
 
@@ -444,12 +465,14 @@ module _ (F : Target → Tree → Type 0) (wire : Wire) (w : IsSmallWire F wire)
       (unless (is_some (endpoint_at wire past y 0)) NoName ∷ unless (not (is_gone past y)) Disconnected ∷ paused past y ∷ [])
       (took_front wire past seq y (unread wire past y)) (
         unless_small (is_some (endpoint_at wire past y 0)) NoName tt,
-        (unless_small (not (is_gone past y)) Disconnected tt, (subst IsSmallTest (sym (k.unpaused y)) tt, tt)),
+        (unless_small (not (is_gone past y)) Disconnected tt, (k.paused y, tt)),
       )
       (λ p. front_small y i (unread wire past y) (k.mail y))
   small_answer seqs (Close closing) s i = closed_small closing i
-  small_answer seqs (Notify y notice) s i = absurd i
-  small_answer seqs (Pause b a flush) s i = absurd i
+  small_answer seqs (Notify y notice) s i =
+      notified_small y notice (endpoint_at wire past y (from_id notice)) (k.within y (from_id notice)) i.1
+  small_answer seqs (Pause b a flush) s i =
+      pausing_small b a (endpoint_at wire past b 0) (endpoint_at wire past a 0) (k.within b 0) (k.within a 0)
   small_answer seqs (Data size) s i = absurd i
   small_answer seqs (Move x flow) s i = absurd i
   small_answer seqs (Skip line) s i = tt

@@ -13,7 +13,7 @@ use Rattle.control_bytes.specs.declared.control.Control.TheVariants as says
 use Rattle.bind_model.specs.declared.event.Event.{Event}
 use Rattle.bind_model.specs.declared.told.Told.{Told}
 use Rattle.bind_model.specs.declared.told.Told.TheVariants as tells
-use Rattle.history_reader.specs.Printable.{IsSmall, IsWide, IsMoment, IsSequence, IsEnd, IsThing, IsPending, AreAll, AreBytes, IsBadWhy, IsNoted, IsWhy}
+use Rattle.history_reader.specs.Printable.{IsSmall, IsWide, IsMoment, IsSequence, IsEnd, IsThing, IsPending, AreAll, AreBytes, IsBadWhy, IsNoted, IsNotified, IsWhy}
 use Rattle.printed_histories.specs.Asked.{IsSmallAsked}
 
 -- bytes of a message that isn't too long
@@ -37,8 +37,8 @@ IsSmallTold (tells.Dropped id gone) = IsSmall id
 IsSmallTold (tells.Control noted) = IsNoted noted
 IsSmallTold (tells.Bad why gone) = IsBadWhy why
 IsSmallTold (tells.Closed gone) = Unit {0}
-IsSmallTold (tells.Notified notified) = ⊥
-IsSmallTold tells.Pausing = ⊥
+IsSmallTold (tells.Notified notified) = IsNotified notified
+IsSmallTold tells.Pausing = Unit {0}
 IsSmallTold (tells.Flowed t flowed) = ⊥
 IsSmallTold tells.Skipped = Unit {0}
 IsSmallTold (tells.No why) = IsWhy why

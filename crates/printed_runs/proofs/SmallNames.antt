@@ -1,6 +1,6 @@
 -- What scripts ask has numbers of their widths, where all before has.
 use Rattle.std.proofs.Common.{ℕ, ◌+◌, Bool, true, false, List, [], ◌∷◌, ◌++◌}
-use Rattle.std.specs.Prelude.{Option, Some, None, ◌==◌, if◌then◌else◌, ◌&&◌, not, is_some, take, drop, length, option_and_then, slice_get, find, filter, fold}
+use Rattle.std.specs.Prelude.{ℤ, Option, Some, None, ◌==◌, if◌then◌else◌, ◌&&◌, not, is_some, take, drop, length, option_and_then, slice_get, find, filter, fold}
 use Rattle.std.specs.Option.{option_map}
 use Rattle.mj_base.specs.declared.ids.EndId.{EndId}
 use Rattle.mj_base.specs.declared.ids.SeqId.{SeqId}
@@ -25,11 +25,12 @@ use Rattle.bind_model.specs.Wire.{Wire}
 use Rattle.call_script.specs.declared.script.AutoReply.{AutoReply}
 use Rattle.call_script.specs.declared.script.Command.{Command}
 use Rattle.call_script.specs.declared.script.Command.TheVariants.{Join, Pipe, Mint, Bind, Associate, Attach, Call, Take, Answer, Raw, CloseToken, CloseEndpoint}
+use Rattle.call_script.specs.declared.script.Command.TheVariants.{Notify, Pause}
 use Rattle.call_script.specs.declared.script.Line.{Line}
 use Rattle.call_script.specs.declared.script.NameId.{NameId}
 use Rattle.call_script.specs.declared.script.Script.{Script}
 use Rattle.call_script.specs.Sound.{sets}
-use Rattle.history_reader.specs.Printable.{IsEnd, IsThing, IsPending, AreAll, AreBytes}
+use Rattle.history_reader.specs.Printable.{IsEnd, IsMoment, IsThing, IsPending, AreAll, AreBytes}
 use Rattle.printed_histories.proofs.SmallLists.{all_dropped, all_filtered, all_taken, If, if_then, if_map, if_found, if_got}
 use Rattle.printed_histories.specs.Asked.{IsSmallAsked, IsSmallOut, IsSmallResponder}
 use Rattle.printed_histories.proofs.SmallSaid.{IsSmallEvent, IsSmallTold}
@@ -212,12 +213,13 @@ module _ (F : Target → Tree → Type 0) (wire : Wire) where
         closing_small None None q i j k =
             if_map IsSmallResponder (IsSmallAsked F) (λ (r : ResponderId). asks.Close (closings.Responder r)) (λ r i. i) q k
 
-        sent_small : (prepared : Prepared) (list : List NameId) → G prepared → If (IsSmallOut F) (sent_with names prepared list)
-        sent_small prepared list g = if_then (AreAll IsThing) (IsSmallOut F)
-            (λ (xs : List Thing). option_map (λ (ps : List PendingId). outgoing prepared xs ps)
+        sent_small : (prepared : Prepared) (list : List NameId) (moment : Option ℤ) → G prepared → IsMoment moment
+            → If (IsSmallOut F) (sent_with names prepared list moment)
+        sent_small prepared list moment g m = if_then (AreAll IsThing) (IsSmallOut F)
+            (λ (xs : List Thing). option_map (λ (ps : List PendingId). outgoing prepared xs ps moment)
             (all_held names.pending (pendings_named names.stands list)))
-            (λ xs a. if_map (AreAll IsPending) (IsSmallOut F) (λ (ps : List PendingId). outgoing prepared xs ps)
-            (λ ps b. (a, b, prepares prepared g, tt)) (all_held names.pending (pendings_named names.stands list))
+            (λ xs a. if_map (AreAll IsPending) (IsSmallOut F) (λ (ps : List PendingId). outgoing prepared xs ps moment)
+            (λ ps b. (a, b, prepares prepared g, m)) (all_held names.pending (pendings_named names.stands list))
             (all_held_small IsPending names.pending s.pending (pendings_named names.stands list)))
             (all_held names.handle (things_named names.stands list))
             (all_held_small IsThing names.handle s.handle (things_named names.stands list))
@@ -244,20 +246,27 @@ module _ (F : Target → Tree → Type 0) (wire : Wire) where
             (as_end (names.stands n)) (end_small (names.stands n) (s.stands n))
         asked_small (Attach n seq) i =
             if_map IsPending (IsSmallAsked F) (λ (p : PendingId). asks.Attach p seq) (λ p j. (j, i)) (names.pending n) (s.pending n)
-        asked_small (Call n id prepared list) i = if_then IsEnd (IsSmallAsked F)
-            (λ (y : EndId). option_map (λ (sent : Outgoing). asks.Call y id sent) (sent_with names prepared list))
+        asked_small (Call n id prepared list moment) i = if_then IsEnd (IsSmallAsked F)
+            (λ (y : EndId). option_map (λ (sent : Outgoing). asks.Call y id sent) (sent_with names prepared list moment))
             (λ y e. if_map (IsSmallOut F) (IsSmallAsked F) (λ (sent : Outgoing). asks.Call y id sent) (λ o j. (e, i.0, j))
-            (sent_with names prepared list) (sent_small prepared list i.1))
+            (sent_with names prepared list moment) (sent_small prepared list moment i.1 i.2))
             (as_end (names.stands n)) (end_small (names.stands n) (s.stands n))
         asked_small (Take n list) i = if_map IsEnd (IsSmallAsked F) asks.Take (λ y e. e) (as_end (names.stands n)) (end_small (names.stands n) (s.stands n))
-        asked_small (Answer n prepared list) i = if_then IsSmallResponder (IsSmallAsked F)
-            (λ (r : ResponderId). option_map (λ (sent : Outgoing). asks.Answer r sent) (sent_with names prepared list))
+        asked_small (Answer n prepared list moment) i = if_then IsSmallResponder (IsSmallAsked F)
+            (λ (r : ResponderId). option_map (λ (sent : Outgoing). asks.Answer r sent) (sent_with names prepared list moment))
             (λ r e. if_map (IsSmallOut F) (IsSmallAsked F) (λ (sent : Outgoing). asks.Answer r sent) (λ o j. (e, j))
-            (sent_with names prepared list) (sent_small prepared list i))
+            (sent_with names prepared list moment) (sent_small prepared list moment i.0 i.1))
             (names.responder n) (s.responder n)
         asked_small (Raw n bytes list) i = raw_small n bytes list i
         asked_small (CloseToken n) i = closing_small (names.handle n) (names.pending n) (names.responder n) (s.handle n) (s.pending n) (s.responder n)
         asked_small (CloseEndpoint n id) i = if_map IsEnd (IsSmallAsked F) (λ (y : EndId). asks.Close (closings.Endpoint y id)) (λ y e. (e, i))
+            (as_end (names.stands n)) (end_small (names.stands n) (s.stands n))
+        asked_small (Notify n notice) i = if_map IsEnd (IsSmallAsked F) (λ (y : EndId). asks.Notify y notice) (λ y e. (e, i))
+            (as_end (names.stands n)) (end_small (names.stands n) (s.stands n))
+        asked_small (Pause n m flush) i = if_then IsEnd (IsSmallAsked F)
+            (λ (b : EndId). option_map (λ (a : EndId). asks.Pause b a flush) (as_end (names.stands m)))
+            (λ b e. if_map IsEnd (IsSmallAsked F) (λ (a : EndId). asks.Pause b a flush) (λ a f. (e, (f, i)))
+            (as_end (names.stands m)) (end_small (names.stands m) (s.stands m)))
             (as_end (names.stands n)) (end_small (names.stands n) (s.stands n))
 
         line_small : (line : Line) → IsSmallLine G line → IsSmallAsked F (asked_by names line)

@@ -1,21 +1,24 @@
 -- Numbers of their widths in the lines of a script.
 use Rattle.std.proofs.Common.{◌≡◌, ◌<◌, ◌≤◌, ℕ, suc, ◌+◌, ◌^◌, List, [], ◌∷◌, length, arith, subst, sym}
-use Rattle.std.specs.Prelude.{reverse}
+use Rattle.std.specs.Prelude.{ℤ, pos, negsuc, Option, Some, None, reverse}
 use Rattle.hex.specs.Hex.{IsBytes}
 use Rattle.mj_schema.specs.declared.schema.Schema.{Schema}
 use Rattle.wire_encoder.specs.Prepared.{IsPrepared}
 use Rattle.wire_encoder.specs.declared.prepared.Prepared.{Prepared}
+use Rattle.bind_model.specs.declared.asked.Notice.{Notice}
+use Rattle.bind_model.specs.declared.asked.Notice.TheVariants.{Query, Require, Flush}
 use Rattle.call_script.specs.declared.script.AutoReply.{AutoReply}
 use Rattle.call_script.specs.declared.script.Command.{Command}
 use Rattle.call_script.specs.declared.script.Command.TheVariants as commands
 use Rattle.call_script.specs.declared.script.Line.{Line}
 use Rattle.call_script.specs.declared.script.Script.{Script}
-use Rattle.call_script.specs.Forms.{Form, Join, Auto, Of, Pipe, Mint, Bind, Associate, Attach, Call, Take, Answer, Raw, CloseToken, CloseEndpoint, AreThere, IsForm, sequences}
+use Rattle.script_forms.specs.Forms.{Form, Join, Auto, Of, Pipe, Mint, Bind, Associate, Attach, Call, Take, Answer, Raw, CloseToken, CloseEndpoint}
+use Rattle.script_forms.specs.Forms.{Notify, Pause, AreThere, IsForm, IsMoment as IsTimed, IsNotice as IsNarrow, sequences}
 use Rattle.call_script.specs.Script.{Asks, Part, OfLine, OfReply, IsPart, IsScriptOf, AreTaken, lines_in, replies_in, names_set}
-use Rattle.history_reader.specs.Printable.{IsSmall, IsSequence, AreAll, AreBytes}
+use Rattle.history_reader.specs.Printable.{IsSmall, IsMoment, IsNotice, IsSequence, AreAll, AreBytes}
 use Rattle.printed_histories.proofs.SmallLists.{all_reversed}
 
--- sequences, ids and bytes of a command, and parameters of which this holds
+-- sequences, ids, bytes, moments and the numbers of controls in a command, and parameters of which this holds
 abbrev pub IsSmallCommand : (Prepared → Type 0) → Command → Type 0
 IsSmallCommand G (commands.Join other first second) = IsSequence other
 IsSmallCommand G (commands.Pipe first second) = Unit {0}
@@ -23,12 +26,14 @@ IsSmallCommand G (commands.Mint sort name) = Unit {0}
 IsSmallCommand G (commands.Bind end side interface) = Unit {0}
 IsSmallCommand G (commands.Associate end side interface pending) = Unit {0}
 IsSmallCommand G (commands.Attach pending other) = IsSequence other
-IsSmallCommand G (commands.Call end id prepared names) = IsSmall id × G prepared
+IsSmallCommand G (commands.Call end id prepared names moment) = IsSmall id × G prepared × IsMoment moment
 IsSmallCommand G (commands.Take end names) = Unit {0}
-IsSmallCommand G (commands.Answer responder prepared names) = G prepared
+IsSmallCommand G (commands.Answer responder prepared names moment) = G prepared × IsMoment moment
 IsSmallCommand G (commands.Raw end bytes names) = AreBytes bytes
 IsSmallCommand G (commands.CloseToken name) = Unit {0}
 IsSmallCommand G (commands.CloseEndpoint end id) = IsSmall id
+IsSmallCommand G (commands.Notify end notice) = IsNotice notice
+IsSmallCommand G (commands.Pause end other flush) = IsSmall flush
 
 -- a line whose number and command are
 abbrev pub IsSmallLine : (Prepared → Type 0) → Line → Type 0
@@ -42,14 +47,26 @@ bytes_small : (bytes : List ℕ) → IsBytes bytes → AreBytes bytes
 bytes_small [] are = tt
 bytes_small (b ∷ bytes) are = (are 0, bytes_small bytes (λ i. are (suc i)))
 
+moment_small : (moment : Option ℤ) → IsTimed moment → IsMoment moment
+moment_small None fits = tt
+moment_small (Some (pos n)) fits = fits.sfits
+moment_small (Some (negsuc n)) fits = fits.sfits
+
+notice_small : (notice : Notice) → IsNarrow notice → IsNotice notice
+notice_small (Query id) i = i
+notice_small (Require id version) i = i
+notice_small Flush i = tt
+
 -- what the numbers of a form give, in a script of not too many sequences
 command_small : (schema : Schema) (seqs : ℕ) (before names : List (List ℕ)) (form : Form) (command : Command) → seqs < 2 ^ 32 → IsForm form
     → AreThere seqs (sequences form) → Asks schema before names form command → IsSmallCommand (IsPrepared schema) command
 command_small schema seqs before names (Join seq other x y) (commands.Join o f g) few sound there asks =
     let below : other < seqs = there.1.0 in let same : o.0 ≡ other = asks.0 in omega (arith, few, below, same)
-command_small schema seqs before names (Of seq (Call x id method word ts)) (commands.Call i n p tokens) few sound there asks =
-    let below : id < 2 ^ 32 = sound.1 in let same : n ≡ id = asks.1 in (omega (arith, below, same), asks.3.2.1)
-command_small schema seqs before names (Of seq (Answer x method word ts)) (commands.Answer i p tokens) few sound there asks = asks.2.2.1
+command_small schema seqs before names (Of seq (Call x id method word ts at)) (commands.Call i n p tokens m) few sound there asks =
+    let below : id < 2 ^ 32 = sound.1 in
+    let same : n ≡ id = asks.1 in (omega (arith, below, same), asks.3.2.1, subst IsMoment (sym asks.4) (moment_small at sound.5))
+command_small schema seqs before names (Of seq (Answer x method word ts at)) (commands.Answer i p tokens m) few sound there asks =
+    (asks.2.2.1, subst IsMoment (sym asks.3) (moment_small at sound.4))
 command_small schema seqs before names (Of seq (Pipe x y)) (commands.Pipe f g) few sound there asks = tt
 command_small schema seqs before names (Of seq (Mint sort x)) (commands.Mint s i) few sound there asks = tt
 command_small schema seqs before names (Of seq (Take x ns)) (commands.Take i got) few sound there asks = tt
@@ -61,6 +78,10 @@ command_small schema seqs before names (Of seq (Raw x word ts)) (commands.Raw i 
 command_small schema seqs before names (Of seq (CloseToken x)) (commands.CloseToken i) few sound there asks = tt
 command_small schema seqs before names (Of seq (CloseEndpoint x id)) (commands.CloseEndpoint i n) few sound there asks =
     let below : id < 2 ^ 32 = sound.1 in let same : n ≡ id = asks.1 in omega (arith, below, same)
+command_small schema seqs before names (Of seq (Notify x notice)) (commands.Notify i n) few sound there asks =
+    subst IsNotice (sym asks.1) (notice_small notice sound.1)
+command_small schema seqs before names (Of seq (Pause x y flush)) (commands.Pause i j k) few sound there asks =
+    let below : flush < 2 ^ 32 = sound.2 in let same : k ≡ flush = asks.2 in omega (arith, below, same)
 command_small schema seqs before names form command few sound there asks = absurd asks
 
 -- what a form adds is

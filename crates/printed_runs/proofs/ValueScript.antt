@@ -1,6 +1,7 @@
 -- What the events of a script call and answer is a value of its method's struct, and what they write raw is bytes.
 use Rattle.std.proofs.Common.{◌≡◌, ◌<◌, ◌≤◌, ◌^◌, ℕ, suc, Bool, true, false, List, [], ◌∷◌, ◌++◌, length, Option, Some, None, refl, sym, ap, subst}
-use Rattle.std.specs.Prelude.{reverse, slice_get, is_some, if◌then◌else◌, option_and_then}
+use Rattle.std.specs.Int.{w64}
+use Rattle.std.specs.Prelude.{ℤ, FitsSigned, IfSome, reverse, slice_get, is_some, if◌then◌else◌, option_and_then}
 use Rattle.std.specs.List.{AllByRecursion}
 use Rattle.std.specs.Option.{option_map}
 use Rattle.std.proofs.lemmas.List.Elements.{All-nil, All-cons}
@@ -26,7 +27,8 @@ use Rattle.bind_model.specs.declared.asked.Outgoing.{Outgoing}
 use Rattle.bind_model.specs.declared.endpoint.PendingId.{PendingId}
 use Rattle.bind_model.specs.declared.endpoint.ResponderId.{ResponderId}
 use Rattle.bind_model.specs.declared.event.Event.{Event}
-use Rattle.call_script.specs.Forms.{Form, Join, Auto, Of, Pipe, Mint, Bind, Associate, Attach, Call, Take, Answer, Raw, CloseToken, CloseEndpoint, AreThere, sequences}
+use Rattle.script_forms.specs.Forms.{Form, Join, Auto, Of, Pipe, Mint, Bind, Associate, Attach, Call, Take, Answer, Raw, CloseToken, CloseEndpoint}
+use Rattle.script_forms.specs.Forms.{Notify, Pause, AreThere, IsForm, sequences}
 use Rattle.call_script.specs.Script.{names_set, Asks, IsValueOf, IsPart, Part, OfLine, OfReply, lines_in, replies_in, AreTaken, IsScriptOf}
 use Rattle.call_script.specs.Targets.{message_named}
 use Rattle.call_script.specs.declared.script.AutoReply.{AutoReply}
@@ -72,29 +74,38 @@ module _ (law : PassedIsEncodable) (schema : Schema) where
 
   -- what a command sends
   abbrev CommandSaid : Command → Type 0
-  CommandSaid (commands.Call x id prepared tokens) = IsSending schema Request prepared.target (view prepared.value)
-  CommandSaid (commands.Answer x prepared tokens) = IsSending schema Response prepared.target (view prepared.value)
+  CommandSaid (commands.Call x id prepared tokens moment) =
+      IsSending schema Request prepared.target (view prepared.value) × IfSome moment (FitsSigned w64)
+  CommandSaid (commands.Answer x prepared tokens moment) =
+      IsSending schema Response prepared.target (view prepared.value) × IfSome moment (FitsSigned w64)
   CommandSaid (commands.Bind name side interface) = IsNamedInterface schema interface
   CommandSaid (commands.Associate name side interface pending) = IsNamedInterface schema interface
   CommandSaid (commands.Raw name bytes tokens) = AreBytes bytes
   CommandSaid command = Unit {0}
 
-  command_said : (before names : List (List ℕ)) (form : Form) (command : Command) → Asks schema before names form command → CommandSaid command
-  command_said before names (Of seq (Call x id method word ts)) (commands.Call i n p tokens) asked =
-      sending Request method word p asked.3.0 asked.3.1 asked.3.2
-  command_said before names (Of seq (Answer x method word ts)) (commands.Answer i p tokens) asked =
-      sending Response method word p asked.2.0 asked.2.1 asked.2.2
-  command_said before names (Join seq other x y) (commands.Join o f g) asked = tt
-  command_said before names (Of seq (Pipe x y)) (commands.Pipe f g) asked = tt
-  command_said before names (Of seq (Mint sort x)) (commands.Mint s i) asked = tt
-  command_said before names (Of seq (Take x ns)) (commands.Take i got) asked = tt
-  command_said before names (Of seq (Bind x side word)) (commands.Bind i s n) asked = (word, asked.2)
-  command_said before names (Of seq (Associate x side word p)) (commands.Associate i s n q) asked = (word, asked.2)
-  command_said before names (Of seq (Attach p other)) (commands.Attach q o) asked = tt
-  command_said before names (Of seq (Raw x word ts)) (commands.Raw i bytes tokens) asked = bytes_of bytes asked.1.0
-  command_said before names (Of seq (CloseToken x)) (commands.CloseToken i) asked = tt
-  command_said before names (Of seq (CloseEndpoint x n)) (commands.CloseEndpoint i m) asked = tt
-  command_said before names form command asked = absurd asked
+  -- with a moment of 64 bits
+  timed : (moment at : Option ℤ) → moment ≡ at → IfSome at (FitsSigned w64) → IfSome moment (FitsSigned w64)
+  timed moment at same fits = subst (λ (o : Option ℤ). IfSome o (FitsSigned w64)) (sym same) fits
+
+  command_said : (before names : List (List ℕ)) (form : Form) (command : Command) → IsForm form → Asks schema before names form command
+      → CommandSaid command
+  command_said before names (Of seq (Call x id method word ts at)) (commands.Call i n p tokens m) sound asked =
+      (sending Request method word p asked.3.0 asked.3.1 asked.3.2, timed m at asked.4 sound.5)
+  command_said before names (Of seq (Answer x method word ts at)) (commands.Answer i p tokens m) sound asked =
+      (sending Response method word p asked.2.0 asked.2.1 asked.2.2, timed m at asked.3 sound.4)
+  command_said before names (Join seq other x y) (commands.Join o f g) sound asked = tt
+  command_said before names (Of seq (Pipe x y)) (commands.Pipe f g) sound asked = tt
+  command_said before names (Of seq (Mint sort x)) (commands.Mint s i) sound asked = tt
+  command_said before names (Of seq (Take x ns)) (commands.Take i got) sound asked = tt
+  command_said before names (Of seq (Bind x side word)) (commands.Bind i s n) sound asked = (word, asked.2)
+  command_said before names (Of seq (Associate x side word p)) (commands.Associate i s n q) sound asked = (word, asked.2)
+  command_said before names (Of seq (Attach p other)) (commands.Attach q o) sound asked = tt
+  command_said before names (Of seq (Raw x word ts)) (commands.Raw i bytes tokens) sound asked = bytes_of bytes asked.1.0
+  command_said before names (Of seq (CloseToken x)) (commands.CloseToken i) sound asked = tt
+  command_said before names (Of seq (CloseEndpoint x n)) (commands.CloseEndpoint i m) sound asked = tt
+  command_said before names (Of seq (Notify x notice)) (commands.Notify i n) sound asked = tt
+  command_said before names (Of seq (Pause x y flush)) (commands.Pause i j k) sound asked = tt
+  command_said before names form command sound asked = absurd asked
 
   -- what a line sends
   abbrev LineSaid : Line → Type 0
@@ -109,19 +120,21 @@ module _ (law : PassedIsEncodable) (schema : Schema) where
   PartSaid seqs (OfLine line) = LineSaid line
   PartSaid seqs (OfReply reply) = ReplySaid reply × IsOneOf seqs reply.seq
 
-  part_said : (seqs : ℕ) (past : List Form) (form : Form) (part : Part) → AreThere seqs (sequences form) → IsPart schema past form part → PartSaid seqs part
-  part_said seqs past form (OfLine line) there means = command_said (names_set past) (names_set (form ∷ past)) form line.command means.command
-  part_said seqs past (Auto seq method word) (OfReply reply) there means = (
+  part_said : (seqs : ℕ) (past : List Form) (form : Form) (part : Part) → IsForm form → AreThere seqs (sequences form) → IsPart schema past form part
+      → PartSaid seqs part
+  part_said seqs past form (OfLine line) sound there means = command_said (names_set past) (names_set (form ∷ past)) form line.command sound means.command
+  part_said seqs past (Auto seq method word) (OfReply reply) sound there means = (
     sending Response method word reply.prepared means.number means.target means.value,
     subst (λ (n : ℕ). n < seqs) (sym means.seq) there.0,
   )
-  part_said seqs past form (OfReply reply) there means = absurd means
+  part_said seqs past form (OfReply reply) sound there means = absurd means
 
   parts_said : (seqs : ℕ) (forms : List Form) (parts : List Part) → AreTaken schema seqs forms parts → AllByRecursion (PartSaid seqs) parts
   parts_said seqs [] [] taken = tt
   parts_said seqs [] (part ∷ parts) taken = absurd taken
   parts_said seqs (form ∷ past) [] taken = absurd taken
-  parts_said seqs (form ∷ past) (part ∷ parts) taken = (part_said seqs past form part taken.0.there taken.0.means, parts_said seqs past parts taken.1)
+  parts_said seqs (form ∷ past) (part ∷ parts) taken =
+      (part_said seqs past form part taken.0.sound taken.0.there taken.0.means, parts_said seqs past parts taken.1)
 
   lines_said : (seqs : ℕ) (parts : List Part) → AllByRecursion (PartSaid seqs) parts → AllByRecursion LineSaid (lines_in parts)
   lines_said seqs [] all = tt
@@ -154,23 +167,23 @@ module _ (law : PassedIsEncodable) (schema : Schema) where
     of_pending seq None = tt
     of_pending seq (Some p) = tt
 
-    of_call : (id : ℕ) (p : Prepared) → IsSending schema Request p.target (view p.value) → (o : Option EndId) (things : Option (List Thing))
-        (pendings : Option (List PendingId))
+    of_call : (id : ℕ) (p : Prepared) (moment : Option ℤ) → IsSending schema Request p.target (view p.value) × IfSome moment (FitsSigned w64)
+        → (o : Option EndId) (things : Option (List Thing)) (pendings : Option (List PendingId))
         → AsksSaid schema (or_skip n (option_and_then (λ (y : EndId). option_map (λ (sent : Outgoing). asks.Call y id sent)
-        (option_and_then (λ (xs : List Thing). option_map (λ (ps : List PendingId). outgoing p xs ps) pendings) things)) o))
-    of_call id p said None things pendings = tt
-    of_call id p said (Some y) None pendings = tt
-    of_call id p said (Some y) (Some xs) None = tt
-    of_call id p said (Some y) (Some xs) (Some ps) = (said, tt)
+        (option_and_then (λ (xs : List Thing). option_map (λ (ps : List PendingId). outgoing p xs ps moment) pendings) things)) o))
+    of_call id p moment said None things pendings = tt
+    of_call id p moment said (Some y) None pendings = tt
+    of_call id p moment said (Some y) (Some xs) None = tt
+    of_call id p moment said (Some y) (Some xs) (Some ps) = said
 
-    of_answer : (p : Prepared) → IsSending schema Response p.target (view p.value) → (o : Option ResponderId) (things : Option (List Thing))
-        (pendings : Option (List PendingId))
+    of_answer : (p : Prepared) (moment : Option ℤ) → IsSending schema Response p.target (view p.value) × IfSome moment (FitsSigned w64)
+        → (o : Option ResponderId) (things : Option (List Thing)) (pendings : Option (List PendingId))
         → AsksSaid schema (or_skip n (option_and_then (λ (r : ResponderId). option_map (λ (sent : Outgoing). asks.Answer r sent)
-        (option_and_then (λ (xs : List Thing). option_map (λ (ps : List PendingId). outgoing p xs ps) pendings) things)) o))
-    of_answer p said None things pendings = tt
-    of_answer p said (Some r) None pendings = tt
-    of_answer p said (Some r) (Some xs) None = tt
-    of_answer p said (Some r) (Some xs) (Some ps) = (said, tt)
+        (option_and_then (λ (xs : List Thing). option_map (λ (ps : List PendingId). outgoing p xs ps moment) pendings) things)) o))
+    of_answer p moment said None things pendings = tt
+    of_answer p moment said (Some r) None pendings = tt
+    of_answer p moment said (Some r) (Some xs) None = tt
+    of_answer p moment said (Some r) (Some xs) (Some ps) = said
 
     of_raw : (bytes : List ℕ) → AreBytes bytes → (twice : Bool) (o : Option Thing) (things : Option (List Thing))
         → AsksSaid schema (or_skip n (if twice then None else option_and_then
@@ -187,6 +200,12 @@ module _ (law : PassedIsEncodable) (schema : Schema) where
     of_closing None None None = tt
     of_closing None None (Some r) = tt
 
+    of_pause : (flush : ℕ) (o q : Option EndId)
+        → AsksSaid schema (or_skip n (option_and_then (λ (b : EndId). option_map (λ (a : EndId). asks.Pause b a flush) q) o))
+    of_pause flush None q = tt
+    of_pause flush (Some b) None = tt
+    of_pause flush (Some b) (Some a) = tt
+
     of_command : (command : Command) → CommandSaid command → AsksSaid schema (or_skip n (asked_for names command))
     of_command (commands.Join other first second) said = tt
     of_command (commands.Pipe first second) said = tt
@@ -195,15 +214,17 @@ module _ (law : PassedIsEncodable) (schema : Schema) where
     of_command (commands.Associate name side interface pending) said =
         of_end (λ (y : EndId). asks.Associate y side interface) (λ y. said) (as_end (names.stands name))
     of_command (commands.Attach name seq) said = of_pending seq (names.pending name)
-    of_command (commands.Call name id prepared list) said = of_call id prepared said (as_end (names.stands name))
+    of_command (commands.Call name id prepared list moment) said = of_call id prepared moment said (as_end (names.stands name))
         (all_held names.handle (things_named names.stands list)) (all_held names.pending (pendings_named names.stands list))
     of_command (commands.Take name list) said = of_end asks.Take (λ x. tt) (as_end (names.stands name))
-    of_command (commands.Answer name prepared list) said = of_answer prepared said (names.responder name)
+    of_command (commands.Answer name prepared list moment) said = of_answer prepared moment said (names.responder name)
         (all_held names.handle (things_named names.stands list)) (all_held names.pending (pendings_named names.stands list))
     of_command (commands.Raw name bytes list) said = of_raw bytes said (has_name list name) (names.handle name) (all_held names.handle list)
     of_command (commands.CloseToken name) said = of_closing (names.handle name) (names.pending name) (names.responder name)
     of_command (commands.CloseEndpoint name id) said =
         of_end (λ (y : EndId). asks.Close (closings.Endpoint y id)) (λ y. tt) (as_end (names.stands name))
+    of_command (commands.Notify name notice) said = of_end (λ (y : EndId). asks.Notify y notice) (λ y. tt) (as_end (names.stands name))
+    of_command (commands.Pause name other flush) said = of_pause flush (as_end (names.stands name)) (as_end (names.stands other))
 
   -- ## What is next
 

@@ -7,7 +7,7 @@ use Rattle.hex.specs.Hex.{decode_of, encode_lower}
 use Rattle.hex.specs.declared.error.FromHexError.{FromHexError}
 use Rattle.hex.proofs.HexLemmas.{decode_of-encode_lower}
 use Rattle.script_words.specs.Letters.{IsHexOf, IsHexWord}
-use Rattle.call_script.proofs.Hexes.{never_empty, spelled_again, spelled_otherwise}
+use Rattle.script_forms.proofs.Hexes.{never_empty, spelled_again, spelled_otherwise}
 
 -- it is decided whether this holds
 abbrev pub Decided : Type 0 → Type 0
@@ -84,7 +84,7 @@ hex_word word = by_length (length word == 0) refl
     by_length true e = inr (never_empty word e)
     by_length false e = read e (bytes_eq word (codes "-")) refl
 
--- three at once, four and five
+-- three at once, four, five and six
 pub three : {A B C : Type 0} → Decided A → Decided B → Decided C → Decided (A × B × C)
 three {A} {B} {C} a b c = go (both (both a b) c)
   where
@@ -100,10 +100,18 @@ four {A} {B} {C} {D} a b c d = go (both (three a b c) d)
     go (inl x) = inl (x.0.0, x.0.1, x.0.2, x.1)
     go (inr other) = inr (λ x. other ((x.0, x.1, x.2), x.3))
 
--- and five
+-- five at once
 pub five : {A B C D E : Type 0} → Decided A → Decided B → Decided C → Decided D → Decided E → Decided (A × B × C × D × E)
 five {A} {B} {C} {D} {E} a b c d e = go (both (four a b c d) e)
   where
     go : Decided ((A × B × C × D) × E) → Decided (A × B × C × D × E)
     go (inl x) = inl (x.0.0, x.0.1, x.0.2, x.0.3, x.1)
     go (inr other) = inr (λ x. other ((x.0, x.1, x.2, x.3), x.4))
+
+-- and six
+pub six : {A B C D E F : Type 0} → Decided A → Decided B → Decided C → Decided D → Decided E → Decided F → Decided (A × B × C × D × E × F)
+six {A} {B} {C} {D} {E} {F} a b c d e f = go (both (five a b c d e) f)
+  where
+    go : Decided ((A × B × C × D × E) × F) → Decided (A × B × C × D × E × F)
+    go (inl x) = inl (x.0.0, x.0.1, x.0.2, x.0.3, x.0.4, x.1)
+    go (inr other) = inr (λ x. other ((x.0, x.1, x.2, x.3, x.4), x.5))

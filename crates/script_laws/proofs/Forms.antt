@@ -1,23 +1,27 @@
 -- Whether words are those of a line.
-use Rattle.std.proofs.Common.{◌≡◌, ◌≤◌, ◌<◌, ◌^◌, ℕ, zero, suc, Bool, true, false, List, [], ◌∷◌, ◌++◌, length, Option, Some, None, refl, sym, ap, ◌∙◌, arith, inl, inr}
-use Rattle.std.specs.Prelude.{◌==◌, if◌then◌else◌, codes, decimal, unwrap_or}
+use Rattle.std.proofs.Common.{◌≡◌, ◌≤◌, ◌<◌, ◌^◌, ℕ, zero, suc, Bool, true, false, List, [], ◌∷◌, ◌++◌, length, drop, Option, Some, None, refl, sym, ap, ◌∙◌, arith, inl, inr}
+use Rattle.std.specs.Prelude.{ℤ, pos, negsuc, FitsSigned, ◌==◌, if◌then◌else◌, codes, decimal, unwrap_or}
+use Rattle.std.specs.Fmt.{signed_decimal}
+use Rattle.std.specs.Int.{w64}
 use Rattle.std.specs.Option.{option_map}
 use Rattle.std.specs.Str.{bytes_eq}
 use Rattle.std.proofs.lemmas.Fmt.{decimal_injective}
 use Rattle.std.proofs.lemmas.List.{append_cancel_right}
 use Rattle.std.proofs.lemmas.Slice.Eq.{bytes_eq-Decides}
+use Rattle.bind_model.specs.declared.asked.Notice.TheVariants.{Query, Require, Flush}
 use Rattle.handle_table.specs.declared.thing.TokenSort.{TokenSort}
 use Rattle.handle_table.specs.declared.thing.TokenSort.TheVariants.{SharedBuffer, Platform}
 use Rattle.wire_encoder.specs.declared.endpoint.EndpointSide.{EndpointSide}
 use Rattle.wire_encoder.specs.declared.endpoint.EndpointSide.TheVariants.{Remote, Receiver}
 use Rattle.script_words.specs.Letters.{endpoint_word, is_name, are_names, is_interface_word, is_method_word}
 use Rattle.script_words.specs.Pieces.{pieces}
-use Rattle.call_script.specs.declared.script.TheConstants.{MAX_SEQUENCES}
-use Rattle.call_script.specs.Forms.{Said, Pipe, Mint, Bind, Associate, Attach, Call, Take, Answer, Raw, CloseToken, CloseEndpoint}
-use Rattle.call_script.specs.Forms.{Form, Join, Auto, Of, IsSaid, IsForm, AreThere, said_words, said_sequences, form_words, sequences}
+use Rattle.script_forms.specs.declared.sequences.TheConstants.{MAX_SEQUENCES}
+use Rattle.script_forms.specs.Forms.{Said, Pipe, Mint, Bind, Associate, Attach, Call, Take, Answer, Raw, CloseToken, CloseEndpoint, Notify, Pause}
+use Rattle.script_forms.specs.Forms.{Form, Join, Auto, Of, IsMoment, IsNotice, IsSaid, IsForm, AreThere, said_words, said_sequences, form_words, sequences}
 use Rattle.call_script.specs.Script.{IsFormOf, is_placed}
-use Rattle.call_script.proofs.Endpoints.{parts_of, name_parts}
-use Rattle.script_laws.proofs.Decided.{Decided, by_test, both, three, four, five, below, same_words, by_one, hex_word}
+use Rattle.script_forms.proofs.Endpoints.{parts_of, name_parts}
+use Rattle.script_forms.proofs.Moments.{moment_one}
+use Rattle.script_laws.proofs.Decided.{Decided, by_test, both, three, four, five, six, below, same_words, by_one, hex_word}
 
 -- ## Numbers in words
 
@@ -46,6 +50,17 @@ number_found written word (suc n) k one small e =
         ap Some (one n k (omega arith) small (sym last ∙ e))
     go false other earlier = earlier (let differs = unlike other in omega (arith, small, differs))
 
+-- and none where none is written so
+number_lacking : (written : ℕ → List ℕ) (word : List ℕ) (n : ℕ) → ((i : ℕ) → i < n → word ≡ written i → ⊥) → number_in written word n ≡ None
+unfolding number_in
+number_lacking written word zero other = refl
+number_lacking written word (suc n) other =
+    go (bytes_eq word (written n)) refl (number_lacking written word n (λ i less e. other i (omega (arith, less)) e))
+  where
+    go : (t : Bool) → bytes_eq word (written n) ≡ t → number_in written word n ≡ None → (if t then Some n else number_in written word n) ≡ None
+    go true same earlier = absurd (other n (omega arith) ((bytes_eq-Decides word (written n)).0 same))
+    go false differs earlier = earlier
+
 -- a number of 32 bits, or of a sequence, by its digits
 digits_found : (word : List ℕ) (n k : ℕ) → n ≤ 2 ^ 64 → k < n → word ≡ decimal k → number_in decimal word n ≡ Some k
 digits_found word n k few small e =
@@ -60,6 +75,37 @@ marked_found : (word : List ℕ) (n k : ℕ) → n ≤ 2 ^ 64 → k < n → word
 marked_found word n k few small e =
     number_found marked word n k
     (λ i j a b f. decimal_injective i j (omega (arith, a, few)) (omega (arith, b, few)) (append_cancel_right (decimal i) (decimal j) (codes ":") f)) small e
+
+-- ## Moments in words
+
+-- how a moment below 0 is written, by how far it is below -1
+abbrev below_zero : ℕ → List ℕ
+below_zero n = signed_decimal (negsuc n)
+
+-- the moment of a number that is written so, or else of one behind a minus
+abbrev moment_of : Option ℕ → Option ℕ → ℤ
+moment_of (Some n) less = pos n
+moment_of None (Some n) = negsuc n
+moment_of None None = pos 0
+
+-- the moment that a word says
+moment_in : List ℕ → ℤ
+moment_in word = moment_of (number_in decimal word (2 ^ 63)) (number_in below_zero word (2 ^ 63))
+
+-- it is found in its word
+moment_found : (z : ℤ) → FitsSigned w64 z → moment_in (signed_decimal z) ≡ z
+unfolding moment_in
+moment_found (pos n) fits =
+    let small = fits.sfits in
+    let found = digits_found (decimal n) (2 ^ 63) n (omega arith) (omega (arith, small)) refl in
+    ap (λ (o : Option ℕ). moment_of o (number_in below_zero (decimal n) (2 ^ 63))) found
+moment_found (negsuc n) fits =
+    let small = fits.sfits in
+    let no_digits : number_in decimal (below_zero n) (2 ^ 63) ≡ None = number_lacking decimal (below_zero n) (2 ^ 63)
+    (λ i less e. let same : negsuc n ≡ pos i = moment_one (negsuc n) (pos i) fits (record { sfits = less }) e in absurd cc) in
+    let number : number_in below_zero (below_zero n) (2 ^ 63) ≡ Some n = number_found below_zero (below_zero n) (2 ^ 63) n
+    (λ i j a b e. omega (arith, decimal_injective (suc i) (suc j) (omega (arith, a)) (omega (arith, b)) (ap (drop 1) e))) (omega (arith, small)) refl in
+    ap (λ (o : Option ℕ). moment_of o (number_in below_zero (below_zero n) (2 ^ 63))) no_digits ∙ ap (λ (o : Option ℕ). moment_of None o) number
 
 -- ## What words say, if they say something
 
@@ -89,10 +135,20 @@ abbrev closes : List ℕ → Option (List ℕ × ℕ) → Said
 closes word None = CloseToken word
 closes word (Some at) = CloseEndpoint at.0 at.1
 
--- what `call` says
-abbrev calls : Option (List ℕ × ℕ) → List ℕ → List ℕ → List (List ℕ) → Said
-calls None method value tokens = nothing
-calls (Some at) method value tokens = Call at.0 at.1 method value tokens
+-- what a call says
+abbrev calls : Option (List ℕ × ℕ) → List ℕ → List ℕ → List (List ℕ) → Option ℤ → Said
+calls None method value tokens moment = nothing
+calls (Some at) method value tokens moment = Call at.0 at.1 method value tokens moment
+
+-- what `query` says
+abbrev queries : Option (List ℕ × ℕ) → Said
+queries None = nothing
+queries (Some at) = Notify at.0 (Query at.1)
+
+-- what `require` says
+abbrev demands : Option (List ℕ × ℕ) → ℕ → Said
+demands None version = nothing
+demands (Some at) version = Notify at.0 (Require at.1 version)
 
 -- what the words behind each command say
 abbrev pipe_in : List (List ℕ) → Said
@@ -119,20 +175,30 @@ abbrev attach_in : ℕ → List (List ℕ) → Said
 attach_in seqs (p ∷ digits ∷ []) = Attach p (number_of (number_in decimal digits seqs))
 attach_in seqs words = nothing
 
--- behind `call`
-abbrev call_in : List (List ℕ) → Said
-call_in (at ∷ method ∷ value ∷ tokens) = calls (endpoint_in (pieces 35 at)) method value tokens
-call_in words = nothing
+-- behind `call`, or the moment of a call
+abbrev call_in : Option ℤ → List (List ℕ) → Said
+call_in moment (at ∷ method ∷ value ∷ tokens) = calls (endpoint_in (pieces 35 at)) method value tokens moment
+call_in moment words = nothing
+
+-- behind `call-at`
+abbrev timed_call_in : List (List ℕ) → Said
+timed_call_in (word ∷ words) = call_in (Some (moment_in word)) words
+timed_call_in words = nothing
 
 -- behind `take`
 abbrev take_in : List (List ℕ) → Said
 take_in (x ∷ names) = Take x names
 take_in words = nothing
 
--- behind `answer`
-abbrev answer_in : List (List ℕ) → Said
-answer_in (x ∷ method ∷ value ∷ tokens) = Answer x method value tokens
-answer_in words = nothing
+-- behind `answer`, or the moment of an answer
+abbrev answer_in : Option ℤ → List (List ℕ) → Said
+answer_in moment (x ∷ method ∷ value ∷ tokens) = Answer x method value tokens moment
+answer_in moment words = nothing
+
+-- behind `answer-at`
+abbrev timed_answer_in : List (List ℕ) → Said
+timed_answer_in (word ∷ words) = answer_in (Some (moment_in word)) words
+timed_answer_in words = nothing
 
 -- behind `raw`
 abbrev raw_in : List (List ℕ) → Said
@@ -144,6 +210,36 @@ abbrev close_in : List (List ℕ) → Said
 close_in (word ∷ []) = closes word (endpoint_in (pieces 35 word))
 close_in words = nothing
 
+-- behind `query`
+abbrev query_in : List (List ℕ) → Said
+query_in (word ∷ []) = queries (endpoint_in (pieces 35 word))
+query_in words = nothing
+
+-- behind `require`
+abbrev require_in : List (List ℕ) → Said
+require_in (word ∷ digits ∷ []) = demands (endpoint_in (pieces 35 word)) (number_of (number_in decimal digits (2 ^ 32)))
+require_in words = nothing
+
+-- behind `flush`
+abbrev flush_in : List (List ℕ) → Said
+flush_in (x ∷ []) = Notify x Flush
+flush_in words = nothing
+
+-- behind `pause`
+abbrev pause_in : List (List ℕ) → Said
+pause_in (x ∷ y ∷ digits ∷ []) = Pause x y (number_of (number_in decimal digits (2 ^ 32)))
+pause_in words = nothing
+
+-- by a command with a moment, or of a control or a wait, or by `close`
+abbrev said_later : List ℕ → List (List ℕ) → Said
+said_later command words =
+    if bytes_eq command (codes "call-at") then timed_call_in words else
+    (if bytes_eq command (codes "answer-at") then timed_answer_in words else
+    (if bytes_eq command (codes "query") then query_in words else
+    (if bytes_eq command (codes "require") then require_in words else
+    (if bytes_eq command (codes "flush") then flush_in words else
+    (if bytes_eq command (codes "pause") then pause_in words else close_in words)))))
+
 -- by the command
 abbrev said_behind : ℕ → List ℕ → List (List ℕ) → Said
 said_behind seqs command words =
@@ -152,10 +248,10 @@ said_behind seqs command words =
     (if bytes_eq command (codes "bind") then bind_in words else
     (if bytes_eq command (codes "associate") then associate_in words else
     (if bytes_eq command (codes "attach") then attach_in seqs words else
-    (if bytes_eq command (codes "call") then call_in words else
+    (if bytes_eq command (codes "call") then call_in None words else
     (if bytes_eq command (codes "take") then take_in words else
-    (if bytes_eq command (codes "answer") then answer_in words else
-    (if bytes_eq command (codes "raw") then raw_in words else close_in words))))))))
+    (if bytes_eq command (codes "answer") then answer_in None words else
+    (if bytes_eq command (codes "raw") then raw_in words else said_later command words))))))))
 
 -- and by all words behind the sequence
 abbrev said_in : ℕ → List (List ℕ) → Said
@@ -187,13 +283,42 @@ module _ (seqs : ℕ) (few : seqs ≤ MAX_SEQUENCES) where
   said_one (Associate x Receiver i p) is there = refl
   said_one (Attach p n) is there =
       ap (λ (o : Option ℕ). Attach p (unwrap_or o 0)) (digits_found (decimal n) seqs n (omega (arith, few)) there.0 refl)
-  said_one (Call x id method value tokens) is there =
-      ap (λ (o : Option (List ℕ × ℕ)). calls o method value tokens) (endpoint_found x id is.0 is.1)
+  said_one (Call x id method value tokens None) is there =
+      ap (λ (o : Option (List ℕ × ℕ)). calls o method value tokens None) (endpoint_found x id is.0 is.1)
+  said_one (Call x id method value tokens (Some at)) is there =
+      ap (λ (o : Option (List ℕ × ℕ)). calls o method value tokens (Some (moment_in (signed_decimal at)))) (endpoint_found x id is.0 is.1)
+      ∙ ap (λ (z : ℤ). Call x id method value tokens (Some z)) (moment_found at is.5)
   said_one (Take x names) is there = refl
-  said_one (Answer x method value tokens) is there = refl
+  said_one (Answer x method value tokens None) is there = refl
+  said_one (Answer x method value tokens (Some at)) is there = ap (λ (z : ℤ). Answer x method value tokens (Some z)) (moment_found at is.4)
   said_one (Raw x bytes tokens) is there = refl
   said_one (CloseToken x) is there = ap (closes x) (no_endpoint x is)
   said_one (CloseEndpoint x id) is there = ap (closes (endpoint_word x id)) (endpoint_found x id is.0 is.1)
+  said_one (Notify x (Query id)) is there = ap (λ (o : Option (List ℕ × ℕ)). queries o) (endpoint_found x id is.0 is.1)
+  said_one (Notify x (Require id version)) is there =
+      ap (λ (o : Option (List ℕ × ℕ)). demands o (number_of (number_in decimal (decimal version) (2 ^ 32)))) (endpoint_found x id is.0 is.1.0)
+      ∙ ap (λ (o : Option ℕ). Notify x (Require id (unwrap_or o 0))) (digits_found (decimal version) (2 ^ 32) version (omega arith) is.1.1 refl)
+  said_one (Notify x Flush) is there = refl
+  said_one (Pause x y flush) is there =
+      ap (λ (o : Option ℕ). Pause x y (unwrap_or o 0)) (digits_found (decimal flush) (2 ^ 32) flush (omega arith) is.2 refl)
+
+  -- a moment has 64 bits, or not
+  fits : (z : ℤ) → Decided (FitsSigned w64 z)
+  fits (pos n) = go (below n (2 ^ 63))
+    where
+      go : Decided (n < 2 ^ 63) → Decided (FitsSigned w64 (pos n))
+      go (inl small) = inl (record { sfits = small })
+      go (inr other) = inr (λ f. other f.sfits)
+  fits (negsuc n) = go (below n (2 ^ 63))
+    where
+      go : Decided (n < 2 ^ 63) → Decided (FitsSigned w64 (negsuc n))
+      go (inl small) = inl (record { sfits = small })
+      go (inr other) = inr (λ f. other f.sfits)
+
+  -- where there is one
+  timed : (moment : Option ℤ) → Decided (IsMoment moment)
+  timed None = inl tt
+  timed (Some z) = fits z
 
   -- what is said is said right, or not
   said_right : (said : Said) → Decided (IsSaid said)
@@ -202,14 +327,18 @@ module _ (seqs : ℕ) (few : seqs ≤ MAX_SEQUENCES) where
   said_right (Bind x side i) = both (by_test (is_name x)) (by_test (is_interface_word i))
   said_right (Associate x side i p) = three (by_test (is_name x)) (by_test (is_interface_word i)) (by_test (is_name p))
   said_right (Attach p n) = by_test (is_name p)
-  said_right (Call x id method value tokens) =
-      five (by_test (is_name x)) (below id (2 ^ 32)) (by_test (is_method_word method)) (below 0 (length value)) (by_test (are_names tokens))
+  said_right (Call x id method value tokens moment) =
+      six (by_test (is_name x)) (below id (2 ^ 32)) (by_test (is_method_word method)) (below 0 (length value)) (by_test (are_names tokens)) (timed moment)
   said_right (Take x names) = both (by_test (is_name x)) (by_test (are_names names))
-  said_right (Answer x method value tokens) =
-      four (by_test (is_name x)) (by_test (is_method_word method)) (below 0 (length value)) (by_test (are_names tokens))
+  said_right (Answer x method value tokens moment) =
+      five (by_test (is_name x)) (by_test (is_method_word method)) (below 0 (length value)) (by_test (are_names tokens)) (timed moment)
   said_right (Raw x bytes tokens) = three (by_test (is_name x)) (hex_word bytes) (by_test (are_names tokens))
   said_right (CloseToken x) = by_test (is_name x)
   said_right (CloseEndpoint x id) = both (by_test (is_name x)) (below id (2 ^ 32))
+  said_right (Notify x (Query id)) = both (by_test (is_name x)) (below id (2 ^ 32))
+  said_right (Notify x (Require id version)) = both (by_test (is_name x)) (both (below id (2 ^ 32)) (below version (2 ^ 32)))
+  said_right (Notify x Flush) = let no_number : Decided (IsNotice Flush) = inl tt in both (by_test (is_name x)) no_number
+  said_right (Pause x y flush) = three (by_test (is_name x)) (by_test (is_name y)) (below flush (2 ^ 32))
 
 -- ## Lines
 

@@ -7,10 +7,10 @@ use Rattle.mj_schema.specs.declared.schema.Schema.{Schema}
 use Rattle.sealed_laws.proofs.Sealed.{Passed}
 use Rattle.script_words.specs.Pieces.{text_words}
 use Rattle.call_script.specs.declared.script.Script.{Script}
-use Rattle.call_script.specs.declared.script.TheConstants.{MAX_SEQUENCES}
+use Rattle.script_forms.specs.declared.sequences.TheConstants.{MAX_SEQUENCES}
 use Rattle.call_script.specs.declared.script_error.LineRefusal.{LineRefusal}
 use Rattle.call_script.specs.declared.script_error.LineRefusal.TheVariants.{BadLine, DoubleName, UnknownName, BadValue, TooManyLines}
-use Rattle.call_script.specs.Forms.{Form, AreSequences, form_words, header_words}
+use Rattle.script_forms.specs.Forms.{Form, AreSequences, form_words, header_words}
 use Rattle.call_script.specs.Script.{AreRefused, AreScript, AreTaken, IsFormOf, IsRefused, IsTaken, Part, doubles, knows, line_number, lines_in, names_set, replies_in}
 use Rattle.call_script.proofs.LoopLemmas.{forms_more}
 use Rattle.call_script.proofs.Sending.{all_letters, letters, text_letters}

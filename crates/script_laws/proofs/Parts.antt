@@ -1,6 +1,7 @@
 -- What a line asks whose names are known, or that it has no value.
-use Rattle.std.proofs.Common.{◌≡◌, ◌<◌, ◌^◌, ℕ, true, List, [], ◌∷◌, length, map, Option, Some, None, refl, sym, ap, ◌∙◌, subst, arith, inl, inr}
-use Rattle.std.specs.Prelude.{◌⊎◌, is_some, option_and_then}
+use Rattle.std.proofs.Common.{◌≡◌, ◌<◌, ◌^◌, ℕ, true, List, [], ◌∷◌, ◌++◌, length, map, Option, Some, None, refl, sym, ap, ◌∙◌, subst, arith, inl, inr}
+use Rattle.std.specs.Prelude.{ℤ, ◌⊎◌, codes, decimal, is_some, option_and_then}
+use Rattle.std.specs.Fmt.{signed_decimal}
 use Rattle.std.specs.List.{list_all}
 use Rattle.std.specs.Option.{option_map}
 use Rattle.mj_schema.specs.Lookups.{interface_named}
@@ -11,11 +12,11 @@ use Rattle.wire_model.specs.declared.target.Target.{Target}
 use Rattle.wire_encoder.specs.Prepared.{parameters_of}
 use Rattle.wire_encoder.specs.declared.prepared.Prepared.{Prepared}
 use Rattle.sealed_laws.proofs.Sealed.{Passed}
-use Rattle.script_words.specs.Letters.{own_word}
+use Rattle.script_words.specs.Letters.{endpoint_word, own_word}
 use Rattle.call_script.specs.declared.script.Command.{Command}
 use Rattle.call_script.specs.declared.script.Command.TheVariants as commands
-use Rattle.call_script.specs.Forms.{Pipe, Mint, Bind, Associate, Attach, Call, Take, Answer, Raw, CloseToken, CloseEndpoint}
-use Rattle.call_script.specs.Forms.{Form, Join, Auto, Of, IsForm, form_words, needs}
+use Rattle.script_forms.specs.Forms.{Pipe, Mint, Bind, Associate, Attach, Call, Take, Answer, Raw, CloseToken, CloseEndpoint, Notify, Pause}
+use Rattle.script_forms.specs.Forms.{Form, Join, Auto, Of, IsForm, form_words, needs}
 use Rattle.call_script.specs.Script.{names_set, line_number, seq_of, finds, knows, is_set, meant, Asks, HasNoValue, IsNoBareValue, IsNoValue, IsPart, IsValueOf, Part, OfLine, OfReply}
 use Rattle.call_script.specs.Targets.{message_named, target_named}
 use Rattle.call_script.proofs.OneValue.{one_found}
@@ -112,39 +113,39 @@ module _ (passed : Passed) (schema : Schema) (past : List Form) where
   needed seq word words e = and_parts (is_set names seq word) (list_all (is_set names seq) words) e
 
   -- a call
-  call : (seq : ℕ) (x : List ℕ) (id : ℕ) (method word : List ℕ) (ts : List (List ℕ))
-      → knows schema names (Of seq (Call x id method word ts)) ≡ true → length word < 2 ^ 63 → Comes (Of seq (Call x id method word ts))
-  call seq x id method word ts known small = go (value Request method word k.0 small)
+  call : (seq : ℕ) (x : List ℕ) (id : ℕ) (method word : List ℕ) (ts : List (List ℕ)) (at : Option ℤ)
+      → knows schema names (Of seq (Call x id method word ts at)) ≡ true → length word < 2 ^ 63 → Comes (Of seq (Call x id method word ts at))
+  call seq x id method word ts at known small = go (value Request method word k.0 small)
     where
       k : (is_some (message_named schema Request method) ≡ true) × (list_all (is_set names seq) (x ∷ ts) ≡ true)
-      k = known_parts (Of seq (Call x id method word ts)) known
+      k = known_parts (Of seq (Call x id method word ts at)) known
 
       go : ((prepared : Prepared) × ValueFor Request method word prepared)
           ⊎ ((target : Target) (number : ℕ) → message_named schema Request method ≡ Some (target, number) → IsNoValue schema target number word)
-          → Comes (Of seq (Call x id method word ts))
+          → Comes (Of seq (Call x id method word ts at))
       go (inl p) =
           let n = needed seq x ts k.1 in
           let end = before names [] (meant names seq x) n.0 in
           let tokens = all_before names [] seq ts n.1 in
-          line_of (Of seq (Call x id method word ts)) (commands.Call end.0 id p.0 tokens.0, (end.1, refl, tokens.1, p.1))
+          line_of (Of seq (Call x id method word ts at)) (commands.Call end.0 id p.0 tokens.0 at, (end.1, refl, tokens.1, p.1, refl))
       go (inr none) = inr none
 
   -- an answer
-  answer : (seq : ℕ) (x method word : List ℕ) (ts : List (List ℕ)) → knows schema names (Of seq (Answer x method word ts)) ≡ true
-      → length word < 2 ^ 63 → Comes (Of seq (Answer x method word ts))
-  answer seq x method word ts known small = go (value Response method word k.0 small)
+  answer : (seq : ℕ) (x method word : List ℕ) (ts : List (List ℕ)) (at : Option ℤ) → knows schema names (Of seq (Answer x method word ts at)) ≡ true
+      → length word < 2 ^ 63 → Comes (Of seq (Answer x method word ts at))
+  answer seq x method word ts at known small = go (value Response method word k.0 small)
     where
       k : (is_some (message_named schema Response method) ≡ true) × (list_all (is_set names seq) (x ∷ ts) ≡ true)
-      k = known_parts (Of seq (Answer x method word ts)) known
+      k = known_parts (Of seq (Answer x method word ts at)) known
 
       go : ((prepared : Prepared) × ValueFor Response method word prepared)
           ⊎ ((target : Target) (number : ℕ) → message_named schema Response method ≡ Some (target, number) → IsNoValue schema target number word)
-          → Comes (Of seq (Answer x method word ts))
+          → Comes (Of seq (Answer x method word ts at))
       go (inl p) =
           let n = needed seq x ts k.1 in
           let responder = before names [] (meant names seq x) n.0 in
           let tokens = all_before names [] seq ts n.1 in
-          line_of (Of seq (Answer x method word ts)) (commands.Answer responder.0 p.0 tokens.0, (responder.1, tokens.1, p.1))
+          line_of (Of seq (Answer x method word ts at)) (commands.Answer responder.0 p.0 tokens.0 at, (responder.1, tokens.1, p.1, refl))
       go (inr none) = inr none
 
   -- an automatic reply
@@ -200,13 +201,23 @@ module _ (passed : Passed) (schema : Schema) (past : List Form) where
       let k = known_parts (Of seq (Attach p other)) known in
       let pending = before names [] (meant names seq p) (needed seq p [] k.1).0 in
       line_of (Of seq (Attach p other)) (commands.Attach pending.0 (record { 0 = other }), (pending.1, refl))
-  on (Of seq (Call x id method word ts)) is known small = call seq x id method word ts known (omega (arith, small))
+  on (Of seq (Call x id method word ts None)) is known small =
+      let few : letters ((decimal seq ++ codes ":") ∷ codes "call" ∷ endpoint_word x id ∷ method ∷ word ∷ ts) < 2 ^ 63 = small in
+      call seq x id method word ts None known (omega (arith, few))
+  on (Of seq (Call x id method word ts (Some at))) is known small =
+      let few : letters ((decimal seq ++ codes ":") ∷ codes "call-at" ∷ signed_decimal at ∷ endpoint_word x id ∷ method ∷ word ∷ ts) < 2 ^ 63 = small in
+      call seq x id method word ts (Some at) known (omega (arith, few))
   on (Of seq (Take x ns)) is known small =
       let k = known_parts (Of seq (Take x ns)) known in
       let end = before names (map (own_word seq) ns) (meant names seq x) (needed seq x [] k.1).0 in
       let got = all_next names (map (own_word seq) ns) in
       line_of (Of seq (Take x ns)) (commands.Take end.0 got.0, (end.1, got.1))
-  on (Of seq (Answer x method word ts)) is known small = answer seq x method word ts known (omega (arith, small))
+  on (Of seq (Answer x method word ts None)) is known small =
+      let few : letters ((decimal seq ++ codes ":") ∷ codes "answer" ∷ x ∷ method ∷ word ∷ ts) < 2 ^ 63 = small in
+      answer seq x method word ts None known (omega (arith, few))
+  on (Of seq (Answer x method word ts (Some at))) is known small =
+      let few : letters ((decimal seq ++ codes ":") ∷ codes "answer-at" ∷ signed_decimal at ∷ x ∷ method ∷ word ∷ ts) < 2 ^ 63 = small in
+      answer seq x method word ts (Some at) known (omega (arith, few))
   on (Of seq (Raw x word ts)) is known small =
       let k = known_parts (Of seq (Raw x word ts)) known in
       let n = needed seq x ts k.1 in
@@ -222,3 +233,13 @@ module _ (passed : Passed) (schema : Schema) (past : List Form) where
       let k = known_parts (Of seq (CloseEndpoint x id)) known in
       let end = before names [] (meant names seq x) (needed seq x [] k.1).0 in
       line_of (Of seq (CloseEndpoint x id)) (commands.CloseEndpoint end.0 id, (end.1, refl))
+  on (Of seq (Notify x notice)) is known small =
+      let k = known_parts (Of seq (Notify x notice)) known in
+      let end = before names [] (meant names seq x) (needed seq x [] k.1).0 in
+      line_of (Of seq (Notify x notice)) (commands.Notify end.0 notice, (end.1, refl))
+  on (Of seq (Pause x y flush)) is known small =
+      let k = known_parts (Of seq (Pause x y flush)) known in
+      let n = needed seq x (y ∷ []) k.1 in
+      let end = before names [] (meant names seq x) n.0 in
+      let other = before names [] (meant names seq y) (needed seq y [] n.1).0 in
+      line_of (Of seq (Pause x y flush)) (commands.Pause end.0 other.0 flush, (end.1, other.1, refl))

@@ -1,6 +1,6 @@
 -- What a line asks by what is held, and that the names under which its command takes are those that are spent.
 use Rattle.std.proofs.Common.{◌≡◌, ℕ, Bool, true, false, List, [], ◌∷◌, refl, sym, ap, ◌∙◌, subst}
-use Rattle.std.specs.Prelude.{Option, Some, None, option_and_then, is_some, if◌then◌else◌}
+use Rattle.std.specs.Prelude.{ℤ, Option, Some, None, option_and_then, is_some, if◌then◌else◌}
 use Rattle.std.specs.Option.{option_map}
 use Rattle.handle_table.specs.declared.thing.Thing.{Thing}
 use Rattle.wire_encoder.specs.declared.prepared.Prepared.{Prepared}
@@ -17,6 +17,7 @@ use Rattle.bind_model.specs.declared.endpoint.PendingId.{PendingId}
 use Rattle.bind_model.specs.declared.endpoint.ResponderId.{ResponderId}
 use Rattle.call_script.specs.declared.script.Command.{Command as LineCommand}
 use Rattle.call_script.specs.declared.script.Command.TheVariants.{Join, Pipe, Mint, Bind, Associate, Attach, Call, Take, Answer, Raw, CloseToken, CloseEndpoint}
+use Rattle.call_script.specs.declared.script.Command.TheVariants.{Notify, Pause}
 use Rattle.call_script.specs.declared.script.Line.{Line}
 use Rattle.call_script.specs.declared.script.NameId.{NameId}
 use Rattle.script_names.specs.Names.{Named, handles_spent, has_name, pendings_named, pendings_spent, responders_spent, things_named}
@@ -54,12 +55,12 @@ all_held-names holds (n ∷ names) = rw (all_held-names holds names) (go (has_na
     go false (Some h) (Some hs) = refl
 
 -- what is sent with both lists, where both are there
-sent_both : (prepared : Prepared) (things : Option (List Thing)) (halves : Option (List Half))
-    → option_map (λ (tokens : List Thing × List Half). outgoing prepared tokens.0 (names_of tokens.1)) (both things halves)
-    ≡ option_and_then (λ (xs : List Thing). option_map (λ (ps : List PendingId). outgoing prepared xs ps) (option_map names_of halves)) things
-sent_both prepared None halves = refl
-sent_both prepared (Some xs) None = refl
-sent_both prepared (Some xs) (Some hs) = refl
+sent_both : (prepared : Prepared) (moment : Option ℤ) (things : Option (List Thing)) (halves : Option (List Half))
+    → option_map (λ (tokens : List Thing × List Half). outgoing prepared tokens.0 (names_of tokens.1) moment) (both things halves)
+    ≡ option_and_then (λ (xs : List Thing). option_map (λ (ps : List PendingId). outgoing prepared xs ps moment) (option_map names_of halves)) things
+sent_both prepared moment None halves = refl
+sent_both prepared moment (Some xs) None = refl
+sent_both prepared moment (Some xs) (Some hs) = refl
 
 module _ (rooms : Rooms) (names : Names) where
   -- whether a name stands for an end or a token
@@ -67,42 +68,43 @@ module _ (rooms : Rooms) (names : Names) where
   stands_there n = is_some (held_at rooms.stands.things.items n)
 
   -- what is sent with what is taken from a line's names
-  sent_is : (prepared : Prepared) (list : List NameId) → names.handles.items ≡ things_named (names_in rooms).stands list
-      → names.pendings.items ≡ pendings_named (names_in rooms).stands list → sent prepared names rooms ≡ sent_with (names_in rooms) prepared list
-  sent_is prepared list hs ps =
+  sent_is : (prepared : Prepared) (list : List NameId) (moment : Option ℤ) → names.handles.items ≡ things_named (names_in rooms).stands list
+      → names.pendings.items ≡ pendings_named (names_in rooms).stands list
+      → sent prepared moment names rooms ≡ sent_with (names_in rooms) prepared list moment
+  sent_is prepared list moment hs ps =
       let things : taken_from rooms.handles.named.items names.handles.items
       ≡ all_held (held_at rooms.handles.named.items) (things_named (names_in rooms).stands list) =
       taken_from-all_held rooms.handles.named.items names.handles.items ∙ ap (all_held (held_at rooms.handles.named.items)) hs in
       let halves : taken_from rooms.pendings.named.items names.pendings.items
       ≡ all_held (held_at rooms.pendings.named.items) (pendings_named (names_in rooms).stands list) =
       taken_from-all_held rooms.pendings.named.items names.pendings.items ∙ ap (all_held (held_at rooms.pendings.named.items)) ps in
-      sent_both prepared (taken_from rooms.handles.named.items names.handles.items) (taken_from rooms.pendings.named.items names.pendings.items)
+      sent_both prepared moment (taken_from rooms.handles.named.items names.handles.items) (taken_from rooms.pendings.named.items names.pendings.items)
       ∙ (ap (λ (o : Option (List Thing)). option_and_then
-      (λ (xs : List Thing). option_map (λ (ps : List PendingId). outgoing prepared xs ps)
+      (λ (xs : List Thing). option_map (λ (ps : List PendingId). outgoing prepared xs ps moment)
       (option_map names_of (taken_from rooms.pendings.named.items names.pendings.items))) o) things
-      ∙ ap (λ (o : Option (List PendingId)). option_and_then (λ (xs : List Thing). option_map (λ (ps : List PendingId). outgoing prepared xs ps) o)
+      ∙ ap (λ (o : Option (List PendingId)). option_and_then (λ (xs : List Thing). option_map (λ (ps : List PendingId). outgoing prepared xs ps moment) o)
       (all_held (held_at rooms.handles.named.items) (things_named (names_in rooms).stands list)))
       (ap (option_map names_of) halves ∙ sym (all_held-names (held_at rooms.pendings.named.items) (pendings_named (names_in rooms).stands list))))
 
   module _ (line : Line) (are : AreNames stands_there line.command names) where
     -- a call asks what its line does
-    pub called_is : {n : NameId} {id : ℕ} {prepared : Prepared} {list : List NameId} → line.command ≡ Call n id prepared list
-        → called line.number (as_end (held_at rooms.stands.things.items n)) id prepared names rooms ≡ asked_by (names_in rooms) line
-    called_is {n} {id} {prepared} {list} is =
+    pub called_is : {n : NameId} {id : ℕ} {prepared : Prepared} {list : List NameId} {moment : Option ℤ} → line.command ≡ Call n id prepared list moment
+        → called line.number (as_end (held_at rooms.stands.things.items n)) id prepared moment names rooms ≡ asked_by (names_in rooms) line
+    called_is {n} {id} {prepared} {list} {moment} is =
         let hs : names.handles.items ≡ things_named (names_in rooms).stands list = are.handles ∙ ap (handles_needed stands_there) is in
         let ps : names.pendings.items ≡ pendings_named (names_in rooms).stands list = are.pendings ∙ ap (pendings_needed stands_there) is in
         ap (λ (s : Option Outgoing). or_skip line.number (option_and_then (λ y. option_map (λ (out : Outgoing). asks.Call y id out) s)
-        (as_end (held_at rooms.stands.things.items n)))) (sent_is prepared list hs ps)
+        (as_end (held_at rooms.stands.things.items n)))) (sent_is prepared list moment hs ps)
         ∙ asked_is (names_in rooms) line is
 
     -- and an answer
-    pub answered_is : {n : NameId} {prepared : Prepared} {list : List NameId} → line.command ≡ Answer n prepared list
-        → answered line.number (held_at rooms.responders.named.items n) prepared names rooms ≡ asked_by (names_in rooms) line
-    answered_is {n} {prepared} {list} is =
+    pub answered_is : {n : NameId} {prepared : Prepared} {list : List NameId} {moment : Option ℤ} → line.command ≡ Answer n prepared list moment
+        → answered line.number (held_at rooms.responders.named.items n) prepared moment names rooms ≡ asked_by (names_in rooms) line
+    answered_is {n} {prepared} {list} {moment} is =
         let hs : names.handles.items ≡ things_named (names_in rooms).stands list = are.handles ∙ ap (handles_needed stands_there) is in
         let ps : names.pendings.items ≡ pendings_named (names_in rooms).stands list = are.pendings ∙ ap (pendings_needed stands_there) is in
         ap (λ (s : Option Outgoing). or_skip line.number (option_and_then (λ (r : ResponderId). option_map (λ (out : Outgoing). asks.Answer r out) s)
-        (held_at rooms.responders.named.items n))) (sent_is prepared list hs ps)
+        (held_at rooms.responders.named.items n))) (sent_is prepared list moment hs ps)
         ∙ asked_is (names_in rooms) line is
 
     -- and what is written raw
@@ -229,16 +231,16 @@ spends_for held number (Associate n side interface p) names are =
 spends_for held number (Attach n seq) names are =
     with_one (SpendsAsked held.stands (Attach n seq) names) number (spends_nothing held.stands (Attach n seq) names number)
     (λ p. asks.Attach p seq) (held.pending n) (λ p. record { handles = refl; pendings = ap listed are.one; responder = refl })
-spends_for held number (Call n id prepared list) names are =
-    with_two (SpendsAsked held.stands (Call n id prepared list) names) number (spends_nothing held.stands (Call n id prepared list) names number)
-    (λ y out. asks.Call y id out) (as_end (held.stands n)) (sent_with held prepared list)
+spends_for held number (Call n id prepared list moment) names are =
+    with_two (SpendsAsked held.stands (Call n id prepared list moment) names) number (spends_nothing held.stands (Call n id prepared list moment) names number)
+    (λ y out. asks.Call y id out) (as_end (held.stands n)) (sent_with held prepared list moment)
     (λ y out. record { handles = are.handles; pendings = are.pendings; responder = refl })
 spends_for held number (Take n list) names are =
     with_one (SpendsAsked held.stands (Take n list) names) number (spends_nothing held.stands (Take n list) names number)
     (λ y. asks.Take y) (as_end (held.stands n)) (λ y. record { handles = refl; pendings = refl; responder = refl })
-spends_for held number (Answer n prepared list) names are =
-    with_two (SpendsAsked held.stands (Answer n prepared list) names) number (spends_nothing held.stands (Answer n prepared list) names number)
-    (λ r out. asks.Answer r out) (held.responder n) (sent_with held prepared list)
+spends_for held number (Answer n prepared list moment) names are =
+    with_two (SpendsAsked held.stands (Answer n prepared list moment) names) number (spends_nothing held.stands (Answer n prepared list moment) names number)
+    (λ r out. asks.Answer r out) (held.responder n) (sent_with held prepared list moment)
     (λ r out. record { handles = are.handles; pendings = are.pendings; responder = ap listed are.one })
 spends_for held number (Raw n bytes list) names are =
     let nothing = spends_nothing held.stands (Raw n bytes list) names number in
@@ -255,6 +257,13 @@ spends_for held number (CloseToken n) names are =
 spends_for held number (CloseEndpoint n id) names are =
     with_one (SpendsAsked held.stands (CloseEndpoint n id) names) number (spends_nothing held.stands (CloseEndpoint n id) names number)
     (λ y. asks.Close (closings.Endpoint y id)) (as_end (held.stands n)) (λ y. record { handles = refl; pendings = refl; responder = refl })
+spends_for held number (Notify n notice) names are =
+    with_one (SpendsAsked held.stands (Notify n notice) names) number (spends_nothing held.stands (Notify n notice) names number)
+    (λ y. asks.Notify y notice) (as_end (held.stands n)) (λ y. record { handles = refl; pendings = refl; responder = refl })
+spends_for held number (Pause n m flush) names are =
+    with_two (SpendsAsked held.stands (Pause n m flush) names) number (spends_nothing held.stands (Pause n m flush) names number)
+    (λ b a. asks.Pause b a flush) (as_end (held.stands n)) (as_end (held.stands m))
+    (λ b a. record { handles = refl; pendings = refl; responder = refl })
 
 -- the command that asks what its line does takes from under the names of what is spent
 pub spends_as : (held : Named) (line : Line) (names : Names) (command : Command) → AreNames (λ (n : NameId). is_some (held.stands n)) line.command names

@@ -1,5 +1,5 @@
 -- What the lines of a sequence ask, by what its names stand for and hold.
-use Rattle.std.specs.Prelude.{ℕ, List, [], ◌∷◌, Option, Some, None, option_and_then, unwrap_or, if◌then◌else◌}
+use Rattle.std.specs.Prelude.{ℕ, ℤ, List, [], ◌∷◌, Option, Some, None, option_and_then, unwrap_or, if◌then◌else◌}
 use Rattle.std.specs.Option.{option_map}
 use Rattle.mj_base.specs.declared.ids.EndId.{EndId}
 use Rattle.handle_table.specs.declared.thing.Thing.{Thing}
@@ -14,18 +14,19 @@ use Rattle.bind_model.specs.declared.endpoint.PendingId.{PendingId}
 use Rattle.bind_model.specs.declared.endpoint.ResponderId.{ResponderId}
 use Rattle.call_script.specs.declared.script.Command.{Command}
 use Rattle.call_script.specs.declared.script.Command.TheVariants.{Join, Pipe, Mint, Bind, Associate, Attach, Call, Take, Answer, Raw, CloseToken, CloseEndpoint}
+use Rattle.call_script.specs.declared.script.Command.TheVariants.{Notify, Pause}
 use Rattle.call_script.specs.declared.script.Line.{Line}
 use Rattle.call_script.specs.declared.script.NameId.{NameId}
 use Rattle.script_names.specs.Names.{Named, has_name, pendings_named, things_named}
 
--- what is sent: the prepared parameters, and these handles and pendings
-abbrev pub outgoing : Prepared → List Thing → List PendingId → Outgoing
-outgoing prepared things pendings = record {
+-- what is sent: the prepared parameters, these handles and pendings, and this moment
+abbrev pub outgoing : Prepared → List Thing → List PendingId → Option ℤ → Outgoing
+outgoing prepared things pendings moment = record {
   target = prepared.target;
   parameters = view prepared.value;
   handles = things;
   pendings = pendings;
-  moment = None;
+  moment = moment;
 }
 
 -- the end that is meant, where it is one
@@ -52,10 +53,10 @@ closed_of None None responder = option_map (λ (r : ResponderId). asks.Close (cl
 
 -- by what the names of a sequence stand for and hold
 module _ (names : Named) where
-  -- what is sent with the handles and the pendings that are held under these names
-  abbrev pub sent_with : Prepared → List NameId → Option Outgoing
-  sent_with prepared list = option_and_then
-      (λ (xs : List Thing). option_map (λ (ps : List PendingId). outgoing prepared xs ps) (all_held names.pending (pendings_named names.stands list)))
+  -- what is sent with the handles and the pendings that are held under these names, at this moment
+  abbrev pub sent_with : Prepared → List NameId → Option ℤ → Option Outgoing
+  sent_with prepared list moment = option_and_then
+      (λ (xs : List Thing). option_map (λ (ps : List PendingId). outgoing prepared xs ps moment) (all_held names.pending (pendings_named names.stands list)))
       (all_held names.handle (things_named names.stands list))
 
   -- bytes from an end, with the handles that are held under names, its own not among them
@@ -73,16 +74,20 @@ module _ (names : Named) where
   asked_for (Bind n side interface) = option_map (λ (x : Thing). asks.Bind x side interface) (names.handle n)
   asked_for (Associate n side interface p) = option_map (λ (y : EndId). asks.Associate y side interface) (as_end (names.stands n))
   asked_for (Attach n seq) = option_map (λ (p : PendingId). asks.Attach p seq) (names.pending n)
-  asked_for (Call n id prepared list) = option_and_then
-      (λ (y : EndId). option_map (λ (sent : Outgoing). asks.Call y id sent) (sent_with prepared list))
+  asked_for (Call n id prepared list moment) = option_and_then
+      (λ (y : EndId). option_map (λ (sent : Outgoing). asks.Call y id sent) (sent_with prepared list moment))
       (as_end (names.stands n))
   asked_for (Take n list) = option_map asks.Take (as_end (names.stands n))
-  asked_for (Answer n prepared list) = option_and_then
-      (λ (r : ResponderId). option_map (λ (sent : Outgoing). asks.Answer r sent) (sent_with prepared list))
+  asked_for (Answer n prepared list moment) = option_and_then
+      (λ (r : ResponderId). option_map (λ (sent : Outgoing). asks.Answer r sent) (sent_with prepared list moment))
       (names.responder n)
   asked_for (Raw n bytes list) = raw_with n bytes list
   asked_for (CloseToken n) = closed_of (names.handle n) (names.pending n) (names.responder n)
   asked_for (CloseEndpoint n id) = option_map (λ (y : EndId). asks.Close (closings.Endpoint y id)) (as_end (names.stands n))
+  asked_for (Notify n notice) = option_map (λ (y : EndId). asks.Notify y notice) (as_end (names.stands n))
+  asked_for (Pause n m flush) = option_and_then
+      (λ (b : EndId). option_map (λ (a : EndId). asks.Pause b a flush) (as_end (names.stands m)))
+      (as_end (names.stands n))
 
   -- what a line asks
   abbrev pub asked_by : Line → Asked

@@ -14,8 +14,8 @@ use Rattle.bind_model.specs.declared.commands.Reply.TheVariants.{Associated, Wro
 -- what the handles that go with a command are of
 abbrev pub things_with : Command → List Thing
 things_with (Bind handle side interface) = handle ∷ []
-things_with (Call end id prepared handles pendings) = handles
-things_with (Answer responder prepared handles pendings) = handles
+things_with (Call end id prepared handles pendings moment) = handles
+things_with (Answer responder prepared handles pendings moment) = handles
 things_with (Raw handle bytes handles) = handle ∷ handles
 things_with (Close (close.Handle handle)) = handle ∷ []
 things_with command = []
@@ -23,8 +23,8 @@ things_with command = []
 -- the pendings that go with a command
 abbrev pub halves_with : Command → List Half
 halves_with (Attach pending seq) = pending ∷ []
-halves_with (Call end id prepared handles pendings) = pendings
-halves_with (Answer responder prepared handles pendings) = pendings
+halves_with (Call end id prepared handles pendings moment) = pendings
+halves_with (Answer responder prepared handles pendings moment) = pendings
 halves_with (Close (close.Pending pending)) = pending ∷ []
 halves_with command = []
 
@@ -35,7 +35,7 @@ halves_room command = length (halves_with command)
 
 -- the responder that goes with a command
 abbrev pub responder_with : Command → Option ResponderId
-responder_with (Answer responder prepared handles pendings) = Some responder
+responder_with (Answer responder prepared handles pendings moment) = Some responder
 responder_with (Close (close.Responder responder)) = Some responder
 responder_with command = None
 

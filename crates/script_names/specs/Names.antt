@@ -74,8 +74,8 @@ pendings_named stands list = filter (λ (n : NameId). not (is_some (stands n))) 
 abbrev pub handles_spent : (NameId → Option Thing) → Command → Asked → List NameId
 handles_spent stands command (asks.Skip number) = []
 handles_spent stands (Bind n side interface) asked = n ∷ []
-handles_spent stands (Call n id prepared list) asked = things_named stands list
-handles_spent stands (Answer n prepared list) asked = things_named stands list
+handles_spent stands (Call n id prepared list moment) asked = things_named stands list
+handles_spent stands (Answer n prepared list moment) asked = things_named stands list
 handles_spent stands (Raw n bytes list) asked = list
 handles_spent stands (CloseToken n) (asks.Close (closings.Handle x)) = n ∷ []
 handles_spent stands command asked = []
@@ -84,15 +84,15 @@ handles_spent stands command asked = []
 abbrev pub pendings_spent : (NameId → Option Thing) → Command → Asked → List NameId
 pendings_spent stands command (asks.Skip number) = []
 pendings_spent stands (Attach n seq) asked = n ∷ []
-pendings_spent stands (Call n id prepared list) asked = pendings_named stands list
-pendings_spent stands (Answer n prepared list) asked = pendings_named stands list
+pendings_spent stands (Call n id prepared list moment) asked = pendings_named stands list
+pendings_spent stands (Answer n prepared list moment) asked = pendings_named stands list
 pendings_spent stands (CloseToken n) (asks.Close (closings.Pending p)) = n ∷ []
 pendings_spent stands command asked = []
 
 -- that whose responder it spends
 abbrev pub responders_spent : (NameId → Option Thing) → Command → Asked → List NameId
 responders_spent stands command (asks.Skip number) = []
-responders_spent stands (Answer n prepared list) asked = n ∷ []
+responders_spent stands (Answer n prepared list moment) asked = n ∷ []
 responders_spent stands (CloseToken n) (asks.Close (closings.Responder r)) = n ∷ []
 responders_spent stands command asked = []
 

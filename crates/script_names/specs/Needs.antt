@@ -10,7 +10,7 @@ use Rattle.script_names.specs.declared.names.Names.{Names}
 abbrev pub needed : Command → Option NameId
 needed (Bind n side interface) = Some n
 needed (Attach n seq) = Some n
-needed (Answer n prepared names) = Some n
+needed (Answer n prepared names moment) = Some n
 needed (Raw n bytes names) = Some n
 needed (CloseToken n) = Some n
 needed command = None
@@ -28,15 +28,15 @@ module _ (is_thing : NameId → Bool) where
 
   -- the names in a command's list whose handles it needs: all of them where it writes bytes
   abbrev pub handles_needed : Command → List NameId
-  handles_needed (Call n id prepared names) = filter is_thing names
-  handles_needed (Answer n prepared names) = filter is_thing names
+  handles_needed (Call n id prepared names moment) = filter is_thing names
+  handles_needed (Answer n prepared names moment) = filter is_thing names
   handles_needed (Raw n bytes names) = names
   handles_needed command = []
 
   -- the names in a command's list whose pendings it needs
   abbrev pub pendings_needed : Command → List NameId
-  pendings_needed (Call n id prepared names) = filter (λ n. not (is_thing n)) names
-  pendings_needed (Answer n prepared names) = filter (λ n. not (is_thing n)) names
+  pendings_needed (Call n id prepared names moment) = filter (λ n. not (is_thing n)) names
+  pendings_needed (Answer n prepared names moment) = filter (λ n. not (is_thing n)) names
   pendings_needed command = []
 
   -- they are the names of this command

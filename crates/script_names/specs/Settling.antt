@@ -39,8 +39,8 @@ module _ (one : Option NameId) (handle_names pending_names : List NameId) where
   -- the names of the handles that go with a command
   abbrev pub handles_under : Command → List NameId
   handles_under (Bind handle side interface) = listed one
-  handles_under (Call end id prepared hs ps) = handle_names
-  handles_under (Answer responder prepared hs ps) = handle_names
+  handles_under (Call end id prepared hs ps moment) = handle_names
+  handles_under (Answer responder prepared hs ps moment) = handle_names
   handles_under (Raw handle bytes hs) = before_list one handle_names
   handles_under (Close (close.Handle handle)) = listed one
   handles_under command = []
@@ -48,14 +48,14 @@ module _ (one : Option NameId) (handle_names pending_names : List NameId) where
   -- those of the pendings
   abbrev pub pendings_under : Command → List NameId
   pendings_under (Attach pending seq) = listed one
-  pendings_under (Call end id prepared hs ps) = pending_names
-  pendings_under (Answer responder prepared hs ps) = pending_names
+  pendings_under (Call end id prepared hs ps moment) = pending_names
+  pendings_under (Answer responder prepared hs ps moment) = pending_names
   pendings_under (Close (close.Pending pending)) = listed one
   pendings_under command = []
 
   -- and that of the responder
   abbrev pub responder_under : Command → List NameId
-  responder_under (Answer responder prepared hs ps) = listed one
+  responder_under (Answer responder prepared hs ps moment) = listed one
   responder_under (Close (close.Responder responder)) = listed one
   responder_under command = []
 

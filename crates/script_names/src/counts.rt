@@ -11,7 +11,7 @@ pub fn count_handles(command: &Command) -> usize
 {
     match command {
         Command::Bind(_, _, _) | Command::Close(ToClose::Handle(_)) => 1,
-        Command::Call(_, _, _, handles, _) | Command::Answer(_, _, handles, _) => {
+        Command::Call(_, _, _, handles, _, _) | Command::Answer(_, _, handles, _, _) => {
             handles.as_slice().len()
         }
         Command::Raw(_, _, handles) => 1 + handles.as_slice().len(),
@@ -22,6 +22,8 @@ pub fn count_handles(command: &Command) -> usize
         | Command::Attach(_, _)
         | Command::Take(_)
         | Command::Close(ToClose::Pending(_) | ToClose::Responder(_) | ToClose::Endpoint(_, _))
+        | Command::Notify(_, _)
+        | Command::Pause(_, _, _)
         | Command::Skip(_) => 0,
     }
 }
@@ -34,7 +36,7 @@ pub fn count_pendings(command: &Command) -> usize
     match command {
         Command::Attach(_, _) | Command::Associate(_, _, _) | Command::Close(ToClose::Pending(_)) =>
             1,
-        Command::Call(_, _, _, _, pendings) | Command::Answer(_, _, _, pendings) => {
+        Command::Call(_, _, _, _, pendings, _) | Command::Answer(_, _, _, pendings, _) => {
             pendings.as_slice().len()
         }
         Command::Pipe
@@ -44,6 +46,8 @@ pub fn count_pendings(command: &Command) -> usize
         | Command::Raw(_, _, _)
         | Command::Take(_)
         | Command::Close(ToClose::Handle(_) | ToClose::Responder(_) | ToClose::Endpoint(_, _))
+        | Command::Notify(_, _)
+        | Command::Pause(_, _, _)
         | Command::Skip(_) => 0,
     }
 }

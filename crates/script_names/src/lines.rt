@@ -5,7 +5,7 @@ ghost use Rattle.mj_schema.specs.declared.schema.Schema.{Schema};
 ghost use Rattle.bind_model.specs.Plain.{asked_of, IsOf};
 ghost use Rattle.call_script.specs.Sound.{IsReadWith};
 ghost use Rattle.script_names.specs.Asking.{asked_by};
-ghost use Rattle.script_names.specs.steps.Lines.{associated, attached, bound, shut, shut_at, taken, TakesNothing};
+ghost use Rattle.script_names.specs.steps.Lines.{associated, attached, bound, noticed, paused, shut, shut_at, taken, TakesNothing};
 ghost use Rattle.script_names.specs.Needs.{AreNames};
 ghost use Rattle.script_names.specs.Held.{name_of, names_in};
 ghost use Rattle.script_names.specs.Settling.{SpendsAs, Took, TookFor};
@@ -16,7 +16,7 @@ use crate::names::Names;
 use crate::no_memory::NoMemory;
 use crate::rooms::Rooms;
 use crate::tokens::{answer, call, raw};
-use bind_model::{Command, ToClose};
+use bind_model::{Command, Notice, ToClose};
 use call_script::{Command as Asked, Line, NameId};
 use mj_base::{EndId, SeqId};
 use std::alloc::Global;
@@ -101,6 +101,34 @@ fn close_endpoint(number: u32, end: Option<EndId>, id: u32) -> Command
     }
 }
 
+/// To write a control from an end, where that is one; else nothing, which is noted.
+fn notify(number: u32, end: Option<EndId>, notice: Notice) -> Command
+    ensures asked { asked_of result ≡ noticed number notice end }
+    ensures plain { (schema : Schema) → IsOf schema result }
+    ensures bare { TakesNothing result }
+{
+    match end {
+        Some(end) => Command::Notify(end, notice),
+        None => Command::Skip(number),
+    }
+}
+
+/// To take nothing at an end until another has consumed a flush, where both are ends; else nothing, which
+/// is noted.
+fn pause(number: u32, end: Option<EndId>, other: Option<EndId>, flush: u32) -> Command
+    ensures asked { asked_of result ≡ paused number flush end other }
+    ensures plain { (schema : Schema) → IsOf schema result }
+    ensures bare { TakesNothing result }
+{
+    match end {
+        Some(end) => match other {
+            Some(other) => Command::Pause(end, other, flush),
+            None => Command::Skip(number),
+        },
+        None => Command::Skip(number),
+    }
+}
+
 /// The command of a line, with what it needs, which it takes from its names.
 pub fn command_of(
     rooms: &mut Rooms,
@@ -124,14 +152,21 @@ pub fn command_of(
             Ok(associate(number, rooms.stands.end(*name), *side, *interface))
         }
         Asked::Attach(name, seq) => Ok(attach(rooms, number, *name, *seq)),
-        Asked::Call(name, id, prepared, _) => {
+        Asked::Call(name, id, prepared, _, moment) => {
             let end = rooms.stands.end(*name);
-            call(rooms, alloc, names, number, end, *id, prepared)
+            call(rooms, alloc, names, number, end, *id, prepared, *moment)
         }
         Asked::Take(name, _) => Ok(take(number, rooms.stands.end(*name))),
-        Asked::Answer(name, prepared, _) => answer(rooms, alloc, names, number, *name, prepared),
+        Asked::Answer(name, prepared, _, moment) => {
+            answer(rooms, alloc, names, number, *name, prepared, *moment)
+        }
         Asked::Raw(name, bytes, _) => raw(rooms, alloc, names, number, *name, bytes),
         Asked::CloseToken(name) => Ok(close(rooms, number, *name)),
         Asked::CloseEndpoint(name, id) => Ok(close_endpoint(number, rooms.stands.end(*name), *id)),
+        Asked::Notify(name, notice) => Ok(notify(number, rooms.stands.end(*name), *notice)),
+        Asked::Pause(name, other, flush) => {
+            let end = rooms.stands.end(*name);
+            Ok(pause(number, end, rooms.stands.end(*other), *flush))
+        }
     }
 }

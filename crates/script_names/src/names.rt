@@ -31,11 +31,13 @@ fn sets(alloc: Global, line: &Asked) -> Result<Vec<NameId>, AllocError>
         Asked::Take(_, names) => Vec::from_slice(alloc, names.as_slice()),
         Asked::Bind(_, _, _)
         | Asked::Attach(_, _)
-        | Asked::Call(_, _, _, _)
-        | Asked::Answer(_, _, _)
+        | Asked::Call(_, _, _, _, _)
+        | Asked::Answer(_, _, _, _)
         | Asked::Raw(_, _, _)
         | Asked::CloseToken(_)
-        | Asked::CloseEndpoint(_, _) => Ok(Vec::new(alloc)),
+        | Asked::CloseEndpoint(_, _)
+        | Asked::Notify(_, _)
+        | Asked::Pause(_, _, _) => Ok(Vec::new(alloc)),
     }
 }
 
@@ -46,16 +48,18 @@ fn needed(line: &Asked) -> Option<NameId>
     match line {
         Asked::Bind(name, _, _)
         | Asked::Attach(name, _)
-        | Asked::Answer(name, _, _)
+        | Asked::Answer(name, _, _, _)
         | Asked::Raw(name, _, _)
         | Asked::CloseToken(name) => Some(*name),
         Asked::Join(_, _, _)
         | Asked::Pipe(_, _)
         | Asked::Mint(_, _)
         | Asked::Associate(_, _, _, _)
-        | Asked::Call(_, _, _, _)
+        | Asked::Call(_, _, _, _, _)
         | Asked::Take(_, _)
-        | Asked::CloseEndpoint(_, _) => None,
+        | Asked::CloseEndpoint(_, _)
+        | Asked::Notify(_, _)
+        | Asked::Pause(_, _, _) => None,
     }
 }
 
@@ -94,7 +98,7 @@ fn handles(alloc: Global, stands: &Stands, line: &Asked) -> Result<Vec<NameId>, 
     ensures { IfOk result (λ all. all.items ≡ handles_needed (λ n. is_some (held_at stands.now.things.items n)) line.now) }
 {
     match line {
-        Asked::Call(_, _, _, names) | Asked::Answer(_, _, names) => {
+        Asked::Call(_, _, _, names, _) | Asked::Answer(_, _, names, _) => {
             select(alloc, stands, names.as_slice(), true)
         }
         Asked::Raw(_, _, names) => Vec::from_slice(alloc, names.as_slice()),
@@ -107,7 +111,7 @@ fn pendings(alloc: Global, stands: &Stands, line: &Asked) -> Result<Vec<NameId>,
     ensures { IfOk result (λ all. all.items ≡ pendings_needed (λ n. is_some (held_at stands.now.things.items n)) line.now) }
 {
     match line {
-        Asked::Call(_, _, _, names) | Asked::Answer(_, _, names) => {
+        Asked::Call(_, _, _, names, _) | Asked::Answer(_, _, names, _) => {
             select(alloc, stands, names.as_slice(), false)
         }
         _ => Ok(Vec::new(alloc)),

@@ -229,11 +229,11 @@ impl Rooms {
         match command {
             Command::Bind(handle, _, _) => self.handles.give_one(names.one, handle),
             Command::Attach(pending, _) => self.pendings.give_one(names.one, pending),
-            Command::Call(_, _, _, handles, pendings) => {
+            Command::Call(_, _, _, handles, pendings, _) => {
                 self.give_handles(names, handles);
                 self.give_pendings(names, pendings);
             }
-            Command::Answer(responder, _, handles, pendings) => {
+            Command::Answer(responder, _, handles, pendings, _) => {
                 self.responders.give_one(names.one, responder);
                 self.give_handles(names, handles);
                 self.give_pendings(names, pendings);
@@ -245,6 +245,8 @@ impl Rooms {
             | Command::Mint(_)
             | Command::Associate(_, _, _)
             | Command::Take(_)
+            | Command::Notify(_, _)
+            | Command::Pause(_, _, _)
             | Command::Skip(_) => {}
         }
     }
@@ -278,6 +280,8 @@ impl Rooms {
             | Reply::Control(_)
             | Reply::Bad(_, _)
             | Reply::Closed(_)
+            | Reply::Notified(_)
+            | Reply::Pausing
             | Reply::Skipped => Ok(()),
         }
     }

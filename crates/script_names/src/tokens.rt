@@ -49,7 +49,8 @@ fn take_tokens(
     }
 }
 
-/// A call from an end, where that is one, with what is held under names; else nothing, which is noted.
+/// A call from an end, where that is one, with what is held under names, at a moment; else nothing, which is
+/// noted.
 pub fn call(
     rooms: &mut Rooms,
     alloc: Global,
@@ -58,8 +59,9 @@ pub fn call(
     end: Option<EndId>,
     id: u32,
     prepared: &Prepared,
+    moment: Option<i64>,
 ) -> Result<Command, NoMemory>
-    ensures asked { IfOk result (λ command. asked_of command ≡ called number end id prepared.now names.now rooms.old) }
+    ensures asked { IfOk result (λ command. asked_of command ≡ called number end id prepared.now moment names.now rooms.old) }
     ensures took { IfOk result (λ command. TookFor names.now command rooms.old rooms.new) }
     ensures prepared { IfOk result (λ command. (schema : Schema) → IsPrepared schema prepared.now → IsOf schema command) }
 {
@@ -70,13 +72,15 @@ pub fn call(
         return Err(NoMemory);
     };
     match take_tokens(rooms, alloc, names)? {
-        Some((handles, pendings)) => Ok(Command::Call(end, id, prepared, handles, pendings)),
+        Some((handles, pendings)) => Ok(Command::Call(
+            end, id, prepared, handles, pendings, moment,
+        )),
         None => Ok(Command::Skip(number)),
     }
 }
 
-/// The answer of the responder that is held under a name, where one is, with what is held under others;
-/// else nothing, which is noted.
+/// The answer of the responder that is held under a name, where one is, with what is held under others, at
+/// a moment; else nothing, which is noted.
 pub fn answer(
     rooms: &mut Rooms,
     alloc: Global,
@@ -84,10 +88,11 @@ pub fn answer(
     number: u32,
     name: NameId,
     prepared: &Prepared,
+    moment: Option<i64>,
 ) -> Result<Command, NoMemory>
     requires { names.now.one ≡ Some name }
     ensures asked { IfOk result (λ command. asked_of command
-        ≡ answered number (held_at rooms.old.responders.named.items name) prepared.now names.now rooms.old) }
+        ≡ answered number (held_at rooms.old.responders.named.items name) prepared.now moment names.now rooms.old) }
     ensures took { IfOk result (λ command. TookFor names.now command rooms.old rooms.new) }
     ensures prepared { IfOk result (λ command. (schema : Schema) → IsPrepared schema prepared.now → IsOf schema command) }
 {
@@ -101,7 +106,7 @@ pub fn answer(
         return Ok(Command::Skip(number));
     };
     match rooms.responders.take(name) {
-        Some(responder) => Ok(Command::Answer(responder, prepared, handles, pendings)),
+        Some(responder) => Ok(Command::Answer(responder, prepared, handles, pendings, moment)),
         // One is held there.
         None => {
             rooms.give_handles(names, handles);

@@ -35,7 +35,7 @@ use Rattle.script_run.specs.Draining.{HaveRested, IsCoreOf}
 use Rattle.script_run.specs.steps.Going.{IsPutBack, IsWoken}
 use Rattle.script_run.specs.steps.Running.{seat_of}
 use Rattle.script_run.proofs.TurnLemmas.{none_due}
-use Rattle.script_run.proofs.Woken.{Grew, rested_again}
+use Rattle.script_run.proofs.Waking.{Grew, rested_again}
 
 -- ## What came
 

@@ -35,7 +35,7 @@ use Rattle.script_run.specs.Draining.{HaveRested}
 use Rattle.script_run.specs.steps.Going.{IsWoken}
 use Rattle.script_run.proofs.Serving.{has_job}
 use Rattle.script_names.proofs.TableLemmas.{there}
-use Rattle.script_run.proofs.Woken.{numbered}
+use Rattle.script_run.proofs.Waking.{numbered}
 
 -- ## Desks without callbacks
 

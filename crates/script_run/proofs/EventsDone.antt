@@ -99,7 +99,7 @@ module _ (schema : Schema) (script : Script) (is : IsScript schema script) where
 
     reply_quiet : asks_by event.told event.asked ≡ 0
     reply_quiet = subst (λ (asked : Asked). asks_by event.told asked ≡ 0) e
-        (reply_asks schema script.seqs step.1.0 event.seq d.0 (outgoing d.1.prepared [] []) reply.side refl event.told told)
+        (reply_asks schema script.seqs step.1.0 event.seq d.0 (outgoing d.1.prepared [] [] None) reply.side refl event.told told)
 
   -- a reply that is due is sound
   due_is : (past : List Event) (d : Due) → due wire script.autos past ≡ Some d → IsReply schema script.seqs d.1

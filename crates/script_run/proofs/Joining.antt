@@ -35,7 +35,7 @@ use Rattle.script_run.specs.steps.Going.{IsPutBack, IsWoken}
 use Rattle.script_run.specs.steps.Joints.{Come, Gave, GaveBoth, Joined, Knows, KnowsIf, Spared, filled_if}
 use Rattle.script_names.specs.Rooms.{SameHeld}
 use Rattle.script_names.specs.Tables.{filled}
-use Rattle.script_run.proofs.Woken.{grew_went, play_of, rested_again}
+use Rattle.script_run.proofs.Waking.{grew_went, play_of, rested_again}
 
 -- ## What a join is told
 

@@ -14,7 +14,7 @@ mod Sequences
 mod Serving
 mod TakeTurns
 mod TurnLemmas
-mod Woken
+mod Waking
 mod DueReplies
 mod EventShares
 mod EventsDone

@@ -315,9 +315,9 @@ abbrev with_sent : Target → Tree → List Thing → Outgoing
 with_sent t v hs = record { target = t; parameters = v; handles = hs; pendings = []; moment = None }
 
 same_sent : (p q : Prepared) (handles : List Thing) (pendings : List Half) → p.target ≡ q.target → view p.value ≡ view q.value → handles ≡ []
-    → pendings ≡ [] → outgoing_of p handles pendings ≡ outgoing q [] []
+    → pendings ≡ [] → outgoing_of p handles pendings None ≡ outgoing q [] [] None
 same_sent p q handles pendings targets values none bare =
-    ap (outgoing_of p handles) bare
+    ap (λ (ps : List Half). outgoing_of p handles ps None) bare
     ∙ (ap (λ (t : Target). with_sent t (view p.value) handles) targets
     ∙ (ap (λ (v : Tree). with_sent q.target v handles) values ∙ ap (λ (hs : List Thing). with_sent q.target (view q.value) hs) none))
 
@@ -325,11 +325,11 @@ same_sent p q handles pendings targets values none bare =
 pub answer_done : (reply : AutoReply) (before after : Seen) (old new : Kept Plain) (responder : ResponderId) (copied : Prepared) (handles : List Thing)
     (pendings : List Half) (told : Told) (others : List ResponderId) → EndsWith responder others → copied.target ≡ reply.prepared.target
     → view copied.value ≡ view reply.prepared.value → handles ≡ [] → pendings ≡ []
-    → Went before after old new (asks.Answer responder (outgoing_of copied handles pendings)) told
+    → Went before after old new (asks.Answer responder (outgoing_of copied handles pendings None)) told
     → (r : ResponderId) → EndsWith r others → Replied (Some (r, reply)) before after old new
 answer_done reply before after old new responder copied handles pendings told others mine targets values none bare went r last = (
   told,
-  subst (λ (q : ResponderId). Went before after old new (asks.Answer q (outgoing reply.prepared [] [])) told) (last_one responder r others mine last)
+  subst (λ (q : ResponderId). Went before after old new (asks.Answer q (outgoing reply.prepared [] [] None)) told) (last_one responder r others mine last)
       (subst (λ (sent : Outgoing). Went before after old new (asks.Answer responder sent) told)
       (same_sent copied reply.prepared handles pendings targets values none bare) went),
 )

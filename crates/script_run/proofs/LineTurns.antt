@@ -35,7 +35,7 @@ use Rattle.script_run.specs.steps.Running.{DidTurn, IsRunning, seat_of}
 use Rattle.script_run.proofs.Coming.{Came, CameAlone, CameBoth, at_seat, came, came_of, core_behind, each_room, ends, names_reply, none_behind, rested_behind}
 use Rattle.script_run.proofs.TurnLemmas.{AreCounted, asks_line, counted_line, counted_reply, line_within, names_line}
 use Rattle.script_run.proofs.TurnLemmas.{other_event, own_event, turns_line, turns_reply}
-use Rattle.script_run.proofs.Woken.{grew_line}
+use Rattle.script_run.proofs.Waking.{grew_line}
 
 -- ## A turn
 

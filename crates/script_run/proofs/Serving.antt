@@ -1,6 +1,6 @@
 -- What a desk does with a command and the callback that comes with it.
 use Rattle.std.proofs.Common.{◌≡◌, ℕ, Bool, true, false, List, length, refl, sym, subst}
-use Rattle.std.specs.Prelude.{Option, Some, None, Result, Ok, Err, IfOk, IfErr, OnErr, is_some, if◌then◌else◌}
+use Rattle.std.specs.Prelude.{ℤ, Option, Some, None, Result, Ok, Err, IfOk, IfErr, OnErr, is_some, if◌then◌else◌}
 use Rattle.mj_base.specs.declared.ids.EndId.{EndId}
 use Rattle.handle_table.specs.declared.thing.Thing.{Thing}
 use Rattle.wire_encoder.specs.declared.prepared.Prepared.{Prepared}
@@ -38,14 +38,15 @@ pub has_job : (wire : Wire) (target : Target) → is_some (job_of_method wire ta
 has_job wire target = some_where (wire.responds target.interface target.method)
 
 pub is_other : (command : Command)
-    → ((end : EndId) (id : ℕ) (prepared : Prepared) (handles : List Thing) (pendings : List Half) → command ≡ Call end id prepared handles pendings → ⊥)
+    → ((end : EndId) (id : ℕ) (prepared : Prepared) (handles : List Thing) (pendings : List Half) (moment : Option ℤ)
+    → command ≡ Call end id prepared handles pendings moment → ⊥)
     → ((end : EndId) → command ≡ Take end → ⊥) → IsOther command
-is_other (Call end id prepared handles pendings) no_call no_take = no_call end id prepared handles pendings refl
+is_other (Call end id prepared handles pendings moment) no_call no_take = no_call end id prepared handles pendings moment refl
 is_other (Take end) no_call no_take = no_take end refl
 is_other command no_call no_take = tt
 
 no_job : (wire : Wire) (command : Command) → IsOther command → job_of wire (asked_of command) ≡ None
-no_job wire (Call end id prepared handles pendings) other = absurd other
+no_job wire (Call end id prepared handles pendings moment) other = absurd other
 no_job wire (Take end) other = absurd other
 no_job wire command other = refl
 
@@ -53,19 +54,19 @@ no_job wire command other = refl
 
 module _ (before after : Seen) (old new : Kept Plain) (same : SameDesk before after) where
   -- a call with its callback; one that is refused changes nothing of what is kept
-  module _ (end : EndId) (id : ℕ) (prepared : Prepared) (handles : List Thing) (pendings : List Half) where
+  module _ (end : EndId) (id : ℕ) (prepared : Prepared) (handles : List Thing) (pendings : List Half) (moment : Option ℤ) where
     -- the job that comes with the call
     abbrev job : Option Plain
     job = job_of_method (wire_of before.schema) prepared.target
 
     sent : (result : Result Sent (CallRefused Plain))
         → IfOk result (λ s. Saw before.schema before.seqs before.alone before.me before.events after.events
-        (Call end id prepared handles pendings) (replies.Sent s.request s.bytes))
-        → IfOk result (λ s. Follows AnswersZero old (step_of (Call end id prepared handles pendings) (replies.Sent s.request s.bytes) job) new)
+        (Call end id prepared handles pendings moment) (replies.Sent s.request s.bytes))
+        → IfOk result (λ s. Follows AnswersZero old (step_of (Call end id prepared handles pendings moment) (replies.Sent s.request s.bytes) job) new)
         → IfErr result (λ refused. NotSent before.schema before.seqs before.alone before.me before.events after.events
-        (Call end id prepared handles pendings) job refused)
+        (Call end id prepared handles pendings moment) job refused)
         → OnErr result (new ≡ old)
-        → Served before after (Call end id prepared handles pendings) old new (answered_as result)
+        → Served before after (Call end id prepared handles pendings moment) old new (answered_as result)
     sent (Ok s) saw follows unsent unmoved = record {
       same = same;
       event = saw;
@@ -76,8 +77,8 @@ module _ (before after : Seen) (old new : Kept Plain) (same : SameDesk before af
     sent (Err (No why back given)) saw follows unsent unmoved = record {
       same = same;
       event = unsent.0;
-      kept = subst (Follows AnswersZero old (step_of (Call end id prepared handles pendings) (replies.No why back) job)) (sym unmoved)
-          (follows_same AnswersZero (step_of (Call end id prepared handles pendings) (replies.No why back) job) old refl (λ key. refl) (λ key. refl));
+      kept = subst (Follows AnswersZero old (step_of (Call end id prepared handles pendings moment) (replies.No why back) job)) (sym unmoved)
+          (follows_same AnswersZero (step_of (Call end id prepared handles pendings moment) (replies.No why back) job) old refl (λ key. refl) (λ key. refl));
       refused = tt;
       unmoved = tt;
     }
@@ -98,12 +99,12 @@ module _ (before after : Seen) (old new : Kept Plain) (same : SameDesk before af
 
     -- with the callback that came with it
     pub call_served : (command : Command) (given : Option Plain) → given ≡ job → (result : Result Sent (CallRefused Plain))
-        → command ≡ Call end id prepared handles pendings
+        → command ≡ Call end id prepared handles pendings moment
         → IfOk result (λ s. Saw before.schema before.seqs before.alone before.me before.events after.events
-        (Call end id prepared handles pendings) (replies.Sent s.request s.bytes))
-        → IfOk result (λ s. Follows AnswersZero old (step_of (Call end id prepared handles pendings) (replies.Sent s.request s.bytes) given) new)
+        (Call end id prepared handles pendings moment) (replies.Sent s.request s.bytes))
+        → IfOk result (λ s. Follows AnswersZero old (step_of (Call end id prepared handles pendings moment) (replies.Sent s.request s.bytes) given) new)
         → IfErr result (λ refused. NotSent before.schema before.seqs before.alone before.me before.events after.events
-        (Call end id prepared handles pendings) given refused)
+        (Call end id prepared handles pendings moment) given refused)
         → OnErr result (new ≡ old)
         → Served before after command old new (answered_as result)
     call_served command given as_due result is saw follows unsent unmoved =
@@ -111,11 +112,11 @@ module _ (before after : Seen) (old new : Kept Plain) (same : SameDesk before af
         (sent result saw
         (subst
         (λ (j : Option Plain). IfOk result (λ s. Follows AnswersZero old
-        (step_of (Call end id prepared handles pendings) (replies.Sent s.request s.bytes) j) new))
+        (step_of (Call end id prepared handles pendings moment) (replies.Sent s.request s.bytes) j) new))
         as_due follows)
         (subst
         (λ (j : Option Plain). IfErr result (λ refused. NotSent before.schema before.seqs before.alone before.me before.events after.events
-        (Call end id prepared handles pendings) j refused))
+        (Call end id prepared handles pendings moment) j refused))
         as_due unsent)
         unmoved)
 

@@ -32,7 +32,7 @@ use Rattle.script_run.specs.steps.Going.{IsPutBack, IsWoken}
 use Rattle.script_run.specs.steps.Running.{TookTurn, seat_of}
 use Rattle.script_run.proofs.Coming.{Came, CameAlone, CameBoth, at_seat, came, came_of, core_behind, ends, more_behind, rested_behind}
 use Rattle.script_run.proofs.TurnLemmas.{due_seq, none_due}
-use Rattle.script_run.proofs.Woken.{grew_take}
+use Rattle.script_run.proofs.Waking.{grew_take}
 
 -- as many events in either order
 pub past_length : (core : Play) → length (past_in core) ≡ length core.events

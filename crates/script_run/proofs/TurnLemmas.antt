@@ -190,7 +190,7 @@ pub none_due : (wire : Wire) (autos : List AutoReply) (event : Event) (past : Li
     → due wire autos (event ∷ past) ≡ None
 none_due wire autos event past d e =
     ap (λ (asked : Asked). due_for autos event.seq (responders_handed wire event.told asked)) e
-    ∙ ap (due_for autos event.seq) (no_responders wire event.told d.0 (outgoing d.1.prepared [] []))
+    ∙ ap (due_for autos event.seq) (no_responders wire event.told d.0 (outgoing d.1.prepared [] [] None))
 
 due_for_seq : (autos : List AutoReply) (seq : SeqId) (rs : List ResponderId) (d : Due) → due_for autos seq rs ≡ Some d → d.1.seq ≡ seq
 due_for_seq autos seq [] d e = absurd cc

@@ -52,7 +52,7 @@ pub record IsPart (next : List Event → Option Next) (before after : List Event
 
 -- the automatic reply that is due
 abbrev pub replied : Due → Asked
-replied (r, reply) = asks.Answer r (outgoing reply.prepared [] [])
+replied (r, reply) = asks.Answer r (outgoing reply.prepared [] [] None)
 
 -- it comes first, and else something other
 abbrev pub reply_first : Option Due → Option Asked → Option Asked

@@ -48,6 +48,8 @@ pub fn due_after<'s>(autos: &'s [AutoReply], seq: SeqId, reply: &Reply) -> Optio
         | Reply::Control(_)
         | Reply::Bad(_, _)
         | Reply::Closed(_)
+        | Reply::Notified(_)
+        | Reply::Pausing
         | Reply::Skipped
         | Reply::No(_, _) => None,
     }

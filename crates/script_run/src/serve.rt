@@ -39,9 +39,9 @@ pub fn serve<P: Stepper>(
     ensures home { P.home desk.new.stepper ≡ P.home desk.old.stepper }
 {
     match command {
-        Command::Call(end, id, prepared, handles, pendings) => {
+        Command::Call(end, id, prepared, handles, pendings, moment) => {
             let job = job_for(schema, &prepared);
-            answered_as(desk.call(alloc, end, id, prepared, handles, pendings, job))
+            answered_as(desk.call(alloc, end, id, prepared, handles, pendings, job, moment))
         }
         Command::Take(end) => desk.take(alloc, end),
         other => desk.step(alloc, other),

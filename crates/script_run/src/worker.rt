@@ -136,7 +136,7 @@ fn answer<P: Stepper>(
     };
     let handles = Handles::from_vec(Vec::new(alloc));
     let pendings = PendingList::new(alloc);
-    let command = Command::Answer(responder, prepared, handles, pendings);
+    let command = Command::Answer(responder, prepared, handles, pendings, None);
     let told = ask(desk, rooms, alloc, schema, command)?;
     match rooms.settle(&names, told, false) {
         Ok(()) => Ok(()),

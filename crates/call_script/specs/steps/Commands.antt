@@ -15,7 +15,7 @@ use Rattle.call_script.specs.declared.commands.Stop.{Stop}
 use Rattle.call_script.specs.declared.commands.Stop.TheVariants as stops
 use Rattle.call_script.specs.declared.additions.Part.{Part as WrittenPart}
 use Rattle.call_script.specs.declared.additions.Part.TheVariants as parts
-use Rattle.call_script.specs.Forms.{Said, Form, Of, sets}
+use Rattle.script_forms.specs.Forms.{Said, Form, Of, sets}
 use Rattle.call_script.specs.Script.{finds, knows, meant, is_set, Asks, AreNamed, HasNoValue, IsReason, IsValueOf, IsNoValue, IsReply, Part, OfLine, OfReply}
 use Rattle.call_script.specs.Script.{seq_of}
 use Rattle.call_script.specs.steps.Names.{IsTable, FindsAt, FindsNone}

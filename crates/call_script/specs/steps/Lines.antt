@@ -9,7 +9,7 @@ use Rattle.call_script.specs.declared.reading.Reader.{Reader}
 use Rattle.call_script.specs.declared.script.Script.{Script}
 use Rattle.call_script.specs.declared.script_error.ScriptError.{ScriptError}
 use Rattle.call_script.specs.declared.script_error.ScriptError.TheVariants as errors
-use Rattle.call_script.specs.Forms.{Form, form_words, header_words, is_setup, sequences, AreThere}
+use Rattle.script_forms.specs.Forms.{Form, form_words, header_words, is_setup, sequences, AreThere}
 use Rattle.call_script.specs.Script.{is_placed, names_set, methods_answered, line_number, Part, OfLine, OfReply, lines_in, replies_in, AreTaken, IsRefused}
 use Rattle.call_script.specs.Script.{AreScript, AreRefused, IsRefusedBehind}
 use Rattle.call_script.specs.steps.Names.{IsTable}

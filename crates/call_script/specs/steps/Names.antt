@@ -7,7 +7,7 @@ use Rattle.indexmap.specs.IndexMap.{get_by_text, index_map_len}
 use Rattle.call_script.specs.declared.name_table.NameTable.{NameTable}
 use Rattle.call_script.specs.declared.name_table.Scope.{Scope}
 use Rattle.call_script.specs.declared.script.NameId.{NameId}
-use Rattle.call_script.specs.Forms.{Form, sets}
+use Rattle.script_forms.specs.Forms.{Form, sets}
 use Rattle.script_words.specs.Letters.{own_word}
 use Rattle.call_script.specs.Script.{doubled, sets_again, has_name, meant, is_set, IsNamed}
 

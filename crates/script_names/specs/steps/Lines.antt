@@ -1,5 +1,5 @@
 -- What lines ask, case by case, by what is held or meant.
-use Rattle.std.specs.Prelude.{ℕ, List, Option}
+use Rattle.std.specs.Prelude.{ℕ, List, Option, option_and_then}
 use Rattle.std.specs.Option.{option_map}
 use Rattle.mj_base.specs.declared.ids.EndId.{EndId}
 use Rattle.mj_base.specs.declared.ids.SeqId.{SeqId}
@@ -8,6 +8,7 @@ use Rattle.wire_encoder.specs.declared.endpoint.EndpointSide.{EndpointSide}
 use Rattle.bind_model.specs.declared.asked.Asked.{Asked}
 use Rattle.bind_model.specs.declared.asked.Asked.TheVariants as asks
 use Rattle.bind_model.specs.declared.asked.Closing.TheVariants as closings
+use Rattle.bind_model.specs.declared.asked.Notice.{Notice}
 use Rattle.bind_model.specs.declared.endpoint.PendingId.{PendingId}
 use Rattle.bind_model.specs.declared.endpoint.ResponderId.{ResponderId}
 use Rattle.bind_model.specs.declared.commands.Command.{Command}
@@ -39,6 +40,15 @@ shut number thing pending responder = or_skip number (closed_of thing pending re
 -- to close the endpoint of this id at the end that is meant, or to skip the line of this number
 abbrev pub shut_at : ℕ → ℕ → Option EndId → Asked
 shut_at number id end = or_skip number (option_map (λ (y : EndId). asks.Close (closings.Endpoint y id)) end)
+
+-- to write a control from the end that is meant, or to skip the line of this number
+abbrev pub noticed : ℕ → Notice → Option EndId → Asked
+noticed number notice end = or_skip number (option_map (λ (y : EndId). asks.Notify y notice) end)
+
+-- to pause the first end that is meant until the other has consumed a flush, or to skip the line of this number
+abbrev pub paused : ℕ → ℕ → Option EndId → Option EndId → Asked
+paused number flush end other =
+    or_skip number (option_and_then (λ (b : EndId). option_map (λ (a : EndId). asks.Pause b a flush) other) end)
 
 -- nothing goes with a command, so that whatever its names are nothing is taken for it
 abbrev pub TakesNothing : Command → Type 0

@@ -1,5 +1,5 @@
 -- What is taken for a message, and what is asked with it.
-use Rattle.std.specs.Prelude.{ℕ, ◌≡◌, ◌+◌, ◌≤◌, Bool, true, false, List, length, Option, option_and_then, vec_len, vec_capacity}
+use Rattle.std.specs.Prelude.{ℕ, ℤ, ◌≡◌, ◌+◌, ◌≤◌, Bool, true, false, List, length, Option, option_and_then, vec_len, vec_capacity}
 use Rattle.std.specs.Option.{option_map}
 use Rattle.mj_base.specs.declared.ids.EndId.{EndId}
 use Rattle.handle_table.specs.declared.thing.Thing.{Thing}
@@ -44,20 +44,20 @@ pub record HasRoomOf (things : List Thing) (halves : List Half) (rooms : Rooms) 
   pub handles : length things + vec_len rooms.handles.others ≤ vec_capacity rooms.handles.others
   pub pendings : length halves + vec_len rooms.pendings.others ≤ vec_capacity rooms.pendings.others
 
--- what is sent with them
-abbrev pub sent : Prepared → Names → Rooms → Option Outgoing
-sent prepared names rooms =
-    option_map (λ (tokens : List Thing × List Half). outgoing prepared tokens.0 (names_of tokens.1)) (tokens_of names rooms)
+-- what is sent with them, at this moment
+abbrev pub sent : Prepared → Option ℤ → Names → Rooms → Option Outgoing
+sent prepared moment names rooms =
+    option_map (λ (tokens : List Thing × List Half). outgoing prepared tokens.0 (names_of tokens.1) moment) (tokens_of names rooms)
 
 -- to call with them from the endpoint of this id at the end that is meant, or to skip the line of this number
-abbrev pub called : ℕ → Option EndId → ℕ → Prepared → Names → Rooms → Asked
-called number end id prepared names rooms = or_skip number
-    (option_and_then (λ (y : EndId). option_map (λ (out : Outgoing). asks.Call y id out) (sent prepared names rooms)) end)
+abbrev pub called : ℕ → Option EndId → ℕ → Prepared → Option ℤ → Names → Rooms → Asked
+called number end id prepared moment names rooms = or_skip number
+    (option_and_then (λ (y : EndId). option_map (λ (out : Outgoing). asks.Call y id out) (sent prepared moment names rooms)) end)
 
 -- to answer with them by the responder that is held, or to skip the line of this number
-abbrev pub answered : ℕ → Option ResponderId → Prepared → Names → Rooms → Asked
-answered number responder prepared names rooms = or_skip number
-    (option_and_then (λ (r : ResponderId). option_map (λ (out : Outgoing). asks.Answer r out) (sent prepared names rooms)) responder)
+abbrev pub answered : ℕ → Option ResponderId → Prepared → Option ℤ → Names → Rooms → Asked
+answered number responder prepared moment names rooms = or_skip number
+    (option_and_then (λ (r : ResponderId). option_map (λ (out : Outgoing). asks.Answer r out) (sent prepared moment names rooms)) responder)
 
 -- what is written raw from what is held under a name, with what is held under others
 abbrev pub written : ℕ → NameId → List ℕ → Names → Rooms → Asked

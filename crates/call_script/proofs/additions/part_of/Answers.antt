@@ -3,7 +3,7 @@ use Rattle.std.proofs.lemmas.Result.{err_from_is_err_and}
 use Rattle.call_script.specs.declared.additions.Part.TheVariants as parts
 use Rattle.call_script.specs.declared.script.Command.TheVariants as commands
 use Rattle.call_script.specs.steps.Commands.{Parts}
-use Rattle.call_script.specs.steps.Forms.{form_view}
+use Rattle.script_forms.specs.Views.{form_view}
 use Rattle.call_script.proofs.PartLemmas.{asks_join, reply_stops, said_stops}
 use Rattle.call_script.proofs.additions.part_of.Goals as goal
 

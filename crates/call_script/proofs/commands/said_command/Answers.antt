@@ -1,5 +1,5 @@
 use Rattle.std.proofs.Common.{sym, subst}
-use Rattle.call_script.specs.steps.Forms.{said_view}
+use Rattle.script_forms.specs.Views.{said_view}
 use Rattle.call_script.specs.steps.Commands.{Says}
 use Rattle.call_script.proofs.commands.said_command.Goals as goal
 
@@ -47,3 +47,13 @@ pub returns-in-CloseEndpoint : goal.returns-in-CloseEndpoint
 returns-in-CloseEndpoint c =
     subst (λ said. Says c.args.indexed.now.schema.now c.args.scope.now (said_view said) c.close_endpoint_command.result)
     (sym c.in-CloseEndpoint.is) c.close_endpoint_command.ensures
+
+pub returns-in-Notify : goal.returns-in-Notify
+returns-in-Notify c =
+    subst (λ said. Says c.args.indexed.now.schema.now c.args.scope.now (said_view said) c.notify_command.result)
+    (sym c.in-Notify.is) c.notify_command.ensures
+
+pub returns-in-Pause : goal.returns-in-Pause
+returns-in-Pause c =
+    subst (λ said. Says c.args.indexed.now.schema.now c.args.scope.now (said_view said) c.pause_command.result)
+    (sym c.in-Pause.is) c.pause_command.ensures

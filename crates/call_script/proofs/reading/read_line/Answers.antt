@@ -1,6 +1,6 @@
 use Rattle.std.proofs.Common.{sym, arith}
 use Rattle.std.specs.Prelude.{map}
-use Rattle.call_script.specs.steps.Forms.{form_view}
+use Rattle.script_forms.specs.Views.{form_view}
 use Rattle.call_script.proofs.LineLemmas.{misplaced}
 use Rattle.call_script.proofs.reading.read_line.Goals as goal
 

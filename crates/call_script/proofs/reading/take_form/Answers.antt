@@ -1,4 +1,4 @@
-use Rattle.call_script.specs.steps.Forms.{form_view}
+use Rattle.script_forms.specs.Views.{form_view}
 use Rattle.call_script.proofs.LineLemmas.{takes, too_many}
 use Rattle.call_script.proofs.reading.take_form.Goals as goal
 

@@ -101,6 +101,32 @@ returns-in-CloseEndpoint-clause-spends c =
 pub returns-in-CloseEndpoint-clause-prepared : goal.returns-in-CloseEndpoint-clause-prepared
 returns-in-CloseEndpoint-clause-prepared c schema read = c.close_endpoint.ensures.plain schema
 
+pub returns-in-Notify-clause-took : goal.returns-in-Notify-clause-took
+returns-in-Notify-clause-took c =
+    c.notify.ensures.bare c.args.names.now.one c.args.names.now.handles.items c.args.names.now.pendings.items c.args.rooms.now
+
+pub returns-in-Notify-clause-spends : goal.returns-in-Notify-clause-spends
+returns-in-Notify-clause-spends c =
+    let held = names_in c.args.rooms.now in
+    let asked = rw c.end-in-Notify.ensures at c.notify.ensures.asked in
+    spends_as held c.args.line.now c.args.names.now c.notify.result c.requires (asked ∙ asked_is held c.args.line.now c.in-Notify.is)
+
+pub returns-in-Notify-clause-prepared : goal.returns-in-Notify-clause-prepared
+returns-in-Notify-clause-prepared c schema read = c.notify.ensures.plain schema
+
+pub returns-in-Pause-clause-took : goal.returns-in-Pause-clause-took
+returns-in-Pause-clause-took c =
+    c.pause.ensures.bare c.args.names.now.one c.args.names.now.handles.items c.args.names.now.pendings.items c.args.rooms.now
+
+pub returns-in-Pause-clause-spends : goal.returns-in-Pause-clause-spends
+returns-in-Pause-clause-spends c =
+    let held = names_in c.args.rooms.now in
+    let asked = rw (c.end-end-in-Pause.ensures, c.end-in-Pause.ensures) at c.pause.ensures.asked in
+    spends_as held c.args.line.now c.args.names.now c.pause.result c.requires (asked ∙ asked_is held c.args.line.now c.in-Pause.is)
+
+pub returns-in-Pause-clause-prepared : goal.returns-in-Pause-clause-prepared
+returns-in-Pause-clause-prepared c schema read = c.pause.ensures.plain schema
+
 pub returns-in-Call-clause-asked : goal.returns-in-Call-clause-asked
 returns-in-Call-clause-asked c =
     let asked = rw c.end-end.ensures at c.call.ensures.asked in

@@ -9,7 +9,7 @@ use Rattle.script_run.specs.declared.plain.Plain.{Plain}
 use Rattle.script_run.specs.steps.Ending.{HasEnded, RestFrom}
 use Rattle.script_run.specs.Draining.{HasRested}
 use Rattle.script_run.proofs.Ending.{noted_below, noted_next, rest_all, rest_next}
-use Rattle.script_run.proofs.Woken.{numbered}
+use Rattle.script_run.proofs.Waking.{numbered}
 use Rattle.script_run.proofs.desks.finish.Goals as goal
 
 pub loop-seq-init : goal.loop-seq-init

@@ -1,7 +1,7 @@
 use Rattle.std.proofs.Common.{refl}
 use Rattle.remote_receiver.specs.Held.{kept_of}
 use Rattle.script_run.proofs.Joining.{asked_joint}
-use Rattle.script_run.proofs.Woken.{at_seat}
+use Rattle.script_run.proofs.Waking.{at_seat}
 use Rattle.script_run.proofs.joins.ask_joint.Goals as goal
 use Rattle.script_run.proofs.CutTurns.{cut_join}
 

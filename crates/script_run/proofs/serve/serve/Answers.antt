@@ -14,7 +14,7 @@ returns-in-Call-clause-served g c =
     (call_served (seen_by s.schema s.seqs s.alone s.me s.seen c.args.desk.now.stepper) (seen_by s.schema s.seqs s.alone s.me s.seen c.call.new.self.stepper)
     (kept_of c.args.desk.now.jobs) (kept_of c.call.new.self.jobs)
     (record { schema = same.0; seqs = same.1; alone = same.2; me = same.3 })
-    c.in-Call.end c.in-Call.id c.in-Call.prepared c.in-Call.handles c.in-Call.pendings c.args.command c.job_for-job.result
+    c.in-Call.end c.in-Call.id c.in-Call.prepared c.in-Call.handles c.in-Call.pendings c.in-Call.moment c.args.command c.job_for-job.result
     (c.job_for-job.ensures ∙ ap (λ (known : Schema). job_of_method (wire_of known) c.in-Call.prepared.target) (sym c.requires.schema))
     c.call.result c.in-Call.is c.call.ensures.event c.call.ensures.kept c.call.ensures.refused c.call.ensures.unsent)
 

@@ -1,0 +1,16 @@
+//! The lines of scripts: which words have which form, with names, interfaces, methods and values as words.
+#![tactic(auto)]
+
+mod form;
+mod lines;
+mod notices;
+mod numbers;
+mod parts;
+mod saying;
+mod sending;
+mod sequences;
+
+pub use form::{Form, Said};
+pub use lines::read_form;
+pub use numbers::hex_bytes;
+pub use sequences::{MAX_SEQUENCES, sequences_of};
