@@ -10,6 +10,7 @@ mod close;
 mod endpoints;
 mod names;
 mod needs;
+mod notify;
 mod raw;
 mod remaining;
 mod replies;

@@ -45,11 +45,13 @@ fn set_by(alloc: Global, line: Option<&Line>) -> Result<Vec<NameId>, AllocError>
         Some(
             Command::Bind(_, _, _)
             | Command::Attach(_, _)
-            | Command::Call(_, _, _, _)
-            | Command::Answer(_, _, _)
+            | Command::Call(_, _, _, _, _)
+            | Command::Answer(_, _, _, _)
             | Command::Raw(_, _, _)
             | Command::CloseToken(_)
-            | Command::CloseEndpoint(_, _),
+            | Command::CloseEndpoint(_, _)
+            | Command::Notify(_, _)
+            | Command::Pause(_, _, _),
         )
         | None => Ok(Vec::new(alloc)),
     }

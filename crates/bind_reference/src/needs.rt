@@ -9,19 +9,20 @@ use mj_base::{EndId, Items, SeqId};
 use std::alloc::{AllocError, Global};
 use wire_encoder::Prepared;
 
-/// What is sent, with these handles and pendings.
+/// What is sent, with these handles and pendings, at a moment.
 pub fn outgoing(
     alloc: Global,
     prepared: &Prepared,
     handles: Vec<Thing>,
     pendings: Vec<PendingId>,
+    moment: Option<i64>,
 ) -> Result<Outgoing, AllocError> {
     Ok(Outgoing {
         target: prepared.target,
         parameters: Parameters::new(copy_value(alloc, &prepared.value)?),
         handles: Items::from_vec(handles),
         pendings: Items::from_vec(pendings),
-        moment: None,
+        moment,
     })
 }
 
@@ -99,13 +100,14 @@ fn pendings_in(
     all_pendings(alloc, names, seq, &others)
 }
 
-/// What is sent with what a sequence holds under these names.
+/// What is sent with what a sequence holds under these names, at a moment.
 fn sent_with(
     alloc: Global,
     names: &Names<'_>,
     seq: SeqId,
     prepared: &Prepared,
     list: &[NameId],
+    moment: Option<i64>,
 ) -> Result<Option<Outgoing>, AllocError> {
     let Some(handles) = handles_in(alloc, names, seq, list)? else {
         return Ok(None);
@@ -113,7 +115,7 @@ fn sent_with(
     let Some(pendings) = pendings_in(alloc, names, seq, list)? else {
         return Ok(None);
     };
-    Ok(Some(outgoing(alloc, prepared, handles, pendings)?))
+    Ok(Some(outgoing(alloc, prepared, handles, pendings, moment)?))
 }
 
 /// What a call or an answer asks.
@@ -124,20 +126,20 @@ fn sending_asks(
     command: &Command,
 ) -> Result<Option<Asked>, AllocError> {
     match command {
-        Command::Call(name, id, prepared, list) => {
+        Command::Call(name, id, prepared, list, moment) => {
             let Some(end) = names.end(*name) else {
                 return Ok(None);
             };
-            match sent_with(alloc, names, seq, prepared, list.as_slice())? {
+            match sent_with(alloc, names, seq, prepared, list.as_slice(), *moment)? {
                 Some(sent) => Ok(Some(Asked::Call(end, *id, sent))),
                 None => Ok(None),
             }
         }
-        Command::Answer(name, prepared, list) => {
+        Command::Answer(name, prepared, list, moment) => {
             let Some(Held::Responder(responder)) = names.held(alloc, seq, *name)? else {
                 return Ok(None);
             };
-            match sent_with(alloc, names, seq, prepared, list.as_slice())? {
+            match sent_with(alloc, names, seq, prepared, list.as_slice(), *moment)? {
                 Some(sent) => Ok(Some(Asked::Answer(responder, sent))),
                 None => Ok(None),
             }
@@ -197,6 +199,7 @@ fn end_asks(end: EndId, command: &Command) -> Option<Asked> {
         }
         Command::Take(_, _) => Some(Asked::Take(end)),
         Command::CloseEndpoint(_, id) => Some(Asked::Close(Closing::Endpoint(end, *id))),
+        Command::Notify(_, notice) => Some(Asked::Notify(end, *notice)),
         _ => None,
     }
 }
@@ -217,15 +220,20 @@ pub fn asks(
         }
         Command::Associate(name, _, _, _)
         | Command::Take(name, _)
-        | Command::CloseEndpoint(name, _) => match names.end(*name) {
+        | Command::CloseEndpoint(name, _)
+        | Command::Notify(name, _) => match names.end(*name) {
             Some(end) => Ok(end_asks(end, command)),
             None => Ok(None),
         },
-        Command::Call(_, _, _, _) | Command::Answer(_, _, _) => {
+        Command::Call(_, _, _, _, _) | Command::Answer(_, _, _, _) => {
             sending_asks(alloc, names, seq, command)
         }
         Command::Raw(name, bytes, list) => {
             raw_asks(alloc, names, seq, *name, bytes, list.as_slice())
         }
+        Command::Pause(name, other, flush) => match (names.end(*name), names.end(*other)) {
+            (Some(end), Some(other)) => Ok(Some(Asked::Pause(end, other, *flush))),
+            _ => Ok(None),
+        },
     }
 }

@@ -4,6 +4,7 @@ use crate::answering::answered;
 use crate::call::called;
 use crate::close::closed;
 use crate::endpoints::{associated, attached};
+use crate::notify::{notified, paused};
 use crate::raw::wrote;
 use crate::take::took;
 use bind_model::{Asked, Endpoint, Event, State, Told, Why};
@@ -109,10 +110,10 @@ fn reply(
         Asked::Take(end) => took(alloc, schema, mail, seq, *end),
         Asked::Close(closing) => closed(alloc, schema, mail, seq, *closing),
         Asked::Skip(_) => Ok(Told::Skipped),
-        // No line of a script asks for these.
-        Asked::Notify(_, _) | Asked::Pause(_, _, _) | Asked::Data(_) | Asked::Flow(_, _) => {
-            Ok(Told::Skipped)
-        }
+        Asked::Notify(end, notice) => notified(alloc, mail, seq, *end, *notice),
+        Asked::Pause(end, other, _) => Ok(paused(mail, seq, *end, *other)),
+        // Nothing asks for these yet.
+        Asked::Data(_) | Asked::Flow(_, _) => Ok(Told::Skipped),
     }
 }
 

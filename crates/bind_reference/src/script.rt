@@ -59,7 +59,13 @@ fn reply_on(
     else {
         return Ok(());
     };
-    let sent = outgoing(alloc, &reply.prepared, Vec::new(alloc), Vec::new(alloc))?;
+    let sent = outgoing(
+        alloc,
+        &reply.prepared,
+        Vec::new(alloc),
+        Vec::new(alloc),
+        None,
+    )?;
     ask(
         alloc,
         schema,

@@ -83,9 +83,10 @@ pub fn wrong_pipe(mail: &Mail<'_>, end: EndId, pendings: &[PendingId]) -> Option
 /// Whether as many messages as may lie unread at an end. Emitted ones aren't counted.
 fn is_full(alloc: Global, mail: &Mail<'_>, end: EndId) -> Result<bool, AllocError> {
     let unread = mail.unread(alloc, end)?;
-    let counted = unread
-        .iter()
-        .filter(|letter| matches!(letter.text, Text::Bytes(_)));
+    let counted = unread.iter().filter(|letter| matches!(
+        letter.text,
+        Text::Bytes(_) | Text::Written(_)
+    ));
     Ok(counted.count() >= MAX_UNREAD_MESSAGES)
 }
 

@@ -9,6 +9,7 @@ use past_reference::entering::{ids_in, is_strange};
 use past_reference::goes::goes;
 use past_reference::kinds::endpoints_named;
 use past_reference::mail::{Letter, Mail, Text};
+use past_reference::notices::{is_awaited, paused_by};
 use past_reference::past::{is_asked, is_gone, peer};
 use past_reference::values::handles_named;
 use past_reference::wire::{Content, Whom, meant_for, stands, version_at};
@@ -183,7 +184,7 @@ fn meant(
     }
 }
 
-/// What is told of a control, and when it is bad. No command asks for a version yet.
+/// What is told of a control, and when it is bad.
 fn heard(
     alloc: Global,
     schema: &Schema,
@@ -197,7 +198,13 @@ fn heard(
             let version = version_at(schema, mail.endpoint(end, id));
             Ok(Told::Control(Noted::Queried(id, version)))
         }
-        Control::Version(_, _) => bad(alloc, mail, end, BadWhy::Unasked(0)),
+        Control::Version(id, version) => {
+            if is_awaited(mail, end, id) {
+                Ok(Told::Control(Noted::Version(id, version)))
+            } else {
+                bad(alloc, mail, end, BadWhy::Unasked(0))
+            }
+        }
         Control::Require(id, least) => match version_at(schema, mail.endpoint(end, id)) {
             Some(version) if version < least => bad(alloc, mail, end, BadWhy::TooOld(least)),
             _ => Ok(Told::Control(Noted::Required(id, least))),
@@ -217,7 +224,9 @@ fn headed(
 ) -> Result<Told, AllocError> {
     let bytes = match letter.text {
         Text::Bytes(bytes) => bytes,
-        Text::Control(control) => return heard(alloc, schema, mail, end, control),
+        Text::Control(control) | Text::Written(control) => {
+            return heard(alloc, schema, mail, end, control);
+        }
     };
     match meant_for(bytes, letter.handles.len()) {
         Ok(Whom::For(id)) => meant(alloc, schema, mail, seq, end, id, letter, bytes),
@@ -239,6 +248,9 @@ pub fn took(
     }
     if is_gone(mail.past, Thing::End(end)) {
         return Ok(Told::No(Why::Disconnected));
+    }
+    if let Some(other) = paused_by(mail.past, end) {
+        return Ok(Told::No(Why::Paused(other)));
     }
     match mail.oldest(alloc, end)? {
         Some(letter) => headed(alloc, schema, mail, seq, end, letter),

@@ -106,11 +106,11 @@ impl<'a> Held<'a> {
         match command {
             Command::Bind(handle, _, _) => self.put_handle(handle),
             Command::Attach(pending, _) => self.put_pending(pending),
-            Command::Call(_, _, _, handles, pendings) => {
+            Command::Call(_, _, _, handles, pendings, _) => {
                 self.put_handles(handles);
                 self.put_pendings(pendings);
             }
-            Command::Answer(responder, _, handles, pendings) => {
+            Command::Answer(responder, _, handles, pendings, _) => {
                 self.put_responder(responder);
                 self.put_handles(handles);
                 self.put_pendings(pendings);
@@ -125,6 +125,8 @@ impl<'a> Held<'a> {
             | Command::Mint(_)
             | Command::Associate(_, _, _)
             | Command::Take(_)
+            | Command::Notify(_, _)
+            | Command::Pause(_, _, _)
             | Command::Skip(_) => {}
         }
     }
@@ -144,6 +146,8 @@ impl<'a> Held<'a> {
             | Reply::Control(_)
             | Reply::Bad(_, _)
             | Reply::Closed(_)
+            | Reply::Notified(_)
+            | Reply::Pausing
             | Reply::Skipped => {}
         }
     }

@@ -1,6 +1,6 @@
 //! What the walks are made of.
 
-use bind_model::PendingId;
+use bind_model::{Notice, PendingId};
 use handle_table::Thing;
 use mj_base::EndId;
 use wire_encoder::EndpointSide;
@@ -17,11 +17,15 @@ pub enum Move {
     Associate(EndId, EndpointSide, u32),
     Attach(PendingId, u32),
     Call(EndId, u32, Method, &'static [Thing], &'static [PendingId]),
+    /// With nothing but a moment.
+    CallAt(EndId, u32, Method, i64),
     /// By the responder of a request to the endpoint of an id at an end.
     Answer(EndId, u32, u64, Method, &'static [PendingId]),
     /// Its bytes stand there as numbers of 32 bits.
     Raw(Thing, &'static [u32], &'static [Thing]),
     Take(EndId),
+    Notify(EndId, Notice),
+    Pause(EndId, EndId, u32),
     CloseHandle(Thing),
     ClosePending(PendingId),
     CloseResponder(EndId, u32, u64),

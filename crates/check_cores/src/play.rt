@@ -33,6 +33,7 @@ fn call(
     method: Method,
     things: &[Thing],
     pendings: &[PendingId],
+    moment: Option<i64>,
 ) -> Result<Option<Command>, AllocError>
     ensures { IfOk result (λ found. IfSome found (IsOf schema.now)) }
 {
@@ -42,7 +43,7 @@ fn call(
     let handles = held.take_handles(alloc, things);
     let halves = held.take_pendings(alloc, pendings);
     if handles.as_slice().len() == things.len() && halves.as_slice().len() == pendings.len() {
-        return Ok(Some(Command::Call(end, id, prepared, handles, halves)));
+        return Ok(Some(Command::Call(end, id, prepared, handles, halves, moment)));
     }
     held.put_handles(handles);
     held.put_pendings(halves);
@@ -71,7 +72,7 @@ fn answer(
     let halves = held.take_pendings(alloc, pendings);
     if halves.as_slice().len() == pendings.len() {
         let handles = Handles::from_vec(Vec::new(alloc));
-        return Ok(Some(Command::Answer(responder, prepared, handles, halves)));
+        return Ok(Some(Command::Answer(responder, prepared, handles, halves, None)));
     }
     held.put_responder(responder);
     held.put_pendings(halves);
@@ -124,13 +125,18 @@ pub fn command_of(
             None => Ok(None),
         },
         Move::Call(end, id, method, things, pendings) => {
-            call(held, alloc, schema, end, id, method, things, pendings)
+            call(held, alloc, schema, end, id, method, things, pendings, None)
+        }
+        Move::CallAt(end, id, method, moment) => {
+            call(held, alloc, schema, end, id, method, &[], &[], Some(moment))
         }
         Move::Answer(end, id, request, method, pendings) => {
             answer(held, alloc, schema, end, id, request, method, pendings)
         }
         Move::Raw(from, numbers, things) => raw(held, alloc, from, numbers, things),
         Move::Take(end) => Ok(Some(Command::Take(end))),
+        Move::Notify(end, notice) => Ok(Some(Command::Notify(end, notice))),
+        Move::Pause(end, other, flush) => Ok(Some(Command::Pause(end, other, flush))),
         _ => Ok(closing_of(held, step)),
     }
 }

@@ -1,6 +1,7 @@
 //! The walks.
 
 use crate::moves::{Method, Move, Turn, Walk};
+use bind_model::Notice::{Flush, Query, Require};
 use bind_model::PendingId;
 use handle_table::Thing;
 use mj_base::EndId;
@@ -17,6 +18,7 @@ interface P {
   Give(handle h, pending_associated_remote<P> r);
 };
 interface Q { Tell(uint32 n); };
+interface R { Ring(uint32 n, [MinVersion=2] string? t); };
 ";
 
 /// The two ends of the first pipe, and those of the second.
@@ -189,10 +191,10 @@ const RAW_SHORT: &[u32] = &[8, 0];
 /// A message of Note that isn't all there.
 const RAW_CUT: &[u32] = &[24, 0, 0, 0, 0, 0, 16, 0];
 
-/// The control of the first endpoint of A, and one of a kind that isn't known.
+/// The control of the first endpoint of A, and one that asks for its version.
 const RAW_CONTROL: &[u32] = &[24, 0, u32::MAX, 0, 0, 0, 16, 0, 1, A1];
 
-const RAW_UNKNOWN: &[u32] = &[24, 0, u32::MAX, 0, 0, 0, 16, 0, 2, A1];
+const RAW_ASKING: &[u32] = &[24, 0, u32::MAX, 0, 0, 0, 16, 0, 2, A1];
 
 /// A message of Lend with an id, with two of which it names the second, with one id twice, and with one that the
 /// reader would make.
@@ -235,7 +237,7 @@ const RAW: Walk = Walk {
         Turn(0, Move::Raw(Thing::End(A), RAW_CUT, &[])),
         Turn(0, Move::Raw(Thing::End(A), RAW_CONTROL, &[])),
         Turn(0, Move::Raw(Thing::End(A), RAW_CONTROL, &[Thing::End(X)])),
-        Turn(0, Move::Raw(Thing::End(A), RAW_UNKNOWN, &[])),
+        Turn(0, Move::Raw(Thing::End(A), RAW_ASKING, &[])),
         Turn(0, Move::Raw(Thing::End(A), RAW_LEND, &[])),
         Turn(
             0,
@@ -312,5 +314,120 @@ const WAITED: Walk = Walk {
     length: 4,
 };
 
+/// The version at endpoint 0 is asked for, told, required; and the first flush.
+const RAW_QUERY: &[u32] = &[24, 0, u32::MAX, 0, 0, 0, 16, 0, 2, 0];
+
+const RAW_VERSION: &[u32] = &[24, 0, u32::MAX, 0, 0, 0, 24, 0, 3, 0, 5, 0];
+
+const RAW_REQUIRE: &[u32] = &[24, 0, u32::MAX, 0, 0, 0, 24, 0, 4, 0, 3, 0];
+
+const RAW_FLUSH: &[u32] = &[24, 0, u32::MAX, 0, 0, 0, 16, 0, 5, 1];
+
+/// Versions of the receiver at endpoint 0, and flushes of both ends.
+const NOTED: Walk = Walk {
+    name: "versions and flushes",
+    opening: &[
+        Turn(0, Move::Join(1)),
+        Turn(0, Move::Bind(Thing::End(A), Remote, 2)),
+        Turn(1, Move::Bind(Thing::End(B), Receiver, 2)),
+    ],
+    alphabet: &[
+        Turn(0, Move::Notify(A, Query(0))),
+        Turn(0, Move::Notify(A, Query(A1))),
+        Turn(0, Move::Notify(A, Require(0, 2))),
+        Turn(0, Move::Notify(A, Require(0, 3))),
+        Turn(0, Move::Notify(A, Flush)),
+        Turn(1, Move::Notify(A, Flush)),
+        Turn(1, Move::Notify(B, Query(0))),
+        Turn(1, Move::Notify(B, Flush)),
+        Turn(1, Move::Take(B)),
+        Turn(0, Move::Take(A)),
+        Turn(0, Move::CloseEndpoint(A, 0)),
+        Turn(1, Move::CloseEndpoint(B, 0)),
+    ],
+    length: 4,
+};
+
+/// Versions of an endpoint that was lent, whose ends are closed, and calls with a moment.
+const ASKED: Walk = Walk {
+    name: "versions of what was lent",
+    opening: &[
+        Turn(0, Move::Join(1)),
+        Turn(0, Move::Bind(Thing::End(A), Remote, 0)),
+        Turn(1, Move::Bind(Thing::End(B), Receiver, 0)),
+        Turn(0, Move::Associate(A, Receiver, 0)),
+        Turn(0, Move::Call(A, 0, LEND, &[], &[FIRST_OF_A])),
+        Turn(1, Move::Take(B)),
+    ],
+    alphabet: &[
+        Turn(1, Move::Attach(FIRST_AT_B, 1)),
+        Turn(1, Move::Notify(B, Query(A1))),
+        Turn(1, Move::Notify(B, Require(A1, 1))),
+        Turn(1, Move::Notify(B, Flush)),
+        Turn(0, Move::Notify(A, Query(A1))),
+        Turn(1, Move::CallAt(B, A1, ASK, -1)),
+        Turn(0, Move::CallAt(A, 0, NOTE, 7)),
+        Turn(0, Move::Take(A)),
+        Turn(1, Move::Take(B)),
+        Turn(0, Move::CloseEndpoint(A, A1)),
+        Turn(1, Move::CloseEndpoint(B, A1)),
+    ],
+    length: 4,
+};
+
+/// What B asks is answered raw by A.
+const TOLD: Walk = Walk {
+    name: "raw versions",
+    opening: &[
+        Turn(0, Move::Join(1)),
+        Turn(1, Move::Bind(Thing::End(B), Remote, 2)),
+    ],
+    alphabet: &[
+        Turn(1, Move::Notify(B, Query(0))),
+        Turn(1, Move::Notify(B, Flush)),
+        Turn(0, Move::Raw(Thing::End(A), RAW_QUERY, &[])),
+        Turn(0, Move::Raw(Thing::End(A), RAW_VERSION, &[])),
+        Turn(0, Move::Raw(Thing::End(A), RAW_REQUIRE, &[])),
+        Turn(0, Move::Raw(Thing::End(A), RAW_FLUSH, &[])),
+        Turn(0, Move::Bind(Thing::End(A), Receiver, 2)),
+        Turn(1, Move::Pause(B, A, 1)),
+        Turn(1, Move::Take(B)),
+        Turn(0, Move::Take(A)),
+        Turn(0, Move::CloseHandle(Thing::End(A))),
+    ],
+    length: 4,
+};
+
+/// Ends of two pipes wait for flushes at each other.
+const PAUSED: Walk = Walk {
+    name: "ends that wait",
+    opening: &[
+        Turn(0, Move::Join(1)),
+        Turn(0, Move::Join(0)),
+        Turn(0, Move::Bind(Thing::End(A), Remote, 0)),
+        Turn(1, Move::Bind(Thing::End(B), Receiver, 0)),
+        Turn(0, Move::Bind(Thing::End(X), Remote, 0)),
+        Turn(0, Move::Bind(Thing::End(Y), Receiver, 0)),
+        Turn(0, Move::Call(X, 0, NOTE, &[], &[])),
+    ],
+    alphabet: &[
+        Turn(0, Move::Pause(Y, A, 1)),
+        Turn(0, Move::Pause(Y, A, 2)),
+        Turn(0, Move::Pause(Y, B, 1)),
+        Turn(0, Move::Pause(Y, Y, 1)),
+        Turn(0, Move::Pause(A, Y, 1)),
+        Turn(1, Move::Notify(B, Flush)),
+        Turn(0, Move::Notify(X, Flush)),
+        Turn(0, Move::Take(A)),
+        Turn(0, Move::Take(Y)),
+        Turn(0, Move::CloseEndpoint(A, 0)),
+        Turn(1, Move::CloseEndpoint(B, 0)),
+        Turn(0, Move::CloseEndpoint(Y, 0)),
+    ],
+    length: 4,
+};
+
 /// All walks.
-pub const WALKS: [Walk; 7] = [MADE, LENT, SHARED, ANSWERED, RAW, CLOSED, WAITED];
+pub const WALKS: [Walk; 11] = [
+    MADE, LENT, SHARED, ANSWERED, RAW, CLOSED, WAITED, NOTED, ASKED, TOLD, PAUSED,
+];

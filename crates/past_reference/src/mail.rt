@@ -2,10 +2,11 @@
 
 use crate::entering::{Entry, entries};
 use crate::kinds::{Named, endpoints_named};
+use crate::notices::next_flush;
 use crate::past::{consumed, is_gone, peer};
 use crate::pendings::is_local;
 use bind_model::{
-    Asked, Closing, Endpoint, EndpointName, Event, Got, Noted, PendingId, State, Told,
+    Asked, Closing, Endpoint, EndpointName, Event, Got, Noted, Notice, PendingId, State, Told,
 };
 use control_bytes::Control;
 use handle_table::Thing;
@@ -14,11 +15,12 @@ use mj_schema::Schema;
 use std::alloc::{AllocError, Global};
 use wire_encoder::EndpointSide;
 
-/// What a message says: bytes that were written, or, where the machine emitted it, a control.
+/// What a message says: bytes that were written, a control that the machine emitted, or one that an end wrote.
 #[derive(Clone, Copy)]
 pub enum Text<'a> {
     Bytes(&'a [u8]),
     Control(Control),
+    Written(Control),
 }
 
 /// A message, and the end that it is for.
@@ -123,7 +125,8 @@ impl<'a> Mail<'a> {
         }
     }
 
-    /// Adds that an event bound an endpoint, learned that its peer is closed, or was asked for a version.
+    /// Adds that an event bound an endpoint, learned that its peer is closed, was asked for a version, or wrote a
+    /// control.
     fn bind(&mut self, event: &Event) -> Result<(), AllocError> {
         match (&event.told, &event.asked) {
             (Told::Bound(end), Asked::Bind(_, side, interface)) => {
@@ -141,6 +144,7 @@ impl<'a> Mail<'a> {
             (Told::Control(Noted::Queried(id, Some(version))), Asked::Take(end)) => {
                 self.tell(*end, *id, Control::Version(*id, *version))
             }
+            (Told::Notified(_), Asked::Notify(end, notice)) => self.notify(*end, *notice),
             _ => Ok(()),
         }
     }
@@ -157,6 +161,22 @@ impl<'a> Mail<'a> {
                 to: peer(self.past, end),
                 text: Text::Bytes(bytes),
                 handles,
+            })?,
+        )
+    }
+
+    /// Adds a control that was written at an end.
+    fn notify(&mut self, end: EndId, notice: Notice) -> Result<(), AllocError> {
+        let control = match notice {
+            Notice::Query(id) => Control::Query(id),
+            Notice::Require(id, version) => Control::Require(id, version),
+            Notice::Flush => Control::Flush(next_flush(self.past, end)),
+        };
+        Ok(
+            self.letters.push(Letter {
+                to: peer(self.past, end),
+                text: Text::Written(control),
+                handles: &[],
             })?,
         )
     }

@@ -41,6 +41,10 @@ fn are_same_asked(alloc: Global, one: &Asked, two: &Asked) -> Result<bool, Alloc
         (Asked::Take(one), Asked::Take(two)) => Ok(one == two),
         (Asked::Close(one), Asked::Close(two)) => Ok(one == two),
         (Asked::Skip(one), Asked::Skip(two)) => Ok(one == two),
+        (Asked::Notify(x, one), Asked::Notify(y, two)) => Ok(x == y && one == two),
+        (Asked::Pause(x, one, flush), Asked::Pause(y, two, other)) => {
+            Ok(x == y && one == two && flush == other)
+        }
         _ => Ok(false),
     }
 }
@@ -82,7 +86,8 @@ pub fn are_same_told(alloc: Global, one: &Told, two: &Told) -> Result<bool, Allo
         (Told::Bad(why, one), Told::Bad(other, two)) => {
             Ok(why == other && one.as_slice() == two.as_slice())
         }
-        (Told::Skipped, Told::Skipped) => Ok(true),
+        (Told::Notified(one), Told::Notified(two)) => Ok(one == two),
+        (Told::Pausing, Told::Pausing) | (Told::Skipped, Told::Skipped) => Ok(true),
         (Told::No(one), Told::No(two)) => Ok(one == two),
         _ => Ok(false),
     }

@@ -130,9 +130,11 @@ fn push64(out: &mut Vec<u8>, numbers: &[u64]) -> Result<(), AllocError> {
     Ok(())
 }
 
-/// The version and the size of the header of a message with these flags and so many ids.
-fn version_of(flags: u32, ids: usize) -> (u32, u32) {
-    if ids != 0 {
+/// The version and the size of the header of a message with these flags and so many ids, and with a moment or none.
+fn version_of(flags: u32, ids: usize, moment: Option<i64>) -> (u32, u32) {
+    if moment.is_some() {
+        (3, 56)
+    } else if ids != 0 {
         (2, 48)
     } else if flags != 0 {
         (1, 32)
@@ -141,23 +143,31 @@ fn version_of(flags: u32, ids: usize) -> (u32, u32) {
     }
 }
 
-/// Adds the header of a message for the endpoint of an id: behind the payload, where there are ids, these are at
-/// 48 and the payload's bytes.
+/// Adds the header of a message for the endpoint of an id. Its pointers say how far behind themselves the payload
+/// is, which comes next, and the ids, which come behind that: 0 where there are none.
 fn push_header(
     out: &mut Vec<u8>,
     prepared: &Prepared,
     id: u32,
     request: u64,
     ids: usize,
+    moment: Option<i64>,
 ) -> Result<(), AllocError> {
-    let (version, size) = version_of(prepared.flags, ids);
+    let (version, size) = version_of(prepared.flags, ids, moment);
     let method = prepared.target.method;
     push32(out, &[size, version, id, method, prepared.flags, 0])?;
-    let behind = (prepared.payload.len() as u64).saturating_add(8);
-    match version {
-        0 => Ok(()),
-        1 => push64(out, &[request]),
-        _ => push64(out, &[request, 16, behind]),
+    let ahead = u64::from(size).saturating_sub(32);
+    let length = u64::from(size).saturating_add(prepared.payload.len() as u64);
+    let behind = if ids == 0 {
+        0
+    } else {
+        length.saturating_sub(40)
+    };
+    match (version, moment) {
+        (0, _) => Ok(()),
+        (1, _) => push64(out, &[request]),
+        (_, None) => push64(out, &[request, ahead, behind]),
+        (_, Some(moment)) => { push64(out, &[request, ahead, behind, moment.cast_unsigned()]) }
     }
 }
 
@@ -188,7 +198,7 @@ fn joined(
         ids.push(pending.id)?;
     }
     let mut out = Vec::new(alloc);
-    push_header(&mut out, prepared, id, request, ids.len())?;
+    push_header(&mut out, prepared, id, request, ids.len(), outgoing.moment)?;
     out.extend_from_slice(&prepared.payload)?;
     push_ids(&mut out, &ids)?;
     Ok(out)
