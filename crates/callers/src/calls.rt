@@ -61,7 +61,7 @@ fn call<P: Stepper>(
         × (P.me desk.new.stepper ≡ P.me desk.old.stepper) }
 {
     let (handles, pendings) = (no_handles(alloc), PendingList::new(alloc));
-    let sent = desk.call(alloc, from, 0, request, handles, pendings, Some(job))?;
+    let sent = desk.call(alloc, from, 0, request, handles, pendings, Some(job), None)?;
     Ok(sent.request)
 }
 
@@ -108,7 +108,7 @@ fn answer<P: Stepper>(
         return Err(Stopped::Error(anyhow!("it wants no answer")));
     };
     let (handles, pendings) = (no_handles(alloc), PendingList::new(alloc));
-    match desk.reply(alloc, responder, response, handles, pendings)? {
+    match desk.reply(alloc, responder, response, handles, pendings, None)? {
         Reply::Sent(_, _) => Ok(()),
         other => Err(Stopped::Told(other)),
     }

@@ -9,13 +9,18 @@ use message_validator::{Checked, check};
 use mj_base::Fault;
 use mj_schema::{Kind, KindNode, Schema};
 use std::alloc::Global;
-use value_text::write_value;
-use wire_decoder::decode;
+use view_text::write_view;
 use wire_encoder::{Head, Prepared, prepare, seal};
 use wire_model::{Expected, MessageSide, Target, Value};
+use wire_view::root;
 
 /// The ordinal of the method that is called.
 const BUY: u32 = 0;
+
+/// The ordinals of what is bought, and of how many.
+const ITEM: u32 = 0;
+
+const COUNT: u32 = 1;
 
 /// The request or the response of the method; none where it isn't there or has no response.
 #[tactic(auto, unfolding(bind_model::specs::WireOf::wire_of))]
@@ -107,21 +112,28 @@ pub fn sealed(alloc: Global, prepared: &Prepared) -> Result<Vec<u8>> {
     Ok(seal(alloc, prepared, &head)?)
 }
 
-/// The text of the value of a message that was checked.
+/// The text of a message that was checked, read where it lies.
 fn text_of(alloc: Global, checked: &Checked<'_>) -> Result<String> {
     let kind = Kind::new(KindNode::Struct {
         number: checked.number,
         nullable: false,
     });
-    let value = decode(alloc, checked)?;
-    let text = write_value(alloc, checked.schema, &kind, &value)?;
+    let text = write_view(alloc, checked.schema, &kind, &root(checked))?;
     match String::from_utf8(text) {
         Ok(text) => Ok(text),
         Err(_) => bail!("a value's text is UTF-8"),
     }
 }
 
-/// The text of what a request says, or its first fault.
+/// The item of an order that was checked, and how many it asks for, one where it doesn't say.
+fn asked_for<'a>(checked: &Checked<'a>) -> (&'a str, i128) {
+    let order = root(checked);
+    let item = order.text(ITEM).unwrap_or("nothing");
+    let count = order.number(COUNT).unwrap_or(1);
+    (item, count)
+}
+
+/// The text of what a request says, and what it asks for, or its first fault.
 pub fn read(
     alloc: Global,
     schema: &Schema,
@@ -133,7 +145,11 @@ pub fn read(
         side: MessageSide::Request,
     };
     match check(schema, expected, bytes, 0) {
-        Ok(checked) => Ok(Ok(text_of(alloc, &checked)?)),
+        Ok(checked) => {
+            let text = text_of(alloc, &checked)?;
+            let (item, count) = asked_for(&checked);
+            Ok(Ok(format!(in alloc; "{text}: {count} of {item}")?))
+        }
         Err(fault) => Ok(Err(fault)),
     }
 }

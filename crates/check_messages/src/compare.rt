@@ -2,11 +2,14 @@
 
 use message_validator::{Checked, check};
 use mj_base::Fault;
-use mj_schema::Schema;
+use mj_schema::{Kind, KindNode, Schema};
 use std::alloc::{AllocError, Global};
+use value_text::write_value;
+use view_text::write_view;
 use wire_decoder::decode;
-use wire_model::Expected;
+use wire_model::{Expected, Value};
 use wire_reference::{Outcome, are_same, read};
+use wire_view::root;
 
 /// A message's surroundings: what it is expected to be, and with how many handles it came.
 #[derive(Clone, Copy)]
@@ -26,6 +29,17 @@ pub enum Verdict {
     Differs,
 }
 
+/// Whether a message that is read where it lies has the text of a value.
+fn has_text(alloc: Global, checked: &Checked<'_>, value: &Value) -> Result<bool, AllocError> {
+    let kind = Kind::new(KindNode::Struct {
+        number: checked.number,
+        nullable: false,
+    });
+    let seen = write_view(alloc, checked.schema, &kind, &root(checked))?;
+    let wanted = write_value(alloc, checked.schema, &kind, value)?;
+    Ok(seen.as_slice() == wanted.as_slice())
+}
+
 /// Compares the value of a message that stands.
 fn compare_value(
     alloc: Global,
@@ -39,7 +53,8 @@ fn compare_value(
     let is_same = checked.method == message.method
         && checked.request == message.request
         && checked.moment == message.moment
-        && are_same(alloc, &value, &message.value)?;
+        && are_same(alloc, &value, &message.value)?
+        && has_text(alloc, checked, &message.value)?;
     if is_same {
         Ok(Verdict::Stands)
     } else {

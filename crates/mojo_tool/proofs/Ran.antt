@@ -10,7 +10,9 @@ use Rattle.bind_model.specs.Replies.{legal, Legal}
 use Rattle.bind_model.proofs.Askers.{of_askers}
 use Rattle.bind_model.proofs.Fresh.{one_place}
 use Rattle.bind_model.proofs.Responses.{own_responses, in_order, all_stand}
+use Rattle.bind_model.proofs.FlushLemmas.{flushes_numbered}
 use Rattle.bind_model.proofs.OriginLemmas.{have_writers}
+use Rattle.bind_model.proofs.Pauses.{all_unpaused}
 use Rattle.bind_model.specs.Left.{left}
 use Rattle.mojom_ast.specs.declared.file.File.{File}
 use Rattle.mojom_files.specs.declared.named_file.NamedFile.{NamedFile}
@@ -21,6 +23,7 @@ use Rattle.call_script.specs.Script.{IsScriptOf}
 use Rattle.call_script.specs.declared.script.Script.{Script}
 use Rattle.callback_laws.specs.Callbacks.{callbacks}
 use Rattle.history_laws.proofs.Owners.{one_owner}
+use Rattle.reply_laws.proofs.Behind.{all_behind}
 use Rattle.reply_laws.proofs.Once.{all_first}
 use Rattle.reply_laws.proofs.Own.{all_own}
 use Rattle.script_run.specs.OfScript.{OfScript}
@@ -50,6 +53,9 @@ keeps_laws law schema seqs past is few fit = record {
   own = all_own law schema seqs past is few;
   first = all_first law schema seqs past is few;
   fits = fit;
+  flushes = flushes_numbered (wire_of schema) seqs past is;
+  behind = all_behind schema seqs past is few;
+  unpaused = all_unpaused (wire_of schema) seqs past is;
   one_place = one_place (wire_of schema) seqs past is;
   one_owner = one_owner (wire_of schema) seqs past is;
 }

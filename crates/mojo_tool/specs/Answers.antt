@@ -7,7 +7,8 @@ use Rattle.mj_schema.specs.declared.schema.Schema.{Schema}
 use Rattle.bind_model.specs.declared.event.Event.{Event}
 use Rattle.bind_model.specs.WireOf.{wire_of}
 use Rattle.bind_model.specs.Replies.{Legal}
-use Rattle.bind_model.specs.Laws.{InOrder, AllOfAskers, AllStand, OwnResponses, OnePlace}
+use Rattle.bind_model.specs.Flushes.{AllBehind, FlushesNumbered}
+use Rattle.bind_model.specs.Laws.{InOrder, AllOfAskers, AllStand, AllUnpaused, OwnResponses, OnePlace}
 use Rattle.bind_model.specs.Origins.{HaveWriters}
 use Rattle.history_laws.specs.Owners.{OneOwner}
 use Rattle.reply_laws.specs.Once.{AllFirst}
@@ -78,6 +79,11 @@ pub record KeepsLaws (schema : Schema) (seqs : ℕ) (past : List Event) : Type 0
   pub first : AllFirst past
   -- what each call and each answer is to send fits its method, as `own` asks before it says that the value is the one sent
   pub fits : AllFit schema past
+  -- the flushes of an end have the numbers 1, 2, 3 and so on, and one is consumed where all that was written before it is
+  pub flushes : FlushesNumbered past
+  pub behind : AllBehind (wire_of schema) past
+  -- nothing is consumed, or found bad, at an end that waits for a flush, before that is consumed or its end is gone
+  pub unpaused : AllUnpaused past
   -- each thing that was made has one place: with a caller, in an unread message, bound, or gone
   pub one_place : OnePlace (wire_of schema) past
   -- each is left at the end or has gone, once, and nothing is made twice

@@ -24,9 +24,9 @@ use mj_io::Files;
 use mj_schema::Schema;
 use mojom_print::{push_number, push_text};
 use std::alloc::{AllocError, Global};
-use value_text::write_value;
-use wire_decoder::decode;
+use view_text::write_view;
 use wire_model::Expected;
+use wire_view::root;
 
 /// A message's method, request id and value.
 fn shown_line(
@@ -50,7 +50,7 @@ fn shown_line(
     Ok(Items::from_vec(line))
 }
 
-/// The text of a message that was checked. The error is want of memory.
+/// The text of a message that was checked, written from its bytes. The error is want of memory.
 fn show<'a>(alloc: Global, name: &str, checked: &Checked<'_>) -> Result<Items<u8>, Stop<'a>>
     ensures text { IfOk result (IsTextOfWork (IsShown checked.now.schema.now checked.now.expected name.now checked.now.bytes.now)) }
     ensures memory { IfErr result (λ stop. stop ≡ Stop.NoMemory) }
@@ -60,11 +60,9 @@ fn show<'a>(alloc: Global, name: &str, checked: &Checked<'_>) -> Result<Items<u8
         .method(checked.expected.interface, checked.method);
     // A message that was checked names a method.
     let Some(method) = found else { unreachable!() };
-    let Ok(value) = decode(alloc, checked) else {
-        return Err(Stop::NoMemory);
-    };
     let kind = parameters_kind(checked.number);
-    let Ok(text) = write_value(alloc, checked.schema, &kind, &value) else {
+    let view = root(checked);
+    let Ok(text) = write_view(alloc, checked.schema, &kind, &view) else {
         return Err(Stop::NoMemory);
     };
     match shown_line(

@@ -1,0 +1,3 @@
+pub mod LeafTexts
+pub mod Printed
+pub mod Shaped

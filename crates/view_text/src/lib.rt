@@ -1,0 +1,8 @@
+//! The text of a message that was checked, written from its bytes, with no value between.
+#![tactic(auto)]
+
+mod kinds;
+mod leaves;
+mod printing;
+
+pub use printing::write_view;

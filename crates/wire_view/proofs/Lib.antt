@@ -1,0 +1,14 @@
+pub mod Bytes
+pub mod Counts
+pub mod Defaults
+pub mod Fields
+pub mod Members
+pub mod Nths
+pub mod ObjectFacts
+pub mod Parameters
+pub mod PartKinds
+pub mod Readable
+pub mod Sorts
+pub mod Standing
+pub mod Strings
+pub mod Targets

@@ -1,0 +1,8 @@
+use Rattle.mj_schema.specs.KindTrees.{kind_view}
+use Rattle.wire_model.specs.Values.{value}
+use Rattle.wire_view.proofs.Targets.{array_whole}
+use Rattle.wire_view.proofs.objects.array_at.Goals as goal
+
+pub standing-requires-clause-whole : goal.standing-requires-clause-whole
+standing-requires-clause-whole c =
+    array_whole (value c.args.left c.args.schema.now c.args.bytes.now) c.args.schema.now c.args.bytes.now c.args.at (kind_view c.args.of.now)

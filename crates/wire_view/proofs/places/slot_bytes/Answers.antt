@@ -1,0 +1,15 @@
+use Rattle.std.proofs.Common.{Bool, cond, None, sym, ap, ◌∙◌}
+use Rattle.wire_view.specs.steps.Lists.{bytes_behind}
+use Rattle.wire_view.proofs.places.slot_bytes.Goals as goal
+
+pub bytes_behind-requires-clause-within : goal.bytes_behind-requires-clause-within
+bytes_behind-requires-clause-within c = (c.requires (sym c.if-is_bytes.ensures)).0
+
+pub bytes_behind-requires-clause-there : goal.bytes_behind-requires-clause-there
+bytes_behind-requires-clause-there c = (c.requires (sym c.if-is_bytes.ensures)).1
+
+pub returns-then-is_bytes : goal.returns-then-is_bytes
+returns-then-is_bytes c = c.bytes_behind.ensures ∙ ap (λ (b : Bool). cond b (bytes_behind c.args.bytes.now c.args.at) None) c.if-is_bytes.ensures
+
+pub returns-else-is_bytes : goal.returns-else-is_bytes
+returns-else-is_bytes c = ap (λ (b : Bool). cond b (bytes_behind c.args.bytes.now c.args.at) None) c.if-is_bytes.ensures

@@ -1,0 +1,110 @@
+use Rattle.std.proofs.Common.{length, sym, ap}
+use Rattle.wire_model.specs.Marks.{visit}
+use Rattle.wire_model.specs.Trees.{Tree}
+use Rattle.wire_model.specs.Values.{value}
+use Rattle.wire_view.specs.Parts.{part}
+use Rattle.wire_view.proofs.Defaults.{row_texts}
+use Rattle.wire_view.proofs.PartKinds.{moved, struct_kind, array_kind, map_kind, union_kind}
+use Rattle.wire_view.proofs.Standing.{struct_readable, array_readable, map_readable, union_readable, struct_tree, no_tree, array_tree, map_tree, found_tree, union_sized}
+use Rattle.wire_view.proofs.view.View.place.Goals as goal
+
+-- structs
+
+pub field_place-requires-clause-texts : goal.field_place-requires-clause-texts
+field_place-requires-clause-texts c = row_texts c.args.self.now.schema.now c.in-Struct.number c.in-Some.row.now c.in-Some.ensures.found
+
+pub field_place-requires-clause-readable : goal.field_place-requires-clause-readable
+field_place-requires-clause-readable c =
+    let v = c.args.self.now in
+    struct_readable (length v.bytes.now) (visit v.left v.schema.now v.bytes.now) v.schema.now v.bytes.now v.at v.on v.readable c.in-Struct.number
+    c.in-Some.row.now
+    c.in-Struct.is c.in-Some.ensures.found
+
+pub returns-in-Some : goal.returns-in-Some
+returns-in-Some c =
+    let v = c.args.self.now in
+    let next = value v.left v.schema.now v.bytes.now in
+    moved (length v.bytes.now) (visit v.left v.schema.now v.bytes.now) next v.schema.now v.bytes.now c.field_place.result _ _ _ _
+    (ap (λ (t : Tree). part t c.args.i)
+    (struct_tree next v.schema.now v.bytes.now v.at v.on c.in-Struct.number c.in-Some.row.now c.in-Struct.is c.in-Some.ensures.found))
+    (struct_kind v.schema.now v.on c.args.i c.in-Struct.number c.in-Some.row.now c.in-Struct.is c.in-Some.ensures.found) c.field_place.ensures
+
+pub returns-in-None : goal.returns-in-None
+returns-in-None c =
+    let v = c.args.self.now in
+    ap (λ (t : Tree). part t c.args.i)
+    (sym (no_tree (value v.left v.schema.now v.bytes.now) v.schema.now v.bytes.now v.at v.on c.in-Struct.number c.in-Struct.is c.in-None.ensures.found))
+
+-- arrays
+
+pub element_place-requires-clause-within : goal.element_place-requires-clause-within
+element_place-requires-clause-within c =
+    let v = c.args.self.now in
+    (array_readable (length v.bytes.now) (visit v.left v.schema.now v.bytes.now) v.schema.now v.bytes.now v.at v.on v.readable c.in-Array.of
+    c.in-Array.is).within
+
+pub element_place-requires-clause-readable : goal.element_place-requires-clause-readable
+element_place-requires-clause-readable c =
+    let v = c.args.self.now in
+    (array_readable (length v.bytes.now) (visit v.left v.schema.now v.bytes.now) v.schema.now v.bytes.now v.at v.on v.readable c.in-Array.of
+    c.in-Array.is).content
+
+pub returns-in-Array : goal.returns-in-Array
+returns-in-Array c =
+    let v = c.args.self.now in
+    let next = value v.left v.schema.now v.bytes.now in
+    moved (length v.bytes.now) (visit v.left v.schema.now v.bytes.now) next v.schema.now v.bytes.now c.element_place.result _ _ _ _
+    (ap (λ (t : Tree). part t c.args.i) (array_tree next v.schema.now v.bytes.now v.at v.on c.in-Array.of c.in-Array.is))
+    (array_kind v.schema.now v.on c.args.i c.in-Array.of c.in-Array.is) c.element_place.ensures
+
+-- maps
+
+pub list_place-requires-clause-within : goal.list_place-requires-clause-within
+list_place-requires-clause-within c =
+    let v = c.args.self.now in
+    (map_readable (length v.bytes.now) (visit v.left v.schema.now v.bytes.now) v.schema.now v.bytes.now v.at v.on v.readable c.in-Map.key c.in-Map.one
+    c.in-Map.is).within
+
+pub list_place-requires-clause-keys : goal.list_place-requires-clause-keys
+list_place-requires-clause-keys c =
+    let v = c.args.self.now in
+    (map_readable (length v.bytes.now) (visit v.left v.schema.now v.bytes.now) v.schema.now v.bytes.now v.at v.on v.readable c.in-Map.key c.in-Map.one
+    c.in-Map.is).keys
+
+pub list_place-requires-clause-values : goal.list_place-requires-clause-values
+list_place-requires-clause-values c =
+    let v = c.args.self.now in
+    (map_readable (length v.bytes.now) (visit v.left v.schema.now v.bytes.now) v.schema.now v.bytes.now v.at v.on v.readable c.in-Map.key c.in-Map.one
+    c.in-Map.is).values
+
+pub returns-in-Map : goal.returns-in-Map
+returns-in-Map c =
+    let v = c.args.self.now in
+    let next = value v.left v.schema.now v.bytes.now in
+    moved (length v.bytes.now) (visit v.left v.schema.now v.bytes.now) next v.schema.now v.bytes.now c.list_place.result _ _ _ _
+    (ap (λ (t : Tree). part t c.args.i) (map_tree next v.schema.now v.bytes.now v.at v.on c.in-Map.key c.in-Map.one c.in-Map.is))
+    (map_kind v.schema.now v.on c.args.i c.in-Map.key c.in-Map.one c.in-Map.is) c.list_place.ensures
+
+-- unions
+
+pub member_place-requires-clause-within : goal.member_place-requires-clause-within
+member_place-requires-clause-within c =
+    let v = c.args.self.now in
+    (union_readable (length v.bytes.now) (visit v.left v.schema.now v.bytes.now) v.schema.now v.bytes.now v.at v.on v.readable c.in-Union.number
+    c.in-Union.is).0
+
+pub member_place-requires-clause-readable : goal.member_place-requires-clause-readable
+member_place-requires-clause-readable c =
+    let v = c.args.self.now in
+    let next = value v.left v.schema.now v.bytes.now in
+    (union_readable (length v.bytes.now) (visit v.left v.schema.now v.bytes.now) v.schema.now v.bytes.now v.at v.on v.readable c.in-Union.number
+    c.in-Union.is).1
+    (union_sized next v.schema.now v.bytes.now v.at v.on c.in-Union.number c.in-Union.is v.whole)
+
+pub returns-in-Union : goal.returns-in-Union
+returns-in-Union c =
+    let v = c.args.self.now in
+    let next = value v.left v.schema.now v.bytes.now in
+    moved (length v.bytes.now) (visit v.left v.schema.now v.bytes.now) next v.schema.now v.bytes.now c.member_place.result _ _ _ _
+    (ap (λ (t : Tree). part t c.args.i) (found_tree next v.schema.now v.bytes.now v.at v.on c.in-Union.number c.in-Union.is v.whole))
+    (union_kind v.schema.now v.on c.args.i c.in-Union.number c.in-Union.is) c.member_place.ensures

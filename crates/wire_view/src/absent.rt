@@ -1,0 +1,98 @@
+//! What a field reads as that the version of a struct lacks.
+
+ghost use Rattle.std.specs.Prelude.{◌≡◌, IsTrue, true};
+ghost use Rattle.std.specs.Option.{option_copied, option_map_or};
+ghost use Rattle.std.specs.Str.{is_utf8};
+ghost use Rattle.mj_schema.specs.KindTrees.{kind_view};
+ghost use Rattle.mj_schema.specs.Sound.{is_text};
+ghost use Rattle.wire_model.specs.Absent.{literal_value, has_zero, first_number, enum_number, absent_kind, absent_field};
+ghost use Rattle.wire_view.specs.PartValues.{tree_in};
+
+use crate::parts::Part;
+use crate::texts::Utf8;
+use mj_base::Items;
+use mj_schema::{EnumRow, FieldRow, KindNode, Literal, MemberRow, MemberRows, Schema};
+use schema_rows::find_enum;
+
+/// A string that a file has written out.
+fn text_of(bytes: &Items<u8>) -> Utf8<'_>
+    requires { is_utf8 bytes.now ≡ true }
+    ensures { result.bytes.now ≡ bytes.now }
+{
+    Utf8::new(bytes.as_slice())
+}
+
+/// The value that a file has written out.
+fn literal_value<'a>(literal: &'a Literal) -> Part<'a>
+    requires { IsTrue (is_text literal.now) }
+    ensures { tree_in result ≡ literal_value literal.now }
+{
+    match literal {
+        Literal::Bool(bool) => Part::Bool(*bool),
+        Literal::Whole(number) => Part::Whole(*number),
+        Literal::Text(bytes) => Part::Text(text_of(bytes)),
+    }
+}
+
+/// 0 where a member has it, else the number of the first member.
+fn first_number(members: &MemberRows) -> i32
+    ensures { result ≡ first_number members.now }
+{
+    first_unless(members.has_number(0), members.as_slice())
+}
+
+/// 0 where that is so, else the number of the first member.
+fn first_unless(zero: bool, members: &[MemberRow]) -> i32
+    requires { zero ≡ has_zero members.now }
+    ensures { result ≡ first_number members.now }
+{
+    match members {
+        [first, ..] if !zero => first.number,
+        _ => 0,
+    }
+}
+
+/// The number of an enum's default member, or else its first number.
+fn enum_number(row: Option<&EnumRow>) -> i32
+    ensures { result ≡ enum_number (option_copied row.entry) }
+{
+    match row {
+        Some(row) => match row.default {
+            Some(number) => number,
+            None => first_number(&row.members),
+        },
+        None => 0,
+    }
+}
+
+/// What a kind reads as.
+fn absent_kind<'a>(schema: &Schema, kind: &'a KindNode) -> Part<'a>
+    ensures { tree_in result ≡ absent_kind schema.now (kind_view kind.now) }
+{
+    match kind {
+        KindNode::Bool { nullable: false } => Part::Bool(false),
+        KindNode::Int {
+            nullable: false,
+            ..
+        } => Part::Whole(0),
+        KindNode::Enum {
+            number,
+            nullable: false,
+        } => {
+            let number = enum_number(find_enum(schema, *number));
+            Part::Whole(i128::from(number))
+        }
+        _ => Part::Null,
+    }
+}
+
+/// What a field reads as: its default, or else what its kind does.
+pub fn absent_field<'a>(schema: &Schema, field: &'a FieldRow) -> Part<'a>
+    requires { IsTrue (option_map_or is_text field.now.default true) }
+    ensures { tree_in result ≡ absent_field schema.now field.now.default field.now.kind }
+{
+    match &field.default {
+        Some(literal) => literal_value(literal),
+        None => absent_kind(schema, field.kind.node()),
+    }
+}

@@ -1,0 +1,21 @@
+//! Messages that were checked, read where they lie: the parts of a message, borrowed from its bytes. No
+//! getter copies or takes memory, and each finds its part in constant time, or by halving.
+#![tactic(auto)]
+
+mod absent;
+mod cells;
+mod message;
+mod numbers;
+mod objects;
+mod on;
+mod parts;
+mod places;
+mod shapes;
+mod texts;
+mod view;
+
+pub use message::root;
+pub use parts::Part;
+pub use shapes::Shape;
+pub use texts::Utf8;
+pub use view::View;

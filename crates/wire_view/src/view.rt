@@ -1,0 +1,380 @@
+//! Views.
+
+ghost use Rattle.std.specs.Prelude.{length, IsTrue};
+ghost use Rattle.wire_model.specs.Marks.{visit, object_marks};
+ghost use Rattle.wire_model.specs.Values.{value, object_value};
+ghost use Rattle.wire_view.specs.Ons.{on_kind};
+ghost use Rattle.wire_view.specs.Parts.{is_object};
+ghost use Rattle.wire_view.specs.steps.Readable.{are_readable};
+
+use crate::absent::absent_field;
+use crate::cells::{cell_at, slot_at};
+use crate::objects::list_at;
+use crate::on::On;
+use crate::parts::Part;
+use crate::places::{Place, field_at, list_bytes, slot_bytes};
+use crate::shapes::Shape;
+use mj_schema::{KindNode, Schema, StructRow};
+use schema_rows::{find_struct, has_value, kind_in, present, size_of};
+use wire_model::le32;
+
+/// A struct, an array, a map or a union of a message that was checked, at a byte place, where at most
+/// `left` more levels of objects may be behind it.
+#[derive(Clone, Copy)]
+pub struct View<'a> {
+    schema: &'a Schema,
+    bytes: &'a [u8],
+    at: u64,
+    left: u32,
+    on: On<'a>,
+    ghost readable: { IsTrue (are_readable (length bytes.now) (object_marks (visit left schema.now bytes.now) schema.now bytes.now at (on_kind on))) },
+    ghost whole: { IsTrue (is_object (object_value (value left schema.now bytes.now) schema.now bytes.now at (on_kind on))) },
+}
+
+impl<'a> View<'a> {
+    ghost use Rattle.std.specs.Prelude.{◌≡◌, ◌+◌, ◌≤◌, true, false, Some, None, slice_get, option_and_then};
+    ghost use Rattle.std.specs.Option.{option_copied, option_map};
+    ghost use Rattle.mj_schema.specs.KindTrees.{kind_view, ArrayKind};
+    ghost use Rattle.mj_schema.specs.Layout.{draft_of};
+    ghost use Rattle.mj_schema.specs.Sound.{has_texts};
+    ghost use Rattle.mj_schema.specs.Versions.{is_table};
+    ghost use Rattle.wire_model.specs.Bytes.{number32};
+    ghost use Rattle.wire_model.specs.Marks.{struct_marks, content_marks, pointer_marks, found_union_marks};
+    ghost use Rattle.wire_model.specs.Readable.{IsReadableRow};
+    ghost use Rattle.wire_model.specs.Rows.{kind_in};
+    ghost use Rattle.wire_model.specs.Slots.{element_bytes, element_slots};
+    ghost use Rattle.wire_model.specs.Trees.{Items, Pairs, none, more};
+    ghost use Rattle.wire_model.specs.Values.{struct_value, slots_value, pointer_value, found_union_value};
+    ghost use Rattle.readable_marks.specs.Readable.{AreReadable};
+    ghost use Rattle.wire_view.specs.PartValues.{tree_in};
+    ghost use Rattle.wire_view.specs.Parts.{part, how_many, number_of, version_of, text_of, held, item_of, tag_of, list_kind, kind_at, bytes_of_part};
+    ghost use Rattle.wire_view.specs.Shapes.{HasShape};
+    ghost use Rattle.wire_view.specs.Views.{tree_of};
+    ghost use Rattle.wire_view.specs.steps.Placed.{IsPlace};
+
+    /// A view of an object at a place, which isn't null.
+    pub(crate) fn standing(
+        schema: &'a Schema,
+        bytes: &'a [u8],
+        at: u64,
+        left: u32,
+        on: On<'a>,
+    ) -> View<'a>
+        requires readable { AreReadable (length bytes.now) (object_marks (visit left schema.now bytes.now) schema.now bytes.now at (on_kind on)) }
+        requires whole { is_object (object_value (value left schema.now bytes.now) schema.now bytes.now at (on_kind on)) ≡ true }
+        ensures { tree_of result ≡ object_value (value left schema.now bytes.now) schema.now bytes.now at (on_kind on.entry) }
+    {
+        View {
+            schema,
+            bytes,
+            at,
+            left,
+            on,
+        }
+    }
+
+    /// Where the field of an ordinal of a struct lies.
+    fn field_place(&self, row: &'a StructRow, i: u32) -> Place<'a>
+        requires row { IsReadableRow row.now }
+        requires rising { IsTrue (is_table row.now.versions) }
+        requires texts { IsTrue (has_texts (draft_of row.now)) }
+        requires readable { AreReadable (length self.now.bytes.now)
+            (struct_marks (visit self.now.left self.now.schema.now self.now.bytes.now) self.now.schema.now self.now.bytes.now self.now.at row.now) }
+        ensures { IsPlace (length self.now.bytes.now) (visit self.now.left self.now.schema.now self.now.bytes.now)
+            (value self.now.left self.now.schema.now self.now.bytes.now) self.now.schema.now self.now.bytes.now
+            (part (struct_value (value self.now.left self.now.schema.now self.now.bytes.now) self.now.schema.now self.now.bytes.now self.now.at row.now
+            (number32 self.now.bytes.now (self.now.at + 4))) i)
+            (option_map (λ field. field.kind) (slice_get row.now.fields i)) result }
+    {
+        let bytes = self.bytes;
+        let at = self.at;
+        let version = le32(bytes, at + 4);
+        match field_at(present(row, version), i) {
+            Some(field) => {
+                if has_value(bytes, at + 8, field.flag) {
+                    Place::Slot {
+                        at: at + 8 + u64::from(field.offset),
+                        bit: field.bit,
+                        kind: field.kind.node(),
+                    }
+                } else {
+                    Place::Null
+                }
+            }
+            None => match field_at(row.fields.as_slice(), i) {
+                Some(field) => Place::Absent(field),
+                None => Place::Nothing,
+            },
+        }
+    }
+
+    /// Where the element of a number of an array lies.
+    fn element_place(&self, of: &'a KindNode, i: u32) -> Place<'a>
+        requires within { self.now.at + 8 + element_bytes (kind_view of.now) (number32 self.now.bytes.now (self.now.at + 4)) ≤ length self.now.bytes.now }
+        requires readable { AreReadable (length self.now.bytes.now)
+            (content_marks (visit self.now.left self.now.schema.now self.now.bytes.now) self.now.schema.now self.now.bytes.now
+            (self.now.at + 8) (kind_view of.now) (number32 self.now.bytes.now (self.now.at + 4))) }
+        ensures { IsPlace (length self.now.bytes.now) (visit self.now.left self.now.schema.now self.now.bytes.now)
+            (value self.now.left self.now.schema.now self.now.bytes.now) self.now.schema.now self.now.bytes.now
+            (part (Items (slots_value (value self.now.left self.now.schema.now self.now.bytes.now) self.now.schema.now self.now.bytes.now
+            (self.now.at + 8) (element_slots (kind_view of.now) 0 (number32 self.now.bytes.now (self.now.at + 4))) none)) i)
+            (Some (kind_view of.now)) result }
+    {
+        let at = self.at;
+        let count = le32(self.bytes, at + 4);
+        if i < count {
+            let place = u64::from(i) * size_of(of);
+            Place::Slot {
+                at: at + 8 + place / 8,
+                bit: (place % 8) as u32,
+                kind: of,
+            }
+        } else {
+            Place::Nothing
+        }
+    }
+
+    /// Where one of the two lists of a map lies.
+    fn list_place(&self, key: &'a KindNode, one: &'a KindNode, i: u32) -> Place<'a>
+        requires within { self.now.at + 24 ≤ length self.now.bytes.now }
+        requires keys { AreReadable (length self.now.bytes.now)
+            (pointer_marks (visit self.now.left self.now.schema.now self.now.bytes.now) self.now.bytes.now (self.now.at + 8)
+            (ArrayKind (kind_view key.now) None false) false) }
+        requires values { AreReadable (length self.now.bytes.now)
+            (pointer_marks (visit self.now.left self.now.schema.now self.now.bytes.now) self.now.bytes.now (self.now.at + 16)
+            (ArrayKind (kind_view one.now) None false) false) }
+        ensures { IsPlace (length self.now.bytes.now) (visit self.now.left self.now.schema.now self.now.bytes.now)
+            (value self.now.left self.now.schema.now self.now.bytes.now) self.now.schema.now self.now.bytes.now
+            (part (Pairs
+            (more (pointer_value (value self.now.left self.now.schema.now self.now.bytes.now) self.now.bytes.now (self.now.at + 8)
+            (ArrayKind (kind_view key.now) None false))
+            (more (pointer_value (value self.now.left self.now.schema.now self.now.bytes.now) self.now.bytes.now (self.now.at + 16)
+            (ArrayKind (kind_view one.now) None false))
+            none))) i)
+            (list_kind (kind_view key.now) (kind_view one.now) i) result }
+    {
+        let at = self.at;
+        if i == 0 {
+            return Place::List {
+                at: at + 8,
+                of: key,
+            };
+        }
+        if i == 1 {
+            return Place::List {
+                at: at + 16,
+                of: one,
+            };
+        }
+        Place::Nothing
+    }
+
+    /// Where what a union holds lies, which is a part by its tag alone.
+    fn member_place(&self, number: u32, i: u32) -> Place<'a>
+        requires within { self.now.at + 16 ≤ length self.now.bytes.now }
+        requires readable { AreReadable (length self.now.bytes.now)
+            (found_union_marks (visit self.now.left self.now.schema.now self.now.bytes.now) self.now.schema.now self.now.bytes.now self.now.at
+            (slice_get self.now.schema.now.unions number)) }
+        ensures { IsPlace (length self.now.bytes.now) (visit self.now.left self.now.schema.now self.now.bytes.now)
+            (value self.now.left self.now.schema.now self.now.bytes.now) self.now.schema.now self.now.bytes.now
+            (part (found_union_value (value self.now.left self.now.schema.now self.now.bytes.now) self.now.bytes.now self.now.at
+            (slice_get self.now.schema.now.unions number)) i)
+            (kind_in (slice_get self.now.schema.now.unions number) i) result }
+    {
+        let at = self.at;
+        let tag = le32(self.bytes, at + 4);
+        if tag == i {
+            match kind_in(self.schema, number, tag) {
+                Some(kind) => Place::Member {
+                    at: at + 8,
+                    kind: kind.node(),
+                },
+                None => Place::Nothing,
+            }
+        } else {
+            Place::Nothing
+        }
+    }
+
+    /// Where the part of a number lies.
+    fn place(&self, i: u32) -> Place<'a>
+        ensures { IsPlace (length self.now.bytes.now) (visit self.now.left self.now.schema.now self.now.bytes.now)
+            (value self.now.left self.now.schema.now self.now.bytes.now) self.now.schema.now self.now.bytes.now
+            (part (tree_of self.now) i) (kind_at self.now.schema.now (on_kind self.now.on) i) result }
+    {
+        match self.on {
+            On::Struct(number) => match find_struct(self.schema, number) {
+                Some(row) => self.field_place(row, i),
+                None => Place::Nothing,
+            },
+            On::Array(of) => self.element_place(of, i),
+            On::Map(key, one) => self.list_place(key, one, i),
+            On::Union(number) => self.member_place(number, i),
+        }
+    }
+
+    /// The part of a number: a struct's field by its ordinal, an array's element, a map's keys (0) and
+    /// values (1), or what a union holds by its tag. None exactly where no part has that number.
+    pub fn part(&self, i: u32) -> Option<Part<'a>>
+        ensures { option_map tree_in result ≡ part (tree_of self.now) i }
+    {
+        match self.place(i) {
+            Place::Nothing => None,
+            Place::Null => Some(Part::Null),
+            Place::Absent(field) => Some(absent_field(self.schema, field)),
+            Place::Slot { at, bit, kind } => Some(slot_at(
+                self.schema,
+                self.bytes,
+                at,
+                bit,
+                kind,
+                self.left,
+            )),
+            Place::Member { at, kind } => {
+                Some(cell_at(self.schema, self.bytes, at, 0, kind, self.left))
+            }
+            Place::List { at, of } => Some(Part::Object(list_at(
+                self.schema,
+                self.bytes,
+                at,
+                of,
+                self.left,
+            ))),
+        }
+    }
+
+    /// The number that a part is: a bool as 0 or 1, an integer, an enum, or an index. None exactly where
+    /// there is no such part, or it is null or of another kind.
+    pub fn number(&self, i: u32) -> Option<i128>
+        ensures { result ≡ option_and_then number_of (part (tree_of self.now) i) }
+    {
+        match self.part(i) {
+            Some(part) => part.as_number(),
+            None => None,
+        }
+    }
+
+    /// The version of a part that is a remote. None exactly where there is no such part, or it is null or
+    /// of another kind.
+    pub fn version(&self, i: u32) -> Option<u32>
+        ensures { result ≡ option_and_then version_of (part (tree_of self.now) i) }
+    {
+        match self.part(i) {
+            Some(part) => part.as_version(),
+            None => None,
+        }
+    }
+
+    /// The text of a part that is a string, which takes a pass over its bytes. None exactly where there is
+    /// no such part, or it is null or of another kind.
+    pub fn text(&self, i: u32) -> Option<&'a str>
+        ensures { option_copied result ≡ option_and_then text_of (part (tree_of self.now) i) }
+    {
+        match self.part(i) {
+            Some(part) => part.as_text(),
+            None => None,
+        }
+    }
+
+    /// The bytes of a part that is an array of uint8. None exactly where there is no such part, or it is
+    /// null or of another kind.
+    pub fn bytes(&self, i: u32) -> Option<&'a [u8]>
+        ensures { option_copied result ≡ bytes_of_part (kind_at self.now.schema.now (on_kind self.now.on) i) (part (tree_of self.now) i) }
+    {
+        match self.place(i) {
+            Place::Slot { at, kind, .. } => slot_bytes(self.bytes, at, kind),
+            Place::Member { at, kind } => slot_bytes(self.bytes, at, kind),
+            Place::List { at, of } => list_bytes(self.bytes, at, of),
+            Place::Nothing => None,
+            Place::Null => None,
+            Place::Absent(_) => None,
+        }
+    }
+
+    /// The view of a part that is a struct, an array, a map or a union. None exactly where there is no
+    /// such part, or it is null or of another kind.
+    pub fn child(&self, i: u32) -> Option<View<'a>>
+        ensures { option_map tree_of result ≡ option_and_then held (part (tree_of self.now) i) }
+    {
+        match self.part(i) {
+            Some(part) => part.as_object(),
+            None => None,
+        }
+    }
+
+    /// The view of an element of an array; none where this is no array, too.
+    fn item(&self, j: u32) -> Option<View<'a>>
+        ensures { option_map tree_of result ≡ item_of (tree_of self.now) j }
+    {
+        match self.shape() {
+            Shape::Array => self.child(j),
+            Shape::Struct => None,
+            Shape::Map => None,
+            Shape::Union => None,
+        }
+    }
+
+    /// The view of an element of the array that a part is. None exactly where no part of that number is an
+    /// array, or it has no such element, or the element is null or no struct, array, map or union.
+    pub fn element(&self, i: u32, j: u32) -> Option<View<'a>>
+        ensures { option_map tree_of result ≡ option_and_then (λ array. item_of array j) (part (tree_of self.now) i) }
+    {
+        match self.child(i) {
+            Some(array) => array.item(j),
+            None => None,
+        }
+    }
+
+    /// How many parts there are: all fields that the schema knows, of a union the one that it holds, or
+    /// none where it lacks the tag.
+    #[tactic(auto, using(crate::proofs::Counts::few))]
+    pub fn len(&self) -> u32
+        ensures { result ≡ how_many (tree_of self.now) }
+    {
+        match self.on {
+            On::Struct(number) => match find_struct(self.schema, number) {
+                Some(row) => row.fields.as_slice().len() as u32,
+                None => 0,
+            },
+            On::Array(_) => le32(self.bytes, self.at + 4),
+            On::Map(_, _) => 2,
+            On::Union(number) => self.members(number),
+        }
+    }
+
+    /// How many parts a union has.
+    fn members(&self, number: u32) -> u32
+        requires { self.now.at + 16 ≤ length self.now.bytes.now }
+        ensures { result ≡ how_many (found_union_value (value self.now.left self.now.schema.now self.now.bytes.now) self.now.bytes.now self.now.at
+            (slice_get self.now.schema.now.unions number)) }
+    {
+        match kind_in(self.schema, number, le32(self.bytes, self.at + 4)) {
+            Some(_) => 1,
+            None => 0,
+        }
+    }
+
+    /// The tag of a union. None exactly where this is no union.
+    pub fn tag(&self) -> Option<u32>
+        ensures { result ≡ tag_of (tree_of self.now) }
+    {
+        match self.on {
+            On::Union(_) => Some(le32(self.bytes, self.at + 4)),
+            On::Struct(_) => None,
+            On::Array(_) => None,
+            On::Map(_, _) => None,
+        }
+    }
+
+    /// What this is a view of.
+    pub fn shape(&self) -> Shape
+        ensures { HasShape result (tree_of self.now) }
+    {
+        match self.on {
+            On::Struct(_) => Shape::Struct,
+            On::Array(_) => Shape::Array,
+            On::Map(_, _) => Shape::Map,
+            On::Union(_) => Shape::Union,
+        }
+    }
+}
