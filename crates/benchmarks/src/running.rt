@@ -13,11 +13,10 @@ use mj_base::limits::MAX_FILE_BYTES;
 use mj_schema::Schema;
 use script_run::{Ran, run_alone};
 use std::alloc::Global;
-use std::env::Env;
+use std::io;
 use std::io::Print;
 use std::sync::Arc;
 use std::time::{CpuClock, Duration};
-use std::{env, io};
 
 /// The order of the runs: each script has one sequence, so it changes nothing.
 const ORDER: u64 = 0;
@@ -143,19 +142,17 @@ fn time<R: Print + AllocGlobal + CpuClock>(
     show(rt, lines, ran.history.len() as u64, times)
 }
 
-/// Times the script of the second file that the words name, over the schema of the first.
-pub fn time_files<R: std::rt::Files + Env + Print + AllocGlobal + CpuClock>(
+/// Times the script of a file, over the schema of another.
+pub fn time_files<R: std::rt::Files + Print + AllocGlobal + CpuClock>(
     rt: &R,
+    mojom: &str,
+    script: &str,
 ) -> io::Result<()> {
-    let mut words = env::args(rt)?.skip(2);
-    let (Some(mojom), Some(name)) = (words.next(), words.next()) else {
-        return println!(rt; "usage: benchmarks run MOJOM SCRIPT");
-    };
-    let Some(schema) = schema_at(rt, mojom.as_str())? else {
+    let Some(schema) = schema_at(rt, mojom)? else {
         return println!(rt; "{mojom}: no schema");
     };
-    let Some(text) = bytes_of(rt, name.as_str(), MAX_FILE_BYTES) else {
-        return println!(rt; "{name}: it can't be read");
+    let Some(text) = bytes_of(rt, script, MAX_FILE_BYTES) else {
+        return println!(rt; "{script}: it can't be read");
     };
     let schema = Arc::new(rt.alloc(), schema)?;
     time(rt, &schema, &text)

@@ -3,15 +3,15 @@
 use crate::files::schema_at;
 use crate::sealing::{target_of, time_encode};
 use crate::timing::{ROUNDS, least, mebibytes_a_second, nanoseconds_each, now};
+use crate::viewing::time_views;
 use check_files::bytes_of;
 use message_validator::{Checked, check};
 use mj_base::limits::MAX_PAYLOAD_BYTES;
 use mj_schema::Schema;
 use std::alloc::{AllocError, Global};
-use std::env::Env;
+use std::io;
 use std::io::Print;
 use std::time::{CpuClock, Duration};
-use std::{env, io};
 use wire_decoder::decode;
 use wire_model::{Expected, MessageSide, Value};
 
@@ -133,25 +133,25 @@ fn time<R: Print + AllocGlobal + CpuClock>(
         Ok(checked) => checked,
         Err(fault) => return println!(rt; "refused at {}", fault.at),
     };
+    let best = time_views(rt, &checked, times)?;
+    show(rt, "viewed", best, times, size)?;
     let best = time_decode(rt, &checked, times)?;
     show(rt, "decoded", best, times, size)?;
     let value = decode(rt.alloc(), &checked)?;
     time_encoding(rt, schema, checked.moment, value, bytes, times)
 }
 
-/// Times the message of the second file that the words name, over the schema of the first.
-pub fn time_files<R: std::rt::Files + Env + Print + AllocGlobal + CpuClock>(
+/// Times the message of a file, over the schema of another.
+pub fn time_files<R: std::rt::Files + Print + AllocGlobal + CpuClock>(
     rt: &R,
+    mojom: &str,
+    message: &str,
 ) -> io::Result<()> {
-    let mut words = env::args(rt)?.skip(2);
-    let (Some(mojom), Some(name)) = (words.next(), words.next()) else {
-        return println!(rt; "usage: benchmarks wire MOJOM MESSAGE");
-    };
-    let Some(schema) = schema_at(rt, mojom.as_str())? else {
+    let Some(schema) = schema_at(rt, mojom)? else {
         return println!(rt; "{mojom}: no schema");
     };
-    let Some(bytes) = bytes_of(rt, name.as_str(), MOST_MESSAGE_BYTES) else {
-        return println!(rt; "{name}: it can't be read");
+    let Some(bytes) = bytes_of(rt, message, MOST_MESSAGE_BYTES) else {
+        return println!(rt; "{message}: it can't be read");
     };
     time(rt, &schema, &bytes)
 }

@@ -6,6 +6,7 @@ use anyhow::Result;
 use std::env::Env;
 use std::io::{ErrorKind, Print};
 use std::process::ExitCode;
+use std::time::CpuClock;
 use std::{env, io};
 
 /// A check, of the library of its name.
@@ -14,9 +15,10 @@ enum Check {
     Names,
     Layouts,
     Messages,
+    Runs,
     Cores,
-    Endpoints,
     Callers,
+    Benchmarks,
 }
 
 impl Check {
@@ -26,9 +28,10 @@ impl Check {
             "check_names" => Some(Check::Names),
             "check_layouts" => Some(Check::Layouts),
             "check_messages" => Some(Check::Messages),
+            "check_runs" => Some(Check::Runs),
             "check_cores" => Some(Check::Cores),
-            "endpoints" => Some(Check::Endpoints),
             "callers" => Some(Check::Callers),
+            "benchmarks" => Some(Check::Benchmarks),
             _ => None,
         }
     }
@@ -57,7 +60,7 @@ fn own_words(behind: &[String]) -> &[String] {
 }
 
 /// Does a check with the words for it; whether all was right.
-fn do_check<R: std::rt::Files + Print + AllocGlobal>(
+fn do_check<R: std::rt::Files + Print + AllocGlobal + CpuClock>(
     rt: &R,
     check: Check,
     words: &[String],
@@ -66,17 +69,24 @@ fn do_check<R: std::rt::Files + Print + AllocGlobal>(
         Check::Names => Ok(check_names::run(rt, words)?),
         Check::Layouts => Ok(check_layouts::run(rt, words)?),
         Check::Messages => Ok(check_messages::run(rt, words)?),
+        Check::Runs => Ok(check_runs::run(rt, words)?),
         Check::Cores => Ok(check_cores::run(rt)?),
-        Check::Endpoints => Ok(endpoints::run(rt, words)?),
         Check::Callers => {
             callers::run(rt)?;
+            Ok(true)
+        }
+        Check::Benchmarks => {
+            benchmarks::run(rt, words)?;
             Ok(true)
         }
     }
 }
 
 /// Does the checks that words name, and prints the name of each before it; whether all was right.
-fn do_checks<R: std::rt::Files + Print + AllocGlobal>(rt: &R, words: &[String]) -> Result<bool> {
+fn do_checks<R: std::rt::Files + Print + AllocGlobal + CpuClock>(
+    rt: &R,
+    words: &[String],
+) -> Result<bool> {
     let mut is_right = true;
     for (place, word) in words.iter().enumerate() {
         let name = word.as_str();
@@ -90,7 +100,10 @@ fn do_checks<R: std::rt::Files + Print + AllocGlobal>(rt: &R, words: &[String]) 
 }
 
 /// Does the checks that words name, the first of which is to be a check's; whether all was right.
-fn run<R: std::rt::Files + Print + AllocGlobal>(rt: &R, words: &[String]) -> Result<bool> {
+fn run<R: std::rt::Files + Print + AllocGlobal + CpuClock>(
+    rt: &R,
+    words: &[String],
+) -> Result<bool> {
     let [first, ..] = words else {
         println!(rt; "usage: checks CHECK WORD.. CHECK WORD..")?;
         return Ok(false);

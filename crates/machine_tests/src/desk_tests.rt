@@ -24,8 +24,8 @@ use wire_model::{MessageSide, Target, Value};
 
 /// Answers the number of its request and what it was made with.
 #[derive(Drop)]
-struct Adds {
-    more: u32,
+pub(crate) struct Adds {
+    pub(crate) more: u32,
 }
 
 impl Promise for Adds {
@@ -57,8 +57,8 @@ fn empty_struct(alloc: Global, name: &str) -> Result<StructRow, AllocError>
     })
 }
 
-/// An interface of one method without parameters, with a response.
-fn one_method(alloc: Global) -> Result<InterfaceRow, AllocError>
+/// An interface of this version, of one method without parameters, with a response.
+fn one_method(alloc: Global, version: u32) -> Result<InterfaceRow, AllocError>
     ensures name { IfOk result (λ row. row.name ≡ codes "t.P") }
     ensures methods { IfOk result (λ row. row.methods ≡ record { name = codes "Ask"; ordinal = 0; request = 0; response = Some 1 } ∷ []) }
 {
@@ -71,7 +71,7 @@ fn one_method(alloc: Global) -> Result<InterfaceRow, AllocError>
     Ok(InterfaceRow {
         name: FullName::own(Text::from_str(alloc, "t.P")?),
         methods: Items::from_vec(vec![in alloc; ask]?),
-        version: 0,
+        version,
     })
 }
 
@@ -93,15 +93,15 @@ const RESPONSE: DefinitionRow = DefinitionRow {
     number: 1,
 };
 
-/// The schema of `module t; interface P { Ask() => (); };`.
-fn schema_of(alloc: Global) -> Result<Schema, AllocError> {
+/// The schema of `module t; interface P { Ask() => (); };`, of this version.
+pub(crate) fn schema_of(alloc: Global, version: u32) -> Result<Schema, AllocError> {
     let ask = empty_struct(alloc, "t.P.Ask.request")?;
     let asked = empty_struct(alloc, "t.P.Ask.response")?;
     Ok(Schema {
         structs: Items::from_vec(vec![in alloc; ask, asked]?),
         unions: Items::new(alloc),
         enums: Items::new(alloc),
-        interfaces: Items::from_vec(vec![in alloc; one_method(alloc)?]?),
+        interfaces: Items::from_vec(vec![in alloc; one_method(alloc, version)?]?),
         consts: Items::new(alloc),
         order: Items::from_vec(vec![in alloc; INTERFACE, REQUEST, RESPONSE]?),
     })
@@ -127,7 +127,12 @@ fn target_of(schema: &Schema, side: MessageSide) -> Option<Target>
 }
 
 /// Such a message, without parameters.
-fn message(rt: &impl Abort, alloc: Global, schema: &Schema, side: MessageSide) -> Prepared
+pub(crate) fn message(
+    rt: &impl Abort,
+    alloc: Global,
+    schema: &Schema,
+    side: MessageSide,
+) -> Prepared
     ensures prepared { IsPrepared schema.now result }
     ensures responds { (wire_of schema.now).responds result.target.interface result.target.method ≡ true }
 {
@@ -141,12 +146,12 @@ fn message(rt: &impl Abort, alloc: Global, schema: &Schema, side: MessageSide) -
 }
 
 /// No handles.
-fn no_handles(alloc: Global) -> Handles {
+pub(crate) fn no_handles(alloc: Global) -> Handles {
     Handles::from_vec(Vec::new(alloc))
 }
 
 /// Does a command that is neither a call nor a take.
-fn done<C: Promise, P: Stepper>(
+pub(crate) fn done<C: Promise, P: Stepper>(
     rt: &impl Abort,
     desk: &mut Desk<C, P>,
     alloc: Global,
@@ -165,7 +170,7 @@ fn done<C: Promise, P: Stepper>(
 }
 
 /// The ends of a new pipe, bound as the sides of interface 0.
-fn bound<C: Promise, P: Stepper>(
+pub(crate) fn bound<C: Promise, P: Stepper>(
     rt: &impl Abort,
     desk: &mut Desk<C, P>,
     alloc: Global,
@@ -206,7 +211,7 @@ fn bound<C: Promise, P: Stepper>(
 }
 
 /// Calls with a job: the number of the request.
-fn called<C: Promise, P: Stepper>(
+pub(crate) fn called<C: Promise, P: Stepper>(
     rt: &impl Abort,
     desk: &mut Desk<C, P>,
     alloc: Global,
@@ -228,6 +233,7 @@ fn called<C: Promise, P: Stepper>(
         no_handles(alloc),
         PendingList::new(alloc),
         Some(job),
+        None,
     ) {
         Ok(sent) => sent.request,
         Err(_refused) => panic!(rt; "not sent"),
@@ -235,7 +241,7 @@ fn called<C: Promise, P: Stepper>(
 }
 
 /// What a take got.
-fn taken<C: Job<P>, P: Stepper>(
+pub(crate) fn taken<C: Job<P>, P: Stepper>(
     rt: &impl Abort,
     desk: &mut Desk<C, P>,
     alloc: Global,
@@ -294,25 +300,64 @@ fn answered<C: Job<P>, P: Stepper>(
         response,
         no_handles(alloc),
         PendingList::new(alloc),
+        None,
     ) {
         Ok(Reply::Sent(_, _)) => {}
         _other => panic!(rt; "not answered"),
     }
 }
 
+/// Closes the endpoint 0 of an end.
+pub(crate) fn closed<C: Promise, P: Stepper>(
+    rt: &impl Abort,
+    desk: &mut Desk<C, P>,
+    alloc: Global,
+    end: EndId,
+)
+    requires seq { (P.me desk.old.stepper).0 < P.seqs desk.old.stepper }
+    ensures same { (P.schema desk.new.stepper ≡ P.schema desk.old.stepper) × (P.seqs desk.new.stepper ≡ P.seqs desk.old.stepper)
+        × (P.me desk.new.stepper ≡ P.me desk.old.stepper) }
+{
+    match done(rt, desk, alloc, Command::Close(ToClose::Endpoint(end, 0))) {
+        Reply::Closed(_) => {}
+        _other => panic!(rt; "not closed"),
+    }
+}
+
+/// What became of the job of a request from the endpoint 0 of an end.
+fn note(end: EndId, request: u64, ran: bool, told: u64) -> Note {
+    Note {
+        key: Key {
+            end,
+            id: 0,
+            request,
+        },
+        ran,
+        note: told,
+    }
+}
+
+/// A job that counts its runs.
+fn counting(alloc: Global, runs: &Arc<AtomicU64>) -> Result<BoxedJob, Fail> {
+    let runs = Arc::try_clone(runs)?;
+    let run: Callback = Box::new(
+        alloc,
+        move |_got: &Answered| runs.fetch_add(1, Ordering::SeqCst),
+    )?;
+    Ok(BoxedJob { run })
+}
+
 #[test]
-fn jobs_run_on_their_responses_in_any_order(rt: HostRuntime) -> Result<(), Fail> {
+fn jobs_run_on_their_responses_though_their_desk_rests_between(
+    rt: HostRuntime,
+) -> Result<(), Fail> {
     let alloc = rt.alloc();
-    let schema = Arc::new(alloc, schema_of(alloc)?)?;
-    let Ok(shared) = Arc::try_clone(&schema) else {
-        return Err(AllocError.into());
-    };
+    let schema = Arc::new(alloc, schema_of(alloc, 0)?)?;
     let first = message(&rt, alloc, &schema, MessageSide::Request);
     let second = message(&rt, alloc, &schema, MessageSide::Request);
-    let third = message(&rt, alloc, &schema, MessageSide::Request);
     let one = message(&rt, alloc, &schema, MessageSide::Response);
     let two = message(&rt, alloc, &schema, MessageSide::Response);
-    let mut core = Core::new(alloc, shared, 1);
+    let mut core = Core::new(alloc, schema, 1);
     let stepper = Alone {
         core: &mut core,
         seq: SeqId(0),
@@ -327,27 +372,33 @@ fn jobs_run_on_their_responses_in_any_order(rt: HostRuntime) -> Result<(), Fail>
     let (stepper, rest) = desk.rest();
     let mut desk = rest.wake(stepper);
     let again = taken(&rt, &mut desk, alloc, from);
-    called(&rt, &mut desk, alloc, from, third, Adds { more: 9 });
-    let closing = Command::Close(ToClose::Endpoint(from, 0));
-    match done(&rt, &mut desk, alloc, closing) {
-        Reply::Closed(_) => {}
-        _other => panic!(&rt; "not closed"),
-    }
     let (_stepper, notes) = desk.finish();
     let (_history, over) = core.end();
     got.retire(&over);
     again.retire(&over);
-    let note = |request: u64, ran: bool, note: u64| Note {
-        key: Key {
-            end: from,
-            id: 0,
-            request,
-        },
-        ran,
-        note,
-    };
     assert_eq!(rt; request, 1);
-    let want = [note(1, true, 107), note(2, true, 208), note(3, false, 0)];
+    let want = [note(from, 1, true, 107), note(from, 2, true, 208)];
+    assert_eq!(rt; notes.as_slice(), want.as_slice());
+    Ok(())
+}
+
+#[test]
+fn a_job_is_dropped_where_its_endpoint_is_closed(rt: HostRuntime) -> Result<(), Fail> {
+    let alloc = rt.alloc();
+    let schema = Arc::new(alloc, schema_of(alloc, 0)?)?;
+    let call = message(&rt, alloc, &schema, MessageSide::Request);
+    let mut core = Core::new(alloc, schema, 1);
+    let stepper = Alone {
+        core: &mut core,
+        seq: SeqId(0),
+    };
+    let mut desk: Desk<Adds, Alone> = Desk::new(alloc, stepper);
+    let (from, _to) = bound(&rt, &mut desk, alloc);
+    called(&rt, &mut desk, alloc, from, call, Adds { more: 9 });
+    closed(&rt, &mut desk, alloc, from);
+    let (_stepper, notes) = desk.finish();
+    let (_history, _over) = core.end();
+    let want = [note(from, 1, false, 0)];
     assert_eq!(rt; notes.as_slice(), want.as_slice());
     Ok(())
 }
@@ -357,71 +408,33 @@ fn a_boxed_job_that_counts_its_runs_is_dropped_unrun_at_a_disconnect(
     rt: HostRuntime,
 ) -> Result<(), Fail> {
     let alloc = rt.alloc();
-    let schema = Arc::new(alloc, schema_of(alloc)?)?;
-    let Ok(shared) = Arc::try_clone(&schema) else {
-        return Err(AllocError.into());
-    };
+    let runs = Arc::new(alloc, AtomicU64::new(0))?;
+    let runs_once = counting(alloc, &runs)?;
+    let never_runs = counting(alloc, &runs)?;
+    let schema = Arc::new(alloc, schema_of(alloc, 0)?)?;
     let first = message(&rt, alloc, &schema, MessageSide::Request);
     let second = message(&rt, alloc, &schema, MessageSide::Request);
     let response = message(&rt, alloc, &schema, MessageSide::Response);
-    let runs = Arc::new(alloc, AtomicU64::new(0))?;
-    let (ran, unrun) = (Arc::try_clone(&runs)?, Arc::try_clone(&runs)?);
-    let runs_once: Callback = Box::new(
-        alloc,
-        move |_got: &Answered| ran.fetch_add(1, Ordering::SeqCst),
-    )?;
-    let never_runs: Callback = Box::new(
-        alloc,
-        move |_got: &Answered| unrun.fetch_add(1, Ordering::SeqCst),
-    )?;
-    let mut core = Core::new(alloc, shared, 1);
+    let mut core = Core::new(alloc, schema, 1);
     let stepper = Alone {
         core: &mut core,
         seq: SeqId(0),
     };
     let mut desk: Desk<BoxedJob, Alone> = Desk::new(alloc, stepper);
     let (from, to) = bound(&rt, &mut desk, alloc);
-    called(
-        &rt,
-        &mut desk,
-        alloc,
-        from,
-        first,
-        BoxedJob { run: runs_once },
-    );
-    called(
-        &rt,
-        &mut desk,
-        alloc,
-        from,
-        second,
-        BoxedJob { run: never_runs },
-    );
+    called(&rt, &mut desk, alloc, from, first, runs_once);
+    called(&rt, &mut desk, alloc, from, second, never_runs);
     answered(&rt, &mut desk, alloc, to, response);
     let got = taken(&rt, &mut desk, alloc, from);
-    let closing = Command::Close(ToClose::Endpoint(to, 0));
-    match done(&rt, &mut desk, alloc, closing) {
-        Reply::Closed(_) => {}
-        _other => panic!(&rt; "not closed"),
-    }
+    closed(&rt, &mut desk, alloc, to);
     match desk.take(alloc, from) {
         Ok(Reply::No(Why::PeerClosed, Command::Take(_))) => {}
         _other => panic!(&rt; "not peer-closed"),
     }
-    let key = |request: u64| Key {
-        end: from,
-        id: 0,
-        request,
-    };
     let (_stepper, notes) = desk.finish();
     let (_history, over) = core.end();
     got.retire(&over);
-    let note = |request: u64, ran: bool| Note {
-        key: key(request),
-        ran,
-        note: 0,
-    };
-    let want = [note(1, true), note(2, false)];
+    let want = [note(from, 1, true, 0), note(from, 2, false, 0)];
     assert_eq!(rt; runs.load(Ordering::SeqCst), 1);
     assert_eq!(rt; notes.as_slice(), want.as_slice());
     Ok(())

@@ -1,22 +1,13 @@
-//! Compares the runs of scripts with those that they literally have: of each walk of a file, all scripts of a
-//! few lines.
-#![tactic(auto)]
-
-mod callbacks;
-mod played;
-mod tally;
-mod walk;
+//! All walks of the files, each script of a walk in all orders.
 
 use crate::played::Played;
 use crate::tally::Tally;
 use crate::walk::{Walk, walks};
 use check_files::{MOST_BYTES, bytes_of};
 use mj_schema::Schema;
-use std::env::Env;
+use std::io;
 use std::io::Print;
-use std::process::ExitCode;
 use std::sync::Arc;
-use std::{env, io};
 
 /// Compares the run of a text in an order, if it is a script. The first run of a walk that differs is printed.
 fn compare<R: Print + AllocGlobal>(
@@ -108,27 +99,28 @@ fn compare_walks<R: Print + AllocGlobal>(rt: &R, text: &str, total: &mut Tally) 
     Ok(())
 }
 
-/// Compares the walks of each file that the words name.
-fn run_files<R: std::rt::Files + Env + Print + AllocGlobal>(rt: &R) -> io::Result<Tally> {
-    let mut tally = Tally::new(rt.alloc());
-    for name in env::args(rt)?.skip(1) {
-        let bytes = bytes_of(rt, name.as_str(), MOST_BYTES);
-        match bytes.as_ref().map(|bytes| str::from_utf8(bytes.as_slice())) {
-            Some(Ok(text)) => compare_walks(rt, text, &mut tally)?,
-            _ => {
-                tally.differ = tally.differ.saturating_add(1);
-                println!(rt; "{name}: it can't be read")?;
-            }
+/// Compares the walks of a file.
+fn compare_file<R: std::rt::Files + Print + AllocGlobal>(
+    rt: &R,
+    name: &str,
+    tally: &mut Tally,
+) -> io::Result<()> {
+    let bytes = bytes_of(rt, name, MOST_BYTES);
+    match bytes.as_ref().map(|bytes| str::from_utf8(bytes.as_slice())) {
+        Some(Ok(text)) => compare_walks(rt, text, tally),
+        _ => {
+            tally.differ = tally.differ.saturating_add(1);
+            println!(rt; "{name}: it can't be read")
         }
     }
-    Ok(tally)
 }
 
-fn main(rt: HostRuntime) -> io::Result<ExitCode> {
-    let tally = run_files(&rt)?;
-    println!(rt; "{} scripts, {} differences", tally.scripts, tally.differ)?;
-    if tally.differ > 0 {
-        return Ok(ExitCode::FAILURE);
+/// Compares the walks of each file that the words name, and prints what came of each; whether nothing differs.
+pub fn run<R: std::rt::Files + Print + AllocGlobal>(rt: &R, words: &[String]) -> io::Result<bool> {
+    let mut tally = Tally::new(rt.alloc());
+    for name in words {
+        compare_file(rt, name.as_str(), &mut tally)?;
     }
-    Ok(ExitCode::SUCCESS)
+    println!(rt; "{} scripts, {} differences", tally.scripts, tally.differ)?;
+    Ok(tally.differ == 0)
 }

@@ -1,0 +1,41 @@
+//! Times the packing of structs, data pipes, the message of a file, and the run of a script, in processor time.
+//! `tools/time_program` makes the files.
+#![tactic(auto)]
+
+mod data;
+mod files;
+mod packing;
+mod running;
+mod sealing;
+mod timing;
+mod viewing;
+mod wire;
+
+use std::io;
+use std::io::Print;
+use std::time::CpuClock;
+
+/// Says which words there are.
+fn print_usage<R: Print>(rt: &R) -> io::Result<()> {
+    println!(rt; "usage: benchmarks packing | data | wire MOJOM MESSAGE | run MOJOM SCRIPT")
+}
+
+/// Times what the first word asks for, of the files that the words behind it name.
+pub fn run<R: std::rt::Files + Print + AllocGlobal + CpuClock>(
+    rt: &R,
+    words: &[String],
+) -> io::Result<()> {
+    match words {
+        [what] => match what.as_str() {
+            "data" => data::time_all(rt),
+            "packing" => packing::time_all(rt),
+            _ => print_usage(rt),
+        },
+        [what, mojom, file] => match what.as_str() {
+            "wire" => wire::time_files(rt, mojom.as_str(), file.as_str()),
+            "run" => running::time_files(rt, mojom.as_str(), file.as_str()),
+            _ => print_usage(rt),
+        },
+        _ => print_usage(rt),
+    }
+}
