@@ -14,7 +14,7 @@ TRIED = (('crates/conformance/stdout', r'^(\d+) passed', ('README.md', 'docs/pro
          ('crates/checks/stdout', r'and (\d+) made sets', ('README.md', 'docs/promise.md')),
          ('crates/checks/stdout', r'^(\d+) passed', ('README.md',)),
          ('crates/checks/stdout', r'^(\d+) compared, 0 differences', ('README.md', 'docs/promise.md')),
-         ('crates/check_runs/stdout', r'^(\d+) scripts, 0 differences\n\Z', ('README.md', 'docs/promise.md')),
+         ('crates/checks/stdout', r'^(\d+) scripts, 0 differences$', ('README.md', 'docs/promise.md')),
          ('crates/checks/stdout', r', (\d+) steps, differ 0$', ('README.md', 'docs/promise.md')))
 
 # A name with the file where a page says that it stands.

@@ -19,9 +19,17 @@ FORMS = {
     'call': ('target', 'method', 'value', 'name*'),
     'take': ('name', 'new*'),
     'answer': ('name', 'method', 'value', 'name*'),
+    'call-at': ('moment', 'target', 'method', 'value', 'name*'),
+    'answer-at': ('moment', 'name', 'method', 'value', 'name*'),
+    'query': ('target',),
+    'require': ('target', 'version'),
+    'flush': ('name',),
+    'pause': ('name', 'name', 'flush'),
     'raw': ('name', 'bytes', 'name*'),
     'close': ('name or target',),
 }
+# The commands that give a response.
+ANSWERS = ('auto', 'answer', 'answer-at')
 SETUP = {'join': ('sequence', 'sequence', 'new', 'new'), 'auto': ('sequence', 'method', 'value')}
 
 NAME = r'[a-z][a-z0-9_]{0,31}'
@@ -33,6 +41,9 @@ SORTS = {
     'target': (rf'{NAME}#({NUMBER})', 'here stands an endpoint, as `x#0`: the name of its end, `#`, and its id without leading zeros, below 4294967296'),
     'name or target': (rf'{NAME}(#({NUMBER}))?', 'here stands a name, or an endpoint as `x#0`, whose id has no leading zeros and is below 4294967296'),
     'sequence': (NUMBER, 'here stands the number of a sequence, counted from 0, without leading zeros'),
+    'moment': ('0|-?[1-9][0-9]*', 'here stands a moment, a number of 64 bits, with `-` where it is below 0, without leading zeros'),
+    'version': (NUMBER, 'here stands a version, a number without leading zeros, below 4294967296'),
+    'flush': (NUMBER, 'here stands the number of a flush, without leading zeros, below 4294967296'),
     'side': ('remote|receiver', 'here stands `remote` or `receiver`'),
     'sort': ('shared_buffer|platform', 'here stands `shared_buffer` or `platform`'),
     'bytes': ('-|([0-9a-f]{2})+', 'bytes are pairs of hexadecimal digits in lower case, and `-` where there are none'),
@@ -41,11 +52,15 @@ SORTS = {
     'value': (r'[\s\S]+', ''),
 }
 
+# The numbers that a word of a sort may be, where not all are.
+RANGES = {'moment': range(-2 ** 63, 2 ** 63), 'version': range(2 ** 32), 'flush': range(2 ** 32)}
+
 # What is lacking where a line ends too early.
 LACKING = {'new': 'a name', 'name': 'a name', 'target': 'an endpoint, as `x#0`', 'name or target': 'a name, or an endpoint as `x#0`',
            'value': 'a value, as `(7)`, or `()` for no parameters', 'bytes': 'bytes in hexadecimal, or `-` for none',
            'method': 'the full name of a method', 'interface': 'the full name of an interface', 'side': '`remote` or `receiver`',
-           'sort': '`shared_buffer` or `platform`', 'sequence': 'the number of a sequence'}
+           'sort': '`shared_buffer` or `platform`', 'sequence': 'the number of a sequence',
+           'moment': 'a moment, as `-5`', 'version': 'a version, as `2`', 'flush': 'the number of a flush, as `1`'}
 
 
 def words_of(line):
@@ -104,6 +119,8 @@ def odd_word(words, form, seqs):
             return at, why
         if sort == 'sequence' and int(word) >= seqs:
             return at, numbered(seqs)
+        if sort in RANGES and int(word) not in RANGES[sort]:
+            return at, why
         if 'target' in sort and '#' in word and int(word.split('#')[1]) >= 2 ** 32:
             return at, why
     return None
@@ -227,7 +244,7 @@ def unknown_name(lines, number, tables):
     _, (_, command), words = parts(line)
     form = sorts(command, len(words), FORMS if sequence else SETUP)
     (at, word), sort = next((word, sort) for word, sort in zip(words, form) if sort in ('interface', 'method'))
-    is_answer = command in ('auto', 'answer')
+    is_answer = command in ANSWERS
     more = ' whose request has a response' if is_answer else ''
     near = nearest(word, tables(), is_answer) if tables() else ''
     return at, f'the files have no {sort} of this full name{more}; the full name begins with the module, as `t.P` or `t.P.Ping`{near}'
@@ -261,13 +278,13 @@ def bad_value(lines, number, tables):
     method = next((word for (_, word), sort in zip(words, form) if sort == 'method'), '')
     if is_cut(value):
         return at + len(value), CUT
-    odd = odd_value(method, value, command in ('auto', 'answer'), tables())
+    odd = odd_value(method, value, command in ANSWERS, tables())
     if odd:
         return at + odd[0], odd[1]
     index = re.search('[%^]', re.sub(r'"(?:\\.|[^"\\])*"', lambda found: '.' * len(found[0]), value))
     if command == 'auto' and index:
         return at + index.start(), 'the value of an `auto` line carries no handles and endpoints'
-    of = 'parameters of the method\'s response' if command in ('auto', 'answer') else 'parameters of the method'
+    of = 'parameters of the method\'s response' if command in ANSWERS else 'parameters of the method'
     return at, f'this is no value of the {of}, or more of it is to be sent than goes into one message'
 
 
