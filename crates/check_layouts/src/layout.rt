@@ -96,7 +96,12 @@ fn packed(alloc: Global, fields: Vec<DraftField>) -> Result<Option<String>, Allo
     }
     let name = FullName::own(Text::from_str(alloc, "s")?);
     let fields = Items::from_vec(fields);
-    let row = lay_out(alloc, DraftStruct { name, fields })?;
+    let draft = DraftStruct {
+        name,
+        fields,
+        stable: false,
+    };
+    let row = lay_out(alloc, draft)?;
     let mut places = Vec::new(alloc);
     for field in row.fields.as_slice() {
         places.push(Place {

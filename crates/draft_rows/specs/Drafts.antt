@@ -26,7 +26,7 @@ use Rattle.kind_scope.specs.Scopes.{Scope, inside, around}
 use Rattle.kind_scope.specs.Members.{field_of, union_field_of}
 use Rattle.draft_rows.specs.RowCounts.{methods_in, structs_of, after, after_all, no_rows, definitions_at, rows_of}
 use Rattle.draft_rows.specs.InterfaceVersions.{interface_version}
-use Rattle.draft_rows.specs.Rows.{const_row, struct_row, union_row, valued, enum_row, interface_row, structs_of_methods}
+use Rattle.draft_rows.specs.Rows.{const_row, is_stable, struct_row, union_row, valued, enum_row, interface_row, structs_of_methods}
 
 -- no tables
 abbrev pub empty : Draft
@@ -62,17 +62,17 @@ methods_order first [] = []
 methods_order first (m ∷ ms) = method_order first m ++ methods_order (first + structs_of m) ms
 
 -- the tables of the interface of this full name alone, before which so many rows stand: the structs of its methods stand behind it
-abbrev pub draft_of_interface : List FileRows → Scope → Counts → List ℕ → Interface → Draft
-draft_of_interface rows scope counts full item = record empty {
+abbrev pub draft_of_interface : List FileRows → Scope → Counts → List ℕ → List Attribute → Interface → Draft
+draft_of_interface rows scope counts full attributes item = record empty {
   structs = structs_of_methods rows scope full (methods_in item.members);
-  interfaces = interface_row full counts.structs (methods_in item.members) (interface_version scope item.members) ∷ [];
+  interfaces = interface_row full counts.structs (methods_in item.members) (interface_version scope item.members) (is_stable attributes) ∷ [];
   order = row_at sorts.Interface counts.interfaces ∷ methods_order counts.structs (methods_in item.members);
 }
 
 -- the tables of the struct of this full name alone, before which so many rows stand
-abbrev pub draft_of_struct : List FileRows → Scope → Counts → List ℕ → Struct → Draft
-draft_of_struct rows scope counts full item = record empty {
-  structs = struct_row rows scope full (flat_map field_of item.members) ∷ [];
+abbrev pub draft_of_struct : List FileRows → Scope → Counts → List ℕ → List Attribute → Struct → Draft
+draft_of_struct rows scope counts full attributes item = record empty {
+  structs = struct_row rows scope full (is_stable attributes) (flat_map field_of item.members) ∷ [];
   order = row_at sorts.Struct counts.structs ∷ [];
 }
 
@@ -99,10 +99,10 @@ draft_of_const rows scope counts full item = record empty {
 
 -- the tables of the definition of this full name alone, before which so many rows stand: a constant encloses nothing
 abbrev pub draft_of_item : List FileRows → Scope → Counts → List ℕ → List Attribute → DefinitionItem → Draft
-draft_of_item rows scope counts full attributes (items.Struct item) = draft_of_struct rows (inside scope full) counts full item
+draft_of_item rows scope counts full attributes (items.Struct item) = draft_of_struct rows (inside scope full) counts full attributes item
 draft_of_item rows scope counts full attributes (items.Union item) = draft_of_union rows (inside scope full) counts full attributes item
 draft_of_item rows scope counts full attributes (items.Enum item) = draft_of_enum (inside scope full) counts full attributes item
-draft_of_item rows scope counts full attributes (items.Interface item) = draft_of_interface rows (inside scope full) counts full item
+draft_of_item rows scope counts full attributes (items.Interface item) = draft_of_interface rows (inside scope full) counts full attributes item
 draft_of_item rows scope counts full attributes (items.Const item) = draft_of_const rows scope counts full item
 
 -- within what stands around a definition

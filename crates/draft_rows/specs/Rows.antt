@@ -1,5 +1,5 @@
 -- The rows of definitions, where fields have no places yet.
-use Rattle.std.specs.Prelude.{ℕ, ◌+◌, ℤ, pos, negsuc, ◌+ℤ◌, Bool, codes, List, [], ◌∷◌, map, find, Option, Some, None, option_and_then}
+use Rattle.std.specs.Prelude.{ℕ, ◌+◌, ℤ, pos, negsuc, ◌+ℤ◌, Bool, false, codes, List, [], ◌∷◌, map, find, Option, Some, None, option_and_then}
 use Rattle.std.specs.Int.{int_min, int_max}
 use Rattle.std.specs.List.{flat_map}
 use Rattle.std.specs.Option.{option_map, option_map_or, option_to_list}
@@ -78,9 +78,17 @@ field_row rows scope one = option_map (field_with scope one.member) (kind_in row
 abbrev pub found_of : {A B : Type 0} → (A → Option B) → List A → List B
 found_of look ones = flat_map (λ one. option_to_list (look one)) ones
 
--- the struct of this full name and these members: its fields stand along their ordinals
-abbrev pub struct_row : List FileRows → Scope → List ℕ → List Member → DraftStruct
-struct_row rows scope full members = record { name = full; fields = found_of (field_row rows scope) (along_ordinals (numbered members)) }
+-- `[Stable]` is among the attributes
+abbrev pub is_stable : List Attribute → Bool
+is_stable attributes = has_attribute (codes "Stable") attributes
+
+-- the struct of this full name and these members, stable or not: its fields stand along their ordinals
+abbrev pub struct_row : List FileRows → Scope → List ℕ → Bool → List Member → DraftStruct
+struct_row rows scope full stable members = record {
+  name = full;
+  fields = found_of (field_row rows scope) (along_ordinals (numbered members));
+  stable = stable;
+}
 
 -- unions
 
@@ -102,6 +110,7 @@ union_row rows scope full attributes members = record {
   name = full;
   extensible = is_extensible attributes;
   fields = found_of (union_field_row rows scope) (numbered members);
+  stable = is_stable attributes;
 }
 
 -- enums
@@ -150,6 +159,7 @@ enum_row full attributes ones = record {
   extensible = is_extensible attributes;
   members = map member_row ones;
   default = default_in ones;
+  stable = is_stable attributes;
 }
 
 -- interfaces
@@ -174,13 +184,18 @@ abbrev pub method_rows : ℕ → ℕ → List Method → List MethodRow
 method_rows next first methods = rows_of_methods first (numbered_by held (λ (m : Method). m.ordinal) next methods)
 
 -- the interface of this full name and these methods, which stand as the file has them, where so many structs stand before theirs, and of
--- this version
-abbrev pub interface_row : List ℕ → ℕ → List Method → ℕ → InterfaceRow
-interface_row full first methods version = record { name = full; methods = method_rows 0 first methods; version = version }
+-- this version, stable or not
+abbrev pub interface_row : List ℕ → ℕ → List Method → ℕ → Bool → InterfaceRow
+interface_row full first methods version stable = record {
+  name = full;
+  methods = method_rows 0 first methods;
+  version = version;
+  stable = stable;
+}
 
--- the struct of a list of parameters
+-- the struct of a list of parameters, which no name means, so it isn't stable by itself
 abbrev pub parameters_row : List FileRows → Scope → List ℕ → List Parameter → DraftStruct
-parameters_row rows scope full parameters = struct_row rows scope full (map parameter_of parameters)
+parameters_row rows scope full parameters = struct_row rows scope full false (map parameter_of parameters)
 
 -- the struct of a response
 abbrev pub response_row : List FileRows → Scope → List ℕ → Option (List Parameter) → Option DraftStruct

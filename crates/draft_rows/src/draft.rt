@@ -16,6 +16,7 @@ use crate::interface_row::{add_methods, interface_row};
 use crate::interface_version::interface_version;
 use crate::item_row::{row_of_enum, row_of_struct, row_of_union};
 use crate::literal::const_row;
+use crate::member_row::is_stable;
 use crate::row_table::RowTable;
 use const_eval::Consts;
 use kind_scope::ScopeView;
@@ -124,42 +125,47 @@ fn add_methods_order(
     Ok(())
 }
 
-/// Adds the tables of an interface of this full name.
+/// Adds the tables of an interface.
 fn add_interface(
     alloc: Global,
     lists: &mut DraftLists,
     rows: &RowTable,
     scope: &ScopeView<'_>,
     counts: Counts,
-    full: &FullName,
+    view: &DefinitionView<'_>,
     item: &Interface,
 ) -> Result<(), AllocError>
-    ensures { OnOk result (lists_view lists.new ≡ join (lists_view lists.old) (draft_of_interface rows.now (scope_view scope.now) counts full.now item.now)) }
+    ensures { OnOk result (lists_view lists.new ≡ join (lists_view lists.old)
+        (draft_of_interface rows.now (scope_view scope.now) counts view.now.full view.now.attributes item.now)) }
 {
+    let full = view.kept(alloc)?;
     let methods = methods_in(alloc, item.members.as_slice())?;
     let list = methods.as_slice();
     add_row(&mut lists.order, RowSort::Interface, counts.interfaces)?;
     add_methods_order(&mut lists.order, counts.structs, list)?;
-    add_methods(alloc, &mut lists.structs, rows, scope, full, list)?;
+    add_methods(alloc, &mut lists.structs, rows, scope, &full, list)?;
     let version = interface_version(alloc, scope, item.members.as_slice())?;
-    let row = interface_row(alloc, full, counts.structs, list, version)?;
+    let stable = is_stable(view.attributes());
+    let row = interface_row(alloc, &full, counts.structs, list, version, stable)?;
     lists.interfaces.push(row)?;
     Ok(())
 }
 
-/// Adds the tables of a struct of this full name.
+/// Adds the tables of a struct.
 fn add_struct(
     alloc: Global,
     lists: &mut DraftLists,
     rows: &RowTable,
     scope: &ScopeView<'_>,
     counts: Counts,
-    full: &FullName,
+    view: &DefinitionView<'_>,
     item: &Struct,
 ) -> Result<(), AllocError>
-    ensures { OnOk result (lists_view lists.new ≡ join (lists_view lists.old) (draft_of_struct rows.now (scope_view scope.now) counts full.now item.now)) }
+    ensures { OnOk result (lists_view lists.new ≡ join (lists_view lists.old)
+        (draft_of_struct rows.now (scope_view scope.now) counts view.now.full view.now.attributes item.now)) }
 {
-    let row = row_of_struct(alloc, rows, scope, full, item)?;
+    let full = view.kept(alloc)?;
+    let row = row_of_struct(alloc, rows, scope, &full, view.attributes(), item)?;
     lists.structs.push(row)?;
     add_row(&mut lists.order, RowSort::Struct, counts.structs)
 }
@@ -235,10 +241,10 @@ fn add_within(
 {
     let full = view.kept(alloc)?;
     match view.item() {
-        ItemView::Struct(item) => add_struct(alloc, lists, rows, inner, counts, &full, item),
+        ItemView::Struct(item) => add_struct(alloc, lists, rows, inner, counts, view, item),
         ItemView::Union(item) => add_union(alloc, lists, rows, inner, counts, view, item),
         ItemView::Enum(item) => add_enum(alloc, lists, inner, counts, view, item),
-        ItemView::Interface(item) => add_interface(alloc, lists, rows, inner, counts, &full, item),
+        ItemView::Interface(item) => add_interface(alloc, lists, rows, inner, counts, view, item),
         ItemView::Const(item) => add_const(alloc, lists, rows, scope, counts, &full, item),
     }
 }

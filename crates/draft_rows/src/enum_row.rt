@@ -6,7 +6,7 @@ ghost use Rattle.const_meanings.specs.Known.{known_view};
 ghost use Rattle.kind_scope.specs.Views.{scope_view};
 ghost use Rattle.draft_rows.specs.steps.Views.{valued_view};
 
-use crate::member_row::is_extensible;
+use crate::member_row::{is_extensible, is_stable};
 use const_meanings::KnownView;
 use kind_scope::{ScopeView, is_default, known_in};
 use mj_base::{FullName, Text};
@@ -121,5 +121,6 @@ pub fn enum_row(
         extensible: is_extensible(attributes),
         members: member_rows(alloc, ones)?,
         default: default_in(ones),
+        stable: is_stable(attributes),
     })
 }

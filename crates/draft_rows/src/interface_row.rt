@@ -57,25 +57,27 @@ fn method_rows(
     Ok(Items::from_vec(made))
 }
 
-/// The interface of this full name and these methods, where so many structs stand before theirs, and of
-/// this version.
+/// The interface of this full name and these methods, where so many structs stand before theirs, of this
+/// version, stable or not.
 pub fn interface_row(
     alloc: Global,
     full: &FullName,
     first: u32,
     methods: &[&Method],
     version: u32,
+    stable: bool,
 ) -> Result<InterfaceRow, AllocError>
-    ensures { IfOk result (λ made. made ≡ interface_row full.now first (map (λ m. m.now) methods.now) version) }
+    ensures { IfOk result (λ made. made ≡ interface_row full.now first (map (λ m. m.now) methods.now) version stable) }
 {
     Ok(InterfaceRow {
         name: full.share(alloc)?,
         methods: method_rows(alloc, first, methods)?,
         version,
+        stable,
     })
 }
 
-/// The struct of a list of parameters.
+/// The struct of a list of parameters, which isn't stable by itself.
 fn parameters_row(
     alloc: Global,
     rows: &RowTable,
@@ -86,7 +88,7 @@ fn parameters_row(
     ensures { IfOk result (λ made. made ≡ parameters_row rows.now (scope_view scope.now) full.now list.now) }
 {
     let members = parameters(alloc, list)?;
-    struct_row(alloc, rows, scope, full, members.as_slice())
+    struct_row(alloc, rows, scope, full, false, members.as_slice())
 }
 
 /// Adds the struct of a response that there is.

@@ -2,12 +2,12 @@
 
 ghost use Rattle.std.specs.Prelude.{◌≡◌, map, IfOk};
 ghost use Rattle.std.specs.List.{flat_map};
-ghost use Rattle.draft_rows.specs.Rows.{struct_row, union_row, valued, enum_row};
+ghost use Rattle.draft_rows.specs.Rows.{is_stable, struct_row, union_row, valued, enum_row};
 ghost use Rattle.kind_scope.specs.Members.{field_of, union_field_of};
 ghost use Rattle.kind_scope.specs.Views.{scope_view};
 
 use crate::enum_row::{enum_row, valued};
-use crate::member_row::{struct_row, union_row};
+use crate::member_row::{is_stable, struct_row, union_row};
 use crate::row_table::RowTable;
 use kind_scope::{ScopeView, fields, union_fields};
 use mj_base::FullName;
@@ -21,12 +21,15 @@ pub fn row_of_struct(
     rows: &RowTable,
     scope: &ScopeView<'_>,
     full: &FullName,
+    attributes: &[Attribute],
     item: &Struct,
 ) -> Result<DraftStruct, AllocError>
-    ensures { IfOk result (λ made. made ≡ struct_row rows.now (scope_view scope.now) full.now (flat_map field_of item.now.members)) }
+    ensures { IfOk result (λ made.
+        made ≡ struct_row rows.now (scope_view scope.now) full.now (is_stable attributes.now) (flat_map field_of item.now.members)) }
 {
     let members = fields(alloc, item.members.as_slice())?;
-    struct_row(alloc, rows, scope, full, members.as_slice())
+    let stable = is_stable(attributes);
+    struct_row(alloc, rows, scope, full, stable, members.as_slice())
 }
 
 /// The row of the union of this full name.

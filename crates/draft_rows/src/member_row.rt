@@ -2,7 +2,7 @@
 
 ghost use Rattle.std.specs.Prelude.{◌≡◌, map, IfOk};
 ghost use Rattle.std.specs.Option.{option_copied};
-ghost use Rattle.draft_rows.specs.Rows.{literal_in, kind_in, field_with, field_row, found_of, struct_row, union_field_row, is_extensible, union_row};
+ghost use Rattle.draft_rows.specs.Rows.{literal_in, kind_in, field_with, field_row, found_of, is_stable, struct_row, union_field_row, is_extensible, union_row};
 ghost use Rattle.std.specs.Prelude.{option_and_then};
 ghost use Rattle.kind_scope.specs.Views.{member_view, numbered_view, scope_view};
 
@@ -99,21 +99,33 @@ fn field_rows(
     Ok(Items::from_vec(made))
 }
 
-/// The struct of this full name and these members, its fields along their ordinals.
+/// Whether `[Stable]` stands among attributes.
+pub fn is_stable(attributes: &[Attribute]) -> bool
+    ensures { result ≡ is_stable attributes.now }
+{
+    has_attribute("Stable", attributes)
+}
+
+/// The struct of this full name and these members, stable or not, its fields along their ordinals.
 pub fn struct_row(
     alloc: Global,
     rows: &RowTable,
     scope: &ScopeView<'_>,
     full: &FullName,
+    stable: bool,
     members: &[MemberView<'_>],
 ) -> Result<DraftStruct, AllocError>
-    ensures { IfOk result (λ made. made ≡ struct_row rows.now (scope_view scope.now) full.now (map member_view members.now)) }
+    ensures { IfOk result (λ made. made ≡ struct_row rows.now (scope_view scope.now) full.now stable (map member_view members.now)) }
 {
     let ones = numbered(alloc, members)?;
     let sorted = along_ordinals(alloc, ones.as_slice())?;
     let fields = field_rows(alloc, rows, scope, sorted.as_slice())?;
     let name = full.share(alloc)?;
-    Ok(DraftStruct { name, fields })
+    Ok(DraftStruct {
+        name,
+        fields,
+        stable,
+    })
 }
 
 /// The row of a field of a union; none where its kind is none.
@@ -177,5 +189,6 @@ pub fn union_row(
         name,
         extensible: is_extensible(attributes),
         fields,
+        stable: is_stable(attributes),
     })
 }

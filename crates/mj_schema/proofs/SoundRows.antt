@@ -18,7 +18,13 @@ int8 = kinds.IntKind Bits8 true false
 
 -- an enum of one member of this number
 abbrev one_member : ℤ → EnumRow
-one_member number = record { name = codes "e"; extensible = true; members = record { name = codes "A"; number = number } ∷ []; default = None }
+one_member number = record {
+  name = codes "e";
+  extensible = true;
+  members = record { name = codes "A"; number = number } ∷ [];
+  default = None;
+  stable = false;
+}
 
 -- a field since a version
 abbrev since : ℕ → KindTree → Option Literal → DraftField
@@ -26,7 +32,7 @@ since version kind default = record { name = codes "a"; kind = kind; min_version
 
 -- a struct of fields
 abbrev of_fields : List DraftField → DraftStruct
-of_fields fields = record { name = codes "s"; fields = fields }
+of_fields fields = record { name = codes "s"; fields = fields; stable = false }
 
 -- the struct of this number
 abbrev struct_at : ℕ → DefinitionRow

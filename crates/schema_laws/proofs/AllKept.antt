@@ -41,7 +41,7 @@ use Rattle.kind_scope.specs.Members.{place, along_ordinals}
 use Rattle.kind_refusals.specs.KindRefusals.{refused_list, refused_parameters, refused_response, refused_in_item, refused_in_interface, refused_item}
 use Rattle.draft_rows.specs.RowCounts.{method_among, methods_in, after, after_all, definitions_at}
 use Rattle.draft_rows.specs.Kinds.{kind_of}
-use Rattle.draft_rows.specs.Rows.{kind_in, field_with, field_row, found_of, struct_row, union_field_with, union_field_row, union_row, const_with, const_row}
+use Rattle.draft_rows.specs.Rows.{kind_in, field_with, field_row, found_of, is_stable, struct_row, union_field_with, union_field_row, union_row, const_with, const_row}
 use Rattle.draft_rows.specs.Rows.{literal_in, parameters_row, response_row, method_structs, structs_of_methods}
 use Rattle.draft_rows.specs.Drafts.{empty, join, draft_of_item, draft_of_definition, draft_of_all, draft_from}
 use Rattle.schema_laws.specs.Kept.{response_list, method_lists, struct_lists, union_lists, const_names, all_definitions, names_along, names_listed, field_names, union_field_names, HasAll}
@@ -148,9 +148,10 @@ module _ (rows : List FileRows) (scope : Scope) where
       go None k is rest = absurd cc
       go (Some other) k is rest = ap (λ (names : List (List ℕ)). one.member.name.text ∷ names) rest
 
-  struct_whole : (full : List ℕ) (owner : Identifier) (sort : ListSort) (members : List Member) → refused_list scope owner sort members ≡ []
-      → AllByRecursion (IsKept rows scope) members → IsWholeStruct (struct_row rows scope full members) members
-  struct_whole full owner sort members e kept =
+  struct_whole : (full : List ℕ) (stable : Bool) (owner : Identifier) (sort : ListSort) (members : List Member)
+      → refused_list scope owner sort members ≡ []
+      → AllByRecursion (IsKept rows scope) members → IsWholeStruct (struct_row rows scope full stable members) members
+  struct_whole full stable owner sort members e kept =
       let ones = numbered members in
       let each = all_numbered (IsKept rows scope) 0 members kept in
       let sorted = all_along (λ (one : Numbered). IsKept rows scope one.member) (λ (one : Numbered). one.ordinal) ones each in
@@ -207,14 +208,14 @@ module _ (rows : List FileRows) (scope : Scope) where
   response_whole full owner None e kept = no_structs
   response_whole full owner (Some parameters) e kept =
       one_struct (parameters_row rows scope full parameters) (map parameter_of parameters)
-      (struct_whole rows scope full owner Parameters (map parameter_of parameters) e kept)
+      (struct_whole rows scope full false owner Parameters (map parameter_of parameters) e kept)
 
   method_whole : (full : List ℕ) (m : Method) → refused_in_item scope (interface_items.Method m) ≡ []
       → AllByRecursion (IsKept rows scope) (typed_in_item (interface_items.Method m)) → AreWholeStructs (method_structs rows scope full m) (method_lists m)
   method_whole full m e kept =
       let parts = both_empty (refused_parameters scope m.name m.request) (refused_response scope m.name m.response) e in
       let two = all_before (IsKept rows scope) (map parameter_of m.request) (map parameter_of (response_of m.response)) kept in
-      let request = struct_whole rows scope (within full (codes "request")) m.name Parameters (map parameter_of m.request) parts.0 two.0 in
+      let request = struct_whole rows scope (within full (codes "request")) false m.name Parameters (map parameter_of m.request) parts.0 two.0 in
       structs_joined (parameters_row rows scope (within full (codes "request")) m.request ∷ [])
       (option_to_list (response_row rows scope (within full (codes "response")) m.response)) (map parameter_of m.request ∷ []) (response_list m.response)
       (one_struct (parameters_row rows scope (within full (codes "request")) m.request) (map parameter_of m.request) request)
@@ -259,9 +260,10 @@ pub item_whole : (rows : List FileRows) (scope : Scope) (counts : Counts) (full 
     → ((c : Const) → item ≡ items.Const c → is_some (const_row rows scope full c) ≡ true)
     → HasItem full item (draft_of_item rows scope counts full attributes item)
 item_whole rows scope counts full attributes (items.Struct item) e kept has =
-    let whole = struct_whole rows (inside scope full) full item.name Fields (flat_map field_of item.members) e kept in
+    let whole = struct_whole rows (inside scope full) full (is_stable attributes) item.name Fields (flat_map field_of item.members) e kept in
     record {
-      structs = one_struct (struct_row rows (inside scope full) full (flat_map field_of item.members)) (flat_map field_of item.members) whole;
+      structs = one_struct (struct_row rows (inside scope full) full (is_stable attributes) (flat_map field_of item.members)) (flat_map field_of item.members)
+          whole;
       unions = refl;
       consts = refl;
     }

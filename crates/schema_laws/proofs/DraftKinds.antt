@@ -41,7 +41,7 @@ use Rattle.kind_refusals.specs.KindRefusals.{limit_of, is_struct, refused_count,
 use Rattle.kind_refusals.specs.KindRefusals.{refused_in_interface, refused_item, refused_definition, kinds_refusal}
 use Rattle.draft_rows.specs.RowCounts.{method_among, methods_in, rows_of, no_rows}
 use Rattle.draft_rows.specs.Kinds.{kind_of}
-use Rattle.draft_rows.specs.Rows.{kind_in, field_with, field_row, struct_row, union_field_with, union_field_row, union_row, const_with, const_row, literal_in}
+use Rattle.draft_rows.specs.Rows.{kind_in, field_with, field_row, is_stable, struct_row, union_field_with, union_field_row, union_row, const_with, const_row, literal_in}
 use Rattle.draft_rows.specs.Rows.{parameters_row, response_row, method_structs, structs_of_methods}
 use Rattle.draft_rows.specs.Drafts.{empty, join, draft_of_item, draft_of_definition, draft_of}
 use Rattle.schema_laws.specs.Passed.{IsPassed}
@@ -120,9 +120,9 @@ module _ (rows : List FileRows) (scope : Scope) where
   field_allowed one field e is =
       field_is one.member (kind_in rows scope one.member.kind) field is (λ k found. kind_allowed one.member.name one.member.kind k e found)
 
-  struct_allowed : (full : List ℕ) (members : List Member) → AllByRecursion (IsQuiet scope true) members
-      → IsStructAllowed (struct_row rows scope full members)
-  struct_allowed full members all =
+  struct_allowed : (full : List ℕ) (stable : Bool) (members : List Member) → AllByRecursion (IsQuiet scope true) members
+      → IsStructAllowed (struct_row rows scope full stable members)
+  struct_allowed full stable members all =
       let each = all_numbered (IsQuiet scope true) 0 members all in
       let sorted = all_along (λ (one : Numbered). IsQuiet scope true one.member) (λ (one : Numbered). one.ordinal) (numbered members) each in
       all_found (λ (one : Numbered). IsQuiet scope true one.member) IsFieldAllowed (field_row rows scope) field_allowed
@@ -158,7 +158,7 @@ module _ (rows : List FileRows) (scope : Scope) where
   parameters_allowed : (full : List ℕ) (owner : Identifier) (parameters : List Parameter) → refused_parameters scope owner parameters ≡ []
       → IsStructAllowed (parameters_row rows scope full parameters)
   parameters_allowed full owner parameters e =
-      struct_allowed full (map parameter_of parameters) (list_quiet owner Parameters (map parameter_of parameters) e)
+      struct_allowed full false (map parameter_of parameters) (list_quiet owner Parameters (map parameter_of parameters) e)
 
   response_allowed : (full : List ℕ) (owner : Identifier) (response : Option (List Parameter)) → refused_response scope owner response ≡ []
       → AllByRecursion IsStructAllowed (option_to_list (response_row rows scope full response))
@@ -204,7 +204,11 @@ item_allowed : (rows : List FileRows) (scope : Scope) (counts : Counts) (full : 
     → refused_item scope full item ≡ [] → AreAllowed (draft_of_item rows scope counts full attributes item)
 item_allowed rows scope counts full attributes (items.Struct item) e =
     let quiet = list_quiet rows (inside scope full) item.name Fields (flat_map field_of item.members) e in
-    record { structs = (struct_allowed rows (inside scope full) full (flat_map field_of item.members) quiet, tt); unions = tt; consts = tt }
+    record {
+      structs = (struct_allowed rows (inside scope full) full (is_stable attributes) (flat_map field_of item.members) quiet, tt);
+      unions = tt;
+      consts = tt;
+    }
 item_allowed rows scope counts full attributes (items.Union item) e =
     let quiet = list_quiet rows (inside scope full) item.name UnionFields (map union_field_of item.fields) e in
     record { structs = tt; unions = (union_allowed rows (inside scope full) full attributes (map union_field_of item.fields) quiet, tt); consts = tt }

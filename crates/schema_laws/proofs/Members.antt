@@ -1,6 +1,6 @@
 -- Where nothing is refused, the rows of structs, unions, enums and interfaces have the members that they are to have.
 use Rattle.std.proofs.Common.{◌≡◌, ℕ, List, [], ◌∷◌, ◌++◌, map, refl, ◌∙◌, arith}
-use Rattle.std.specs.Prelude.{Bool, true, ◌&&◌, codes, Option, Some, None}
+use Rattle.std.specs.Prelude.{Bool, true, false, ◌&&◌, codes, Option, Some, None}
 use Rattle.std.specs.List.{list_all, flat_map, AllByRecursion}
 use Rattle.std.specs.Option.{option_to_list}
 use Rattle.std.specs.Cmp.Derive.{both_true}
@@ -27,7 +27,7 @@ use Rattle.kind_scope.specs.Scopes.{Scope, inside, around}
 use Rattle.kind_scope.specs.Members.{field_of, union_field_of, method_of, parameter_of}
 use Rattle.kind_refusals.specs.KindRefusals.{refused_list, refused_parameters, refused_response, refused_in_item, refused_in_interface, refused_item}
 use Rattle.draft_rows.specs.RowCounts.{method_among, methods_in, no_rows, rows_of}
-use Rattle.draft_rows.specs.Rows.{parameters_row, response_row, method_structs, structs_of_methods}
+use Rattle.draft_rows.specs.Rows.{is_stable, parameters_row, response_row, method_structs, structs_of_methods}
 use Rattle.draft_rows.specs.Drafts.{empty, join, draft_of_item, draft_of}
 use Rattle.schema_laws.specs.Passed.{IsPassed}
 use Rattle.schema_laws.specs.Whole.{CanBeLaidOut}
@@ -50,7 +50,7 @@ pub record HaveMembers (draft : Draft) : Type 0 where
 parameters_laid_out : (rows : List FileRows) (scope : Scope) (full : List ℕ) (owner : Identifier) (parameters : List Parameter)
     → refused_parameters scope owner parameters ≡ [] → CanBeLaidOut (parameters_row rows scope full parameters)
 parameters_laid_out rows scope full owner parameters e =
-    laid_out rows scope full owner Parameters (map parameter_of parameters) refl (omega arith) e
+    laid_out rows scope full false owner Parameters (map parameter_of parameters) refl (omega arith) e
 
 response_laid_out : (rows : List FileRows) (scope : Scope) (full : List ℕ) (owner : Identifier) (response : Option (List Parameter))
     → refused_response scope owner response ≡ [] → AllByRecursion CanBeLaidOut (option_to_list (response_row rows scope full response))
@@ -90,7 +90,7 @@ alone e = both_true e refl
 item_members : (rows : List FileRows) (scope : Scope) (counts : Counts) (full : List ℕ) (attributes : List Attribute) (item : DefinitionItem)
     → refused_item scope full item ≡ [] → HaveMembers (draft_of_item rows scope counts full attributes item)
 item_members rows scope counts full attributes (items.Struct item) e = record {
-  structs = (laid_out rows (inside scope full) full item.name Fields (flat_map field_of item.members) refl (omega arith) e, tt);
+  structs = (laid_out rows (inside scope full) full (is_stable attributes) item.name Fields (flat_map field_of item.members) refl (omega arith) e, tt);
   unions = refl;
   enums = refl;
   interfaces = refl;

@@ -161,10 +161,10 @@ few_members scope owner sort members e =
     ltb-false (limit_of sort) (length members)
     (none_where (nat_lt (limit_of sort) (length members)) _ (quiet_list scope owner sort members e).few)
 
-pub laid_out : (rows : List FileRows) (scope : Scope) (full : List ℕ) (owner : Identifier) (sort : ListSort) (members : List Member)
+pub laid_out : (rows : List FileRows) (scope : Scope) (full : List ℕ) (stable : Bool) (owner : Identifier) (sort : ListSort) (members : List Member)
     → is_struct sort ≡ true → limit_of sort ≤ MAX_FIELDS → refused_list scope owner sort members ≡ []
-    → CanBeLaidOut (struct_row rows scope full members)
-laid_out rows scope full owner sort members is limit e =
+    → CanBeLaidOut (struct_row rows scope full stable members)
+laid_out rows scope full stable owner sort members is limit e =
     let fields = few_fields rows scope members in
     let few = few_members scope owner sort members e in
     record {

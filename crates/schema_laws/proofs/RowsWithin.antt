@@ -1,6 +1,6 @@
 -- Each row that the tables of files name is there.
 use Rattle.std.proofs.Common.{◌≡◌, ℕ, ◌+◌, ◌≤◌, List, [], ◌∷◌, ◌++◌, map, refl, sym, ◌∙◌, ap, subst, arith}
-use Rattle.std.specs.Prelude.{codes, nat_lt, Bool, true, Option, Some, None}
+use Rattle.std.specs.Prelude.{codes, nat_lt, Bool, true, false, Option, Some, None}
 use Rattle.std.specs.Option.{option_to_list}
 use Rattle.std.specs.List.{list_all, flat_map}
 use Rattle.std.proofs.lemmas.Bool.{lt-ltb, and_from}
@@ -34,7 +34,7 @@ use Rattle.kind_scope.specs.Scopes.{Scope, inside, around}
 use Rattle.kind_scope.specs.Members.{Member, field_of, union_field_of, parameter_of, numbered, along_ordinals}
 use Rattle.draft_rows.specs.RowCounts.{methods_in, structs_of_all, after, after_all, no_rows, definitions_at, rows_of}
 use Rattle.draft_rows.specs.InterfaceVersions.{interface_version}
-use Rattle.draft_rows.specs.Rows.{struct_row, union_row, response_row, method_structs, structs_of_methods, interface_row}
+use Rattle.draft_rows.specs.Rows.{is_stable, struct_row, union_row, response_row, method_structs, structs_of_methods, interface_row}
 use Rattle.draft_rows.specs.Drafts.{empty, join, methods_order, draft_of_interface, draft_of_item, enclosed, draft_of_definition, draft_of_all, draft_from}
 use Rattle.draft_rows.specs.Drafts.{draft_of}
 use Rattle.schema_laws.specs.Passed.{IsPassed}
@@ -84,24 +84,24 @@ join_there total one two a b = record {
 
 -- methods
 
-one_struct : (rows : List FileRows) (scope : Scope) (total : RowCounts) (full : List ℕ) (members : List Member) (rest : List DraftStruct)
+one_struct : (rows : List FileRows) (scope : Scope) (total : RowCounts) (full : List ℕ) (stable : Bool) (members : List Member) (rest : List DraftStruct)
     → AreThere rows scope.names total → list_all (are_within total) (flat_map struct_kinds rest) ≡ true
-    → list_all (are_within total) (flat_map struct_kinds (struct_row rows scope full members ∷ rest)) ≡ true
-one_struct rows scope total full members rest there later =
-    both_pass (are_within total) (struct_kinds (struct_row rows scope full members)) (flat_map struct_kinds rest)
+    → list_all (are_within total) (flat_map struct_kinds (struct_row rows scope full stable members ∷ rest)) ≡ true
+one_struct rows scope total full stable members rest there later =
+    both_pass (are_within total) (struct_kinds (struct_row rows scope full stable members)) (flat_map struct_kinds rest)
     (fields_within rows scope total (along_ordinals (numbered members)) there) later
 
 response_kinds : (rows : List FileRows) (scope : Scope) (total : RowCounts) (full : List ℕ) (response : Option (List Parameter))
     → AreThere rows scope.names total
     → list_all (are_within total) (flat_map struct_kinds (option_to_list (response_row rows scope full response))) ≡ true
 response_kinds rows scope total full None there = refl
-response_kinds rows scope total full (Some parameters) there = one_struct rows scope total full (map parameter_of parameters) [] there refl
+response_kinds rows scope total full (Some parameters) there = one_struct rows scope total full false (map parameter_of parameters) [] there refl
 
 method_kinds : (rows : List FileRows) (scope : Scope) (total : RowCounts) (full : List ℕ) (m : Method)
     → AreThere rows scope.names total
     → list_all (are_within total) (flat_map struct_kinds (method_structs rows scope full m)) ≡ true
 method_kinds rows scope total full m there =
-    one_struct rows scope total (within full (codes "request")) (map parameter_of m.request)
+    one_struct rows scope total (within full (codes "request")) false (map parameter_of m.request)
     (option_to_list (response_row rows scope (within full (codes "response")) m.response)) there
     (response_kinds rows scope total (within full (codes "response")) m.response there)
 
@@ -118,17 +118,18 @@ methods_kinds rows scope total full (m ∷ ms) there =
 one_ordered : (number count : ℕ) → number + 1 ≤ count → nat_lt number count ≡ true
 one_ordered number count below = lt-ltb number count (omega arith)
 
-interface_there : (rows : List FileRows) (scope : Scope) (total : RowCounts) (counts : Counts) (full : List ℕ) (item : Interface)
+interface_there : (rows : List FileRows) (scope : Scope) (total : RowCounts) (counts : Counts) (full : List ℕ) (attributes : List Attribute)
+    (item : Interface)
     → AreThere rows scope.names total → counts.structs + structs_of_all (methods_in item.members) ≤ total.structs
     → counts.interfaces + 1 ≤ total.interfaces
-    → AreRowsThere total (draft_of_interface rows scope counts full item)
-interface_there rows scope total counts full item there structs interfaces = record {
+    → AreRowsThere total (draft_of_interface rows scope counts full attributes item)
+interface_there rows scope total counts full attributes item there structs interfaces = record {
   structs = methods_kinds rows scope total full (methods_in item.members) there;
   unions = refl;
   consts = refl;
   methods =
       and_from (list_all (has_structs total.structs)
-      (interface_row full counts.structs (methods_in item.members) (interface_version scope item.members)).methods) true
+      (interface_row full counts.structs (methods_in item.members) (interface_version scope item.members) (is_stable attributes)).methods) true
       (methods_there 0 counts.structs total.structs (methods_in item.members) structs) refl;
   order =
       and_from (nat_lt counts.interfaces total.interfaces) (list_all (is_row total) (methods_order counts.structs (methods_in item.members)))
@@ -141,7 +142,7 @@ pub item_rows : (rows : List FileRows) (scope : Scope) (total : RowCounts) (coun
     → AreThere rows scope.names total → AreBelow (after counts item) total
     → AreRowsThere total (draft_of_item rows scope counts full attributes item)
 item_rows rows scope total counts full attributes (items.Struct item) there below = record {
-  structs = one_struct rows (inside scope full) total full (flat_map field_of item.members) [] there refl;
+  structs = one_struct rows (inside scope full) total full (is_stable attributes) (flat_map field_of item.members) [] there refl;
   unions = refl;
   consts = refl;
   methods = refl;
@@ -164,7 +165,7 @@ item_rows rows scope total counts full attributes (items.Enum item) there below 
   order = and_from (nat_lt counts.enums total.enums) true (one_ordered counts.enums total.enums below.enums) refl;
 }
 item_rows rows scope total counts full attributes (items.Interface item) there below =
-    interface_there rows (inside scope full) total counts full item there below.structs below.interfaces
+    interface_there rows (inside scope full) total counts full attributes item there below.structs below.interfaces
 item_rows rows scope total counts full attributes (items.Const item) there below = record {
   structs = refl;
   unions = refl;

@@ -129,6 +129,6 @@ some_layout draft can =
     let places = some_places [] kinds in
     let same = packed_length [] kinds places.0 places.1 ∙ length-map draft.fields (λ (f : DraftField). f.kind) in
     let rows = field_rows 0 draft.fields places.0 in
-    let row : StructRow = record { name = draft.name; fields = rows; versions = version_rows rows } in
-    let is = laid_out draft.name draft.fields places.0 rows (version_rows rows) can.few can.rising can.small places.1 same refl refl in
+    let row : StructRow = record { name = draft.name; fields = rows; versions = version_rows rows; stable = draft.stable } in
+    let is = laid_out draft.name draft.fields places.0 rows (version_rows rows) draft.stable can.few can.rising can.small places.1 same refl refl in
     (row, is.0, is.1)

@@ -39,7 +39,7 @@ use Rattle.kind_refusals.specs.KindRefusals.{refused_numbers, refused_parameters
 use Rattle.kind_scope.specs.Members.{Member, Numbered, field_in, field_of, numbered, parameter_of, along_ordinals}
 use Rattle.kind_refusals.specs.OrdinalRefusals.{refused_doubles, refused_late}
 use Rattle.draft_rows.specs.RowCounts.{definitions_at, method_among, methods_in, no_rows, rows_of}
-use Rattle.draft_rows.specs.Rows.{Valued, field_row, member_row, method_structs, parameters_row, response_row, struct_row, structs_of_methods, valued}
+use Rattle.draft_rows.specs.Rows.{Valued, field_row, is_stable, member_row, method_structs, parameters_row, response_row, struct_row, structs_of_methods, valued}
 use Rattle.kind_refusals.specs.TypeRefusals.{refused_in_member}
 use Rattle.draft_rows.specs.declared.counts.Counts.{Counts}
 use Rattle.draft_rows.specs.declared.counts.FileRows.{FileRows}
@@ -100,10 +100,10 @@ module _ (Other : KindTree → Literal → Type 0) (rows : List FileRows) (scope
       of true is e = all_empty (refused_late scope) (numbered members) (both_empty _ (flat_map (refused_late scope) (numbered members)) e).1
 
   -- the struct of a list of which nothing is refused, with defaults of their kinds
-  struct_fine : (full : List ℕ) (owner : Identifier) (sort : ListSort) (members : List Member) → is_struct sort ≡ true
+  struct_fine : (full : List ℕ) (stable : Bool) (owner : Identifier) (sort : ListSort) (members : List Member) → is_struct sort ≡ true
       → refused_list scope owner sort members ≡ [] → AllByRecursion (HasDefault Other rows scope) members
-      → StructFine Other (struct_row rows scope full members)
-  struct_fine full owner sort members is e given =
+      → StructFine Other (struct_row rows scope full stable members)
+  struct_fine full stable owner sort members is e given =
       let Good : Numbered → Type 0 = λ one. (refused_late scope one ≡ []) × HasDefault Other rows scope one.member in
       let each = both_hold (λ (one : Numbered). refused_late scope one ≡ []) (λ (one : Numbered). HasDefault Other rows scope one.member) (numbered members)
       (late_quiet owner sort members is e) (all_numbered (HasDefault Other rows scope) 0 members given) in
@@ -117,7 +117,7 @@ module _ (Other : KindTree → Literal → Type 0) (rows : List FileRows) (scope
 
   parameters_fine : (full : List ℕ) (owner : Identifier) (parameters : List Parameter) → refused_parameters scope owner parameters ≡ []
       → StructFine Other (parameters_row rows scope full parameters)
-  parameters_fine full owner parameters e = struct_fine full owner Parameters (map parameter_of parameters) refl e (parameters_given parameters)
+  parameters_fine full owner parameters e = struct_fine full false owner Parameters (map parameter_of parameters) refl e (parameters_given parameters)
 
   response_fine : (full : List ℕ) (owner : Identifier) (response : Option (List Parameter)) → refused_response scope owner response ≡ []
       → AllByRecursion (StructFine Other) (option_to_list (response_row rows scope full response))
@@ -180,7 +180,10 @@ item_fine : (Other : KindTree → Literal → Type 0) (rows : List FileRows) (sc
 item_fine Other rows scope counts full attributes (items.Struct item) thing hold e v =
     let given = members_given Other rows (inside scope full) hold item.members
     (both_empty (flat_map (values_refused.refused_struct_member (site_of scope) (Some full)) item.members) _ v).0 in
-    record { structs = (struct_fine Other rows (inside scope full) full item.name Fields (flat_map field_of item.members) refl e given, tt); enums = tt }
+    record {
+      structs = (struct_fine Other rows (inside scope full) full (is_stable attributes) item.name Fields (flat_map field_of item.members) refl e given, tt);
+      enums = tt;
+    }
 item_fine Other rows scope counts full attributes (items.Union item) thing hold e v = record { structs = tt; enums = tt }
 item_fine Other rows scope counts full attributes (items.Enum item) thing hold e v = record {
   structs = tt;

@@ -173,13 +173,13 @@ union_named site full attributes (items.Interface item) has = tt
 union_named site full attributes (items.Enum item) has = tt
 union_named site full attributes (items.Const item) has = tt
 
-interface_named : (site : Site) (full : List ℕ) (item : DefinitionItem) → HasNames item
-    → AllByRecursion (λ (t : InterfaceText). AreNames (names_of t.entries)) (interface_texts site full item)
-interface_named site full (items.Interface item) has = (has.choices.0, tt)
-interface_named site full (items.Struct item) has = tt
-interface_named site full (items.Union item) has = tt
-interface_named site full (items.Enum item) has = tt
-interface_named site full (items.Const item) has = tt
+interface_named : (site : Site) (full : List ℕ) (attributes : List Attribute) (item : DefinitionItem) → HasNames item
+    → AllByRecursion (λ (t : InterfaceText). AreNames (names_of t.entries)) (interface_texts site full attributes item)
+interface_named site full attributes (items.Interface item) has = (has.choices.0, tt)
+interface_named site full attributes (items.Struct item) has = tt
+interface_named site full attributes (items.Union item) has = tt
+interface_named site full attributes (items.Enum item) has = tt
+interface_named site full attributes (items.Const item) has = tt
 
 enum_named : (site : Site) (full : List ℕ) (attributes : List Attribute) (item : DefinitionItem) → HasNames item
     → AllByRecursion (λ (t : EnumText). AreNames (texts_of t.enumerators)) (enum_texts site full attributes item)
@@ -218,10 +218,10 @@ module _ (files : List NamedFile) (order : List ℕ) (names : Names) (consts : C
   pub interfaces_are_sound : AllByRecursion (λ (row : InterfaceRow). is_sound_interface row ≡ true) draft.interfaces
   interfaces_are_sound =
       let P : InterfaceText → Type 0 = λ t. AreNames (names_of t.entries) in
-      let make : Placed → List InterfaceText = λ p. interface_texts (site p) p.definition.full p.definition.item in
+      let make : Placed → List InterfaceText = λ p. interface_texts (site p) p.definition.full p.definition.attributes p.definition.item in
       let named = all_flat P make ones
       (all_so (λ (p : Placed). HasNames p.definition.item) (λ (p : Placed). AllByRecursion P (make p))
-      (λ p has. interface_named (site p) p.definition.full p.definition.item has) ones all_named) in
+      (λ p has. interface_named (site p) p.definition.full p.definition.attributes p.definition.item has) ones all_named) in
       all_paired P IsInterface (λ (row : InterfaceRow). is_sound_interface row ≡ true) interface_sound (flat_map make ones) draft.interfaces named
       (numbers_are_as_written files order names consts passed).interfaces
 

@@ -1,6 +1,6 @@
 -- The defaults and the constants of files that are texts are UTF-8, where the strings of the files are.
 use Rattle.std.proofs.Common.{◌≡◌, ℕ, zero, suc, ◌+◌, List, [], ◌∷◌, map, refl, sym, ap, subst}
-use Rattle.std.specs.Prelude.{IsUtf8, codes, slice_get, true, false, Option, Some, None, option_and_then}
+use Rattle.std.specs.Prelude.{Bool, IsUtf8, codes, slice_get, true, false, Option, Some, None, option_and_then}
 use Rattle.std.specs.List.{AllByRecursion, flat_map, list_all}
 use Rattle.std.specs.Option.{option_map, option_map_or, option_to_list}
 use Rattle.std.proofs.lemmas.Bool.{and_from}
@@ -50,7 +50,7 @@ use Rattle.kind_scope.specs.Scopes.{around, known_in, Scope}
 use Rattle.kind_scope.specs.Members.{Member, Numbered, field_in, field_of, numbered as numbered_members, parameter_of, along_ordinals}
 use Rattle.draft_rows.specs.Kinds.{kind_of}
 use Rattle.draft_rows.specs.RowCounts.{definitions_at, methods_in, no_rows, rows_of}
-use Rattle.draft_rows.specs.Rows.{const_row, const_with, field_row, field_with, kind_in, literal_in, literal_of, method_structs, response_row, struct_row, structs_of_methods}
+use Rattle.draft_rows.specs.Rows.{const_row, const_with, field_row, field_with, kind_in, literal_in, literal_of, is_stable, method_structs, response_row, struct_row, structs_of_methods}
 use Rattle.draft_rows.specs.declared.counts.Counts.{Counts}
 use Rattle.draft_rows.specs.declared.counts.FileRows.{FileRows}
 use Rattle.draft_rows.specs.declared.draft.Draft.{Draft}
@@ -239,8 +239,9 @@ module _ (files : List NamedFile) (texts : AllByRecursion FileText files) (names
         of None is = absurd cc
         of (Some k) is = let same : field_with here one.member k ≡ field = cc in subst FieldText same text
 
-    struct_text : (full : List ℕ) (members : List Member) → AllByRecursion HasText members → StructText (struct_row rows here full members)
-    struct_text full members all =
+    struct_text : (full : List ℕ) (stable : Bool) (members : List Member) → AllByRecursion HasText members
+        → StructText (struct_row rows here full stable members)
+    struct_text full stable members all =
         let Good : Numbered → Type 0 = λ one. HasText one.member in
         all_found Good FieldText (field_row rows here) row_text (along_ordinals (numbered_members members))
         (all_along Good (λ (one : Numbered). one.ordinal) (numbered_members members) (all_numbered HasText 0 members all))
@@ -251,11 +252,11 @@ module _ (files : List NamedFile) (texts : AllByRecursion FileText files) (names
 
     response_text : (full : List ℕ) (response : Option (List Parameter)) → AllByRecursion StructText (option_to_list (response_row rows here full response))
     response_text full None = tt
-    response_text full (Some parameters) = (struct_text full (map parameter_of parameters) (no_defaults parameters), tt)
+    response_text full (Some parameters) = (struct_text full false (map parameter_of parameters) (no_defaults parameters), tt)
 
     method_text : (full : List ℕ) (m : Method) → AllByRecursion StructText (method_structs rows here full m)
     method_text full m = (
-      struct_text (within full (codes "request")) (map parameter_of m.request) (no_defaults m.request),
+      struct_text (within full (codes "request")) false (map parameter_of m.request) (no_defaults m.request),
       response_text (within full (codes "response")) m.response,
     )
 
@@ -311,7 +312,10 @@ module _ (files : List NamedFile) (texts : AllByRecursion FileText files) (names
   item_texts : (rows : List FileRows) (file : ℕ) (enclosing : Option (List ℕ)) (counts : Counts) (full : List ℕ) (attributes : List Attribute)
       (item : DefinitionItem) → ItemText item → HaveTexts (draft_of_item rows (around names consts file enclosing) counts full attributes item)
   item_texts rows file enclosing counts full attributes (items.Struct s) text = record {
-    structs = (struct_text rows file (Some full) full (flat_map field_of s.members) (fields_text rows file (Some full) s.members text), tt);
+    structs = (
+      struct_text rows file (Some full) full (is_stable attributes) (flat_map field_of s.members) (fields_text rows file (Some full) s.members text),
+      tt,
+    );
     constants = tt;
   }
   item_texts rows file enclosing counts full attributes (items.Interface i) text =

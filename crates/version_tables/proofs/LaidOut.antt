@@ -1,6 +1,6 @@
 -- Declared fields at their places are laid out.
 use Rattle.std.proofs.Common.{◌≡◌, ℕ, suc, ◌+◌, ◌≤◌, true, List, [], ◌∷◌, ◌++◌, length, refl, ap, arith}
-use Rattle.std.specs.Prelude.{map}
+use Rattle.std.specs.Prelude.{Bool, map}
 use Rattle.std.proofs.lemmas.Bool.{and_from}
 use Rattle.std.proofs.lemmas.Bool.Decides.{Decides-eqb}
 use Rattle.mj_base.specs.declared.limits.TheConstants.{MAX_FIELDS}
@@ -47,15 +47,16 @@ kept k (f ∷ fs) (p ∷ ps) same =
     }
 
 -- the struct that `lay_out` gives is laid out, and has its draft
-pub laid_out : (name : List ℕ) (fs : List DraftField) (ps : List Place) (rows : List FieldRow) (versions : List VersionRow) → length fs ≤ MAX_FIELDS
+pub laid_out : (name : List ℕ) (fs : List DraftField) (ps : List Place) (rows : List FieldRow) (versions : List VersionRow) (stable : Bool)
+    → length fs ≤ MAX_FIELDS
     → never_fall 0 (map (λ (f : DraftField). f.min_version) fs) ≡ true
     → are_small (map (λ (f : DraftField). f.min_version) fs) ≡ true → ArePacked [] (map (λ (f : DraftField). f.kind) fs) ps → length ps ≡ length fs
     → rows ≡ field_rows 0 fs ps → versions ≡ version_rows (field_rows 0 fs ps)
-    → IsLaidOut (record { name = name; fields = rows; versions = versions }) × (draft_of (record { name = name; fields = rows; versions = versions })
-    ≡ record { name = name; fields = fs })
-laid_out name fs ps rows versions few rising small packed same rows-is versions-is =
+    → IsLaidOut (record { name = name; fields = rows; versions = versions; stable = stable })
+    × (draft_of (record { name = name; fields = rows; versions = versions; stable = stable }) ≡ record { name = name; fields = fs; stable = stable })
+laid_out name fs ps rows versions stable few rising small packed same rows-is versions-is =
     let k = kept 0 fs ps same in
-    let is : IsLaidOut (record { name = name; fields = field_rows 0 fs ps; versions = version_rows (field_rows 0 fs ps) }) = record {
+    let is : IsLaidOut (record { name = name; fields = field_rows 0 fs ps; versions = version_rows (field_rows 0 fs ps); stable = stable }) = record {
       few = omega (arith, length-field_rows 0 fs ps same);
       numbered = numbered 0 fs ps;
       rising = rw k.versions rising;
@@ -63,6 +64,6 @@ laid_out name fs ps rows versions few rising small packed same rows-is versions-
       packed = rw (k.kinds, k.places) packed;
       versions = refl;
     } in
-    let same_draft : ◌≡◌ {A = DraftStruct} (record { name = name; fields = map draft_field (field_rows 0 fs ps) })
-    (record { name = name; fields = fs }) = ap (λ (gs : List DraftField). record { name = name; fields = gs }) k.drafts in
+    let same_draft : ◌≡◌ {A = DraftStruct} (record { name = name; fields = map draft_field (field_rows 0 fs ps); stable = stable })
+    (record { name = name; fields = fs; stable = stable }) = ap (λ (gs : List DraftField). record { name = name; fields = gs; stable = stable }) k.drafts in
     rw (rows-is, versions-is) (is, same_draft)

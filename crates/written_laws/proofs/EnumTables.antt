@@ -60,7 +60,7 @@ item_enums files order consts file rows counts d (items.Enum item) is has =
     let scope = around (names_of files order).files consts file (Some d.full) in
     let members = subst (λ (i : DefinitionItem). AreMembers site (pos 0) (enumerators_of i) (map member_row (valued scope (enumerators_of i)))) is has in
     let default = default_same scope (pos 0) item.enumerators in
-    (record { name = refl; extensible = refl; members = members; default = default }, tt)
+    (record { name = refl; extensible = refl; members = members; default = default; stable = refl }, tt)
 item_enums files order consts file rows counts d (items.Struct item) is has = tt
 item_enums files order consts file rows counts d (items.Union item) is has = tt
 item_enums files order consts file rows counts d (items.Interface item) is has = tt

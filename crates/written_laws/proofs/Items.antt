@@ -1,6 +1,6 @@
 -- The rows of a definition of which nothing is refused are as it is written.
 use Rattle.std.proofs.Common.{◌≡◌, ◌+◌, ℕ, List, [], ◌∷◌, ◌++◌, map, refl, sym, ◌∙◌, ap, subst}
-use Rattle.std.specs.Prelude.{Bool, codes, Option, Some, None, is_some}
+use Rattle.std.specs.Prelude.{Bool, false, codes, Option, Some, None, is_some}
 use Rattle.std.specs.List.{AllByRecursion, flat_map}
 use Rattle.std.specs.Option.{option_map, option_to_list}
 use Rattle.mojom_ast.specs.declared.names.Identifier.{Identifier}
@@ -30,7 +30,7 @@ use Rattle.kind_scope.specs.Scopes.{around}
 use Rattle.kind_refusals.specs.KindRefusals.{refused_list, refused_in_interface, refused_in_item, refused_parameters as refused_kinds_of_parameters, refused_response, refused_item as refused_kinds}
 use Rattle.draft_rows.specs.RowCounts.{method_among, methods_in, structs_of}
 use Rattle.draft_rows.specs.InterfaceVersions.{interface_version}
-use Rattle.draft_rows.specs.Rows.{struct_row, union_row, parameters_row, response_row, method_structs, structs_of_methods, method_rows, interface_row}
+use Rattle.draft_rows.specs.Rows.{is_stable, struct_row, union_row, parameters_row, response_row, method_structs, structs_of_methods, method_rows, interface_row}
 use Rattle.draft_rows.specs.Drafts.{draft_of_item}
 use Rattle.schema_laws.proofs.Quiet.{both_empty}
 use Rattle.schema_laws.proofs.Each.{all_empty}
@@ -88,7 +88,7 @@ replies_same : (ms : List InterfaceMember) (next first : ℕ)
 replies_same [] next first = refl
 replies_same (m ∷ ms) next first = reply_same m.item ms (replies_same ms) next first
 
-interface_kept : (at : Site) (file : ℕ) (full : List ℕ) (first : ℕ) (members : List InterfaceMember) (version : ℕ)
+interface_kept : (at : Site) (file : ℕ) (full : List ℕ) (first : ℕ) (members : List InterfaceMember) (version : ℕ) (stable : Bool)
     → IsLatest at (flat_map (λ (m : InterfaceMember). marks_of m.attributes m.item) members) version
     → refused_ordinals file 0 (interface_members members) ≡ []
     → IsInterface (record {
@@ -97,8 +97,9 @@ interface_kept : (at : Site) (file : ℕ) (full : List ℕ) (first : ℕ) (membe
       entries = methods_of members;
       replies = flat_map (λ (m : InterfaceMember). reply_of m.item) members;
       marks = flat_map (λ (m : InterfaceMember). marks_of m.attributes m.item) members;
-    }) (interface_row full first (methods_in members) version)
-interface_kept at file full first members version latest e =
+      stable = stable;
+    }) (interface_row full first (methods_in members) version stable)
+interface_kept at file full first members version stable latest e =
     let ordinals : refused_ordinals file 0 (map ordinal_part (flat_map method_of members)) ≡ [] =
     subst (λ (os : List Ordinal). refused_ordinals file 0 os ≡ []) (method_ordinals members) e in
     let all = subst (λ (cs : List Counted). ArePaired IsMethod cs (method_rows 0 first (methods_in members)))
@@ -108,6 +109,7 @@ interface_kept at file full first members version latest e =
       methods = subst (λ (es : List Entry). ArePaired IsMethod (counted es) (method_rows 0 first (methods_in members))) (sym (methods_same members)) all;
       replies = replies_same members 0 first;
       version = latest;
+      stable = refl;
     }
 
 module _ (rows : List FileRows) (scope : Scope) (known : AllKnown scope) where
@@ -117,13 +119,13 @@ module _ (rows : List FileRows) (scope : Scope) (known : AllKnown scope) where
   parameters_kept : (full : List ℕ) (owner : Identifier) (ps : List Parameter) → refused_kinds_of_parameters scope owner ps ≡ []
       → refused_parameters (site scope) scope.enclosing ps ≡ []
       → refused_uses scope.names scope.file (flat_map (uses_in_parameter scope.enclosing) ps) ≡ [] → AllByRecursion (IsKept rows scope) (map parameter_of ps)
-      → IsStruct rows (struct_text (site_of scope) full (parameters_of ps)) (parameters_row rows scope full ps)
+      → IsStruct rows (struct_text (site_of scope) full (parameters_of ps) false) (parameters_row rows scope full ps)
   parameters_kept full owner ps kinds values uses kept =
       let v = both_empty (flat_map (refused_parameter (site scope) scope.enclosing) ps) (refused_ordinals scope.file 0 (parameter_members ps)) values in
       let quiet = parameters_quiet scope ps (all_empty (refused_parameter (site scope) scope.enclosing) ps v.0)
       (each_use scope.names scope.file (uses_in_parameter scope.enclosing) ps uses) in
-      subst (λ (es : List Entry). IsStruct rows (struct_text (site_of scope) full es) (parameters_row rows scope full ps)) (sym (parameters_same ps))
-      (struct_kept rows scope known full owner Parameters (map parameter_of ps) refl kinds (subst none_refused (parameter_ordinals ps) v.1) kept quiet)
+      subst (λ (es : List Entry). IsStruct rows (struct_text (site_of scope) full es false) (parameters_row rows scope full ps)) (sym (parameters_same ps))
+      (struct_kept rows scope known full false owner Parameters (map parameter_of ps) refl kinds (subst none_refused (parameter_ordinals ps) v.1) kept quiet)
 
   response_kept : (full : List ℕ) (owner : Identifier) (response : Option (List Parameter)) → refused_response scope owner response ≡ []
       → refused_parameters (site scope) scope.enclosing (response_of response) ≡ []
@@ -174,9 +176,9 @@ module _ (rows : List FileRows) (scope : Scope) (known : AllKnown scope) where
 -- the tables of a definition are as it is written
 pub record HasItem (rows : List FileRows) (names : List FileNames) (consts : Consts) (file : ℕ) (full : List ℕ) (attributes : List Attribute)
     (item : DefinitionItem) (draft : Draft) : Type 0 where
-  pub structs : ArePaired (IsStruct rows) (struct_texts (site_in names consts file full) full item) draft.structs
+  pub structs : ArePaired (IsStruct rows) (struct_texts (site_in names consts file full) full attributes item) draft.structs
   pub unions : ArePaired (IsUnion rows) (union_texts (site_in names consts file full) full attributes item) draft.unions
-  pub interfaces : ArePaired IsInterface (interface_texts (site_in names consts file full) full item) draft.interfaces
+  pub interfaces : ArePaired IsInterface (interface_texts (site_in names consts file full) full attributes item) draft.interfaces
 
 module _ (rows : List FileRows) (names : List FileNames) (consts : Consts) (file : ℕ)
     (known : (full : List ℕ) → AllKnown (around names consts file (Some full))) where
@@ -193,10 +195,11 @@ module _ (rows : List FileRows) (names : List FileNames) (consts : Consts) (file
       let quiet = fields_quiet scope item.members (all_empty (refused_struct_member (site scope) (Some d.full)) item.members v.0)
       (each_use names file (uses_in_struct (Some d.full)) item.members uses) in
       let ordinals = subst (λ (os : List Ordinal). refused_ordinals file 0 os ≡ []) (field_ordinals item.members) v.1 in
-      let row = struct_kept rows scope (known d.full) d.full item.name Fields ms refl kinds ordinals kept quiet in
+      let row = struct_kept rows scope (known d.full) d.full (is_stable d.attributes) item.name Fields ms refl kinds ordinals kept quiet in
       record {
         structs = (
-          subst (λ (es : List Entry). IsStruct rows (struct_text (site_of scope) d.full es) (struct_row rows scope d.full ms))
+          subst (λ (es : List Entry). IsStruct rows (struct_text (site_of scope) d.full es (is_stable d.attributes))
+              (struct_row rows scope d.full (is_stable d.attributes) ms))
               (sym (fields_same item.members)) row,
           tt,
         );
@@ -234,7 +237,7 @@ module _ (rows : List FileRows) (names : List FileNames) (consts : Consts) (file
         unions = tt;
         interfaces = (
           interface_kept (site_of scope) file d.full counts.structs item.members (interface_version scope item.members)
-              (latest_kept scope (known d.full) item.members quiet used) v.1,
+              (is_stable d.attributes) (latest_kept scope (known d.full) item.members quiet used) v.1,
           tt,
         );
       }

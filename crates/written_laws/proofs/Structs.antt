@@ -1,6 +1,6 @@
 -- The rows of structs, unions and interfaces of which nothing is refused are as they are written.
 use Rattle.std.proofs.Common.{◌≡◌, ℕ, zero, suc, List, [], ◌∷◌, ◌++◌, length, map, refl, ◌∙◌, ap, subst}
-use Rattle.std.specs.Prelude.{true, slice_get, Option, Some, None}
+use Rattle.std.specs.Prelude.{Bool, true, slice_get, Option, Some, None}
 use Rattle.std.specs.List.{AllByRecursion}
 use Rattle.std.specs.Option.{option_map, option_to_list}
 use Rattle.std.proofs.lemmas.Option.{none-some}
@@ -68,10 +68,11 @@ module _ (rows : List FileRows) (scope : Scope) where
       all_so (λ (one : Numbered). IsKept rows scope one.member) (λ (one : Numbered). Has (field_row rows scope one))
       (λ one kept. map_has (field_with scope one.member) (kind_in rows scope one.member.kind) kept) ones all
 
-  pub struct_kept : AllKnown scope → (full : List ℕ) (owner : Identifier) (sort : ListSort) (ms : List Member) → is_struct sort ≡ true
+  pub struct_kept : AllKnown scope → (full : List ℕ) (stable : Bool) (owner : Identifier) (sort : ListSort) (ms : List Member) → is_struct sort ≡ true
       → refused_list scope owner sort ms ≡ [] → refused_ordinals scope.file 0 (map ordinal_part ms) ≡ [] → AllByRecursion (IsKept rows scope) ms
-      → AllByRecursion (IsQuietMember scope) ms → IsStruct rows (struct_text (site_of scope) full (map entry_of ms)) (struct_row rows scope full ms)
-  struct_kept known full owner sort ms is kinds values kept quiet =
+      → AllByRecursion (IsQuietMember scope) ms
+      → IsStruct rows (struct_text (site_of scope) full (map entry_of ms) stable) (struct_row rows scope full stable ms)
+  struct_kept known full stable owner sort ms is kinds values kept quiet =
       let ones = numbered ms in
       let differ = distinct ones (quiet_list scope owner sort ms kinds).distinct in
       let parts = quiet_struct scope owner sort ms is kinds in
@@ -80,7 +81,7 @@ module _ (rows : List FileRows) (scope : Scope) where
       let late = all_empty (refused_late scope) ones parts.late in
       let sorted = all_along (λ (one : Numbered). IsKept rows scope one.member) (λ (one : Numbered). one.ordinal) ones keeps in
       let found = rows_found (along_ordinals ones) sorted in
-      let row = struct_row rows scope full ms in
+      let row = struct_row rows scope full stable ms in
       let each = each_where (λ (one : Numbered). HasField rows (site_of scope) row (counted_of one)) ones
       (λ one among.
       let at = (each_stands ones differ parts.whole one among).at in
@@ -99,6 +100,7 @@ module _ (rows : List FileRows) (scope : Scope) where
         count = one ∙ (two ∙ as_many ms);
         fields = subst (AllByRecursion (HasField rows (site_of scope) row)) (counted_same scope.file ms values)
             (all_map (HasField rows (site_of scope) row) counted_of ones each);
+        stable = refl;
       }
 
   -- unions
@@ -126,4 +128,5 @@ module _ (rows : List FileRows) (scope : Scope) where
     fields = subst (λ (cs : List Counted). ArePaired (IsUnionField rows (site_of scope)) cs (found_of (union_field_row rows scope) (numbered ms)))
         (counted_same scope.file ms values)
         (union_fields_kept (numbered ms) (all_numbered (IsKept rows scope) 0 ms kept) (all_numbered (IsQuietMember scope) 0 ms quiet));
+    stable = refl;
   }

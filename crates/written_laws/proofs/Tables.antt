@@ -43,21 +43,23 @@ with_item : (rows : List FileRows) (names : List FileNames) (consts : Consts) (f
     → HasItem rows names consts file d.full d.attributes d.item one → AreAsWritten rows names consts ones two
     → AreAsWritten rows names consts (record { file = file; definition = d } ∷ ones) (join one two)
 with_item rows names consts file d ones one two a b = record {
-  structs = paired_append (IsStruct rows) (struct_texts (site_in names consts file d.full) d.full d.item) _ one.structs two.structs a.structs b.structs;
+  structs =
+      paired_append (IsStruct rows) (struct_texts (site_in names consts file d.full) d.full d.attributes d.item) _ one.structs two.structs a.structs b.structs;
   unions = paired_append (IsUnion rows) (union_texts (site_in names consts file d.full) d.full d.attributes d.item) _ one.unions two.unions a.unions b.unions;
   interfaces =
-      paired_append IsInterface (interface_texts (site_in names consts file d.full) d.full d.item) _ one.interfaces two.interfaces a.interfaces b.interfaces;
+      paired_append IsInterface (interface_texts (site_in names consts file d.full) d.full d.attributes d.item) _ one.interfaces two.interfaces a.interfaces
+      b.interfaces;
 }
 
 joined_written : (rows : List FileRows) (names : List FileNames) (consts : Consts) (ps qs : List Placed) (one two : Draft)
     → AreAsWritten rows names consts ps one → AreAsWritten rows names consts qs two → AreAsWritten rows names consts (ps ++ qs) (join one two)
 joined_written rows names consts ps qs one two a b =
     let structs = flat_map-append
-    (λ (p : Placed). struct_texts (site_in names consts p.file p.definition.full) p.definition.full p.definition.item) ps qs in
+    (λ (p : Placed). struct_texts (site_in names consts p.file p.definition.full) p.definition.full p.definition.attributes p.definition.item) ps qs in
     let unions = flat_map-append
     (λ (p : Placed). union_texts (site_in names consts p.file p.definition.full) p.definition.full p.definition.attributes p.definition.item) ps qs in
     let interfaces = flat_map-append
-    (λ (p : Placed). interface_texts (site_in names consts p.file p.definition.full) p.definition.full p.definition.item) ps qs in
+    (λ (p : Placed). interface_texts (site_in names consts p.file p.definition.full) p.definition.full p.definition.attributes p.definition.item) ps qs in
     record {
       structs = subst (λ ts. ArePaired (IsStruct rows) ts (one.structs ++ two.structs)) (sym structs)
           (paired_append (IsStruct rows) _ _ one.structs two.structs a.structs b.structs);

@@ -41,12 +41,13 @@ pub record EnumText : Type 0 where
   pub enumerators : List Enumerator
 
 -- the row of an enum has its enumerators, the first of which is 0 if no number is written; it is extensible where `[Extensible]` stands,
--- and its default is the first enumerator with `[Default]`
+-- its default is the first enumerator with `[Default]`, and it is stable where `[Stable]` stands
 pub record IsEnum (text : EnumText) (row : EnumRow) : Type 0 where
   pub name : row.name ≡ text.full
   pub extensible : row.extensible ≡ has_mark (codes "Extensible") text.attributes
   pub members : AreMembers text.site (pos 0) text.enumerators row.members
   pub default : row.default ≡ default_of text.enumerators row.members
+  pub stable : row.stable ≡ has_mark (codes "Stable") text.attributes
 
 -- the enum that a definition is, where it is one
 abbrev pub enum_texts : Site → List ℕ → List Attribute → DefinitionItem → List EnumText

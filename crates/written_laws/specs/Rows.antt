@@ -1,5 +1,5 @@
 -- That the rows of tables are as they are written.
-use Rattle.std.specs.Prelude.{ℕ, ◌≡◌, ◌<◌, ◌⊎◌, Bool, true, codes, List, [], ◌∷◌, ◌++◌, map, length, slice_get, Option, Some, None, is_some}
+use Rattle.std.specs.Prelude.{ℕ, ◌≡◌, ◌<◌, ◌⊎◌, Bool, true, false, codes, List, [], ◌∷◌, ◌++◌, map, length, slice_get, Option, Some, None, is_some}
 use Rattle.std.specs.List.{flat_map, AllByRecursion}
 use Rattle.std.specs.Option.{option_map_or}
 use Rattle.mojom_ast.specs.declared.attributes.Attribute.{Attribute}
@@ -56,17 +56,19 @@ pub record HasField (rows : List FileRows) (site : Site) (row : DraftStruct) (on
   pub there : slice_get row.fields one.ordinal ≡ Some field
   pub is : IsField rows site one.entry field
 
--- what a struct is written as: where, its full name, and its fields or parameters
+-- what a struct is written as: where, its full name, its fields or parameters, and whether `[Stable]` stands before it
 pub record StructText : Type 0 where
   pub site : Site
   pub full : List ℕ
   pub entries : List Entry
+  pub stable : Bool
 
--- the row of a struct has as many fields as are written, each at its ordinal
+-- the row of a struct has as many fields as are written, each at its ordinal, and is stable where it is written so
 pub record IsStruct (rows : List FileRows) (text : StructText) (row : DraftStruct) : Type 0 where
   pub name : row.name ≡ text.full
   pub count : length row.fields ≡ length text.entries
   pub fields : AllByRecursion (HasField rows text.site row) (counted text.entries)
+  pub stable : row.stable ≡ text.stable
 
 -- unions
 
@@ -83,11 +85,12 @@ pub record UnionText : Type 0 where
   pub attributes : List Attribute
   pub entries : List Entry
 
--- the row of a union has its fields, and is extensible where `[Extensible]` stands
+-- the row of a union has its fields, and is extensible where `[Extensible]` stands, stable where `[Stable]` stands
 pub record IsUnion (rows : List FileRows) (text : UnionText) (row : UnionRow) : Type 0 where
   pub name : row.name ≡ text.full
   pub extensible : row.extensible ≡ has_mark (codes "Extensible") text.attributes
   pub fields : ArePaired (IsUnionField rows text.site) (counted text.entries) row.fields
+  pub stable : row.stable ≡ has_mark (codes "Stable") text.attributes
 
 -- interfaces
 
@@ -110,14 +113,15 @@ marks_of attributes (interface_items.Method m) =
 marks_of attributes (interface_items.Const c) = []
 marks_of attributes (interface_items.Enum e) = []
 
--- what an interface is written as: where, its full name, its methods, which of them have responses, and the attributes before each method
--- and parameter
+-- what an interface is written as: where, its full name, its methods, which of them have responses, the attributes before each method
+-- and parameter, and whether `[Stable]` stands before it
 pub record InterfaceText : Type 0 where
   pub site : Site
   pub full : List ℕ
   pub entries : List Entry
   pub replies : List Bool
   pub marks : List (List Attribute)
+  pub stable : Bool
 
 -- the greatest of the versions that are written among lists of attributes, 0 where there is none
 pub record IsLatest (site : Site) (marks : List (List Attribute)) (version : ℕ) : Type 0 where
@@ -125,12 +129,14 @@ pub record IsLatest (site : Site) (marks : List (List Attribute)) (version : ℕ
   pub written : ArePaired (λ (attributes : List Attribute) (since : ℕ). IsVersion site (version_in attributes) since) marks versions
   pub is : version ≡ greatest versions
 
--- the row of an interface has its methods, and its version is the greatest since which one of them or of their parameters is there
+-- the row of an interface has its methods, its version is the greatest since which one of them or of their parameters is there, and it is
+-- stable where it is written so
 pub record IsInterface (text : InterfaceText) (row : InterfaceRow) : Type 0 where
   pub name : row.name ≡ text.full
   pub methods : ArePaired IsMethod (counted text.entries) row.methods
   pub replies : map (λ (method : MethodRow). is_some method.response) row.methods ≡ text.replies
   pub version : IsLatest text.site text.marks row.version
+  pub stable : row.stable ≡ text.stable
 
 -- files
 
@@ -152,30 +158,30 @@ all_placed files order = flat_map (placed_in files) order
 abbrev pub site_in : List FileNames → Consts → ℕ → List ℕ → Site
 site_in names consts file full = record { names = names; consts = consts; file = file; enclosing = Some full }
 
--- a struct of this full name and these entries
-abbrev pub struct_text : Site → List ℕ → List Entry → StructText
-struct_text site full entries = record { site = site; full = full; entries = entries }
+-- a struct of this full name and these entries, stable or not
+abbrev pub struct_text : Site → List ℕ → List Entry → Bool → StructText
+struct_text site full entries stable = record { site = site; full = full; entries = entries; stable = stable }
 
 -- the response of the method of this full name, where it has one
 abbrev pub response_texts : Site → List ℕ → Option (List Parameter) → List StructText
 response_texts site full None = []
-response_texts site full (Some parameters) = struct_text site (within full (codes "response")) (parameters_of parameters) ∷ []
+response_texts site full (Some parameters) = struct_text site (within full (codes "response")) (parameters_of parameters) false ∷ []
 
 -- the request of a method of the interface of this full name, and its response
 abbrev pub method_texts : Site → List ℕ → InterfaceItem → List StructText
 method_texts site full (interface_items.Method m) =
-    struct_text site (within (within full m.name.text) (codes "request")) (parameters_of m.request)
+    struct_text site (within (within full m.name.text) (codes "request")) (parameters_of m.request) false
     ∷ response_texts site (within full m.name.text) m.response
 method_texts site full (interface_items.Const c) = []
 method_texts site full (interface_items.Enum e) = []
 
 -- the structs of a definition
-abbrev pub struct_texts : Site → List ℕ → DefinitionItem → List StructText
-struct_texts site full (items.Struct item) = struct_text site full (fields_of item.members) ∷ []
-struct_texts site full (items.Interface item) = flat_map (λ (m : InterfaceMember). method_texts site full m.item) item.members
-struct_texts site full (items.Union item) = []
-struct_texts site full (items.Enum item) = []
-struct_texts site full (items.Const item) = []
+abbrev pub struct_texts : Site → List ℕ → List Attribute → DefinitionItem → List StructText
+struct_texts site full attributes (items.Struct item) = struct_text site full (fields_of item.members) (has_mark (codes "Stable") attributes) ∷ []
+struct_texts site full attributes (items.Interface item) = flat_map (λ (m : InterfaceMember). method_texts site full m.item) item.members
+struct_texts site full attributes (items.Union item) = []
+struct_texts site full attributes (items.Enum item) = []
+struct_texts site full attributes (items.Const item) = []
 
 -- the union that a definition is, where it is one
 abbrev pub union_texts : Site → List ℕ → List Attribute → DefinitionItem → List UnionText
@@ -186,31 +192,34 @@ union_texts site full attributes (items.Enum item) = []
 union_texts site full attributes (items.Const item) = []
 
 -- the interface that a definition is, where it is one
-abbrev pub interface_texts : Site → List ℕ → DefinitionItem → List InterfaceText
-interface_texts site full (items.Interface item) =
+abbrev pub interface_texts : Site → List ℕ → List Attribute → DefinitionItem → List InterfaceText
+interface_texts site full attributes (items.Interface item) =
     record {
       site = site;
       full = full;
       entries = methods_of item.members;
       replies = flat_map (λ (m : InterfaceMember). reply_of m.item) item.members;
       marks = flat_map (λ (m : InterfaceMember). marks_of m.attributes m.item) item.members;
+      stable = has_mark (codes "Stable") attributes;
     }
     ∷ []
-interface_texts site full (items.Struct item) = []
-interface_texts site full (items.Union item) = []
-interface_texts site full (items.Enum item) = []
-interface_texts site full (items.Const item) = []
+interface_texts site full attributes (items.Struct item) = []
+interface_texts site full attributes (items.Union item) = []
+interface_texts site full attributes (items.Enum item) = []
+interface_texts site full attributes (items.Const item) = []
 
 -- the tables of definitions have their structs, unions and interfaces as they are written, where so many rows stand before definitions,
 -- and no others
 pub record AreAsWritten (rows : List FileRows) (names : List FileNames) (consts : Consts) (ones : List Placed) (draft : Draft) : Type 0 where
   pub structs :
       ArePaired (IsStruct rows)
-      (flat_map (λ (p : Placed). struct_texts (site_in names consts p.file p.definition.full) p.definition.full p.definition.item) ones) draft.structs
+      (flat_map (λ (p : Placed).
+      struct_texts (site_in names consts p.file p.definition.full) p.definition.full p.definition.attributes p.definition.item) ones) draft.structs
   pub unions :
       ArePaired (IsUnion rows)
       (flat_map (λ (p : Placed).
       union_texts (site_in names consts p.file p.definition.full) p.definition.full p.definition.attributes p.definition.item) ones) draft.unions
   pub interfaces :
       ArePaired IsInterface
-      (flat_map (λ (p : Placed). interface_texts (site_in names consts p.file p.definition.full) p.definition.full p.definition.item) ones) draft.interfaces
+      (flat_map (λ (p : Placed).
+      interface_texts (site_in names consts p.file p.definition.full) p.definition.full p.definition.attributes p.definition.item) ones) draft.interfaces

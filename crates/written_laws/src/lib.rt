@@ -31,8 +31,8 @@ pub fn ordinals_are_whole()
 /// written: each field at its ordinal, and each ordinal, tag, version and length the very number that is
 /// written or meant, or the one after that of the member before. A kind is the one that its name gives, and
 /// may be null exactly where `?` stands; each field of a later version is plain or may be null. A union is
-/// extensible, and a method has a response, where it is written so; the version of an interface is the
-/// greatest that is written before its methods and their parameters. There is a default exactly where one is
+/// extensible, a struct, a union or an interface stable, and a method has a response, where it is written so;
+/// the version of an interface is the greatest that is written before its methods and their parameters. There is a default exactly where one is
 /// written, and it is the very value that is written or meant: that of a bool, an integer or a text fits,
 /// that of an enum is one of its enumerators, and a bool, an integer or an enum that may be null has none.
 /// This is a law and does nothing.
@@ -43,8 +43,8 @@ pub fn numbers_are_as_written()
 
 /// Where no stage refuses anything of files, their enums have the rows that are written: each number is
 /// the very one that is written or meant, or the one after that of the enumerator before, and the first
-/// is else 0; the default is the first enumerator with `[Default]`, and an enum is extensible where it is
-/// written so: this is a law and does nothing.
+/// is else 0; the default is the first enumerator with `[Default]`, and an enum is extensible and stable where
+/// it is written so: this is a law and does nothing.
 pub fn enumerators_are_as_written()
     ensures { (files : List NamedFile) (order : List ℕ) (names : Names) (consts : Consts) → IsPassed files order names consts
         → AreEnums names.files consts (all_placed files order) (draft_of names.files consts files order) }
