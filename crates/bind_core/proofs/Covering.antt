@@ -33,7 +33,7 @@ use Rattle.bind_core.specs.steps.FirstTaken.{Ascends, first_taken, least_among}
 use Rattle.bind_core.specs.steps.Waiting.{Grows, IsNoted, Lists, Spares, causes_in, newest, woken}
 use Rattle.bind_core.specs.steps.Watched.{CoversReady, IsWatched}
 use Rattle.bind_model.specs.Plain.{asked_of}
-use Rattle.core_state.specs.Agreement.{Holds, end_with, past_of, schema_of, wire_in}
+use Rattle.core_state.specs.Agreement.{Holds, end_with, past_of, schema_of, wire_in, with_notices}
 use Rattle.core_state.specs.Doing.{Done, Undone, told_in}
 use Rattle.core_state.specs.Forgets.{StaysTrue}
 use Rattle.core_state.proofs.Pausing.{still_holds}
@@ -41,7 +41,7 @@ use Rattle.end_notices.specs.Table.{Lines}
 use Rattle.bind_core.specs.steps.Takers.{ready_taker}
 use Rattle.bind_model.specs.declared.commands.Command.{Command}
 use Rattle.bind_model.specs.declared.commands.Command.TheVariants.{Pipe, Join, Mint, Bind, Associate, Attach, Call, Answer, Raw, Take, Close, Notify}
-use Rattle.bind_model.specs.declared.commands.Command.TheVariants.{Pause, Skip}
+use Rattle.bind_model.specs.declared.commands.Command.TheVariants.{Pause, Data, Flow, Skip}
 use Rattle.bind_model.specs.declared.commands.Refused.{Refused}
 use Rattle.bind_model.specs.declared.commands.Reply.{Reply}
 use Rattle.core_state.specs.declared.state.State.{State}
@@ -127,6 +127,8 @@ module _ (wire : Wire) (seqs : ℕ) (past : List Event) (seq : SeqId) (y : EndId
   near_named (Close (Rattle.bind_model.specs.declared.commands.ToClose.TheVariants.Endpoint x id)) told e h = h
   near_named (Notify x notice) told e h = h
   near_named (Pause b a k) told e h = absurd cc
+  near_named (Data size) told e h = h
+  near_named (Flow x f) told e h = h
   near_named (Skip line) told e h = h
 
 -- ## Sets that cover
@@ -178,13 +180,13 @@ module _ (s : State) (h : Holds s) where
   }
 
 -- what ends keep of their waits is no matter
-pub same_stands : (s : State) (ends : List EndId) (lists : Lists) (notices : Lines) → Stands s ends lists → StaysTrue s.pipes s.notices notices
-    → Stands (record s { notices = notices }) ends lists
+pub same_stands : (s : State) (ends : List EndId) (lists : Lists) (notices : Lines) → Stands s ends lists → StaysTrue s.pipes s.tables.notices notices
+    → Stands (with_notices s notices) ends lists
 same_stands s ends lists notices stands stays = record { holds = still_holds s notices stands.holds stays; covers = stands.covers; listed = stands.listed }
 
 -- nor is it for what is watched before a command
 pub same_watched : (s : State) (command : Command) (ends : List EndId) (lists : Lists) (notices : Lines) → IsWatched s command ends lists
-    → IsWatched (record s { notices = notices }) command ends lists
+    → IsWatched (with_notices s notices) command ends lists
 same_watched s command ends lists notices w = record { ready = w.ready; near = w.near; noted = w.noted }
 
 covers_still : (s : State) (old new : List EndId) (lists : Lists) → Holds s → Covers s old lists → KeepsTaken s old new → Covers s new lists

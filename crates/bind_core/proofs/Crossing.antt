@@ -2,9 +2,9 @@
 use denote.Param.Send.{IsSend, sendable}
 use Rattle.std.proofs.Crossing as vecs
 use Rattle.message_pipe.proofs.pipes.Pipes.TheSendSync as pipes
-use Rattle.end_notices.proofs.table.NoticeTable.TheSendSync as notices
 use Rattle.core_state.proofs.routers.Routers.TheSendSync as routers
 use Rattle.core_state.proofs.state.Rights.TheSendSync as rights
+use Rattle.core_state.proofs.tables.Tables.TheSendSync as tables
 use Rattle.bind_core.proofs.end_set.EndSet.TheSendSync as end_set
 use Rattle.bind_core.proofs.waiting.Waiting.TheSendSync as waiting
 use Rattle.core_state.specs.contracts.state.State as state
@@ -20,7 +20,7 @@ state_send = search (
   history_send,
   pipes.the_send,
   routers.the_send,
-  notices.the_send,
+  tables.the_field_send,
   rights.the_field_send,
   vecs.crosses,
   sendable,

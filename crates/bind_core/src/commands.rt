@@ -6,8 +6,10 @@ ghost use Rattle.core_state.specs.Agreement.{Holds, schema_of};
 ghost use Rattle.core_state.specs.Doing.{CanDo, Done, Undone};
 
 use bind_model::{Asked, Command, Event, Refused, Reply, ToClose, Told};
+use core_data::flow;
 use core_ends::associate::associate;
 use core_ends::attach::attach;
+use core_ends::data_pipes::data;
 use core_ends::{bind, close_endpoint, close_handle, close_pending, join, mint};
 use core_sending::answer::{answer, close_responder};
 use core_sending::call;
@@ -84,6 +86,8 @@ fn dispatch(
         Command::Close(ToClose::Endpoint(end, id)) => close_endpoint(state, alloc, seq, end, id),
         Command::Notify(end, notice) => notify(state, alloc, seq, end, notice),
         Command::Pause(end, other, flush) => pause(state, alloc, seq, end, other, flush),
+        Command::Data(size) => data(state, alloc, seq, size),
+        Command::Flow(handle, moved) => flow(state, alloc, seq, handle, moved),
         Command::Skip(line) => Ok(skip(state, seq, line)),
     }
 }

@@ -22,8 +22,7 @@ use crate::watch::{end_named, unwatch, watch};
 use crate::woken::{forget_all, least_woken};
 use crate::{commands, left};
 use bind_model::{Command, History, Pendings, Refused, Reply, Responders};
-use core_state::{Rights, Routers, State};
-use end_notices::NoticeTable;
+use core_state::{Rights, Routers, State, Tables};
 use handle_table::{Ended, Thing};
 use message_pipe::Pipes;
 use mj_base::limits::MAX_EVENTS;
@@ -86,7 +85,7 @@ impl Core {
                 log: History::new(alloc),
                 pipes: Pipes::new(alloc),
                 endpoints: Routers::new(alloc),
-                notices: NoticeTable::new(alloc),
+                tables: Tables::new(alloc),
                 rights: Rights {
                     responders: Responders::new(alloc),
                     pendings: Pendings::new(alloc),
@@ -128,7 +127,7 @@ impl Core {
             return Err(hand_back(&self.state, command));
         };
         forget_all(
-            &mut self.state.notices,
+            &mut self.state.tables.notices,
             &self.state.pipes,
             looked.as_slice(),
         );
@@ -212,7 +211,7 @@ impl Core {
             log,
             pipes,
             endpoints: _,
-            notices: _,
+            tables: _,
             rights: _,
         } = state;
         let over = pipes.end();

@@ -67,6 +67,8 @@ ruleset parts = (
   responder.the_send,
   to_close.the_field_send,
   notice.the_field_send,
+  flow.the_field_send,
+  flowed.the_field_send,
   why.the_field_send,
   bad_why.the_field_send,
   noted.the_field_send,

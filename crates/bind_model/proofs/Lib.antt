@@ -13,7 +13,6 @@ pub mod TableLemmas
 pub mod Pauses
 pub mod DataLemmas
 pub mod TableAfter
-pub mod GroupLemmas
 pub mod Entering
 pub mod Telling
 pub mod Turns

@@ -81,7 +81,7 @@ abbrev pub drained : List Event → TokenId → List ℕ
 drained [] c = []
 drained (event ∷ past) c = drained past c ++ drains event.told event.asked c (begun past c)
 
--- what went in and didn't come out yet, and for how much more there is room
+-- what is held: what went in and didn't come out yet, in order
 abbrev pub data_held : List Event → DataPipe → List ℕ
 data_held past d = drop (length (drained past d.consumer)) (filled past d.producer)
 

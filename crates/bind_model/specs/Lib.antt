@@ -12,7 +12,6 @@ pub mod Laws
 pub mod Flushes
 pub mod Tables
 pub mod Origins
-pub mod Groups
 pub mod Left
 pub mod Histories
 pub mod Names

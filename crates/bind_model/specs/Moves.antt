@@ -21,7 +21,7 @@ use Rattle.bind_model.specs.Tests.{first_of, unless, is_none}
 abbrev pub is_right_size : ℕ → Bool
 is_right_size size = nat_lt 0 size && nat_le size MAX_DATA_BYTES
 
--- something was begun, and nothing goes on at this token till it is ended; or nothing was, and nothing can be ended
+-- something was begun, and nothing else goes on at this token till it is ended
 abbrev pub begun_already : TokenId → Begun → Option Why
 begun_already t b = if is_busy b then Some (Busy t) else None
 
@@ -29,7 +29,7 @@ begun_already t b = if is_busy b then Some (Busy t) else None
 abbrev pub nothing_begun : Begun → Option Why
 nothing_begun b = if is_busy b then None else Some Idle
 
--- for how many bytes the space was told, and how many may be read
+-- for how many bytes the space was told
 abbrev pub space_in : Begun → ℕ
 space_in (Space n) = n
 space_in b = 0

@@ -5,6 +5,7 @@ use Rattle.mj_base.specs.declared.limits.TheConstants.{MAX_EVENTS}
 use Rattle.mj_schema.specs.declared.schema.Schema.{Schema}
 use Rattle.handle_table.specs.declared.thing.Thing.{Thing}
 use Rattle.handle_table.specs.declared.thing.Thing.TheVariants.{End, Token}
+use Rattle.handle_table.specs.declared.thing.TokenId.{TokenId}
 use Rattle.wire_encoder.specs.declared.endpoint.EndpointSide.TheVariants.{Remote}
 use Rattle.wire_encoder.specs.Prepared.{IsPrepared}
 use Rattle.wire_encoder.specs.declared.prepared.Prepared.{Prepared}
@@ -28,10 +29,10 @@ use Rattle.bind_model.specs.declared.commands.ToClose.{ToClose}
 use Rattle.bind_model.specs.declared.commands.ToClose.TheVariants as close
 use Rattle.bind_model.specs.declared.commands.Command.{Command}
 use Rattle.bind_model.specs.declared.commands.Command.TheVariants.{Pipe, Join, Mint, Bind, Associate, Attach, Call, Answer, Raw, Take, Close, Notify}
-use Rattle.bind_model.specs.declared.commands.Command.TheVariants.{Pause, Skip}
+use Rattle.bind_model.specs.declared.commands.Command.TheVariants.{Pause, Data, Flow, Skip}
 use Rattle.bind_model.specs.declared.commands.Reply.{Reply}
 use Rattle.bind_model.specs.declared.commands.Reply.TheVariants.{Made, Bound, Associated, Attached, Sent, Wrote, Got, Dropped, Control, Bad, Closed}
-use Rattle.bind_model.specs.declared.commands.Reply.TheVariants.{Notified, Pausing, Skipped, No}
+use Rattle.bind_model.specs.declared.commands.Reply.TheVariants.{Notified, Pausing, Flowed, Skipped, No}
 use Rattle.bind_model.specs.declared.commands.Refused.{Refused}
 use Rattle.bind_model.specs.declared.commands.Refused.TheVariants.{Memory, Spent}
 
@@ -57,6 +58,11 @@ abbrev pub end_written : Thing → EndId
 end_written (End x) = x
 end_written (Token t) = record { seq = t.seq; serial = t.serial }
 
+-- the token that a handle is of; no bytes were ever moved at an end
+abbrev pub token_written : Thing → TokenId
+token_written (End x) = record { seq = x.seq; serial = x.serial }
+token_written (Token t) = t
+
 -- what a command asks
 abbrev pub asked_of : Command → Asked
 asked_of Pipe = asks.Pipe
@@ -72,6 +78,8 @@ asked_of (Take end) = asks.Take end
 asked_of (Close thing) = asks.Close (closing_of thing)
 asked_of (Notify end notice) = asks.Notify end notice
 asked_of (Pause end other flush) = asks.Pause end other flush
+asked_of (Data size) = asks.Data size
+asked_of (Flow handle flow) = asks.Flow handle flow
 asked_of (Skip line) = asks.Skip line
 
 -- what a reply tells
@@ -98,6 +106,7 @@ told_of (Bad why gone) = tells.Bad why gone
 told_of (Closed gone) = tells.Closed gone
 told_of (Notified what) = tells.Notified what
 told_of Pausing = tells.Pausing
+told_of (Flowed handle flowed) = tells.Flowed (token_written handle) flowed
 told_of Skipped = tells.Skipped
 told_of (No why command) = tells.No why
 
@@ -112,10 +121,16 @@ abbrev pub HandsEnd : Thing → Command → Type 0
 HandsEnd back (Raw handle bytes handles) = back ≡ handle
 HandsEnd back command = Unit {0}
 
--- a reply that is a refusal hands the command back, and one that bytes were written the end
+-- bytes were moved at the token that the command has
+abbrev pub HandsToken : Thing → Command → Type 0
+HandsToken back (Flow handle flow) = back ≡ handle
+HandsToken back command = Unit {0}
+
+-- a reply that is a refusal hands the command back, one that bytes were written the end, and one that bytes were moved the token
 abbrev pub HandsBack : Command → Reply → Type 0
 HandsBack command (No why back) = back ≡ command
 HandsBack command (Wrote back) = HandsEnd back command
+HandsBack command (Flowed back flowed) = HandsToken back command
 HandsBack command reply = Unit {0}
 
 -- the responders that a reply hands out

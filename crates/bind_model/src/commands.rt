@@ -1,6 +1,7 @@
 //! Commands and replies, with the handles and the rights that they take and hand out.
 
 use crate::asked::Notice;
+use crate::flow::{Flow, Flowed};
 use crate::parameters::Parameters;
 use crate::pending::{Pending, PendingList};
 use crate::responder::Responder;
@@ -53,6 +54,10 @@ pub enum Command {
     /// To take nothing at the first end until the second has consumed the flush of this number, or is
     /// closed.
     Pause(EndId, EndId, u32),
+    /// A new data pipe, which holds so many bytes at most.
+    Data(u32),
+    /// To move bytes at the producer or the consumer of a data pipe. The token comes back in any case.
+    Flow(Handle, Flow),
     /// Nothing: what the line of this number of a script needs isn't there.
     Skip(u32),
 }
@@ -75,7 +80,8 @@ pub struct Received {
 
 /// What the caller is told. A refusal hands the command back.
 pub enum Reply {
-    /// The handles of the two ends of a new pipe, or of a new token.
+    /// The handles of the two ends of a new pipe, or of a new token, or of a new data pipe's producer and
+    /// consumer.
     Made(Handles),
     Bound(EndId),
     /// The other half of a new endpoint.
@@ -99,6 +105,8 @@ pub enum Reply {
     Notified(Notified),
     /// The end takes nothing till the wait is met.
     Pausing,
+    /// The token that bytes were moved at, which comes back, and how many or which.
+    Flowed(Handle, Flowed),
     Skipped,
     No(Why, Command),
 }
@@ -143,6 +151,7 @@ impl Command {
                 handles.retire(over);
             }
             Command::Close(closed) => closed.retire(over),
+            Command::Flow(handle, _) => handle.retire(over),
             Command::Pipe
             | Command::Join(_)
             | Command::Mint(_)
@@ -150,6 +159,7 @@ impl Command {
             | Command::Take(_)
             | Command::Notify(_, _)
             | Command::Pause(_, _, _)
+            | Command::Data(_)
             | Command::Skip(_) => {}
         }
     }
@@ -183,6 +193,7 @@ impl Reply {
         match self {
             Reply::Made(handles) => handles.retire(over),
             Reply::Wrote(handle) => handle.retire(over),
+            Reply::Flowed(handle, _) => handle.retire(over),
             Reply::Associated(pending) => pending.retire(over),
             Reply::Got(received) => received.retire(over),
             Reply::No(_, command) => command.retire(over),

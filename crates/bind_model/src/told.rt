@@ -27,7 +27,8 @@ pub struct Got {
 pub enum BadWhy {
     /// It stands for nothing.
     Message(Fault),
-    /// It answers a request of this id, which was not made or is answered already.
+    /// It answers a request of this id, which was not made or is answered already; 0 where it tells a version that no
+    /// query waits for.
     Unasked(u64),
     /// It carries this id, which the end has already or would make itself.
     StrangeId(u32),
@@ -43,7 +44,7 @@ pub enum Why {
     NoName,
     /// The handle isn't an end of a message pipe.
     NotPipe,
-    /// The end or the endpoint is closed, or that at the other side is.
+    /// The end or the endpoint is closed, or that at the other side is; or a data pipe's consumer is gone.
     Disconnected,
     /// The endpoint of this id came with a message and isn't attached yet.
     Unbound(u32),
@@ -60,15 +61,15 @@ pub enum Why {
     WrongPipe(u32),
     /// A handle is of the end that the message would go to.
     SelfSend,
-    /// More than 67,108,864 bytes.
+    /// More than 67,108,864 bytes; or more than were told when a put or a get was begun.
     TooLong,
     /// More than 64 handles.
     TooManyHandles,
-    /// 4,096 unread messages stand at the other end.
+    /// 4,096 unread messages stand at the other end; or a data pipe has no room.
     Full,
-    /// Nothing is unread.
+    /// Nothing is unread; or a data pipe holds nothing.
     Empty,
-    /// Nothing is unread, and the other end is closed.
+    /// Nothing is unread, and the other end is closed; or a data pipe holds nothing, and its producer is gone.
     PeerClosed,
     /// A wait for a flush at this end isn't met.
     Paused(EndId),

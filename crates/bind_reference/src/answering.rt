@@ -1,6 +1,6 @@
 //! The reply to an answer.
 
-use crate::replies::{elsewhere, first_of, unless};
+use crate::replies::elsewhere;
 use crate::sending::{cannot_write, has_tokens, is_owned, wrong_pipe};
 use bind_model::{Endpoint, Outgoing, ResponderId, State, Told, Why};
 use handle_table::Thing;
@@ -8,6 +8,7 @@ use mj_base::{Items, SeqId};
 use mj_schema::Schema;
 use past_reference::mail::Mail;
 use past_reference::past::is_gone;
+use past_reference::refusals::{first_of, unless};
 use past_reference::responders::is_responder_out;
 use past_reference::wire::sealed;
 use std::alloc::{AllocError, Global};
@@ -35,7 +36,7 @@ fn refusal(
     let is_out = is_responder_out(alloc, schema, mail.past, responder)?;
     let is_closed = is_gone(mail.past, Thing::End(end)) || endpoint.state == State::Closed;
     let handles = outgoing.handles.as_slice();
-    let [back, lost, full] = cannot_write(alloc, mail, end, endpoint.peer_closed, handles)?;
+    let [back, busy, lost, full] = cannot_write(alloc, mail, end, endpoint.peer_closed, handles)?;
     Ok(first_of(&[
         unless(is_out && is_owned(mail, outgoing), Why::NoName),
         unless(!is_closed, Why::Disconnected),
@@ -44,6 +45,7 @@ fn refusal(
         unless(has_tokens(alloc, schema, mail, outgoing)?, Why::WrongTokens),
         wrong_pipe(mail, end, outgoing.pendings.as_slice()),
         back,
+        busy,
         lost,
         full,
     ]))

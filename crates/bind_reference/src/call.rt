@@ -1,6 +1,6 @@
 //! The reply to a call.
 
-use crate::replies::{elsewhere, first_of, unbound, unless};
+use crate::replies::{elsewhere, unbound};
 use crate::sending::{cannot_write, has_tokens, is_owned, wrong_pipe};
 use bind_model::{Endpoint, Outgoing, State, Told, Why};
 use handle_table::Thing;
@@ -8,6 +8,7 @@ use mj_base::{EndId, Items, SeqId};
 use mj_schema::Schema;
 use past_reference::mail::Mail;
 use past_reference::past::{drawn, is_gone};
+use past_reference::refusals::{first_of, unless};
 use past_reference::wire::{responds, sealed};
 use std::alloc::{AllocError, Global};
 use wire_encoder::EndpointSide;
@@ -28,7 +29,7 @@ fn refusal(
     let is_closed = is_gone(mail.past, Thing::End(end)) || endpoint.state == State::Closed;
     let is_own = target.interface == endpoint.interface && target.side == MessageSide::Request;
     let handles = outgoing.handles.as_slice();
-    let [back, lost, full] = cannot_write(alloc, mail, end, endpoint.peer_closed, handles)?;
+    let [back, busy, lost, full] = cannot_write(alloc, mail, end, endpoint.peer_closed, handles)?;
     Ok(first_of(&[
         unless(is_owned(mail, outgoing), Why::NoName),
         unless(!is_closed, Why::Disconnected),
@@ -39,6 +40,7 @@ fn refusal(
         unless(has_tokens(alloc, schema, mail, outgoing)?, Why::WrongTokens),
         wrong_pipe(mail, end, outgoing.pendings.as_slice()),
         back,
+        busy,
         lost,
         full,
     ]))

@@ -1,6 +1,6 @@
 //! The reply to a closing.
 
-use crate::replies::{elsewhere, first_of, unbound, unless};
+use crate::replies::{elsewhere, unbound};
 use bind_model::{Closing, State, Told, Why};
 use handle_table::Thing;
 use mj_base::{EndId, Items, SeqId};
@@ -9,6 +9,7 @@ use past_reference::goes::goes;
 use past_reference::mail::Mail;
 use past_reference::past::{is_gone, is_out};
 use past_reference::pendings::is_pending_out;
+use past_reference::refusals::{first_of, unless};
 use past_reference::responders::is_responder_out;
 use std::alloc::{AllocError, Global};
 

@@ -1,6 +1,5 @@
 //! The replies where an associated endpoint is made or attached.
 
-use crate::replies::{first_of, unless};
 use bind_model::limits::REMOTE_IDS;
 use bind_model::{PendingId, State, Told, Why};
 use handle_table::Thing;
@@ -9,6 +8,7 @@ use mj_schema::Schema;
 use past_reference::mail::Mail;
 use past_reference::past::is_gone;
 use past_reference::pendings::{endpoints_made, is_local, is_pending_out};
+use past_reference::refusals::{first_of, unless};
 use wire_encoder::EndpointSide;
 
 /// The next id that an end makes, whose endpoint 0 is of this side.

@@ -35,9 +35,11 @@ pub fn is_join(line: &Line) -> bool {
 /// The names that a line sets.
 fn set_by(alloc: Global, line: Option<&Line>) -> Result<Vec<NameId>, AllocError> {
     match line.map(|line| &line.command) {
-        Some(Command::Join(_, first, second) | Command::Pipe(first, second)) => {
-            Ok(vec![in alloc; *first, *second]?)
-        }
+        Some(
+            Command::Join(_, first, second)
+            | Command::Pipe(first, second)
+            | Command::Data(_, first, second),
+        ) => Ok(vec![in alloc; *first, *second]?),
         Some(Command::Mint(_, name) | Command::Associate(_, _, _, name)) => {
             Ok(vec![in alloc; *name]?)
         }
@@ -51,7 +53,8 @@ fn set_by(alloc: Global, line: Option<&Line>) -> Result<Vec<NameId>, AllocError>
             | Command::CloseToken(_)
             | Command::CloseEndpoint(_, _)
             | Command::Notify(_, _)
-            | Command::Pause(_, _, _),
+            | Command::Pause(_, _, _)
+            | Command::Flow(_, _),
         )
         | None => Ok(Vec::new(alloc)),
     }

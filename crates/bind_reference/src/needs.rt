@@ -1,7 +1,7 @@
 //! What the lines of a script ask, where all that they need is there.
 
 use crate::names::{Held, Names};
-use bind_model::{Asked, Closing, Outgoing, Parameters, PendingId};
+use bind_model::{Asked, Closing, Flow, Outgoing, Parameters, PendingId};
 use call_script::{Command, NameId};
 use core_state::copy_value;
 use handle_table::Thing;
@@ -170,6 +170,20 @@ fn raw_asks(
     Ok(Some(Asked::Raw(thing, bytes, Items::from_vec(things))))
 }
 
+/// To move bytes at what is held under a name.
+fn flow_asks(
+    alloc: Global,
+    names: &Names<'_>,
+    seq: SeqId,
+    name: NameId,
+    flow: &Flow,
+) -> Result<Option<Asked>, AllocError> {
+    let Some(Held::Thing(thing)) = names.held(alloc, seq, name)? else {
+        return Ok(None);
+    };
+    Ok(Some(Asked::Flow(thing, flow.copy(alloc)?)))
+}
+
 /// How what is held is closed.
 fn closing(held: Held) -> Closing {
     match held {
@@ -235,5 +249,7 @@ pub fn asks(
             (Some(end), Some(other)) => Ok(Some(Asked::Pause(end, other, *flush))),
             _ => Ok(None),
         },
+        Command::Data(capacity, _, _) => Ok(Some(Asked::Data(*capacity))),
+        Command::Flow(name, flow) => flow_asks(alloc, names, seq, *name, flow),
     }
 }

@@ -1,6 +1,6 @@
 //! The replies where an end writes a control, and where it is told to wait.
 
-use crate::replies::{elsewhere, first_of, unbound, unless};
+use crate::replies::{elsewhere, unbound};
 use crate::sending::cannot_write;
 use bind_model::{Notice, Notified, State, Told, Why};
 use handle_table::Thing;
@@ -8,6 +8,7 @@ use mj_base::{EndId, SeqId};
 use past_reference::mail::Mail;
 use past_reference::notices::next_flush;
 use past_reference::past::is_gone;
+use past_reference::refusals::{first_of, unless};
 use std::alloc::{AllocError, Global};
 use wire_encoder::EndpointSide;
 
@@ -30,7 +31,7 @@ pub fn notified(
     };
     let is_closed = is_gone(mail.past, Thing::End(end)) || endpoint.state == State::Closed;
     let is_marked = !is_flush && endpoint.peer_closed;
-    let [back, lost, full] = cannot_write(alloc, mail, end, is_marked, &[])?;
+    let [back, busy, lost, full] = cannot_write(alloc, mail, end, is_marked, &[])?;
     let refusal = first_of(&[
         unless(!is_closed, Why::Disconnected),
         unbound(id, endpoint),
@@ -40,6 +41,7 @@ pub fn notified(
             Why::WrongSide,
         ),
         back,
+        busy,
         lost,
         full,
     ]);

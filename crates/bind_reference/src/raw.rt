@@ -1,11 +1,11 @@
 //! The reply to a raw writing.
 
-use crate::replies::{first_of, unless};
 use crate::sending::{are_out, cannot_write};
 use bind_model::limits::{MAX_RAW_BYTES, MAX_RAW_HANDLES};
 use bind_model::{Told, Why};
 use handle_table::Thing;
 use past_reference::mail::Mail;
+use past_reference::refusals::{first_of, unless};
 use std::alloc::{AllocError, Global};
 
 /// Whether all handles are with callers, and none stands twice. The one that is written from is among them.
@@ -34,11 +34,12 @@ pub fn wrote(
     let Thing::End(end) = thing else {
         return Ok(Told::No(Why::NotPipe));
     };
-    let [back, lost, full] = cannot_write(alloc, mail, end, false, handles)?;
+    let [back, busy, lost, full] = cannot_write(alloc, mail, end, false, handles)?;
     let refusal = first_of(&[
         unless(bytes.len() as u64 <= MAX_RAW_BYTES, Why::TooLong),
         unless(handles.len() <= MAX_RAW_HANDLES, Why::TooManyHandles),
         back,
+        busy,
         lost,
         full,
     ]);

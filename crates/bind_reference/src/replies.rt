@@ -8,17 +8,14 @@ use crate::notify::{notified, paused};
 use crate::raw::wrote;
 use crate::take::took;
 use bind_model::{Asked, Endpoint, Event, State, Told, Why};
+use data_reference::{made, moved};
 use handle_table::{Thing, TokenId};
 use mj_base::{EndId, Items, SeqId};
 use mj_schema::Schema;
 use past_reference::mail::Mail;
 use past_reference::past::{ends_made, is_out, tokens_made};
+use past_reference::refusals::unless;
 use std::alloc::{AllocError, Global};
-
-/// A test: why it fails, where it doesn't hold.
-pub fn unless(holds: bool, why: Why) -> Option<Why> {
-    if holds { None } else { Some(why) }
-}
 
 /// The test that an endpoint doesn't wait to be attached.
 pub fn unbound(id: u32, endpoint: Endpoint) -> Option<Why> {
@@ -34,16 +31,6 @@ pub fn elsewhere(seq: SeqId, endpoint: Endpoint) -> Option<Why> {
         State::Bound(other) => unless(other == seq, Why::Elsewhere(other)),
         State::Pending | State::Closed => None,
     }
-}
-
-/// The first test that fails.
-pub fn first_of(tests: &[Option<Why>]) -> Option<Why> {
-    for test in tests {
-        if test.is_some() {
-            return *test;
-        }
-    }
-    None
 }
 
 /// Two new ends, each with the next number of its sequence.
@@ -112,8 +99,8 @@ fn reply(
         Asked::Skip(_) => Ok(Told::Skipped),
         Asked::Notify(end, notice) => notified(alloc, mail, seq, *end, *notice),
         Asked::Pause(end, other, _) => Ok(paused(mail, seq, *end, *other)),
-        // Nothing asks for these yet.
-        Asked::Data(_) | Asked::Flow(_, _) => Ok(Told::Skipped),
+        Asked::Data(capacity) => made(alloc, past, seq, *capacity),
+        Asked::Flow(thing, flow) => moved(alloc, past, *thing, flow),
     }
 }
 

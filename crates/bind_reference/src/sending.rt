@@ -1,7 +1,7 @@
 //! The tests that all that writes has in common.
 
-use crate::replies::unless;
 use bind_model::{Outgoing, PendingId, Why};
+use data_reference::busy;
 use handle_table::Thing;
 use mj_base::EndId;
 use mj_base::limits::MAX_UNREAD_MESSAGES;
@@ -10,9 +10,9 @@ use past_reference::kinds::{Named, endpoints_named};
 use past_reference::mail::{Mail, Text};
 use past_reference::past::{is_gone, is_out, peer};
 use past_reference::pendings::{is_local, is_pending_out};
+use past_reference::refusals::unless;
 use past_reference::values::handles_named;
 use std::alloc::{AllocError, Global};
-use wire_encoder::EndpointSide;
 
 /// Whether nothing stands twice in a list.
 fn are_distinct<T: PartialEq + Drop>(items: &[T]) -> bool {
@@ -90,20 +90,21 @@ fn is_full(alloc: Global, mail: &Mail<'_>, end: EndId) -> Result<bool, AllocErro
     Ok(counted.count() >= MAX_UNREAD_MESSAGES)
 }
 
-/// The last tests of what is written at an end: no handle is of the end that it would go to, that is open, and the
-/// peer of its endpoint isn't known to be closed, and there is room.
+/// The last tests of what is written at an end: no handle is of the end that it would go to, nor a token at which
+/// something is begun; that end is open, and the peer of its endpoint isn't known to be closed; and there is room.
 pub fn cannot_write(
     alloc: Global,
     mail: &Mail<'_>,
     end: EndId,
     peer_closed: bool,
     handles: &[Thing],
-) -> Result<[Option<Why>; 3], AllocError> {
+) -> Result<[Option<Why>; 4], AllocError> {
     let other = Thing::End(peer(mail.past, end));
     let is_lost = is_gone(mail.past, other) || peer_closed;
     let is_full = is_full(alloc, mail, peer(mail.past, end))?;
     Ok([
         unless(!handles.contains(&other), Why::SelfSend),
+        busy(mail.past, handles),
         unless(!is_lost, Why::Disconnected),
         unless(!is_full, Why::Full),
     ])

@@ -1,8 +1,8 @@
-//! What a data pipe by itself answers, row by row.
+//! What a data pipe by itself answers, row by row, and how one is found among others.
 
 use bind_model::Why;
-use data_pipe::{DataPipe, DataRefused, DataWhy};
-use handle_table::TokenId;
+use data_pipe::{DataPipe, DataRefused, DataTable, DataToken, DataWhy, Side};
+use handle_table::{Thing, TokenId};
 use mj_base::Items;
 use std::alloc::Global;
 use std::test::Fail;
@@ -139,5 +139,33 @@ fn a_data_pipe_has_a_size(rt: HostRuntime) -> Result<(), Fail> {
     assert_eq!(rt; pipe.first(alloc, 5)?.as_slice(), b"seven".as_slice());
     let token = TokenId { seq: 1, serial: 2 };
     assert_eq!(rt; DataWhy::Busy.at(token), Why::Busy(token));
+    Ok(())
+}
+
+const PRODUCER: TokenId = TokenId { seq: 1, serial: 4 };
+
+const CONSUMER: TokenId = TokenId { seq: 1, serial: 5 };
+
+#[test]
+fn a_data_pipe_is_found_by_its_tokens(rt: HostRuntime) -> Result<(), Fail> {
+    let alloc = rt.alloc();
+    let Ok(mut pipe) = DataPipe::new(alloc, 2) else {
+        panic!(rt; "no memory");
+    };
+    assert!(rt; is_count(pipe.begin_put(false), Say::Count(2)));
+    let mut table = DataTable::new(alloc);
+    table.enter(PRODUCER, pipe)?;
+    let is_consumer = match table.find(CONSUMER) {
+        Some(DataToken { producer, side }) => {
+            producer == PRODUCER && matches!(side, Side::Consumer)
+        }
+        None => false,
+    };
+    assert!(rt; is_consumer);
+    assert!(rt; table.is_begun(PRODUCER) && !table.is_begun(CONSUMER));
+    let things = [Thing::Token(CONSUMER), Thing::Token(PRODUCER)];
+    assert_eq!(rt; table.first_begun(&things), Some(PRODUCER));
+    table.remove(PRODUCER);
+    assert!(rt; table.find(PRODUCER).is_none());
     Ok(())
 }

@@ -120,6 +120,7 @@ impl<'a> Held<'a> {
                 self.put_handles(handles);
             }
             Command::Close(unclosed) => self.put_unclosed(unclosed),
+            Command::Flow(handle, _) => self.put_handle(handle),
             Command::Pipe
             | Command::Join(_)
             | Command::Mint(_)
@@ -127,6 +128,7 @@ impl<'a> Held<'a> {
             | Command::Take(_)
             | Command::Notify(_, _)
             | Command::Pause(_, _, _)
+            | Command::Data(_)
             | Command::Skip(_) => {}
         }
     }
@@ -136,6 +138,7 @@ impl<'a> Held<'a> {
         match reply {
             Reply::Made(handles) => self.put_handles(handles),
             Reply::Wrote(handle) => self.put_handle(handle),
+            Reply::Flowed(handle, _) => self.put_handle(handle),
             Reply::Associated(pending) => self.put_pending(pending),
             Reply::Got(received) => self.put_received(received),
             Reply::No(_, command) => self.put_back(command),

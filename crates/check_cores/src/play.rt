@@ -7,7 +7,7 @@ ghost use Rattle.mj_schema.specs.declared.schema.Schema.{Schema};
 use crate::held::Held;
 use crate::moves::{Method, Move};
 use crate::values::prepared;
-use bind_model::{Command, PendingId, ToClose};
+use bind_model::{Command, Flow, PendingId, ToClose};
 use handle_table::{Handles, Thing};
 use mj_base::{EndId, Items, SeqId};
 use mj_schema::Schema;
@@ -21,6 +21,11 @@ fn bytes_of(alloc: Global, numbers: &[u32]) -> Result<Items<u8>, AllocError> {
         bytes.extend_from_slice(&number.to_le_bytes())?;
     }
     Ok(Items::from_vec(bytes))
+}
+
+/// Bytes that are owned.
+fn items_of(alloc: Global, bytes: &[u8]) -> Result<Items<u8>, AllocError> {
+    Ok(Items::from_vec(Vec::from_slice(alloc, bytes)?))
 }
 
 /// A call; none where something that it takes isn't held.
@@ -102,6 +107,37 @@ fn raw(
     Ok(None)
 }
 
+/// The token at which a step moves bytes, and what is asked there; none of another step.
+fn flow_of(alloc: Global, step: Move) -> Result<Option<(Thing, Flow)>, AllocError> {
+    let (thing, flow) = match step {
+        Move::Put(thing, bytes, all) => (thing, Flow::Put(items_of(alloc, bytes)?, all)),
+        Move::Get(thing, count, all) => (thing, Flow::Get(count, all)),
+        Move::BeginPut(thing) => (thing, Flow::BeginPut),
+        Move::EndPut(thing, bytes) => (thing, Flow::EndPut(items_of(alloc, bytes)?)),
+        Move::BeginGet(thing) => (thing, Flow::BeginGet),
+        Move::EndGet(thing, count) => (thing, Flow::EndGet(count)),
+        _ => return Ok(None),
+    };
+    Ok(Some((thing, flow)))
+}
+
+/// What a step asks that moves bytes or closes; none where what it takes isn't held.
+fn moving_or_closing(
+    held: &mut Held<'_>,
+    alloc: Global,
+    step: Move,
+) -> Result<Option<Command>, AllocError>
+    ensures { IfOk result (λ found. (schema : Schema) → IfSome found (IsOf schema)) }
+{
+    let Some((thing, flow)) = flow_of(alloc, step)? else {
+        return Ok(closing_of(held, step));
+    };
+    match held.take_handle(thing) {
+        Some(handle) => Ok(Some(Command::Flow(handle, flow))),
+        None => Ok(None),
+    }
+}
+
 /// What a move asks; none where something that it takes isn't held.
 pub fn command_of(
     held: &mut Held<'_>,
@@ -137,7 +173,8 @@ pub fn command_of(
         Move::Take(end) => Ok(Some(Command::Take(end))),
         Move::Notify(end, notice) => Ok(Some(Command::Notify(end, notice))),
         Move::Pause(end, other, flush) => Ok(Some(Command::Pause(end, other, flush))),
-        _ => Ok(closing_of(held, step)),
+        Move::Data(capacity) => Ok(Some(Command::Data(capacity))),
+        _ => moving_or_closing(held, alloc, step),
     }
 }
 

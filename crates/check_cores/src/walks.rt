@@ -3,7 +3,7 @@
 use crate::moves::{Method, Move, Turn, Walk};
 use bind_model::Notice::{Flush, Query, Require};
 use bind_model::PendingId;
-use handle_table::Thing;
+use handle_table::{Thing, TokenId};
 use mj_base::EndId;
 use wire_encoder::EndpointSide::{Receiver, Remote};
 
@@ -427,7 +427,61 @@ const PAUSED: Walk = Walk {
     length: 4,
 };
 
+/// The tokens of the first data pipe.
+const P: Thing = Thing::Token(TokenId { seq: 0, serial: 0 });
+
+const C: Thing = Thing::Token(TokenId { seq: 0, serial: 1 });
+
+/// A data pipe of three bytes is filled and drained.
+const FILLED: Walk = Walk {
+    name: "a data pipe",
+    opening: &[Turn(0, Move::Data(3))],
+    alphabet: &[
+        Turn(0, Move::Put(P, &[1, 2], false)),
+        Turn(0, Move::Put(P, &[3, 4], true)),
+        Turn(0, Move::Put(C, &[], false)),
+        Turn(0, Move::Get(C, 2, false)),
+        Turn(0, Move::Get(C, 1, true)),
+        Turn(0, Move::BeginPut(P)),
+        Turn(0, Move::EndPut(P, &[5])),
+        Turn(0, Move::EndPut(P, &[6, 7, 8])),
+        Turn(0, Move::BeginGet(C)),
+        Turn(0, Move::EndGet(C, 1)),
+        Turn(0, Move::CloseHandle(P)),
+        Turn(0, Move::CloseHandle(C)),
+    ],
+    length: 4,
+};
+
+/// The tokens of a data pipe go to B.
+const CARRIED: Walk = Walk {
+    name: "a data pipe that is sent",
+    opening: &[
+        Turn(0, Move::Join(1)),
+        Turn(0, Move::Bind(Thing::End(A), Remote, 0)),
+        Turn(1, Move::Bind(Thing::End(B), Receiver, 0)),
+        Turn(0, Move::Associate(A, Receiver, 0)),
+        Turn(0, Move::Data(2)),
+        Turn(0, Move::Put(P, &[1], false)),
+    ],
+    alphabet: &[
+        Turn(0, Move::Call(A, 0, GIVE, &[P], &[FIRST_OF_A])),
+        Turn(0, Move::Call(A, 0, GIVE, &[C], &[FIRST_OF_A])),
+        Turn(0, Move::BeginPut(P)),
+        Turn(1, Move::EndPut(P, &[2])),
+        Turn(0, Move::BeginGet(C)),
+        Turn(1, Move::EndGet(C, 1)),
+        Turn(1, Move::Get(C, 2, false)),
+        Turn(1, Move::Data(65_537)),
+        Turn(1, Move::Data(65_536)),
+        Turn(1, Move::Take(B)),
+        Turn(0, Move::CloseEndpoint(A, 0)),
+        Turn(1, Move::CloseEndpoint(B, 0)),
+    ],
+    length: 4,
+};
+
 /// All walks.
-pub const WALKS: [Walk; 11] = [
-    MADE, LENT, SHARED, ANSWERED, RAW, CLOSED, WAITED, NOTED, ASKED, TOLD, PAUSED,
+pub const WALKS: [Walk; 13] = [
+    MADE, LENT, SHARED, ANSWERED, RAW, CLOSED, WAITED, NOTED, ASKED, TOLD, PAUSED, FILLED, CARRIED,
 ];

@@ -25,7 +25,7 @@ use Rattle.core_ends.proofs.Binding.{bound_agrees}
 use Rattle.core_state.proofs.Facts.{out_unbound}
 
 module _ (old new : State) (seq : SeqId) (able : HasRoom old seq) (schema : schema_of new ≡ schema_of old) (seqs : new.seqs ≡ old.seqs)
-    (unmoved : new.rights ≡ old.rights) (unnoticed : new.notices ≡ old.notices) where
+    (unmoved : new.rights ≡ old.rights) (unnoticed : new.tables ≡ old.tables) where
   abbrev done_with : Thing → EndId → EndpointSide → ℕ → Type 0
   done_with handle x side interface = Done old new seq (commands.Bind handle side interface) (replies.Bound x)
 

@@ -32,7 +32,7 @@ use Rattle.core_state.proofs.Quiet.{IsQuiet}
 use Rattle.core_state.proofs.Closed.{handle_told, handle_closed, end_told, end_closed}
 
 module _ (old new : State) (seq : SeqId) (able : HasRoom old seq) (schema : schema_of new ≡ schema_of old) (seqs : new.seqs ≡ old.seqs)
-    (unmoved : new.rights ≡ old.rights) (unnoticed : new.notices ≡ old.notices) (goes told : List Thing) (t : told ≡ goes) where
+    (unmoved : new.rights ≡ old.rights) (unnoticed : new.tables ≡ old.tables) (goes told : List Thing) (t : told ≡ goes) where
   -- the event of a closing of this, with which these went
   abbrev event_with : ToClose → List Thing → Event
   event_with what things = record { seq = seq; asked = asks.Close (closing_of what); told = tells.Closed things }

@@ -9,3 +9,4 @@ mod Making
 mod Made
 mod Binding
 mod Bound
+mod Twins

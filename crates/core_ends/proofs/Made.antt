@@ -42,7 +42,7 @@ module _ (s : State) (seq : SeqId) (able : HasRoom s seq) where
   few_tokens t = rw (able.holds.agrees.tokens t, able.holds.agrees.made) (tokens_few (past_of s) t)
 
 module _ (old new : State) (seq : SeqId) (able : HasRoom old seq) (schema : schema_of new ≡ schema_of old) (seqs : new.seqs ≡ old.seqs)
-    (unmoved : new.rights ≡ old.rights) (unnoticed : new.notices ≡ old.notices) where
+    (unmoved : new.rights ≡ old.rights) (unnoticed : new.tables ≡ old.tables) where
   abbrev noted : Asked → Told → List Event
   noted asked told = old.log.events ++ record { seq = seq; asked = asked; told = told } ∷ []
 
@@ -60,7 +60,7 @@ module _ (old new : State) (seq : SeqId) (able : HasRoom old seq) (schema : sche
       (past_of old) k seq asked old.pipes new.pipes old.endpoints able.holds.agrees other a b m.4 ∙ (sym t ∙ ap (told_to old seq) q) in
       finish old new seq command (replies.Made handles) able schema seqs unmoved unnoticed
       (record { none = refl; handed = λ wire. refl; after = λ rs. refl; gives = refl; hands = refl; halves = λ wire past. refl })
-      refl
+      (rw all refl)
       (events ∙ (ap (λ (r : Asked). noted r (tells.Made things)) q ∙ ap (λ (ts : List Thing). noted (asked_of command) (tells.Made ts)) (e1 ∙ sym e2)))
       (ap (λ (ts : List Thing). tells.Made ts) all ∙ told)
       (subst (λ (ts : List Thing). Agrees (wire_in old) (record { seq = seq; asked = asked_of command; told = tells.Made ts }
@@ -77,7 +77,7 @@ module _ (old new : State) (seq : SeqId) (able : HasRoom old seq) (schema : sche
       let k = kept (wire_in old) old.seqs (past_of old) able.holds.legal in
       finish old new seq (commands.Mint sort) (replies.Made handles) able schema seqs unmoved unnoticed
       (record { none = refl; handed = λ wire. refl; after = λ rs. refl; gives = refl; hands = refl; halves = λ wire past. refl })
-      refl
+      (rw (e2, m.table.next) refl)
       (events ∙ ap (λ (ts : List Thing). noted (asks.Mint sort) (tells.Made ts)) (e1 ∙ sym e2))
       (ap (λ (ts : List Thing). tells.Made ts) e2 ∙ token_told (wire_in old) old.seqs (past_of old) k seq
       (asks.Mint sort) old.pipes new.pipes old.endpoints able.holds.agrees x m)

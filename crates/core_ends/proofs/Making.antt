@@ -14,14 +14,14 @@ use Rattle.handle_table.specs.declared.places.Place.TheVariants as places
 use Rattle.handle_table.specs.declared.thing.Thing.{Thing}
 use Rattle.handle_table.specs.declared.thing.Thing.TheVariants.{End, Token}
 use Rattle.handle_table.proofs.ThingsLemmas.{same-true, same_end-true}
-use Rattle.message_pipe.specs.Contents.{Contents, MakesPipe, MakesToken}
+use Rattle.message_pipe.specs.Contents.{Contents, MakesPipe, MakesToken, MakesTokens}
 use Rattle.message_pipe.specs.Ends.{end_of, open_end}
 use Rattle.bind_model.specs.declared.asked.Asked.{Asked}
 use Rattle.bind_model.specs.declared.told.Told.TheVariants.{Made}
 use Rattle.bind_model.specs.declared.event.Event.{Event}
 use Rattle.bind_model.specs.Wire.{Wire}
 use Rattle.bind_model.specs.Machine.{made, peer, gone, is_gone, out, unread}
-use Rattle.bind_model.specs.Replies.{serials, tokens, joined}
+use Rattle.bind_model.specs.Replies.{serials, tokens, joined, data_made}
 use Rattle.bind_model.proofs.Kept.{Kept}
 use Rattle.bind_model.proofs.Moving.{new_end, new_token}
 use Rattle.core_state.specs.Routers.{Routers}
@@ -247,3 +247,86 @@ module _ (wire : Wire) (seqs : ℕ) (past : List Event) (k : Kept wire past) (se
             let sum = sum_by-append (λ y. if not (is_end y) && (seq_of y == s) then 1 else 0) (made past) (z ∷ []) in
             let e : (not (is_end z) && (seq_of z == s)) ≡ (seq.0 == s) = rw next refl in
             ap (λ n. n + (if seq.0 == s then 1 else 0)) (agrees.tokens s) ∙ sym (sum ∙ rw e (omega arith))
+
+  -- ## The two tokens of a data pipe
+
+  module _ (y z : Thing) (m : MakesTokens seq.0 y z old new) where
+    abbrev pub made_two : Event
+    made_two = record { seq = seq; asked = asked; told = Made (y ∷ z ∷ []) }
+
+    pub first_next : y ≡ Token (record { seq = seq.0; serial = tokens past seq.0 })
+    first_next = m.table.one ∙ rw (agrees.tokens seq.0) refl
+
+    pub second_next : z ≡ Token (record { seq = seq.0; serial = tokens past seq.0 + 1 })
+    second_next = m.table.other ∙ rw (agrees.tokens seq.0) refl
+
+    -- what is told is what was made
+    pub two_told : Made (y ∷ z ∷ []) ≡ data_made past seq.0
+    two_told =
+        ap (λ x. Made (x ∷ z ∷ [])) first_next
+        ∙ ap (λ x. Made (Token (record { seq = seq.0; serial = tokens past seq.0 }) ∷ x ∷ [])) second_next
+
+    pub first_new : has (made past) y ≡ false
+    first_new = rw first_next (new_token wire seqs past seq k (record { seq = seq.0; serial = tokens past seq.0 }) (omega arith))
+
+    pub second_new : has (made past) z ≡ false
+    second_new = rw second_next (new_token wire seqs past seq k (record { seq = seq.0; serial = tokens past seq.0 + 1 }) (omega arith))
+
+    no_first : (x : EndId) → same y (End x) ≡ false
+    no_first x = rw first_next refl
+
+    no_second : (x : EndId) → same z (End x) ≡ false
+    no_second x = rw second_next refl
+
+    peer_two : (x : EndId) → peer (made_two ∷ past) x ≡ peer past x
+    peer_two x = rw first_next refl
+
+    ends_two : (x : EndId) → end_in wire (made_two ∷ past) x ≡ end_in wire past x
+    ends_two x = end_still wire made_two past x (made_after wire made_two past (End x)
+        ∙ rw (no_first x, no_second x) (or_nothing (has (made past) (End x)))) refl refl refl (peer_two x)
+
+    shut_two : (x : Thing) → (same y x || same z x) ≡ true → has (gone past) x ≡ false
+    shut_two x h = go (same y x) (same z x) refl refl h
+      where
+        go : (c d : Bool) → same y x ≡ c → same z x ≡ d → (c || d) ≡ true → has (gone past) x ≡ false
+        go true d e f h = subst (λ w. has (gone past) w ≡ false) (same-true y x e) (not_gone wire past k y first_new)
+        go false true e f h = subst (λ w. has (gone past) w ≡ false) (same-true z x f) (not_gone wire past k z second_new)
+        go false false e f h = absurd cc
+
+    group_two : (x p q : Bool) → (x || (p || (q || false))) ≡ (x || (p || q))
+    group_two x p q = ap (λ r. x || (p || r)) (or_nothing q)
+
+    pub two_agrees : Agrees wire (made_two ∷ past) new endpoints
+    two_agrees = record {
+      ends = λ x. m.ends x ∙ (agrees.ends x ∙ sym (ends_two x));
+      outs = λ x. ap is_out (m.table.places x) ∙ (placed (same y x || same z x) (place_of old.table x) (has (out past) x) (agrees.outs x)
+          ∙ sym (out_after wire made_two past x ∙ group_two (has (out past) x && true) (same y x) (same z x)));
+      there = λ x. ap (λ (o : Option Place). is_some o) (m.table.places x)
+          ∙ (there_now (same y x || same z x) (place_of old.table x) (has (made past) x) (agrees.there x)
+          ∙ sym (made_after wire made_two past x ∙ group_two (has (made past) x) (same y x) (same z x)));
+      shuts = λ x. ap is_shut (m.table.places x) ∙ (shut_still (same y x || same z x) (place_of old.table x) (has (gone past) x) (agrees.shuts x)
+          (shut_two x) ∙ sym (ap (λ gs. has gs x) (gone_still wire made_two past refl)));
+      made = m.made ∙ (ap (λ n. n + 2) agrees.made ∙ sym (length-append (made past) (y ∷ z ∷ [])));
+      serials = λ s. m.table.ends s ∙ (agrees.serials s ∙ none s);
+      tokens = λ s. m.table.tokens s ∙ counted s;
+      routers = steady wire made_two past
+          (record { draws = λ x n. refl; answers = λ x n. refl; associates = λ x. refl; endpoints = λ x n. refl }) endpoints agrees.routers;
+    }
+      where
+        none : (s : ℕ) → serials past s ≡ serials (made_two ∷ past) s
+        none s =
+            let sum = sum_by-append (λ x. if is_end x && (seq_of x == s) then 1 else 0) (made past) (y ∷ z ∷ []) in
+            let e : (is_end y && (seq_of y == s)) ≡ false = rw first_next refl in
+            let f : (is_end z && (seq_of z == s)) ≡ false = rw second_next refl in
+            sym (sum ∙ rw (e, f) (omega arith))
+
+        twice : (b : Bool) (n : ℕ) → n + (0 + (if b then 1 else 0) + (if b then 1 else 0)) ≡ n + (if b then 2 else 0)
+        twice true n = omega arith
+        twice false n = omega arith
+
+        counted : (s : ℕ) → tokens_made old.table s + (if seq.0 == s then 2 else 0) ≡ tokens (made_two ∷ past) s
+        counted s =
+            let sum = sum_by-append (λ x. if not (is_end x) && (seq_of x == s) then 1 else 0) (made past) (y ∷ z ∷ []) in
+            let e : (not (is_end y) && (seq_of y == s)) ≡ (seq.0 == s) = rw first_next refl in
+            let f : (not (is_end z) && (seq_of z == s)) ≡ (seq.0 == s) = rw second_next refl in
+            ap (λ n. n + (if seq.0 == s then 2 else 0)) (agrees.tokens s) ∙ sym (sum ∙ rw (e, f) (twice (seq.0 == s) (tokens past s)))

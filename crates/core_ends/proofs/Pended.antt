@@ -198,7 +198,7 @@ module _ (s : State) (seq : SeqId) (able : HasRoom s seq) (y : EndId) (side : En
 
     pub associate_done : (new : State) (id : ℕ) (pending : Half) (mid : Routers) (names : List (EndpointName × Bool))
         → schema_of new ≡ schema_of s → new.seqs ≡ s.seqs → new.pipes ≡ s.pipes → new.rights.responders ≡ s.rights.responders
-        → new.notices ≡ s.notices → id ≡ own_id (router_at s.endpoints y)
+        → new.tables ≡ s.tables → id ≡ own_id (router_at s.endpoints y)
         → ((x : EndId) → IsSame (router_at s.endpoints x) (router_at mid x))
         → AssociatesAt (bound_on seq side interface) y mid new.endpoints
         → pending ≡ record { name = record { end = y; id = id }; side = other_side side; interface = interface }
@@ -324,7 +324,7 @@ module _ (s : State) (seq : SeqId) (able : HasRoom s seq) (p : PendingId) (t : S
 
     pub attach_done : (new : State) (pending : Half) → pending.name ≡ p
         → schema_of new ≡ schema_of s → new.seqs ≡ s.seqs → new.pipes ≡ s.pipes → new.rights.responders ≡ s.rights.responders
-        → new.notices ≡ s.notices → TurnsAt (in_state (states.Bound t)) p.end p.id s.endpoints new.endpoints
+        → new.tables ≡ s.tables → TurnsAt (in_state (states.Bound t)) p.end p.id s.endpoints new.endpoints
         → ((q : PendingId) → is_out new.rights.pendings q ≡ (is_out s.rights.pendings q && not (same_pending p q)))
         → new.log.events ≡ s.log.events ++ record { seq = seq; asked = asks.Attach p t; told = tells.Attached p.id } ∷ []
         → Done s new seq (commands.Attach pending t) (replies.Attached p.id)

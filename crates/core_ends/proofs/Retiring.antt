@@ -131,7 +131,7 @@ module _ (s : State) (seq : SeqId) (able : HasRoom s seq) (p : PendingId) where
 
     pub unsent_done : (new : State) (pending : Half) (noted told : List Thing) → p ≡ pending.name → noted ≡ [] → told ≡ []
         → schema_of new ≡ schema_of s → new.seqs ≡ s.seqs → new.pipes ≡ s.pipes → new.rights.responders ≡ s.rights.responders
-        → new.notices ≡ s.notices → TurnsAt marked p.end p.id s.endpoints new.endpoints
+        → new.tables ≡ s.tables → TurnsAt marked p.end p.id s.endpoints new.endpoints
         → ((q : PendingId) → is_out new.rights.pendings q ≡ (is_out s.rights.pendings q && not (same_pending p q)))
         → new.log.events ≡ s.log.events ++ record { seq = seq; asked = asks.Close (closings.Pending p); told = tells.Closed noted } ∷ []
         → Done s new seq (commands.Close (close.Pending pending)) (replies.Closed told)

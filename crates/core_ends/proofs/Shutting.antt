@@ -117,7 +117,7 @@ module _ (s : State) (seq : SeqId) (able : HasRoom s seq) (y : EndId) (id : ℕ)
         (shut_adds pipes e) (close_turns (wire_in s) (past_of s) seq s.endpoints after able.holds.agrees.routers y id [] t) able.holds.agrees
 
     pub shut_done : (new : State) (noted told : List Thing) → noted ≡ [] → told ≡ []
-        → schema_of new ≡ schema_of s → new.seqs ≡ s.seqs → new.rights ≡ s.rights → new.notices ≡ s.notices
+        → schema_of new ≡ schema_of s → new.seqs ≡ s.seqs → new.rights ≡ s.rights → new.tables ≡ s.tables
         → told_to s seq (asks.Close (closings.Endpoint y id)) ≡ tells.Closed []
         → EmitsTo (peer_of (end_of s.pipes.ends y)) (controls_at s.endpoints y (id ∷ [])) s.pipes new.pipes
         → TurnsAt (in_state states.Closed) y id s.endpoints new.endpoints

@@ -161,7 +161,7 @@ module _ (s : State) (seq : SeqId) (able : HasRoom s seq) (p : PendingId) (held 
       (adds_now pipes e) (closed_now after u) able.holds.agrees
 
   pub received_done : (new : State) (pending : Half) (noted told : List Thing) → p ≡ pending.name → noted ≡ [] → told ≡ []
-      → schema_of new ≡ schema_of s → new.seqs ≡ s.seqs → new.rights.responders ≡ s.rights.responders → new.notices ≡ s.notices
+      → schema_of new ≡ schema_of s → new.seqs ≡ s.seqs → new.rights.responders ≡ s.rights.responders → new.tables ≡ s.tables
       → EmitsUnless (is_closed (end_of s.pipes.ends p.end)) (peer_of (end_of s.pipes.ends p.end)) (controls_at s.endpoints p.end (p.id ∷ []))
       s.pipes new.pipes
       → TurnsAt (in_state states.Closed) p.end p.id s.endpoints new.endpoints

@@ -2,3 +2,4 @@
 pub mod Associating
 pub mod Attaching
 pub mod Unchanged
+pub mod Tokens

@@ -1,10 +1,11 @@
-//! Pipes, tokens and endpoints: they are made, bound and closed.
+//! Pipes, tokens, data pipes and endpoints: they are made, bound and closed.
 #![tactic(auto)]
 
 pub mod associate;
 pub mod attach;
 pub mod bind;
 mod close;
+pub mod data_pipes;
 pub mod join;
 pub mod mint;
 mod unsent;

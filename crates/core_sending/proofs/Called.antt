@@ -82,11 +82,12 @@ module _ (old : State) (seq : SeqId) (r : Request) (can : CanDo old seq (command
 
   -- the way of the call with these names
   abbrev pub way_named : CarriedNames → Result EndId Why
-  way_named ns = way seq r.end r.id r.prepared ns (all_own old.pipes old.rights.pendings ns) old.pipes old.endpoints
+  way_named ns = way seq r.end r.id r.prepared ns (all_own old.pipes old.rights.pendings ns) old.pipes old.tables.flows old.endpoints
 
   pub call_refused : (why : Why) → way_named names ≡ Err why → told_in old seq (command_of r) ≡ tells.No why
   call_refused why h =
-      way_refused (schema_of old) old.seqs (past_of old) k old.pipes old.endpoints can.able.holds.agrees can.able.holds.legal few_past can.able.holds.early
+      way_refused (schema_of old) old.seqs (past_of old) k old.pipes old.endpoints can.able.holds.agrees can.able.holds.legal few_past
+      old.tables.flows can.able.holds.tables.flows
       old.rights.pendings can.able.holds.pendings seq r.end r.id r.prepared can.prepared names r.moment why h
 
   -- what is asked, and what is told where it is sent
@@ -102,7 +103,8 @@ module _ (old : State) (seq : SeqId) (r : Request) (can : CanDo old seq (command
   module _ (x : EndId) (free : way_named names ≡ Ok x) where
     g : (is_response r.prepared.target.side ≡ false) × Fits (past_of old) old.pipes r.end r.prepared names x
     g =
-        goes (schema_of old) old.seqs (past_of old) k old.pipes old.endpoints can.able.holds.agrees can.able.holds.legal few_past can.able.holds.early
+        goes (schema_of old) old.seqs (past_of old) k old.pipes old.endpoints can.able.holds.agrees can.able.holds.legal few_past
+        old.tables.flows can.able.holds.tables.flows
         old.rights.pendings can.able.holds.pendings seq r.end r.id r.prepared can.prepared names r.moment x free
 
     -- its ids may be written
@@ -118,7 +120,8 @@ module _ (old : State) (seq : SeqId) (r : Request) (can : CanDo old seq (command
 
     sends : told_in old seq (command_of r) ≡ tells.Sent number (bytes_for number)
     sends =
-        way_sends (schema_of old) old.seqs (past_of old) k old.pipes old.endpoints can.able.holds.agrees can.able.holds.legal few_past can.able.holds.early
+        way_sends (schema_of old) old.seqs (past_of old) k old.pipes old.endpoints can.able.holds.agrees can.able.holds.legal few_past
+        old.tables.flows can.able.holds.tables.flows
         old.rights.pendings can.able.holds.pendings seq r.end r.id r.prepared can.prepared names r.moment x g.0 free
 
     known : Writes (wire_in old) (past_of old) r.end r.carried.handles × ((e : Endpoint) × Open (wire_in old) (past_of old) seq r.end r.id e)
@@ -145,7 +148,8 @@ module _ (old : State) (seq : SeqId) (r : Request) (can : CanDo old seq (command
 
     opens : (e : Endpoint) × (open_here ≡ Ok e)
     opens =
-        open_ok (schema_of old) old.seqs (past_of old) k old.pipes old.endpoints can.able.holds.agrees can.able.holds.legal few_past can.able.holds.early
+        open_ok (schema_of old) old.seqs (past_of old) k old.pipes old.endpoints can.able.holds.agrees can.able.holds.legal few_past
+        old.tables.flows can.able.holds.tables.flows
         old.rights.pendings can.able.holds.pendings seq r.end r.id r.prepared can.prepared names r.moment open_here x
         (passed (not (all_own old.pipes old.rights.pendings names)) NoName _ x free).1
 
@@ -187,7 +191,7 @@ module _ (old : State) (seq : SeqId) (r : Request) (can : CanDo old seq (command
     next_is request m false e f = e
 
     module _ (new : State) (schema : schema_of new ≡ schema_of old) (seqs : new.seqs ≡ old.seqs)
-        (kept : new.rights.responders ≡ old.rights.responders) (unnoticed : new.notices ≡ old.notices) where
+        (kept : new.rights.responders ≡ old.rights.responders) (unnoticed : new.tables ≡ old.tables) where
       abbrev reply_with : ℕ → List ℕ → Reply
       reply_with request bytes = replies.Sent request bytes
 

@@ -1,6 +1,8 @@
 -- What a call is told, by its way.
-use Rattle.core_state.specs.Early.{IsEarly}
-use Rattle.core_state.proofs.Early.{unbusy}
+use Rattle.data_pipe.specs.Agreement.{DataAgrees}
+use Rattle.data_pipe.specs.Table.{Lines}
+use Rattle.data_pipe.proofs.Busy.{busy_is}
+use Rattle.bind_model.proofs.DataLemmas.{data_kept}
 use Rattle.std.proofs.Common.{◌≡◌, ◌≤◌, ℕ, ℤ, ◌+◌, Bool, true, false, List, ◌∷◌, length, refl, sym, ap, ◌∙◌}
 use Rattle.std.specs.Prelude.{if◌then◌else◌, ◌&&◌, not, ◌==◌, is_some, Option, Some, None, Result, Ok, Err}
 use Rattle.std.specs.List.{list_all}
@@ -74,7 +76,8 @@ sealed_is schema prepared p id request moment ids = rw (← p.flags, ← p.paylo
 -- ## Calls
 
 module _ (schema : Schema) (seqs : ℕ) (past : List Event) (k : Kept (wire_of schema) past) (pipes : Contents) (endpoints : Routers)
-    (a : Agrees (wire_of schema) past pipes endpoints) (h : legal (wire_of schema) seqs past) (few : length past ≤ MAX_EVENTS) (young : IsEarly past)
+    (a : Agrees (wire_of schema) past pipes endpoints) (h : legal (wire_of schema) seqs past) (few : length past ≤ MAX_EVENTS)
+    (flows : Lines) (flow : DataAgrees past flows)
     (table : List (EndpointName × Bool)) (known : KnowsPendings past table)
     (seq : SeqId) (y : EndId) (id : ℕ) (prepared : Prepared) (p : IsPrepared schema prepared) (names : CarriedNames)
     (moment : Option ℤ) where
@@ -104,20 +107,20 @@ module _ (schema : Schema) (seqs : ℕ) (past : List Event) (k : Kept (wire_of s
       (and_right (machine.all_out past names.things) (machine.all_pending past names.pendings) e)
 
   opened_way : own_past ≡ true → has (made past) (End y) ≡ true → (r : Endpoint)
-      → told_of_way sent (way_open prepared names pipes endpoints y (Ok r)) ≡ first_of (tests_of r) sent
+      → told_of_way sent (way_open prepared names pipes flows endpoints y (Ok r)) ≡ first_of (tests_of r) sent
   opened_way own m r =
       test_if (is_receiver r.side) WrongSide _ _ sent
-      (test_not (asks_of r.interface prepared.target) WrongMethod (way_with prepared names pipes endpoints y r.peer_closed) _ sent
-      (with_told schema seqs past k pipes endpoints a h few prepared p names y r.peer_closed (outs own)
-      (unbusy (wire_of schema) seqs past h young names.things) m sent))
+      (test_not (asks_of r.interface prepared.target) WrongMethod (way_with prepared names pipes flows endpoints y r.peer_closed) _ sent
+      (with_told schema seqs past k pipes endpoints a h few prepared p names flows y r.peer_closed (outs own)
+      (busy_is (wire_of schema) seqs past h flows (data_kept (wire_of schema) seqs past h) flow names.things) m sent))
 
   each_way : own_past ≡ true → (o : Result Endpoint Why) → (has (made past) (End y) ≡ true)
-      → told_of_way sent (way_open prepared names pipes endpoints y o) ≡ told_of_opened o (λ r. first_of (tests_of r) sent)
+      → told_of_way sent (way_open prepared names pipes flows endpoints y o) ≡ told_of_opened o (λ r. first_of (tests_of r) sent)
   each_way own (Ok r) m = opened_way own m r
   each_way own (Err why) m = refl
 
   at_endpoint : (o : Option Endpoint) → endpoint_at (wire_of schema) past y id ≡ o
-      → told_of_way sent (if not own_past then Err NoName else way_open prepared names pipes endpoints y (opened seq (is_gone past y) id o))
+      → told_of_way sent (if not own_past then Err NoName else way_open prepared names pipes flows endpoints y (opened seq (is_gone past y) id o))
       ≡ called (wire_of schema) past seq y id outgoing o
   at_endpoint None e = go own_past
     where
@@ -126,18 +129,18 @@ module _ (schema : Schema) (seqs : ℕ) (past : List Event) (k : Kept (wire_of s
       go false = refl
   at_endpoint (Some r) e =
       let m : has (made past) (End y) ≡ true = bound_made (wire_of schema) past k (End y) (k.endpoints y id r e) in
-      test_own own_past NoName (way_open prepared names pipes endpoints y (opened seq (is_gone past y) id (Some r))) _ sent
+      test_own own_past NoName (way_open prepared names pipes flows endpoints y (opened seq (is_gone past y) id (Some r))) _ sent
       (λ own. each_way own (opened seq (is_gone past y) id (Some r)) m ∙ opened_tests (is_gone past y) seq id r tests_of sent)
 
   -- the way of the call, by whether its caller has all
   abbrev here : Result EndId Why
-  here = way seq y id prepared names (all_own pipes table names) pipes endpoints
+  here = way seq y id prepared names (all_own pipes table names) pipes flows endpoints
 
   way_told : told_of_way sent here ≡ answer (wire_of schema) seqs past seq (Call y id outgoing)
   way_told =
-      ap (λ (b : Bool). told_of_way sent (way seq y id prepared names b pipes endpoints))
+      ap (λ (b : Bool). told_of_way sent (way seq y id prepared names b pipes flows endpoints))
       (own_is schema seqs past k pipes endpoints a h few prepared p names table known)
-      ∙ (ap (λ (o : Result Endpoint Why). told_of_way sent (if not own_past then Err NoName else way_open prepared names pipes endpoints y o))
+      ∙ (ap (λ (o : Result Endpoint Why). told_of_way sent (if not own_past then Err NoName else way_open prepared names pipes flows endpoints y o))
       (ap (λ (b : Bool). opened seq b id (found_at endpoints y id)) (closed_is (wire_of schema) past k pipes endpoints a y)
       ∙ ap (λ (o : Option Endpoint). opened seq (is_gone past y) id o) (found_is a y id))
       ∙ at_endpoint (endpoint_at (wire_of schema) past y id) refl)
@@ -170,18 +173,18 @@ module _ (schema : Schema) (seqs : ℕ) (past : List Event) (k : Kept (wire_of s
   asked_right true false e = refl
   asked_right false c e = absurd cc
 
-  pub open_ok : (o : Result Endpoint Why) (x : EndId) → way_open prepared names pipes endpoints y o ≡ Ok x → (r : Endpoint) × (o ≡ Ok r)
+  pub open_ok : (o : Result Endpoint Why) (x : EndId) → way_open prepared names pipes flows endpoints y o ≡ Ok x → (r : Endpoint) × (o ≡ Ok r)
   open_ok (Err why) x e = absurd cc
   open_ok (Ok r) x e = (r, refl)
 
-  open_goes : own_past ≡ true → (o : Result Endpoint Why) (x : EndId) → way_open prepared names pipes endpoints y o ≡ Ok x
+  open_goes : own_past ≡ true → (o : Result Endpoint Why) (x : EndId) → way_open prepared names pipes flows endpoints y o ≡ Ok x
       → (is_response prepared.target.side ≡ false) × Fits past pipes y prepared names x
   open_goes own (Err why) x e = absurd cc
   open_goes own (Ok r) x e =
       let b = passed (is_receiver r.side) WrongSide _ x e in
       let c = passed (not (asks_of r.interface prepared.target)) WrongMethod _ x b.1 in (
         asked_right (prepared.target.interface == r.interface) (is_response prepared.target.side) c.0,
-        with_fits schema seqs past k pipes endpoints a h few prepared p names y r.peer_closed (outs own) x c.1,
+        with_fits schema seqs past k pipes endpoints a h few prepared p names flows y r.peer_closed (outs own) x c.1,
       )
 
   -- a call that is sent is a request, and what goes with it fits

@@ -44,13 +44,14 @@ use Rattle.core_state.specs.Agreement.{Agrees, is_out}
 use Rattle.core_state.specs.Routers.{Routers, found_at}
 use Rattle.core_sending.specs.steps.Calls.{outgoing_named}
 use Rattle.core_sending.specs.steps.Carrying.{all_fit, all_own, all_pending, fits, is_made_at, side_of, wrong_pipe}
-use Rattle.core_sending.specs.steps.Fitting.{suits, way_unless, way_with}
+use Rattle.core_sending.specs.steps.Fitting.{suits, way_with}
 use Rattle.core_state.specs.steps.Unsent.{is_received}
 use Rattle.core_state.specs.Placing.{all_out}
-use Rattle.core_sending.specs.steps.Ways.{way_at, way_to}
+use Rattle.core_sending.specs.steps.Ways.{busy_in, way_at, way_to, way_unless}
 use Rattle.core_sending.specs.declared.carried.CarriedNames.{CarriedNames}
 use Rattle.core_state.proofs.Facts.{closed_is, peer_is, unread_is}
 use Rattle.core_state.proofs.Steady.{found_is}
+use Rattle.data_pipe.specs.Table.{Lines}
 
 -- ## Tests, as the code has them and as the machine does
 
@@ -224,48 +225,53 @@ fit_apart endpoints ps wants h = go (all_fit endpoints ps wants) refl
 
 module _ (wire : Wire) (past : List Event) (k : Kept wire past) (pipes : Contents) (endpoints : Routers)
     (a : Agrees wire past pipes endpoints) (things : List Thing) where
-  pub last : busy past things ≡ None → (y : EndId) (done : Told) (peer_closed : Bool) → told_of_way done (way_at pipes peer_closed things (peer past y))
+  pub last : (flows : Lines) → busy past things ≡ busy_in flows things → (y : EndId) (done : Told) (peer_closed : Bool)
+      → told_of_way done (way_at pipes flows peer_closed things (peer past y))
       ≡ first_of (cannot_write wire past y peer_closed things) done
-  last free y done peer_closed =
+  last flows free y done peer_closed =
       rw (free, closed_is wire past k pipes endpoints a (peer past y), unread_is wire past k pipes endpoints a (peer past y))
       (test_if (has things (End (peer past y))) SelfSend _ _ done
+      (test_unless (busy_in flows things) _ _ done
       (test_if (is_gone past (peer past y) || peer_closed) Disconnected _ _ done
-      (test_if (nat_le MAX_UNREAD_MESSAGES (weighs (unread wire past (peer past y)))) Full (Ok (peer past y)) [] done refl)))
+      (test_if (nat_le MAX_UNREAD_MESSAGES (weighs (unread wire past (peer past y)))) Full (Ok (peer past y)) [] done refl))))
 
-  pub last_to : busy past things ≡ None → (y : EndId) → has (made past) (End y) ≡ true → (done : Told) (peer_closed : Bool)
-      → told_of_way done (way_to pipes peer_closed things (peer_of (end_of pipes.ends y)))
+  pub last_to : (flows : Lines) → busy past things ≡ busy_in flows things → (y : EndId) → has (made past) (End y) ≡ true → (done : Told) (peer_closed : Bool)
+      → told_of_way done (way_to pipes flows peer_closed things (peer_of (end_of pipes.ends y)))
       ≡ first_of (cannot_write wire past y peer_closed things) done
-  last_to free y m done peer_closed =
-      ap (λ (o : Option EndId). told_of_way done (way_to pipes peer_closed things o)) (peer_is wire past k pipes endpoints a y m) ∙ last free y done peer_closed
+  last_to flows free y m done peer_closed =
+      ap (λ (o : Option EndId). told_of_way done (way_to pipes flows peer_closed things o)) (peer_is wire past k pipes endpoints a y m)
+      ∙ last flows free y done peer_closed
 
   -- the handles of all are with callers
   pub outs_is : all_out pipes things ≡ machine.all_out past things
   outs_is = ap (λ b. b && is_distinct things) (all_same (λ (z : Thing). is_out (place_of pipes.table z)) (λ z. has (out past) z) a.outs things)
 
 -- the end that a message goes to
-module _ (pipes : Contents) (things : List Thing) where
-  at_is : (peer_closed : Bool) (z x : EndId) → way_at pipes peer_closed things z ≡ Ok x → z ≡ x
+module _ (pipes : Contents) (flows : Lines) (things : List Thing) where
+  at_is : (peer_closed : Bool) (z x : EndId) → way_at pipes flows peer_closed things z ≡ Ok x → z ≡ x
   at_is peer_closed z x h =
       let a = passed (has things (End z)) SelfSend _ x h in
-      let b = passed (is_closed (end_of pipes.ends z) || peer_closed) Disconnected _ x a.1 in
+      let o = passed_unless (busy_in flows things) _ x a.1 in
+      let b = passed (is_closed (end_of pipes.ends z) || peer_closed) Disconnected _ x o.1 in
       let c = passed (nat_le MAX_UNREAD_MESSAGES (weighs (unread_at pipes.ends z))) Full _ x b.1 in
       let d : ◌≡◌ {A = Result EndId Why} (Ok z) (Ok x) = c.1 in cc
 
   -- that end isn't full
-  at_room : (peer_closed : Bool) (z x : EndId) → way_at pipes peer_closed things z ≡ Ok x → weighs (unread_at pipes.ends x) < MAX_UNREAD_MESSAGES
+  at_room : (peer_closed : Bool) (z x : EndId) → way_at pipes flows peer_closed things z ≡ Ok x → weighs (unread_at pipes.ends x) < MAX_UNREAD_MESSAGES
   at_room peer_closed z x h =
       let a = passed (has things (End z)) SelfSend _ x h in
-      let b = passed (is_closed (end_of pipes.ends z) || peer_closed) Disconnected _ x a.1 in
+      let o = passed_unless (busy_in flows things) _ x a.1 in
+      let b = passed (is_closed (end_of pipes.ends z) || peer_closed) Disconnected _ x o.1 in
       let c = passed (nat_le MAX_UNREAD_MESSAGES (weighs (unread_at pipes.ends z))) Full _ x b.1 in
       subst (λ (w : EndId). weighs (unread_at pipes.ends w) < MAX_UNREAD_MESSAGES) (at_is peer_closed z x h)
       (leb-false MAX_UNREAD_MESSAGES (weighs (unread_at pipes.ends z)) c.0)
 
-  pub to_room : (peer_closed : Bool) (o : Option EndId) (x : EndId) → way_to pipes peer_closed things o ≡ Ok x
+  pub to_room : (peer_closed : Bool) (o : Option EndId) (x : EndId) → way_to pipes flows peer_closed things o ≡ Ok x
       → weighs (unread_at pipes.ends x) < MAX_UNREAD_MESSAGES
   to_room peer_closed None x h = absurd cc
   to_room peer_closed (Some z) x h = at_room peer_closed z x h
 
-  pub to_is : (peer_closed : Bool) (o : Option EndId) (x : EndId) → way_to pipes peer_closed things o ≡ Ok x → o ≡ Some x
+  pub to_is : (peer_closed : Bool) (o : Option EndId) (x : EndId) → way_to pipes flows peer_closed things o ≡ Ok x → o ≡ Some x
   to_is peer_closed None x h = absurd cc
   to_is peer_closed (Some z) x h = ap (λ (w : EndId). Some w) (at_is peer_closed z x h)
 
@@ -289,7 +295,7 @@ module _ (schema : Schema) (seqs : ℕ) (past : List Event) (k : Kept (wire_of s
         ∙ ap (λ (b : Bool). machine.all_out past names.things && (b && distinct_pendings names.pendings))
         (all_same (λ (q : PendingId). is_pending_out table q) (λ q. has_pending (pendings_out past) q) known names.pendings)
 
-  module _ (y : EndId) (peer_closed : Bool) (own : list_all (λ q. has_pending (pendings_out past) q) names.pendings ≡ true) where
+  module _ (flows : Lines) (y : EndId) (peer_closed : Bool) (own : list_all (λ q. has_pending (pendings_out past) q) names.pendings ≡ true) where
     found : (x : EndId) (id : ℕ) → found_at endpoints x id ≡ endpoint_at (wire_of schema) past x id
     found x id = found_is a x id
 
@@ -302,33 +308,33 @@ module _ (schema : Schema) (seqs : ℕ) (past : List Event) (k : Kept (wire_of s
         (fit_is (wire_of schema) seqs past h few endpoints found names.pendings ((wire_of schema).wants prepared.target (view prepared.value)) own))
 
     abbrev rest : Result EndId Why
-    rest = way_to pipes peer_closed names.things (peer_of (end_of pipes.ends y))
+    rest = way_to pipes flows peer_closed names.things (peer_of (end_of pipes.ends y))
 
     abbrev tests : List (Option Why)
     tests = cannot_write (wire_of schema) past y peer_closed names.things
 
-    pipe_tests : busy past names.things ≡ None → has (made past) (End y) ≡ true → (done : Told)
+    pipe_tests : busy past names.things ≡ busy_in flows names.things → has (made past) (End y) ≡ true → (done : Told)
         → told_of_way done (way_unless (wrong_pipe endpoints y names.pendings) rest) ≡ first_of (machine.wrong_pipe past y names.pendings ∷ tests) done
     pipe_tests free m done =
         ap (λ (o : Option Why). told_of_way done (way_unless o rest)) (pipe_is (wire_of schema) seqs past h few endpoints found y names.pendings own)
         ∙ test_unless (machine.wrong_pipe past y names.pendings) rest tests done
-        (last_to (wire_of schema) past k pipes endpoints a names.things free y m done peer_closed)
+        (last_to (wire_of schema) past k pipes endpoints a names.things flows free y m done peer_closed)
 
-    pub with_told : busy past names.things ≡ None → has (made past) (End y) ≡ true → (done : Told)
-        → told_of_way done (way_with prepared names pipes endpoints y peer_closed)
+    pub with_told : busy past names.things ≡ busy_in flows names.things → has (made past) (End y) ≡ true → (done : Told)
+        → told_of_way done (way_with prepared names pipes flows endpoints y peer_closed)
         ≡ first_of (wrong_tokens (wire_of schema) past (outgoing_named prepared names None) ∷ machine.wrong_pipe past y names.pendings ∷ tests) done
     with_told free m done =
         ap (λ (b : Bool). told_of_way done (if not b then Err WrongTokens else way_unless (wrong_pipe endpoints y names.pendings) rest)) suits_is
         ∙ test_not (tokens_right (wire_of schema) past (outgoing_named prepared names None)) WrongTokens
         (way_unless (wrong_pipe endpoints y names.pendings) rest) (machine.wrong_pipe past y names.pendings ∷ tests) done (pipe_tests free m done)
 
-    pub with_fits : (x : EndId) → way_with prepared names pipes endpoints y peer_closed ≡ Ok x → Fits past pipes y prepared names x
+    pub with_fits : (x : EndId) → way_with prepared names pipes flows endpoints y peer_closed ≡ Ok x → Fits past pipes y prepared names x
     with_fits x e =
         let t = passed (not (suits prepared names endpoints)) WrongTokens _ x e in
         let u = passed_unless (wrong_pipe endpoints y names.pendings) rest x t.1 in
         record {
-          peer = to_is pipes names.things peer_closed (peer_of (end_of pipes.ends y)) x u.1;
-          room = to_room pipes names.things peer_closed (peer_of (end_of pipes.ends y)) x u.1;
+          peer = to_is pipes flows names.things peer_closed (peer_of (end_of pipes.ends y)) x u.1;
+          room = to_room pipes flows names.things peer_closed (peer_of (end_of pipes.ends y)) x u.1;
           wanted = fit_length endpoints names.pendings prepared.endpoints.items
               (and_right (length names.things == prepared.handles) (all_fit endpoints names.pendings prepared.endpoints.items)
               (held_not (suits prepared names endpoints) t.0));

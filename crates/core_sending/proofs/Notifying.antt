@@ -43,6 +43,7 @@ use Rattle.end_notices.specs.Table.{AllSame, BecomesAt, Lines, notices_at}
 use Rattle.end_notices.proofs.Few.{few_flushes, few_queries}
 use Rattle.end_notices.proofs.Quieting.{all_notified, becomes_after}
 use Rattle.core_state.specs.Agreement.{Agrees, Holds, past_of, schema_of, wire_in}
+use Rattle.core_state.proofs.Tabled.{tables_noted}
 use Rattle.core_state.specs.Doing.{CanDo, Done, told_in}
 use Rattle.core_state.specs.Opens.{opened}
 use Rattle.core_state.specs.Placing.{PutsAll}
@@ -74,26 +75,26 @@ facts : (wire : Wire) (seqs : ℕ) (past : List Event) (seq : SeqId) (y : EndId)
 facts wire seqs past seq y notice told (notifies r o e w s f p) = (w, (r, o))
 
 -- the number of the next flush is the one that is told
-pub next_is : (s : State) → Holds s → (y : EndId) → (notices_at s.notices y).flushes + 1 ≡ length (flushed (past_of s) y) + 1
-next_is s h y = ap (λ (n : ℕ). n + 1) (h.notices y).flushes
+pub next_is : (s : State) → Holds s → (y : EndId) → (notices_at s.tables.notices y).flushes + 1 ≡ length (flushed (past_of s) y) + 1
+next_is s h y = ap (λ (n : ℕ). n + 1) (h.tables.notices y).flushes
 
 -- fewer than there may be events
 module _ (s : State) (h : Holds s) (few : length s.log.events < MAX_EVENTS) (y : EndId) where
   few_past : length (past_of s) < MAX_EVENTS
   few_past = omega (arith, few, length-reverse s.log.events)
 
-  pub queries_few : (id : ℕ) → (notices_at s.notices y).queries id < MAX_EVENTS
-  queries_few id = few_queries (past_of s) y (notices_at s.notices y) (h.notices y) few_past id
+  pub queries_few : (id : ℕ) → (notices_at s.tables.notices y).queries id < MAX_EVENTS
+  queries_few id = few_queries (past_of s) y (notices_at s.tables.notices y) (h.tables.notices y) few_past id
 
-  pub flushes_few : (notices_at s.notices y).flushes < MAX_EVENTS
-  flushes_few = few_flushes (past_of s) y (notices_at s.notices y) (h.notices y) few_past
+  pub flushes_few : (notices_at s.tables.notices y).flushes < MAX_EVENTS
+  flushes_few = few_flushes (past_of s) y (notices_at s.tables.notices y) (h.tables.notices y) few_past
 
 module _ (old : State) (seq : SeqId) (y : EndId) (notice : Notice) (can : CanDo old seq (commands.Notify y notice)) where
   k : Kept (wire_in old) (past_of old)
   k = kept (wire_in old) old.seqs (past_of old) can.able.holds.legal
 
   abbrev pub way : Result EndId Why
-  way = notice_way seq y notice old.pipes old.endpoints
+  way = notice_way seq y notice old.pipes old.tables.flows old.endpoints
 
   abbrev pub informed : Notified
   informed = told_of (past_of old) y notice
@@ -109,12 +110,13 @@ module _ (old : State) (seq : SeqId) (y : EndId) (notice : Notice) (can : CanDo 
       ∷ cannot_write (wire_in old) (past_of old) y (not (is_flush notice) && r.peer_closed) []
 
   from_told : has (made (past_of old)) (End y) ≡ true → (r : Endpoint)
-      → told_of_way done (notice_from notice old.pipes y r) ≡ first_of (tests_of r) done
+      → told_of_way done (notice_from notice old.pipes old.tables.flows y r) ≡ first_of (tests_of r) done
   from_told m r =
       test_if (not (is_flush notice) && is_receiver r.side) WrongSide
-      (way_to old.pipes (not (is_flush notice) && r.peer_closed) [] (peer_of (end_of old.pipes.ends y)))
+      (way_to old.pipes old.tables.flows (not (is_flush notice) && r.peer_closed) [] (peer_of (end_of old.pipes.ends y)))
       (cannot_write (wire_in old) (past_of old) y (not (is_flush notice) && r.peer_closed) []) done
-      (last_to (wire_in old) (past_of old) k old.pipes old.endpoints can.able.holds.agrees [] refl y m done (not (is_flush notice) && r.peer_closed))
+      (last_to (wire_in old) (past_of old) k old.pipes old.endpoints can.able.holds.agrees [] old.tables.flows refl y m done
+      (not (is_flush notice) && r.peer_closed))
       ∙ ap (λ (b : Bool). first_of (unless b WrongSide ∷ cannot_write (wire_in old) (past_of old) y (not (is_flush notice) && r.peer_closed) []) done)
       (turned (is_flush notice) (is_receiver r.side))
     where
@@ -123,12 +125,12 @@ module _ (old : State) (seq : SeqId) (y : EndId) (notice : Notice) (can : CanDo 
       turned false c = refl
 
   each_way : has (made (past_of old)) (End y) ≡ true → (o : Result Endpoint Why)
-      → told_of_way done (notice_at notice old.pipes y o) ≡ told_of_opened o (λ r. first_of (tests_of r) done)
+      → told_of_way done (notice_at notice old.pipes old.tables.flows y o) ≡ told_of_opened o (λ r. first_of (tests_of r) done)
   each_way m (Ok r) = from_told m r
   each_way m (Err why) = refl
 
   at_endpoint : (o : Option Endpoint) → endpoint_at (wire_in old) (past_of old) y (from_id notice) ≡ o
-      → told_of_way done (notice_at notice old.pipes y (opened seq (is_gone (past_of old) y) (from_id notice) o))
+      → told_of_way done (notice_at notice old.pipes old.tables.flows y (opened seq (is_gone (past_of old) y) (from_id notice) o))
       ≡ notified (wire_in old) (past_of old) seq y notice o
   at_endpoint None e = refl
   at_endpoint (Some r) e =
@@ -139,7 +141,7 @@ module _ (old : State) (seq : SeqId) (y : EndId) (notice : Notice) (can : CanDo 
 
   way_told : told_of_way done way ≡ told_in old seq (commands.Notify y notice)
   way_told =
-      ap (λ (o : Result Endpoint Why). told_of_way done (notice_at notice old.pipes y o))
+      ap (λ (o : Result Endpoint Why). told_of_way done (notice_at notice old.pipes old.tables.flows y o))
       (ap (λ (b : Bool). opened seq b (from_id notice) (found_at old.endpoints y (from_id notice)))
       (closed_is (wire_in old) (past_of old) k old.pipes old.endpoints can.able.holds.agrees y)
       ∙ ap (λ (o : Option Endpoint). opened seq (is_gone (past_of old) y) (from_id notice) o) (found_is can.able.holds.agrees y (from_id notice)))
@@ -165,13 +167,13 @@ module _ (old : State) (seq : SeqId) (y : EndId) (notice : Notice) (can : CanDo 
         bound_made (wire_in old) (past_of old) k (End y) (k.endpoints y (from_id notice) known.1.0 known.1.1.here)
 
     -- the end that it goes to is the peer, and isn't full
-    goes : (o : Result Endpoint Why) → notice_at notice old.pipes y o ≡ Ok x
+    goes : (o : Result Endpoint Why) → notice_at notice old.pipes old.tables.flows y o ≡ Ok x
         → (peer_of (end_of old.pipes.ends y) ≡ Some x) × (weighs (unread_at old.pipes.ends x) < MAX_UNREAD_MESSAGES)
     goes (Err why) e = absurd cc
     goes (Ok r) e =
         let b = passed (not (is_flush notice) && is_receiver r.side) WrongSide _ x e in (
-          to_is old.pipes [] (not (is_flush notice) && r.peer_closed) (peer_of (end_of old.pipes.ends y)) x b.1,
-          to_room old.pipes [] (not (is_flush notice) && r.peer_closed) (peer_of (end_of old.pipes.ends y)) x b.1,
+          to_is old.pipes old.tables.flows [] (not (is_flush notice) && r.peer_closed) (peer_of (end_of old.pipes.ends y)) x b.1,
+          to_room old.pipes old.tables.flows [] (not (is_flush notice) && r.peer_closed) (peer_of (end_of old.pipes.ends y)) x b.1,
         )
 
     pub room : weighs (unread_at old.pipes.ends x) < MAX_UNREAD_MESSAGES
@@ -227,10 +229,10 @@ module _ (old : State) (seq : SeqId) (y : EndId) (notice : Notice) (can : CanDo 
         → written ≡ record { bytes = written_control (control_of notice informed); handles = []; emitted = false }
         → schema_of new ≡ schema_of old → new.seqs ≡ old.seqs → new.rights ≡ old.rights → new.endpoints ≡ old.endpoints
         → Becomes x (with_message written) old.pipes new.pipes
-        → AllSame old.notices mid → BecomesAt (with_notice notice) y mid new.notices
+        → new.tables.flows ≡ old.tables.flows → AllSame old.tables.notices mid → BecomesAt (with_notice notice) y mid new.tables.notices
         → new.log.events ≡ old.log.events ++ record { seq = seq; asked = asks.Notify y notice; told = tells.Notified told } ∷ []
         → Done old new seq (commands.Notify y notice) (replies.Notified told)
-    notify_done new told written mid is w schema seqs unmoved same b reserved noted events =
+    notify_done new told written mid is w schema seqs unmoved same b unflowed reserved noted events =
         let lies : written ≡ message =
         w ∙ ap (λ (bytes : List ℕ). record { bytes = bytes; handles = []; emitted = false }) (sym (control_is (schema_of old) (control_of notice informed))) in
         subst (λ (t : Notified). Done old new seq (commands.Notify y notice) (replies.Notified t)) (sym is)
@@ -242,5 +244,7 @@ module _ (old : State) (seq : SeqId) (y : EndId) (notice : Notice) (can : CanDo 
         (subst (λ (tables : Routers). Agrees (wire_in old) (event ∷ past_of old) new.pipes tables) (sym same)
         (agrees_now new.pipes (subst (λ (m : Message). Becomes x (with_message m) old.pipes new.pipes) lies b)))
         tt
-        (all_notified (past_of old) seq y old.notices new.notices notice
-        (becomes_after (with_notice notice) y old.notices mid new.notices reserved noted) can.able.holds.notices))
+        (tables_noted event (past_of old) old.tables new.tables unflowed refl
+        (all_notified (past_of old) seq y old.tables.notices new.tables.notices notice
+        (becomes_after (with_notice notice) y old.tables.notices mid new.tables.notices reserved noted) can.able.holds.tables.notices)
+        can.able.holds.tables))

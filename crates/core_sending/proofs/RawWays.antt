@@ -1,5 +1,6 @@
 -- That raw bytes are refused or written, by their way.
-use Rattle.core_state.proofs.Early.{unbusy}
+use Rattle.data_pipe.proofs.Busy.{busy_is}
+use Rattle.bind_model.proofs.DataLemmas.{data_kept}
 use Rattle.std.proofs.Common.{◌≡◌, ◌<◌, ℕ, Bool, true, false, List, [], ◌∷◌, ◌++◌, length, refl, sym, ap, ◌∙◌, subst, arith}
 use Rattle.std.specs.Prelude.{if◌then◌else◌, ◌&&◌, not, nat_le, nat_lt, Option, Some, Result, Ok, Err, is_some}
 use Rattle.std.specs.List.{list_all}
@@ -100,15 +101,18 @@ module _ (old : State) (seq : SeqId) (r : RawBytes) (can : CanDo old seq (comman
   done = tells.Wrote (end_written r.handle)
 
   from_told : (z : Thing) → has (made (past_of old)) z ≡ true
-      → told_of_way (tells.Wrote (end_written z)) (raw_way_from z (length r.bytes) r.handles old.pipes)
+      → told_of_way (tells.Wrote (end_written z)) (raw_way_from z (length r.bytes) r.handles old.pipes old.tables.flows)
       ≡ wrote_at (wire_in old) (past_of old) z r.bytes r.handles
   from_told (Token t) m = refl
   from_told (End x) m =
       test_most (length r.bytes) MAX_RAW_BYTES TooLong _ _ (tells.Wrote x)
-      (test_most (length r.handles) MAX_RAW_HANDLES TooManyHandles (way_to old.pipes false r.handles (peer_of (end_of old.pipes.ends x)))
+      (test_most (length r.handles) MAX_RAW_HANDLES TooManyHandles (way_to old.pipes old.tables.flows false r.handles (peer_of (end_of old.pipes.ends x)))
       (cannot_write (wire_in old) (past_of old) x false r.handles) (tells.Wrote x)
       (last_to (wire_in old) (past_of old) k old.pipes old.endpoints can.able.holds.agrees r.handles
-      (unbusy (wire_in old) old.seqs (past_of old) can.able.holds.legal can.able.holds.early r.handles) x m (tells.Wrote x) false))
+      old.tables.flows
+      (busy_is (wire_in old) old.seqs (past_of old) can.able.holds.legal old.tables.flows
+      (data_kept (wire_in old) old.seqs (past_of old) can.able.holds.legal) can.able.holds.tables.flows r.handles)
+      x m (tells.Wrote x) false))
 
   out_first : own_past ≡ true → has (out (past_of old)) r.handle ≡ true
   out_first h =
@@ -116,43 +120,45 @@ module _ (old : State) (seq : SeqId) (r : RawBytes) (can : CanDo old seq (comman
       (and_left (has (out (past_of old)) r.handle && list_all (λ z. has (out (past_of old)) z) r.handles)
       (not (has r.handles r.handle) && is_distinct r.handles) h)
 
-  way_told : told_of_way done (raw_way r.handle r.bytes r.handles own old.pipes) ≡ told_in old seq (command_of r)
+  way_told : told_of_way done (raw_way r.handle r.bytes r.handles own old.pipes old.tables.flows) ≡ told_in old seq (command_of r)
   way_told =
-      ap (λ (b : Bool). told_of_way done (raw_way r.handle r.bytes r.handles b old.pipes)) own_is
-      ∙ test_first own_past (raw_way_from r.handle (length r.bytes) r.handles old.pipes) done (wrote_at (wire_in old) (past_of old) r.handle r.bytes r.handles)
+      ap (λ (b : Bool). told_of_way done (raw_way r.handle r.bytes r.handles b old.pipes old.tables.flows)) own_is
+      ∙ test_first own_past (raw_way_from r.handle (length r.bytes) r.handles old.pipes old.tables.flows) done
+      (wrote_at (wire_in old) (past_of old) r.handle r.bytes r.handles)
       (λ h. from_told r.handle (made_of r.handle (out_first h)))
 
-  pub raw_refused : (why : Why) → raw_way r.handle r.bytes r.handles own old.pipes ≡ Err why → told_in old seq (command_of r) ≡ tells.No why
+  pub raw_refused : (why : Why) → raw_way r.handle r.bytes r.handles own old.pipes old.tables.flows ≡ Err why → told_in old seq (command_of r) ≡ tells.No why
   raw_refused why h = sym way_told ∙ ap (λ (w : Result EndId Why). told_of_way done w) h
 
   -- ## What is written
 
-  module _ (x : EndId) (free : raw_way r.handle r.bytes r.handles own old.pipes ≡ Ok x) where
-    held : (not own ≡ false) × (raw_way_from r.handle (length r.bytes) r.handles old.pipes ≡ Ok x)
+  module _ (x : EndId) (free : raw_way r.handle r.bytes r.handles own old.pipes old.tables.flows ≡ Ok x) where
+    held : (not own ≡ false) × (raw_way_from r.handle (length r.bytes) r.handles old.pipes old.tables.flows ≡ Ok x)
     held = passed (not own) NoName _ x free
 
     writes_now : told_in old seq (command_of r) ≡ done
     writes_now = sym way_told ∙ ap (λ (w : Result EndId Why). told_of_way done w) free
 
     -- it is an end, and its peer is the end that the bytes go to
-    from_end : (z : Thing) → raw_way_from z (length r.bytes) r.handles old.pipes ≡ Ok x
+    from_end : (z : Thing) → raw_way_from z (length r.bytes) r.handles old.pipes old.tables.flows ≡ Ok x
         → (y : EndId) × (z ≡ End y) × (peer_of (end_of old.pipes.ends y) ≡ Some x)
     from_end (Token t) h = absurd cc
     from_end (End y) h =
         let a = passed (nat_lt MAX_RAW_BYTES (length r.bytes)) TooLong _ x h in
         let b = passed (nat_lt MAX_RAW_HANDLES (length r.handles)) TooManyHandles _ x a.1 in
-        (y, refl, to_is old.pipes r.handles false (peer_of (end_of old.pipes.ends y)) x b.1)
+        (y, refl, to_is old.pipes old.tables.flows r.handles false (peer_of (end_of old.pipes.ends y)) x b.1)
 
     here : (y : EndId) × (r.handle ≡ End y) × (peer_of (end_of old.pipes.ends y) ≡ Some x)
     here = from_end r.handle held.1
 
     -- that end isn't full
-    has_room : (z : Thing) → raw_way_from z (length r.bytes) r.handles old.pipes ≡ Ok x → weighs (unread_at old.pipes.ends x) < MAX_UNREAD_MESSAGES
+    has_room : (z : Thing) → raw_way_from z (length r.bytes) r.handles old.pipes old.tables.flows ≡ Ok x
+        → weighs (unread_at old.pipes.ends x) < MAX_UNREAD_MESSAGES
     has_room (Token t) h = absurd cc
     has_room (End y) h =
         let a = passed (nat_lt MAX_RAW_BYTES (length r.bytes)) TooLong _ x h in
         let b = passed (nat_lt MAX_RAW_HANDLES (length r.handles)) TooManyHandles _ x a.1 in
-        to_room old.pipes r.handles false (peer_of (end_of old.pipes.ends y)) x b.1
+        to_room old.pipes old.tables.flows r.handles false (peer_of (end_of old.pipes.ends y)) x b.1
 
     pub room : weighs (unread_at old.pipes.ends x) < MAX_UNREAD_MESSAGES
     room = has_room r.handle held.1
@@ -200,7 +206,7 @@ module _ (old : State) (seq : SeqId) (r : RawBytes) (can : CanDo old seq (comman
         can.able.holds.agrees)
 
     pub raw_done : (new : State) (things : List Thing) (message : Message) (mid : Contents) → schema_of new ≡ schema_of old → new.seqs ≡ old.seqs
-        → new.rights ≡ old.rights → new.notices ≡ old.notices → new.endpoints ≡ old.endpoints → things ≡ r.handles
+        → new.rights ≡ old.rights → new.tables ≡ old.tables → new.endpoints ≡ old.endpoints → things ≡ r.handles
         → message ≡ record { bytes = r.bytes; handles = things; emitted = false }
         → Becomes x (with_message message) old.pipes mid → PutsAll r.handles (places.Unread x) mid new.pipes
         → new.log.events ≡ old.log.events

@@ -82,11 +82,12 @@ module _ (old : State) (seq : SeqId) (r : Response) (can : CanDo old seq (comman
   abbrev pub way_named : CarriedNames → Result EndId Why
   way_named ns =
       way_back seq r.responder r.prepared ns (not (count_of old.rights.responders r.responder == 0) && all_own old.pipes old.rights.pendings ns)
-      old.pipes old.endpoints
+      old.pipes old.tables.flows old.endpoints
 
   pub answer_refused : (why : Why) → way_named names ≡ Err why → told_in old seq (command_of r) ≡ tells.No why
   answer_refused why h =
-      back_refused (schema_of old) old.seqs (past_of old) k old.pipes old.endpoints can.able.holds.agrees can.able.holds.legal few_past can.able.holds.early
+      back_refused (schema_of old) old.seqs (past_of old) k old.pipes old.endpoints can.able.holds.agrees can.able.holds.legal few_past
+      old.tables.flows can.able.holds.tables.flows
       old.rights.pendings can.able.holds.pendings old.rights.responders can.able.holds.responders seq r.responder r.prepared can.prepared names r.moment why h
 
   abbrev out : Outgoing
@@ -98,7 +99,8 @@ module _ (old : State) (seq : SeqId) (r : Response) (can : CanDo old seq (comman
   module _ (x : EndId) (free : way_named names ≡ Ok x) where
     g : (not (count_of old.rights.responders r.responder == 0) ≡ true) × Fits (past_of old) old.pipes r.responder.end r.prepared names x
     g =
-        back_goes (schema_of old) old.seqs (past_of old) k old.pipes old.endpoints can.able.holds.agrees can.able.holds.legal few_past can.able.holds.early
+        back_goes (schema_of old) old.seqs (past_of old) k old.pipes old.endpoints can.able.holds.agrees can.able.holds.legal few_past
+        old.tables.flows can.able.holds.tables.flows
         old.rights.pendings can.able.holds.pendings old.rights.responders can.able.holds.responders seq r.responder r.prepared can.prepared names r.moment
         x free
 
@@ -119,7 +121,8 @@ module _ (old : State) (seq : SeqId) (r : Response) (can : CanDo old seq (comman
 
     sends : told_in old seq (command_of r) ≡ tells.Sent r.responder.request bytes
     sends =
-        back_sends (schema_of old) old.seqs (past_of old) k old.pipes old.endpoints can.able.holds.agrees can.able.holds.legal few_past can.able.holds.early
+        back_sends (schema_of old) old.seqs (past_of old) k old.pipes old.endpoints can.able.holds.agrees can.able.holds.legal few_past
+        old.tables.flows can.able.holds.tables.flows
         old.rights.pendings can.able.holds.pendings old.rights.responders can.able.holds.responders seq r.responder r.prepared can.prepared names r.moment
         x free
 
@@ -143,7 +146,7 @@ module _ (old : State) (seq : SeqId) (r : Response) (can : CanDo old seq (comman
     there = ap (λ (o : Option PipeEnd). is_some o) (can.able.holds.agrees.ends x) ∙ rw (peer_here, k.peers r.responder.end made_here) refl
 
     module _ (new : State) (schema : schema_of new ≡ schema_of old) (seqs : new.seqs ≡ old.seqs) (same : new.endpoints ≡ old.endpoints)
-        (unnoticed : new.notices ≡ old.notices) where
+        (unnoticed : new.tables ≡ old.tables) where
       abbrev event_with : List ℕ → Event
       event_with told = event_of seq (command_of r) (replies.Sent r.responder.request told)
 
@@ -224,7 +227,7 @@ module _ (old : State) (seq : SeqId) (able : HasRoom old seq) (r : ResponderId) 
   closing_refused h = closing_told ∙ rw h refl
 
   pub closing_done : (new : State) → not (count_of old.rights.responders r == 0) ≡ true → schema_of new ≡ schema_of old → new.seqs ≡ old.seqs
-      → new.pipes ≡ old.pipes → new.endpoints ≡ old.endpoints → new.notices ≡ old.notices → new.rights.pendings ≡ old.rights.pendings
+      → new.pipes ≡ old.pipes → new.endpoints ≡ old.endpoints → new.tables ≡ old.tables → new.rights.pendings ≡ old.rights.pendings
       → ((q : ResponderId) → count_of new.rights.responders q + (if same_responder r q then 1 else 0) ≡ count_of old.rights.responders q)
       → (noted told : List Thing) → noted ≡ [] → told ≡ []
       → new.log.events ≡ old.log.events ++ record { seq = seq; asked = asks.Close (closings.Responder r); told = tells.Closed noted } ∷ []

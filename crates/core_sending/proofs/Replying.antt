@@ -1,6 +1,8 @@
 -- What an answer is told, by its way.
-use Rattle.core_state.specs.Early.{IsEarly}
-use Rattle.core_state.proofs.Early.{unbusy}
+use Rattle.data_pipe.specs.Agreement.{DataAgrees}
+use Rattle.data_pipe.specs.Table.{Lines}
+use Rattle.data_pipe.proofs.Busy.{busy_is}
+use Rattle.bind_model.proofs.DataLemmas.{data_kept}
 use Rattle.std.proofs.Common.{◌≡◌, ◌≤◌, ℕ, ℤ, Bool, true, false, List, ◌∷◌, length, refl, sym, ap, ◌∙◌}
 use Rattle.std.specs.Prelude.{if◌then◌else◌, ◌||◌, ◌&&◌, not, ◌==◌, Option, Some, None, Result, Ok, Err}
 use Rattle.std.specs.List.{list_all, list_any}
@@ -76,7 +78,8 @@ reached_tests : (gone : Bool) (seq : SeqId) (e : Endpoint) (tests : Endpoint →
 reached_tests gone seq e tests done = tested_is gone seq e e.state tests done
 
 module _ (schema : Schema) (seqs : ℕ) (past : List Event) (k : Kept (wire_of schema) past) (pipes : Contents) (endpoints : Routers)
-    (a : Agrees (wire_of schema) past pipes endpoints) (h : legal (wire_of schema) seqs past) (few : length past ≤ MAX_EVENTS) (young : IsEarly past)
+    (a : Agrees (wire_of schema) past pipes endpoints) (h : legal (wire_of schema) seqs past) (few : length past ≤ MAX_EVENTS)
+    (flows : Lines) (flow : DataAgrees past flows)
     (table : List (EndpointName × Bool)) (known : KnowsPendings past table)
     (counts : List (ResponderName × ℕ)) (c : CountsResponders (wire_of schema) past counts)
     (seq : SeqId) (r : ResponderId) (prepared : Prepared) (p : IsPrepared schema prepared) (names : CarriedNames)
@@ -131,21 +134,21 @@ module _ (schema : Schema) (seqs : ℕ) (past : List Event) (k : Kept (wire_of s
       group false c d = refl
 
   reached_way : own_past ≡ true → has (made past) (End r.end) ≡ true → (e : Endpoint)
-      → told_of_way done (way_reached r prepared names pipes endpoints (Ok e)) ≡ first_of (tests_of e) done
+      → told_of_way done (way_reached r prepared names pipes flows endpoints (Ok e)) ≡ first_of (tests_of e) done
   reached_way o m e =
-      ap (λ (b : Bool). told_of_way done (if not b then Err WrongMethod else way_with prepared names pipes endpoints r.end e.peer_closed)) answers_is
+      ap (λ (b : Bool). told_of_way done (if not b then Err WrongMethod else way_with prepared names pipes flows endpoints r.end e.peer_closed)) answers_is
       ∙ test_not (same_target prepared.target (record { interface = r.interface; method = r.method; side = Response })) WrongMethod
-      (way_with prepared names pipes endpoints r.end e.peer_closed) _ done
-      (with_told schema seqs past k pipes endpoints a h few prepared p names r.end e.peer_closed (outs o)
-      (unbusy (wire_of schema) seqs past h young names.things) m done)
+      (way_with prepared names pipes flows endpoints r.end e.peer_closed) _ done
+      (with_told schema seqs past k pipes endpoints a h few prepared p names flows r.end e.peer_closed (outs o)
+      (busy_is (wire_of schema) seqs past h flows (data_kept (wire_of schema) seqs past h) flow names.things) m done)
 
   each_way : own_past ≡ true → (o : Result Endpoint Why) → has (made past) (End r.end) ≡ true
-      → told_of_way done (way_reached r prepared names pipes endpoints o) ≡ told_of_opened o (λ e. first_of (tests_of e) done)
+      → told_of_way done (way_reached r prepared names pipes flows endpoints o) ≡ told_of_opened o (λ e. first_of (tests_of e) done)
   each_way held (Ok e) m = reached_way held m e
   each_way held (Err why) m = refl
 
   at_endpoint : (o : Option Endpoint) → endpoint_at (wire_of schema) past r.end r.id ≡ o
-      → told_of_way done (if not own_past then Err NoName else way_reached r prepared names pipes endpoints (reached seq (is_gone past r.end) o))
+      → told_of_way done (if not own_past then Err NoName else way_reached r prepared names pipes flows endpoints (reached seq (is_gone past r.end) o))
       ≡ answered_with (wire_of schema) past seq r outgoing o
   at_endpoint None e = go own_past
     where
@@ -154,17 +157,17 @@ module _ (schema : Schema) (seqs : ℕ) (past : List Event) (k : Kept (wire_of s
       go false = refl
   at_endpoint (Some e) f =
       let m : has (made past) (End r.end) ≡ true = bound_made (wire_of schema) past k (End r.end) (k.endpoints r.end r.id e f) in
-      test_own own_past NoName (way_reached r prepared names pipes endpoints (reached seq (is_gone past r.end) (Some e))) _ done
+      test_own own_past NoName (way_reached r prepared names pipes flows endpoints (reached seq (is_gone past r.end) (Some e))) _ done
       (λ o. each_way o (reached seq (is_gone past r.end) (Some e)) m ∙ reached_tests (is_gone past r.end) seq e tests_of done)
 
   -- the way of the answer, by whether its caller has all
   abbrev here : Result EndId Why
-  here = way_back seq r prepared names own pipes endpoints
+  here = way_back seq r prepared names own pipes flows endpoints
 
   way_told : told_of_way done here ≡ answer (wire_of schema) seqs past seq (Answer r outgoing)
   way_told =
-      ap (λ (b : Bool). told_of_way done (way_back seq r prepared names b pipes endpoints)) own_same
-      ∙ (ap (λ (o : Result Endpoint Why). told_of_way done (if not own_past then Err NoName else way_reached r prepared names pipes endpoints o))
+      ap (λ (b : Bool). told_of_way done (way_back seq r prepared names b pipes flows endpoints)) own_same
+      ∙ (ap (λ (o : Result Endpoint Why). told_of_way done (if not own_past then Err NoName else way_reached r prepared names pipes flows endpoints o))
       (ap (λ (b : Bool). reached seq b (found_at endpoints r.end r.id)) (closed_is (wire_of schema) past k pipes endpoints a r.end)
       ∙ ap (λ (o : Option Endpoint). reached seq (is_gone past r.end) o) (found_is a r.end r.id))
       ∙ at_endpoint (endpoint_at (wire_of schema) past r.end r.id) refl)
@@ -182,12 +185,12 @@ module _ (schema : Schema) (seqs : ℕ) (past : List Event) (k : Kept (wire_of s
 
   -- ## What its way says
 
-  reached_goes : own_past ≡ true → (o : Result Endpoint Why) (x : EndId) → way_reached r prepared names pipes endpoints o ≡ Ok x
+  reached_goes : own_past ≡ true → (o : Result Endpoint Why) (x : EndId) → way_reached r prepared names pipes flows endpoints o ≡ Ok x
       → Fits past pipes r.end prepared names x
   reached_goes held (Err why) x e = absurd cc
   reached_goes held (Ok f) x e =
       let b = passed (not (answers_to r prepared.target)) WrongMethod _ x e in
-      with_fits schema seqs past k pipes endpoints a h few prepared p names r.end f.peer_closed (outs held) x b.1
+      with_fits schema seqs past k pipes endpoints a h few prepared p names flows r.end f.peer_closed (outs held) x b.1
 
   -- the caller of an answer that is sent has its responder, and what goes with it fits
   pub back_goes : (x : EndId) → here ≡ Ok x → (not (count_of counts r == 0) ≡ true) × Fits past pipes r.end prepared names x

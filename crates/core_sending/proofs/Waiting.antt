@@ -22,6 +22,7 @@ use Rattle.end_notices.specs.Seen.{with_wait}
 use Rattle.end_notices.specs.Table.{BecomesAt}
 use Rattle.end_notices.proofs.Quieting.{all_waited}
 use Rattle.core_state.specs.Agreement.{Agrees, past_of, schema_of, wire_in}
+use Rattle.core_state.proofs.Tabled.{tables_noted}
 use Rattle.core_state.specs.Doing.{CanDo, Done, told_in}
 use Rattle.core_state.specs.Routers.{Routers}
 use Rattle.core_state.specs.declared.state.State.{State}
@@ -72,10 +73,11 @@ module _ (old : State) (seq : SeqId) (b a : EndId) (flush : ℕ) (can : CanDo ol
 
   pub pause_done : (new : State) → no_pause old seq b a ≡ None → schema_of new ≡ schema_of old → new.seqs ≡ old.seqs → new.rights ≡ old.rights
       → new.pipes ≡ old.pipes → new.endpoints ≡ old.endpoints
-      → BecomesAt (with_wait (record { end = a; flush = flush })) b old.notices new.notices
+      → new.tables.flows ≡ old.tables.flows
+      → BecomesAt (with_wait (record { end = a; flush = flush })) b old.tables.notices new.tables.notices
       → new.log.events ≡ old.log.events ++ event ∷ []
       → Done old new seq (commands.Pause b a flush) replies.Pausing
-  pause_done new free schema seqs unmoved pipes same waits events =
+  pause_done new free schema seqs unmoved pipes same unflowed waits events =
       finish_noting old new seq (commands.Pause b a flush) replies.Pausing can.able schema seqs unmoved
       (record { none = refl; handed = λ wire. refl; after = λ rs. refl; gives = refl; hands = refl; halves = λ wire past. refl })
       events (sym (ap told_of_why free) ∙ why_told)
@@ -86,4 +88,6 @@ module _ (old : State) (seq : SeqId) (b a : EndId) (flush : ℕ) (can : CanDo ol
       (record { draws = λ x id. refl; answers = λ x id. refl; associates = λ x. refl; endpoints = λ x id. refl })
       old.pipes old.endpoints can.able.holds.agrees)))
       tt
-      (all_waited (past_of old) seq b old.notices new.notices (record { end = a; flush = flush }) waits can.able.holds.notices)
+      (tables_noted event (past_of old) old.tables new.tables unflowed refl
+      (all_waited (past_of old) seq b old.tables.notices new.tables.notices (record { end = a; flush = flush }) waits can.able.holds.tables.notices)
+      can.able.holds.tables)

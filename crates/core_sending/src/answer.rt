@@ -156,7 +156,8 @@ fn way(
     names: &CarriedNames,
     own: bool,
 ) -> Result<EndId, Why>
-    ensures { result ≡ way_back seq response.now.responder response.now.prepared names.now own state.now.pipes state.now.endpoints }
+    ensures { result ≡ way_back seq response.now.responder response.now.prepared names.now own state.now.pipes state.now.tables.flows
+        state.now.endpoints }
 {
     if !own {
         return Err(Why::NoName);
@@ -196,7 +197,8 @@ fn send(
     requires same { names ≡ names_in response.carried }
     requires free { way_back seq response.responder response.prepared (names_in response.carried)
         (not (count_of state.old.rights.responders response.responder == 0)
-        && all_own state.old.pipes state.old.rights.pendings (names_in response.carried)) state.old.pipes state.old.endpoints ≡ Ok peer }
+        && all_own state.old.pipes state.old.rights.pendings (names_in response.carried)) state.old.pipes
+        state.old.tables.flows state.old.endpoints ≡ Ok peer }
     ensures done { IfOk result (λ reply. Done state.old state.new seq (command_of response) reply) }
     ensures undone { IfErr result (λ refused. Undone state.old state.new (command_of response) refused) }
 {

@@ -136,7 +136,8 @@ fn way(
     names: &CarriedNames,
     own: bool,
 ) -> Result<EndId, Why>
-    ensures { result ≡ way seq request.now.end request.now.id request.now.prepared names.now own state.now.pipes state.now.endpoints }
+    ensures { result ≡ way seq request.now.end request.now.id request.now.prepared names.now own state.now.pipes state.now.tables.flows
+        state.now.endpoints }
 {
     if !own {
         return Err(Why::NoName);
@@ -211,7 +212,8 @@ fn send(
     requires can { CanDo state.old seq (command_of request) }
     requires same { names ≡ names_in request.carried }
     requires free { way seq request.end request.id request.prepared (names_in request.carried)
-        (all_own state.old.pipes state.old.rights.pendings (names_in request.carried)) state.old.pipes state.old.endpoints ≡ Ok peer }
+        (all_own state.old.pipes state.old.rights.pendings (names_in request.carried)) state.old.pipes
+        state.old.tables.flows state.old.endpoints ≡ Ok peer }
     ensures done { IfOk result (λ reply. Done state.old state.new seq (command_of request) reply) }
     ensures undone { IfErr result (λ refused. Undone state.old state.new (command_of request) refused) }
 {

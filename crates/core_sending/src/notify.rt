@@ -64,22 +64,23 @@ fn is_flush(notice: Notice) -> bool
 
 /// The end that a notice goes to, or why it isn't written.
 fn way(state: &State, seq: SeqId, end: EndId, notice: Notice) -> Result<EndId, Why>
-    ensures { result ≡ notice_way seq end notice state.now.pipes state.now.endpoints }
+    ensures { result ≡ notice_way seq end notice state.now.pipes state.now.tables.flows state.now.endpoints }
 {
     let endpoint = open_at(state, seq, end, from_id(notice))?;
     let flush = is_flush(notice);
     if !flush && is_receiver(endpoint.side) {
         return Err(Why::WrongSide);
     }
-    way_to(&state.pipes, end, !flush && endpoint.peer_closed, &[])
+    let peer_closed = !flush && endpoint.peer_closed;
+    way_to(&state.pipes, &state.tables.flows, end, peer_closed, &[])
 }
 
 /// The number of the next flush of an end.
 fn next_flush(state: &State, end: EndId) -> u32
-    requires { (notices_at state.now.notices end).flushes < MAX_EVENTS }
-    ensures { result ≡ (notices_at state.now.notices end).flushes + 1 }
+    requires { (notices_at state.now.tables.notices end).flushes < MAX_EVENTS }
+    ensures { result ≡ (notices_at state.now.tables.notices end).flushes + 1 }
 {
-    state.notices.flushes(end) + 1
+    state.tables.notices.flushes(end) + 1
 }
 
 /// What is told of a notice that an end writes.
@@ -132,7 +133,7 @@ fn write(
     peer: EndId,
 ) -> Result<Reply, Refused>
     requires can { CanDo state.old seq (Command.Notify end notice) }
-    requires free { notice_way seq end notice state.old.pipes state.old.endpoints ≡ Ok peer }
+    requires free { notice_way seq end notice state.old.pipes state.old.tables.flows state.old.endpoints ≡ Ok peer }
     ensures done { IfOk result (λ reply. Done state.old state.new seq (Command.Notify end notice) reply) }
     ensures undone { IfErr result (λ refused. Undone state.old state.new (Command.Notify end notice) refused) }
 {
@@ -140,13 +141,13 @@ fn write(
     let Ok(message) = message_of(alloc, control_of(notice, told)) else {
         return Err(Refused::Memory(Command::Notify(end, notice)));
     };
-    let Ok(()) = state.notices.reserve(alloc, end, notice) else {
+    let Ok(()) = state.tables.notices.reserve(alloc, end, notice) else {
         return Err(Refused::Memory(Command::Notify(end, notice)));
     };
     let Ok(()) = put_message(&mut state.pipes, peer, message) else {
         return Err(Refused::Memory(Command::Notify(end, notice)));
     };
-    state.notices.note(end, notice);
+    state.tables.notices.note(end, notice);
     state.log.push_reserved(Event {
         seq,
         asked: Asked::Notify(end, notice),

@@ -104,7 +104,11 @@ fn wait(
     ensures done { IfOk result (λ reply. Done state.old state.new seq (Command.Pause end other flush) reply) }
     ensures undone { IfErr result (λ refused. Undone state.old state.new (Command.Pause end other flush) refused) }
 {
-    let Ok(()) = state.notices.wait(alloc, end, Wait { end: other, flush }) else {
+    let Ok(()) = state
+        .tables
+        .notices
+        .wait(alloc, end, Wait { end: other, flush })
+    else {
         return Err(Refused::Memory(Command::Pause(end, other, flush)));
     };
     state.log.push_reserved(Event {

@@ -78,7 +78,7 @@ fn write_from(
     let Ok(own) = all_out_with(alloc, &state.pipes, raw.handle.thing(), things.as_slice()) else {
         return Err(Refused::Memory(raw.into_command()));
     };
-    match way(&state.pipes, &raw, things.as_slice(), own) {
+    match way(state, &raw, things.as_slice(), own) {
         Ok(peer) => write(state, alloc, seq, raw, things, peer),
         Err(why) => match raw.bytes.copy(alloc) {
             Ok(bytes) => {
@@ -106,8 +106,8 @@ fn all_out_with(
 }
 
 /// The end that raw bytes go to from a thing, or why they aren't written.
-fn way_from(pipes: &Pipes, thing: Thing, bytes: usize, things: &[Thing]) -> Result<EndId, Why>
-    ensures { result ≡ raw_way_from thing bytes things.now pipes.now }
+fn way_from(state: &State, thing: Thing, bytes: usize, things: &[Thing]) -> Result<EndId, Why>
+    ensures { result ≡ raw_way_from thing bytes things.now state.now.pipes state.now.tables.flows }
 {
     let end = match thing {
         Thing::End(end) => end,
@@ -119,17 +119,17 @@ fn way_from(pipes: &Pipes, thing: Thing, bytes: usize, things: &[Thing]) -> Resu
     if things.len() > MAX_RAW_HANDLES {
         return Err(Why::TooManyHandles);
     }
-    way_to(pipes, end, false, things)
+    way_to(&state.pipes, &state.tables.flows, end, false, things)
 }
 
 /// The end that raw bytes go to, or why they aren't written. It is told whether the caller has all handles.
-fn way(pipes: &Pipes, raw: &RawBytes, things: &[Thing], own: bool) -> Result<EndId, Why>
-    ensures { result ≡ raw_way raw.now.handle raw.now.bytes things.now own pipes.now }
+fn way(state: &State, raw: &RawBytes, things: &[Thing], own: bool) -> Result<EndId, Why>
+    ensures { result ≡ raw_way raw.now.handle raw.now.bytes things.now own state.now.pipes state.now.tables.flows }
 {
     if !own {
         return Err(Why::NoName);
     }
-    way_from(pipes, raw.handle.thing(), raw.bytes.len(), things)
+    way_from(state, raw.handle.thing(), raw.bytes.len(), things)
 }
 
 /// The end that a thing is; no token is written from.
@@ -172,7 +172,8 @@ fn write(
 ) -> Result<Reply, Refused>
     requires can { CanDo state.old seq (command_of raw) }
     requires same { things ≡ raw.handles }
-    requires free { raw_way raw.handle raw.bytes raw.handles (all_out_with state.old.pipes raw.handle raw.handles) state.old.pipes ≡ Ok peer }
+    requires free { raw_way raw.handle raw.bytes raw.handles (all_out_with state.old.pipes raw.handle raw.handles) state.old.pipes
+        state.old.tables.flows ≡ Ok peer }
     ensures done { IfOk result (λ reply. Done state.old state.new seq (command_of raw) reply) }
     ensures undone { IfErr result (λ refused. Undone state.old state.new (command_of raw) refused) }
 {

@@ -15,6 +15,7 @@ use crate::carried::CarriedNames;
 use crate::fitting::{all_fit, wrong_pipe};
 use bind_model::{Outgoing, Parameters, PendingId, Why};
 use core_state::{Routers, State, contains, copy_value};
+use data_pipe::DataTable;
 use handle_table::Thing;
 use message_pipe::{Message, Pipes, PushRefused};
 use mj_base::{EndId, Items};
@@ -22,11 +23,20 @@ use std::alloc::{AllocError, Global};
 use wire_encoder::{Head, Prepared, seal};
 
 /// The end that a message with these handles goes to, unless nothing can be written there.
-fn way_at(pipes: &Pipes, peer: EndId, peer_closed: bool, things: &[Thing]) -> Result<EndId, Why>
-    ensures { result ≡ way_at pipes.now peer_closed things.now peer }
+fn way_at(
+    pipes: &Pipes,
+    flows: &DataTable,
+    peer: EndId,
+    peer_closed: bool,
+    things: &[Thing],
+) -> Result<EndId, Why>
+    ensures { result ≡ way_at pipes.now flows.now peer_closed things.now peer }
 {
     if contains(things, Thing::End(peer)) {
         return Err(Why::SelfSend);
+    }
+    if let Some(token) = flows.first_begun(things) {
+        return Err(Why::Busy(token));
     }
     if pipes.is_closed(peer) || peer_closed {
         return Err(Why::Disconnected);
@@ -40,15 +50,16 @@ fn way_at(pipes: &Pipes, peer: EndId, peer_closed: bool, things: &[Thing]) -> Re
 /// The end that a message from another goes to, unless nothing can be written there.
 pub(crate) fn way_to(
     pipes: &Pipes,
+    flows: &DataTable,
     end: EndId,
     peer_closed: bool,
     things: &[Thing],
 ) -> Result<EndId, Why>
-    ensures { result ≡ way_to pipes.now peer_closed things.now (peer_of (end_of pipes.now.ends end)) }
+    ensures { result ≡ way_to pipes.now flows.now peer_closed things.now (peer_of (end_of pipes.now.ends end)) }
 {
     match pipes.peer(end) {
         None => Err(Why::NoName),
-        Some(peer) => way_at(pipes, peer, peer_closed, things),
+        Some(peer) => way_at(pipes, flows, peer, peer_closed, things),
     }
 }
 
@@ -73,14 +84,20 @@ pub(crate) fn way_with(
     end: EndId,
     peer_closed: bool,
 ) -> Result<EndId, Why>
-    ensures { result ≡ way_with prepared.now names.now state.now.pipes state.now.endpoints end peer_closed }
+    ensures { result ≡ way_with prepared.now names.now state.now.pipes state.now.tables.flows state.now.endpoints end peer_closed }
 {
     if !suits(prepared, names, &state.endpoints) {
         return Err(Why::WrongTokens);
     }
     match wrong_pipe(&state.endpoints, end, names.pendings.as_slice()) {
         Some(why) => Err(why),
-        None => way_to(&state.pipes, end, peer_closed, names.things.as_slice()),
+        None => way_to(
+            &state.pipes,
+            &state.tables.flows,
+            end,
+            peer_closed,
+            names.things.as_slice(),
+        ),
     }
 }
 

@@ -10,18 +10,15 @@ use Rattle.bind_model.specs.WireOf.{wire_of}
 use Rattle.bind_model.specs.Replies.{legal, responders_out}
 use Rattle.bind_model.specs.Plain.{asked_of, told_of, HandsBack, HandsPendings, HandsResponders}
 use Rattle.bind_model.specs.Responders.{CountsResponders}
-use Rattle.core_state.specs.Agreement.{Agrees, past_of, schema_of, wire_in}
+use Rattle.core_state.specs.Agreement.{Agrees, TablesAgree, past_of, schema_of, wire_in}
 use Rattle.core_state.specs.Doing.{HasRoom, Done, told_in}
 use Rattle.bind_model.specs.declared.commands.Command.{Command}
 use Rattle.bind_model.specs.declared.commands.Reply.{Reply}
 use Rattle.bind_model.specs.Pendings.{KnowsPendings}
 use Rattle.core_state.specs.declared.state.Rights.{Rights}
 use Rattle.core_state.specs.declared.state.State.{State}
-use Rattle.core_state.specs.Early.{IsEarly}
-use Rattle.end_notices.specs.Agreement.{AllAgree as NoticesAgree}
-use Rattle.end_notices.specs.Table.{Lines}
-use Rattle.end_notices.proofs.Quieting.{all_quiet, stirs}
-use Rattle.core_state.proofs.Early.{early}
+use Rattle.core_state.specs.declared.tables.Tables.{Tables}
+use Rattle.core_state.proofs.Tabled.{stirs_any, tables_quiet}
 use Rattle.core_state.proofs.Quiet.{IsQuiet, counts_still, pendings_still}
 
 reverse-snoc : (events : List Event) (event : Event) → reverse (events ++ event ∷ []) ≡ event ∷ reverse events
@@ -48,9 +45,9 @@ module _ (old new : State) (seq : SeqId) (command : Command) (reply : Reply) whe
       → HandsResponders (wire_in old) command reply
       → KnowsPendings (event_of seq command reply ∷ past_of old) new.rights.pendings
       → HandsPendings (wire_in old) (event_of seq command reply ∷ past_of old) command reply
-      → NoticesAgree (event_of seq command reply ∷ past_of old) new.notices
+      → TablesAgree (event_of seq command reply ∷ past_of old) new.tables
       → Done old new seq command reply
-  finish_with can schema seqs events told agrees responders back hands pendings halves notices =
+  finish_with can schema seqs events told agrees responders back hands pendings halves tables =
       let past : past_of new ≡ event_of seq command reply ∷ past_of old = ap reverse events ∙ reverse-snoc old.log.events (event_of seq command reply) in
       record {
         holds = record {
@@ -61,13 +58,12 @@ module _ (old new : State) (seq : SeqId) (command : Command) (reply : Reply) whe
           agrees =
               subst (λ (w : Schema). Agrees (wire_of w) (past_of new) new.pipes new.endpoints) (sym schema)
               (subst (λ (p : List Event). Agrees (wire_in old) p new.pipes new.endpoints) (sym past) agrees);
-          notices = subst (λ (p : List Event). NoticesAgree p new.notices) (sym past) notices;
+          tables = subst (λ (p : List Event). TablesAgree p new.tables) (sym past) tables;
           responders =
               subst (λ (w : Schema). CountsResponders (wire_of w) (past_of new) new.rights.responders) (sym schema)
               (subst (λ (p : List Event). CountsResponders (wire_in old) p new.rights.responders) (sym past) responders);
           pendings = subst (λ (p : List Event). KnowsPendings p new.rights.pendings) (sym past) pendings;
           few = let n = can.few in omega (arith, ap length events, length-append old.log.events (event_of seq command reply ∷ []));
-          early = subst (λ (p : List Event). IsEarly p) (sym past) (early command, can.holds.early);
         };
         schema = schema;
         seqs = seqs;
@@ -79,12 +75,12 @@ module _ (old new : State) (seq : SeqId) (command : Command) (reply : Reply) whe
         few = can.few;
       }
 
-  -- what ends keep of controls still agrees, where the event is of none that they write
-  pub unstirred : HasRoom old seq → new.notices ≡ old.notices → stirs (told_of reply) (asked_of command) ≡ false
-      → NoticesAgree (event_of seq command reply ∷ past_of old) new.notices
+  -- what is kept of controls and of data pipes still agrees, where the event is of neither
+  pub unstirred : HasRoom old seq → new.tables ≡ old.tables → stirs_any (told_of reply) (asked_of command) ≡ false
+      → TablesAgree (event_of seq command reply ∷ past_of old) new.tables
   unstirred can same still =
-      subst (λ (lines : Lines). NoticesAgree (event_of seq command reply ∷ past_of old) lines) (sym same)
-      (all_quiet (event_of seq command reply) (past_of old) old.notices still can.holds.notices)
+      subst (λ (tables : Tables). TablesAgree (event_of seq command reply ∷ past_of old) tables) (sym same)
+      (tables_quiet (event_of seq command reply) (past_of old) old.tables still can.holds.tables)
 
   -- where no right moves
   pub finish_noting : HasRoom old seq
@@ -96,9 +92,9 @@ module _ (old new : State) (seq : SeqId) (command : Command) (reply : Reply) whe
       → told_of reply ≡ told_in old seq command
       → Agrees (wire_in old) (event_of seq command reply ∷ past_of old) new.pipes new.endpoints
       → HandsBack command reply
-      → NoticesAgree (event_of seq command reply ∷ past_of old) new.notices
+      → TablesAgree (event_of seq command reply ∷ past_of old) new.tables
       → Done old new seq command reply
-  finish_noting can schema seqs same quiet events told agrees back notices =
+  finish_noting can schema seqs same quiet events told agrees back tables =
       finish_with can schema seqs events told agrees
       (subst (λ (rights : Rights). CountsResponders (wire_in old) (event_of seq command reply ∷ past_of old) rights.responders) (sym same)
       (counts_still (wire_in old) (event_of seq command reply) (past_of old) old.rights.responders (quiet.handed (wire_in old))
@@ -108,16 +104,16 @@ module _ (old new : State) (seq : SeqId) (command : Command) (reply : Reply) whe
       (subst (λ (rights : Rights). KnowsPendings (event_of seq command reply ∷ past_of old) rights.pendings) (sym same)
       (pendings_still (event_of seq command reply) (past_of old) old.rights.pendings quiet.gives quiet.hands can.holds.pendings))
       (quiet.halves (wire_in old) (event_of seq command reply ∷ past_of old))
-      notices
+      tables
 
-  -- and the event is of no control that ends write
+  -- and the event is of no control that ends write, and of no data pipe
   pub finish : HasRoom old seq
       → schema_of new ≡ schema_of old
       → new.seqs ≡ old.seqs
       → new.rights ≡ old.rights
-      → new.notices ≡ old.notices
+      → new.tables ≡ old.tables
       → IsQuiet command reply
-      → stirs (told_of reply) (asked_of command) ≡ false
+      → stirs_any (told_of reply) (asked_of command) ≡ false
       → new.log.events ≡ old.log.events ++ event_of seq command reply ∷ []
       → told_of reply ≡ told_in old seq command
       → Agrees (wire_in old) (event_of seq command reply ∷ past_of old) new.pipes new.endpoints

@@ -17,5 +17,5 @@ pub mod Parted
 pub mod Numbers
 pub mod Quiet
 pub mod Responding
-pub mod Early
 pub mod Pausing
+pub mod Tabled

@@ -14,7 +14,7 @@ use Rattle.end_notices.specs.declared.notices.Notices.{Notices}
 use Rattle.end_notices.specs.declared.waits.Wait.{Wait}
 use Rattle.end_notices.proofs.Quieting.{all_forgot}
 use Rattle.end_notices.proofs.Stepping.{says}
-use Rattle.core_state.specs.Agreement.{Holds, past_of, wire_in}
+use Rattle.core_state.specs.Agreement.{Holds, past_of, wire_in, with_notices}
 use Rattle.core_state.specs.Forgets.{StaysTrue}
 use Rattle.core_state.specs.steps.Paused.{is_met_by, is_met_in, unmet_in}
 use Rattle.core_state.specs.declared.state.State.{State}
@@ -23,9 +23,9 @@ use Rattle.core_state.proofs.Facts.{closed_is}
 module _ (s : State) (h : Holds s) where
   met_is : (w : Wait) → is_met_in s w ≡ is_met (past_of s) (wait_of w)
   met_is w =
-      ap (λ (b : Bool). b || (notices_at s.notices w.end).met w.flush)
+      ap (λ (b : Bool). b || (notices_at s.tables.notices w.end).met w.flush)
       (closed_is (wire_in s) (past_of s) (kept (wire_in s) s.seqs (past_of s) h.legal) s.pipes s.endpoints h.agrees w.end)
-      ∙ ap (λ (b : Bool). is_gone (past_of s) w.end || b) ((h.notices w.end).met w.flush)
+      ∙ ap (λ (b : Bool). is_gone (past_of s) w.end || b) ((h.tables.notices w.end).met w.flush)
 
   unmet_is : (ws : List Wait) → unmet_in s ws ≡ first_unmet (past_of s) (map wait_of ws)
   unmet_is [] = refl
@@ -34,11 +34,11 @@ module _ (s : State) (h : Holds s) where
       ∙ ap (λ (o : Option EndId). if is_met (past_of s) (wait_of w) then o else Some w.end) (unmet_is ws)
 
   -- the first wait of an end that isn't met
-  pub paused_is : (x : EndId) → unmet_in s (notices_at s.notices x).waits ≡ first_unmet (past_of s) (waits (past_of s) x)
-  paused_is x = unmet_is (notices_at s.notices x).waits ∙ sym (says (past_of s) x (notices_at s.notices x) (h.notices x)).paused
+  pub paused_is : (x : EndId) → unmet_in s (notices_at s.tables.notices x).waits ≡ first_unmet (past_of s) (waits (past_of s) x)
+  paused_is x = unmet_is (notices_at s.tables.notices x).waits ∙ sym (says (past_of s) x (notices_at s.tables.notices x) (h.tables.notices x)).paused
 
   -- the same, by the line of the end
-  pub paused_at : (x : EndId) (o : Option Notices) → o ≡ line_of s.notices x
+  pub paused_at : (x : EndId) (o : Option Notices) → o ≡ line_of s.tables.notices x
       → unmet_in s (seen_in o).waits ≡ first_unmet (past_of s) (waits (past_of s) x)
   paused_at x o e = ap (λ (line : Option Notices). unmet_in s (seen_in line).waits) e ∙ paused_is x
 
@@ -60,14 +60,16 @@ pub stays_after : (pipes : Contents) (old mid new : Lines) → StaysTrue pipes o
 stays_after pipes old mid new first second past closed all = second past closed (first past closed all)
 
 -- so a state holds in which no more than that changed
-pub still_holds : (s : State) (lines : Lines) → Holds s → StaysTrue s.pipes s.notices lines → Holds (record s { notices = lines })
+pub still_holds : (s : State) (lines : Lines) → Holds s → StaysTrue s.pipes s.tables.notices lines → Holds (with_notices s lines)
 still_holds s lines h stays = record {
   legal = h.legal;
   agrees = h.agrees;
-  notices = stays (past_of s) (λ x.
-      closed_is (wire_in s) (past_of s) (kept (wire_in s) s.seqs (past_of s) h.legal) s.pipes s.endpoints h.agrees x) h.notices;
+  tables = record {
+    notices = stays (past_of s) (λ x.
+        closed_is (wire_in s) (past_of s) (kept (wire_in s) s.seqs (past_of s) h.legal) s.pipes s.endpoints h.agrees x) h.tables.notices;
+    flows = h.tables.flows;
+  };
   responders = h.responders;
   pendings = h.pendings;
   few = h.few;
-  early = h.early;
 }

@@ -106,20 +106,19 @@ unseen wire past pipes before after s a = record {
 
 -- so a command that changed no more than that comes back
 pub undone : (s : State) (pipes : Contents) (after : Routers) (lines : Lines) (command back : Command) → Holds s → pipes ≡ s.pipes
-    → ((x : EndId) → IsSame (router_at s.endpoints x) (router_at after x)) → AllSame s.notices lines → back ≡ command
+    → ((x : EndId) → IsSame (router_at s.endpoints x) (router_at after x)) → AllSame s.tables.notices lines → back ≡ command
     → length s.log.events < MAX_EVENTS
-    → Undone s (record s { pipes = pipes; endpoints = after; notices = lines }) command (Memory back)
+    → Undone s (record s { pipes = pipes; endpoints = after; tables = record s.tables { notices = lines } }) command (Memory back)
 undone s pipes after lines command back h e same alike given few = record {
   holds = record {
     legal = h.legal;
     agrees =
         subst (λ (p : Contents). Agrees (wire_in s) (past_of s) p after) (sym e)
         (unseen (wire_in s) (past_of s) s.pipes s.endpoints after same h.agrees);
-    notices = notices_same (past_of s) s.notices lines alike h.notices;
+    tables = record { notices = notices_same (past_of s) s.tables.notices lines alike h.tables.notices; flows = h.tables.flows };
     responders = h.responders;
     pendings = h.pendings;
     few = h.few;
-    early = h.early;
   };
   schema = refl;
   seqs = refl;

@@ -23,7 +23,9 @@ use Rattle.bind_model.specs.Pendings.{KnowsPendings}
 use Rattle.bind_model.specs.Responders.{CountsResponders}
 use Rattle.end_notices.specs.Agreement.{AllAgree as NoticesAgree}
 use Rattle.endpoint_router.specs.Agreement.{Agrees as AgreesAt}
-use Rattle.core_state.specs.Early.{IsEarly}
+use Rattle.core_state.specs.declared.tables.Tables.{Tables}
+use Rattle.data_pipe.specs.Agreement.{DataAgrees}
+use Rattle.end_notices.specs.Table.{Lines}
 use Rattle.core_state.specs.Routers.{Routers, router_at}
 use Rattle.core_state.specs.declared.state.State.{State}
 
@@ -69,12 +71,20 @@ schema_of s = arc_value s.schema
 abbrev pub wire_in : State → Wire
 wire_in s = wire_of (schema_of s)
 
+-- what is kept of controls and of data pipes is what the events say
+pub record TablesAgree (past : List Event) (tables : Tables) : Type 0 where
+  pub notices : NoticesAgree past tables.notices
+  pub flows : DataAgrees past tables.flows
+
+-- the state with these notices
+abbrev pub with_notices : State → Lines → State
+with_notices s lines = record s { tables = record s.tables { notices = lines } }
+
 -- the history is legal, and the rest is what it says
 pub record Holds (s : State) : Type 0 where
   pub legal : legal (wire_in s) s.seqs (past_of s)
   pub agrees : Agrees (wire_in s) (past_of s) s.pipes s.endpoints
-  pub notices : NoticesAgree (past_of s) s.notices
+  pub tables : TablesAgree (past_of s) s.tables
   pub responders : CountsResponders (wire_in s) (past_of s) s.rights.responders
   pub pendings : KnowsPendings (past_of s) s.rights.pendings
   pub few : length s.log.events ≤ MAX_EVENTS
-  pub early : IsEarly (past_of s)

@@ -1,6 +1,5 @@
 pub mod Agreement
 pub mod Doing
-pub mod Early
 pub mod Forgets
 pub mod Emitting
 pub mod Entries

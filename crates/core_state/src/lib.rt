@@ -1,5 +1,5 @@
 //! What a core keeps, and what that is of its history: pipes with the places of all handles, the routers of all ends,
-//! what they keep of controls, and the rights that are with callers; what each step does to it, whom ends wait for,
+//! what they keep of controls, all data pipes, and the rights that are with callers; what each step does to it, whom ends wait for,
 //! and the controls that the machine writes.
 #![tactic(auto)]
 
@@ -14,6 +14,7 @@ mod router_list;
 mod routers;
 mod sides;
 mod state;
+mod tables;
 mod things;
 mod turns;
 
@@ -27,5 +28,6 @@ pub use router_list::enter_one;
 pub use routers::Routers;
 pub use sides::other_side;
 pub use state::{Rights, State, refuse};
+pub use tables::Tables;
 pub use things::{all_out, contains, is_out, put_all};
 pub use turns::Turn;

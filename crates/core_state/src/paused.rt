@@ -23,7 +23,7 @@ fn unmet(state: &State, waits: &[Wait]) -> Option<EndId>
     ensures { result ≡ unmet_in state.now waits.now }
 {
     for wait in waits {
-        if !is_met(&state.pipes, &state.notices, *wait) {
+        if !is_met(&state.pipes, &state.tables.notices, *wait) {
             return Some(wait.end);
         }
     }
@@ -35,7 +35,7 @@ pub fn paused_by(state: &State, end: EndId) -> Option<EndId>
     requires { Holds state.now }
     ensures { result ≡ first_unmet (past_of state.now) (waits (past_of state.now) end) }
 {
-    match state.notices.get(end) {
+    match state.tables.notices.get(end) {
         Some(notices) => unmet(state, notices.waits()),
         None => None,
     }

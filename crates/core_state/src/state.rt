@@ -6,8 +6,8 @@ ghost use Rattle.bind_model.specs.Plain.{asked_of};
 ghost use Rattle.core_state.specs.Doing.{CanDo, Done, Undone, told_in};
 
 use crate::routers::Routers;
+use crate::tables::Tables;
 use bind_model::{Asked, Command, Event, History, Pendings, Refused, Reply, Responders, Told, Why};
-use end_notices::NoticeTable;
 use message_pipe::Pipes;
 use mj_base::SeqId;
 use mj_schema::Schema;
@@ -21,14 +21,14 @@ pub struct Rights {
 }
 
 /// The schema, how many sequences there are, all events, the pipes with the places of all handles, the
-/// routers of ends, what ends keep of controls, and the rights that are with callers.
+/// routers of ends, what is kept of controls and of data pipes, and the rights that are with callers.
 pub struct State {
     pub schema: Arc<Schema>,
     pub seqs: u32,
     pub log: History,
     pub pipes: Pipes,
     pub endpoints: Routers,
-    pub notices: NoticeTable,
+    pub tables: Tables,
     pub rights: Rights,
 }
 

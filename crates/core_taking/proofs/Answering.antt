@@ -136,7 +136,7 @@ module _ (s : State) (seq : SeqId) (able : HasRoom s seq) (y : EndId) (id v : �
   abbrev event : Event
   event = record { seq = seq; asked = asks.Take y; told = tells.Control (noted.Queried id (Some v)) }
 
-  pub answer_done : (new : State) (sent : Contents) → schema_of new ≡ schema_of s → new.seqs ≡ s.seqs → new.rights ≡ s.rights → new.notices ≡ s.notices
+  pub answer_done : (new : State) (sent : Contents) → schema_of new ≡ schema_of s → new.seqs ≡ s.seqs → new.rights ≡ s.rights → new.tables ≡ s.tables
       → new.log.events ≡ s.log.events ++ event ∷ [] → new.endpoints ≡ s.endpoints
       → EmitsTo (peer_of (end_of s.pipes.ends y)) (emitted_at (λ n. Version n v) s.endpoints y (id ∷ [])) s.pipes sent
       → Becomes y without_front sent new.pipes → Done s new seq (commands.Take y) (replies.Control (noted.Queried id (Some v)))

@@ -208,7 +208,7 @@ module _ (s : State) (seq : SeqId) (able : HasRoom s seq) (y : EndId) (id : ℕ)
       seen
 
   pub drop_done : (new : State) (copy : List Thing) (mid : Routers) (sent popped : Contents) → schema_of new ≡ schema_of s → new.seqs ≡ s.seqs
-      → copy ≡ gone → new.rights ≡ s.rights → new.notices ≡ s.notices
+      → copy ≡ gone → new.rights ≡ s.rights → new.tables ≡ s.tables
       → new.log.events ≡ s.log.events ++ record { seq = seq; asked = asks.Take y; told = tells.Dropped id gone } ∷ []
       → ((x : EndId) → IsSame (router_at s.endpoints x) (router_at mid x))
       → EmitsTo (peer_of (end_of s.pipes.ends y)) (controls_at mid y a.closed.items) s.pipes sent

@@ -35,13 +35,14 @@ use Rattle.bind_model.specs.declared.told.Told.TheVariants as tells
 use Rattle.bind_model.specs.declared.endpoint.Endpoint.{Endpoint}
 use Rattle.bind_model.proofs.Fresh.{kept}
 use Rattle.bind_model.proofs.Outcomes.{Outcome, controls, outcome}
-use Rattle.end_notices.specs.Agreement.{AllAgree as NoticesAgree, is_awaited}
+use Rattle.end_notices.specs.Agreement.{is_awaited}
 use Rattle.end_notices.specs.Seen.{with_met, without_query}
 use Rattle.end_notices.specs.Table.{BecomesAt, notices_at}
-use Rattle.end_notices.proofs.Quieting.{all_answered, all_met, stirs}
+use Rattle.end_notices.proofs.Quieting.{all_answered, all_met}
+use Rattle.core_state.proofs.Tabled.{stirs_any, tables_noted}
 use Rattle.end_notices.proofs.Stepping.{says}
 use Rattle.endpoint_router.specs.Changes.{marked}
-use Rattle.core_state.specs.Agreement.{Holds, past_of, schema_of, wire_in}
+use Rattle.core_state.specs.Agreement.{Holds, TablesAgree, past_of, schema_of, wire_in}
 use Rattle.core_state.specs.Doing.{Done, HasRoom, told_to}
 use Rattle.core_state.specs.Routers.{Routers, found_at}
 use Rattle.core_state.specs.Turns.{TurnsAt}
@@ -96,15 +97,15 @@ tells_as wire past y what one other e t = subst (λ (told : Told). Tells wire pa
 
 -- whether a version is awaited, by what the state keeps
 pub awaited_is : (s : State) → Holds s → (y : EndId) (id : ℕ)
-    → is_awaited ((notices_at s.notices y).queries id) (found_at s.endpoints y id)
+    → is_awaited ((notices_at s.tables.notices y).queries id) (found_at s.endpoints y id)
     ≡ query_pends (past_of s) y id (endpoint_at (wire_in s) (past_of s) y id)
 awaited_is s h y id =
-    ap (λ (o : Option Endpoint). is_awaited ((notices_at s.notices y).queries id) o) (found_is h.agrees y id)
-    ∙ sym ((says (past_of s) y (notices_at s.notices y) (h.notices y)).awaits id (endpoint_at (wire_in s) (past_of s) y id))
+    ap (λ (o : Option Endpoint). is_awaited ((notices_at s.tables.notices y).queries id) o) (found_is h.agrees y id)
+    ∙ sym ((says (past_of s) y (notices_at s.tables.notices y) (h.tables.notices y)).awaits id (endpoint_at (wire_in s) (past_of s) y id))
 
 -- where a version is told one query waits at least
 pub some_waits : (s : State) → Holds s → (seq : SeqId) (y : EndId) (id v : ℕ) → seq.0 < s.seqs
-    → told_to s seq (asks.Take y) ≡ tells.Control (noted.Version id v) → 0 < (notices_at s.notices y).queries id
+    → told_to s seq (asks.Take y) ≡ tells.Control (noted.Version id v) → 0 < (notices_at s.tables.notices y).queries id
 some_waits s h seq y id v within told = go (outcome (wire_in s) s.seqs (past_of s) seq (asks.Take y) (tells.Control (noted.Version id v)) (sym told))
   where
     least : (count : ℕ) (o : Option Endpoint) → is_awaited count o ≡ true → 0 < count
@@ -116,8 +117,8 @@ some_waits s h seq y id v within told = go (outcome (wire_in s) s.seqs (past_of 
         both false true e = absurd cc
         both false false e = grind (arith, nat_tests, e)
 
-    go : Outcome (wire_in s) s.seqs (past_of s) seq (asks.Take y) (tells.Control (noted.Version id v)) → 0 < (notices_at s.notices y).queries id
-    go (controls m f e d) = least ((notices_at s.notices y).queries id) (found_at s.endpoints y id) (awaited_is s h y id ∙ d.right)
+    go : Outcome (wire_in s) s.seqs (past_of s) seq (asks.Take y) (tells.Control (noted.Version id v)) → 0 < (notices_at s.tables.notices y).queries id
+    go (controls m f e d) = least ((notices_at s.tables.notices y).queries id) (found_at s.endpoints y id) (awaited_is s h y id ∙ d.right)
 
 -- ## What is done
 
@@ -147,9 +148,9 @@ module _ (s : State) (seq : SeqId) (able : HasRoom s seq) (y : EndId) where
       → (new : State) → schema_of new ≡ schema_of s → new.seqs ≡ s.seqs → new.rights ≡ s.rights
       → new.log.events ≡ s.log.events ++ record { seq = seq; asked = asks.Take y; told = tells.Control c } ∷ []
       → AllAgree (wire_in s) (record { seq = seq; asked = asks.Take y; told = tells.Control c } ∷ past_of s) new.endpoints
-      → NoticesAgree (record { seq = seq; asked = asks.Take y; told = tells.Control c } ∷ past_of s) new.notices
+      → TablesAgree (record { seq = seq; asked = asks.Take y; told = tells.Control c } ∷ past_of s) new.tables
       → Becomes y without_front s.pipes new.pipes → Done s new seq (commands.Take y) (replies.Control c)
-  control_done c told reading new schema seqs unmoved events routers notices b =
+  control_done c told reading new schema seqs unmoved events routers tables b =
       finish_noting s new seq (commands.Take y) (replies.Control c) able schema seqs unmoved
       (record { none = refl; handed = λ wire. refl; after = λ rs. refl; gives = refl; hands = refl; halves = λ wire past. refl }) events (sym told)
       (read_agrees (wire_in s) (event_of seq (commands.Take y) (replies.Control c)) (past_of s) y
@@ -158,11 +159,11 @@ module _ (s : State) (seq : SeqId) (able : HasRoom s seq) (y : EndId) where
       (goes s new seq (commands.Take y) (replies.Control c) able (sym told)))
       reading s.pipes new.pipes new.pipes new.pipes s.endpoints new.endpoints b (none_closed new.pipes) (none_put new.pipes) routers able.holds.agrees)
       tt
-      notices
+      tables
 
   -- the peer of an endpoint is closed
   pub obey_done : (id : ℕ) → told_to s seq (asks.Take y) ≡ tells.Control (noted.Closed id)
-      → (new : State) → schema_of new ≡ schema_of s → new.seqs ≡ s.seqs → new.rights ≡ s.rights → new.notices ≡ s.notices
+      → (new : State) → schema_of new ≡ schema_of s → new.seqs ≡ s.seqs → new.rights ≡ s.rights → new.tables ≡ s.tables
       → new.log.events ≡ s.log.events ++ record { seq = seq; asked = asks.Take y; told = tells.Control (noted.Closed id) } ∷ []
       → TurnsAt marked y id s.endpoints new.endpoints → Becomes y without_front s.pipes new.pipes
       → Done s new seq (commands.Take y) (replies.Control (noted.Closed id))
@@ -179,8 +180,8 @@ module _ (s : State) (seq : SeqId) (able : HasRoom s seq) (y : EndId) where
       subst (λ (rs : Routers). AllAgree (wire_in s) (record { seq = seq; asked = asks.Take y; told = tells.Control c } ∷ past_of s) rs) (sym same)
       (steady (wire_in s) (record { seq = seq; asked = asks.Take y; told = tells.Control c }) (past_of s) calm s.endpoints able.holds.agrees.routers)
 
-  -- what is only told is of no control that ends write
-  untouched : (c : Noted) → IsSilent c → stirs (tells.Control c) (asks.Take y) ≡ false
+  -- what is only told is of no control that ends write, and of no data pipe
+  untouched : (c : Noted) → IsSilent c → stirs_any (tells.Control c) (asks.Take y) ≡ false
   untouched (noted.Closed id) silent = absurd silent
   untouched (noted.Queried id v) silent = refl
   untouched (noted.Version id v) silent = absurd silent
@@ -189,7 +190,7 @@ module _ (s : State) (seq : SeqId) (able : HasRoom s seq) (y : EndId) where
 
   -- nothing else is done
   pub heed_done : (c : Noted) → told_to s seq (asks.Take y) ≡ tells.Control c → IsSilent c
-      → (new : State) → schema_of new ≡ schema_of s → new.seqs ≡ s.seqs → new.rights ≡ s.rights → new.notices ≡ s.notices
+      → (new : State) → schema_of new ≡ schema_of s → new.seqs ≡ s.seqs → new.rights ≡ s.rights → new.tables ≡ s.tables
       → new.log.events ≡ s.log.events ++ record { seq = seq; asked = asks.Take y; told = tells.Control c } ∷ []
       → new.endpoints ≡ s.endpoints → Becomes y without_front s.pipes new.pipes
       → Done s new seq (commands.Take y) (replies.Control c)
@@ -199,26 +200,34 @@ module _ (s : State) (seq : SeqId) (able : HasRoom s seq) (y : EndId) where
       (unstirred s new seq (commands.Take y) (replies.Control c) able unnoticed (untouched c silent)) b
 
   -- a query has its version
-  pub query_some : (id v : ℕ) → told_to s seq (asks.Take y) ≡ tells.Control (noted.Version id v) → 0 < (notices_at s.notices y).queries id
+  pub query_some : (id v : ℕ) → told_to s seq (asks.Take y) ≡ tells.Control (noted.Version id v) → 0 < (notices_at s.tables.notices y).queries id
   query_some id v told = some_waits s able.holds seq y id v able.within told
 
   pub query_done : (id v : ℕ) → told_to s seq (asks.Take y) ≡ tells.Control (noted.Version id v)
       → (new : State) → schema_of new ≡ schema_of s → new.seqs ≡ s.seqs → new.rights ≡ s.rights
       → new.log.events ≡ s.log.events ++ record { seq = seq; asked = asks.Take y; told = tells.Control (noted.Version id v) } ∷ []
-      → new.endpoints ≡ s.endpoints → BecomesAt (without_query id) y s.notices new.notices → Becomes y without_front s.pipes new.pipes
+      → new.endpoints ≡ s.endpoints → new.tables.flows ≡ s.tables.flows
+      → BecomesAt (without_query id) y s.tables.notices new.tables.notices → Becomes y without_front s.pipes new.pipes
       → Done s new seq (commands.Take y) (replies.Control (noted.Version id v))
-  query_done id v told new schema seqs unmoved events same answered b =
+  query_done id v told new schema seqs unmoved events same unflowed answered b =
       control_done (noted.Version id v) told (noted_read (wire_in s) (past_of s) seq y (noted.Version id v) tt) new schema seqs unmoved events
       (still_routers (noted.Version id v) (noted_steady (wire_in s) (past_of s) seq y (noted.Version id v) tt) new.endpoints same)
-      (all_answered (past_of s) seq y s.notices new.notices id v (query_some id v told) answered able.holds.notices) b
+      (tables_noted (record { seq = seq; asked = asks.Take y; told = tells.Control (noted.Version id v) }) (past_of s) s.tables new.tables unflowed refl
+      (all_answered (past_of s) seq y s.tables.notices new.tables.notices id v (query_some id v told) answered able.holds.tables.notices)
+      able.holds.tables)
+      b
 
   -- a flush was consumed
   pub flush_done : (flush : ℕ) → told_to s seq (asks.Take y) ≡ tells.Control (noted.Flushed flush)
       → (new : State) → schema_of new ≡ schema_of s → new.seqs ≡ s.seqs → new.rights ≡ s.rights
       → new.log.events ≡ s.log.events ++ record { seq = seq; asked = asks.Take y; told = tells.Control (noted.Flushed flush) } ∷ []
-      → new.endpoints ≡ s.endpoints → BecomesAt (with_met flush) y s.notices new.notices → Becomes y without_front s.pipes new.pipes
+      → new.endpoints ≡ s.endpoints → new.tables.flows ≡ s.tables.flows
+      → BecomesAt (with_met flush) y s.tables.notices new.tables.notices → Becomes y without_front s.pipes new.pipes
       → Done s new seq (commands.Take y) (replies.Control (noted.Flushed flush))
-  flush_done flush told new schema seqs unmoved events same met b =
+  flush_done flush told new schema seqs unmoved events same unflowed met b =
       control_done (noted.Flushed flush) told (noted_read (wire_in s) (past_of s) seq y (noted.Flushed flush) tt) new schema seqs unmoved events
       (still_routers (noted.Flushed flush) (noted_steady (wire_in s) (past_of s) seq y (noted.Flushed flush) tt) new.endpoints same)
-      (all_met (past_of s) seq y s.notices new.notices flush met able.holds.notices) b
+      (tables_noted (record { seq = seq; asked = asks.Take y; told = tells.Control (noted.Flushed flush) }) (past_of s) s.tables new.tables unflowed refl
+      (all_met (past_of s) seq y s.tables.notices new.tables.notices flush met able.holds.tables.notices)
+      able.holds.tables)
+      b

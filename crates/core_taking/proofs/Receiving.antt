@@ -227,7 +227,7 @@ module _ (s : State) (seq : SeqId) (able : HasRoom s seq) (y : EndId) (a : Arriv
     name_is : names ≡ names_of (halves_from y entries)
     name_is = sym (names_from y entries)
 
-    done_named : (new : State) (responder : Option ResponderId) → schema_of new ≡ schema_of s → new.seqs ≡ s.seqs → new.notices ≡ s.notices
+    done_named : (new : State) (responder : Option ResponderId) → schema_of new ≡ schema_of s → new.seqs ≡ s.seqs → new.tables ≡ s.tables
         → new.log.events ≡ noted names
         → Agrees (wire_in s) (event ∷ past_of s) new.pipes new.endpoints
         → responder ≡ responder_due (wire_in s) y a.id a.target a.request
@@ -265,7 +265,7 @@ module _ (s : State) (seq : SeqId) (able : HasRoom s seq) (y : EndId) (a : Arriv
         unmoved (Some p) e = f.table ∙ e.table
 
     pub got_done : (new : State) (responder : Option ResponderId) (handles : List Thing) (pendings : List Half) (mid entered : Routers)
-        (sent popped shut : Contents) → schema_of new ≡ schema_of s → new.seqs ≡ s.seqs → new.notices ≡ s.notices → handles ≡ b.things
+        (sent popped shut : Contents) → schema_of new ≡ schema_of s → new.seqs ≡ s.seqs → new.tables ≡ s.tables → handles ≡ b.things
         → pendings ≡ halves_from y entries
         → new.log.events ≡ s.log.events ++ record { seq = seq; asked = asks.Take y; told = tells.Taken b.noted } ∷ []
         → responder ≡ responder_due (wire_in s) y a.id a.target a.request

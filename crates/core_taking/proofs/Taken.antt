@@ -26,7 +26,7 @@ use Rattle.core_state.specs.declared.state.State.{State}
 use Rattle.core_state.proofs.Held.{event_of, finish}
 use Rattle.core_state.proofs.Closed.{bad_told, bad_closed}
 use Rattle.core_state.proofs.Quiet.{IsQuiet}
-use Rattle.end_notices.proofs.Quieting.{stirs}
+use Rattle.core_state.proofs.Tabled.{stirs_any}
 
 -- where nothing comes out
 pub none_put : (pipes : Contents) → PutsAll [] places.Out pipes pipes
@@ -37,8 +37,8 @@ module _ (old new : State) (seq : SeqId) (able : HasRoom old seq) (schema : sche
   abbrev noted : Told → List Event
   noted told = old.log.events ++ record { seq = seq; asked = asks.Take y; told = told } ∷ []
 
-  ends_done : (reply : Reply) → new.rights ≡ old.rights → new.notices ≡ old.notices → IsQuiet (commands.Take y) reply
-      → stirs (told_of reply) (asks.Take y) ≡ false
+  ends_done : (reply : Reply) → new.rights ≡ old.rights → new.tables ≡ old.tables → IsQuiet (commands.Take y) reply
+      → stirs_any (told_of reply) (asks.Take y) ≡ false
       → new.log.events ≡ noted (told_of reply) → told_of reply ≡ told_to old seq (asks.Take y)
       → Agrees (wire_in old) (event_of seq (commands.Take y) reply ∷ past_of old) new.pipes new.endpoints
       → HandsBack (commands.Take y) reply → Done old new seq (commands.Take y) reply
@@ -48,7 +48,7 @@ module _ (old new : State) (seq : SeqId) (able : HasRoom old seq) (schema : sche
   bad_noted : (why : BadWhy) (gone : List Thing)
       → told_to old seq (asks.Take y) ≡ bad (wire_in old) (past_of old) y why
       → gone ≡ spread (carried_in old.pipes.ends None) old.pipes.made (End y ∷ [])
-      → new.rights ≡ old.rights → new.notices ≡ old.notices → new.endpoints ≡ old.endpoints
+      → new.rights ≡ old.rights → new.tables ≡ old.tables → new.endpoints ≡ old.endpoints
       → new.log.events ≡ noted (told_of (replies.Bad why gone))
       → Closes gone old.pipes new.pipes
       → Done old new seq (commands.Take y) (replies.Bad why gone)
@@ -66,7 +66,7 @@ module _ (old new : State) (seq : SeqId) (able : HasRoom old seq) (schema : sche
   pub bad_done : (why : BadWhy) (gone copy : List Thing) → copy ≡ gone
       → told_to old seq (asks.Take y) ≡ bad (wire_in old) (past_of old) y why
       → gone ≡ spread (carried_in old.pipes.ends None) old.pipes.made (End y ∷ [])
-      → new.rights ≡ old.rights → new.notices ≡ old.notices → new.endpoints ≡ old.endpoints
+      → new.rights ≡ old.rights → new.tables ≡ old.tables → new.endpoints ≡ old.endpoints
       → new.log.events ≡ noted (tells.Bad why gone)
       → Closes gone old.pipes new.pipes
       → Done old new seq (commands.Take y) (replies.Bad why copy)

@@ -87,7 +87,7 @@ fn awaits(state: &State, end: EndId, id: u32) -> bool
     ensures { result ≡ query_pends (past_of state.now) end id (endpoint_at (wire_in state.now) (past_of state.now) end id) }
 {
     is_awaited(
-        state.notices.queries(end, id),
+        state.tables.notices.queries(end, id),
         state.endpoints.find(end, id),
     )
 }

@@ -90,7 +90,7 @@ fn end_query(state: &mut State, seq: SeqId, end: EndId, id: u32, version: u32) -
     ensures { Done state.old state.new seq (Command.Take end) result }
 {
     let _front = state.pipes.pop_front(end);
-    state.notices.answer(end, id);
+    state.tables.notices.answer(end, id);
     state.log.push_reserved(Event {
         seq,
         asked: Asked::Take(end),
@@ -112,7 +112,7 @@ fn meet_flush(
     ensures done { IfOk result (λ reply. Done state.old state.new seq (Command.Take end) reply) }
     ensures undone { IfErr result (λ refused. Undone state.old state.new (Command.Take end) refused) }
 {
-    let Ok(()) = state.notices.meet(alloc, end, flush) else {
+    let Ok(()) = state.tables.notices.meet(alloc, end, flush) else {
         return Err(Refused::Memory(Command::Take(end)));
     };
     let _front = state.pipes.pop_front(end);

@@ -250,7 +250,7 @@ drains_else t p e (flowed.Put n) f b = refl
 drains_else t p e (flowed.Space n) f b = refl
 drains_else t p e (flowed.View bytes) f b = refl
 
-begun_else : (t p : TokenId) → same_token t p ≡ false → (w : FlowedType) (f : Flow) (b : Begun) → begun_by (Flowed t w) (Move (Token t) f) p b ≡ b
+pub begun_else : (t p : TokenId) → same_token t p ≡ false → (w : FlowedType) (f : Flow) (b : Begun) → begun_by (Flowed t w) (Move (Token t) f) p b ≡ b
 begun_else t p e (flowed.Put n) (flows.EndPut bytes) b = rw e refl
 begun_else t p e (flowed.Put n) (flows.Put bytes all) b = refl
 begun_else t p e (flowed.Put n) flows.BeginPut b = refl

@@ -1,2 +1,5 @@
 pub mod Flowing
 pub mod InHistory
+pub mod Tables
+pub mod Agreeing
+pub mod Busy

@@ -6,9 +6,13 @@ ghost use Rattle.bind_model.specs.declared.flow.Flow.TheVariants as flows;
 ghost use Rattle.bind_model.specs.declared.flow.Flowed.TheVariants as flowed;
 ghost use Rattle.data_pipe.specs.Pipe.{room};
 ghost use Rattle.data_pipe.specs.Moving.{told, after, made, IsRefused};
+ghost use Rattle.data_pipe.specs.Table.{begun_at, bytes_for};
+ghost use Rattle.bind_model.specs.Data.{is_busy};
 
 use crate::refused::{DataRefused, DataWhy};
+use crate::side::Side;
 use bind_model::limits::MAX_DATA_BYTES;
+use bind_model::{Flow, Flowed};
 use circular_buffer::HeapCircularBuffer;
 use mj_base::Items;
 use std::alloc::{AllocError, Global};
@@ -230,6 +234,56 @@ impl DataPipe {
         self.shown = None;
         remove_first(&mut self.ring, count as usize);
         Ok(())
+    }
+
+    /// Whether something was begun at a side, and didn't end.
+    pub fn is_begun(&self, side: Side) -> bool
+        ensures { result ≡ is_busy (begun_at side self.now) }
+    {
+        match side {
+            Side::Producer => self.space.is_some(),
+            Side::Consumer => self.shown.is_some(),
+        }
+    }
+
+    /// The bytes that are told of what is asked, where nothing refuses it.
+    pub fn told_bytes(&self, alloc: Global, flow: &Flow) -> Result<Items<u8>, AllocError>
+        ensures { IfOk result (λ bytes. bytes ≡ bytes_for self.now flow.now) }
+    {
+        match flow {
+            Flow::Get(count, _) => self.first(alloc, *count),
+            Flow::BeginGet => self.first(alloc, self.ring.len() as u32),
+            Flow::Put(_, _) | Flow::BeginPut | Flow::EndPut(_) | Flow::EndGet(_) => {
+                Ok(Items::new(alloc))
+            }
+        }
+    }
+
+    /// What is asked, with the other side gone or not. Refused, nothing changes.
+    pub fn flow(&mut self, alloc: Global, flow: &Flow, gone: bool) -> Result<Flowed, DataRefused>
+        ensures ok { IfOk result (λ flowed. (told self.old gone flow.now ≡ Ok flowed) × (self.new ≡ after flow.now flowed self.old)) }
+        ensures err { IfErr result (λ refused. IsRefused (told self.old gone flow.now) refused × (self.new ≡ self.old)) }
+    {
+        match flow {
+            Flow::Put(bytes, all) => match self.put(bytes.as_slice(), *all, gone) {
+                Ok(count) => Ok(Flowed::Put(count)),
+                Err(why) => Err(DataRefused::No(why)),
+            },
+            Flow::Get(count, all) => Ok(Flowed::Bytes(self.get(alloc, *count, *all, gone)?)),
+            Flow::BeginPut => match self.begin_put(gone) {
+                Ok(room) => Ok(Flowed::Space(room)),
+                Err(why) => Err(DataRefused::No(why)),
+            },
+            Flow::EndPut(bytes) => match self.end_put(bytes.as_slice(), gone) {
+                Ok(count) => Ok(Flowed::Put(count)),
+                Err(why) => Err(DataRefused::No(why)),
+            },
+            Flow::BeginGet => Ok(Flowed::View(self.begin_get(alloc, gone)?)),
+            Flow::EndGet(count) => match self.end_get(*count) {
+                Ok(()) => Ok(Flowed::Ended),
+                Err(why) => Err(DataRefused::No(why)),
+            },
+        }
     }
 }
 

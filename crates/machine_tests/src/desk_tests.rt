@@ -54,6 +54,7 @@ fn empty_struct(alloc: Global, name: &str) -> Result<StructRow, AllocError>
         name: FullName::own(Text::from_str(alloc, name)?),
         fields: Items::new(alloc),
         versions: Items::from_vec(vec![in alloc; version]?),
+        stable: false,
     })
 }
 
@@ -72,6 +73,7 @@ fn one_method(alloc: Global, version: u32) -> Result<InterfaceRow, AllocError>
         name: FullName::own(Text::from_str(alloc, "t.P")?),
         methods: Items::from_vec(vec![in alloc; ask]?),
         version,
+        stable: false,
     })
 }
 

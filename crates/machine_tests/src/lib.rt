@@ -1,8 +1,10 @@
 //! What no script leads to: a core that is stepped through the one interface for all that step it, calls with jobs over it, what desks
-//! ask of versions, flushes and pauses, and texts that are those of no history. They stand apart, since a crate with tests is proved
+//! ask of versions, flushes, pauses and data pipes, and texts that are those of no history. They stand apart, since a crate with tests is proved
 //! once more with them.
 #![tactic(auto)]
 
+#[cfg(test)]
+mod data_tests;
 #[cfg(test)]
 mod desk_tests;
 #[cfg(test)]

@@ -1,6 +1,6 @@
 //! Whether replies, commands and histories are the same.
 
-use bind_model::{Asked, Event, Got, Outgoing, Told};
+use bind_model::{Asked, Event, Flow, Flowed, Got, Outgoing, Told};
 use std::alloc::{AllocError, Global};
 use wire_reference::are_same;
 
@@ -14,6 +14,34 @@ fn are_same_outgoing(alloc: Global, one: &Outgoing, two: &Outgoing) -> Result<bo
             && one.pendings.as_slice() == two.pendings.as_slice()
             && one.moment == two.moment,
     )
+}
+
+/// Whether two moves at a data pipe ask the same.
+fn are_same_flow(one: &Flow, two: &Flow) -> bool {
+    match (one, two) {
+        (Flow::Put(one, all), Flow::Put(two, other)) => {
+            one.as_slice() == two.as_slice() && all == other
+        }
+        (Flow::Get(one, all), Flow::Get(two, other)) => one == two && all == other,
+        (Flow::EndPut(one), Flow::EndPut(two)) => one.as_slice() == two.as_slice(),
+        (Flow::EndGet(one), Flow::EndGet(two)) => one == two,
+        (Flow::BeginPut, Flow::BeginPut) | (Flow::BeginGet, Flow::BeginGet) => true,
+        _ => false,
+    }
+}
+
+/// Whether two moves at a data pipe tell the same.
+fn are_same_flowed(one: &Flowed, two: &Flowed) -> bool {
+    match (one, two) {
+        (Flowed::Put(one), Flowed::Put(two)) | (Flowed::Space(one), Flowed::Space(two)) => {
+            one == two
+        }
+        (Flowed::Bytes(one), Flowed::Bytes(two)) | (Flowed::View(one), Flowed::View(two)) => {
+            one.as_slice() == two.as_slice()
+        }
+        (Flowed::Ended, Flowed::Ended) => true,
+        _ => false,
+    }
 }
 
 /// Whether two commands are the same.
@@ -45,6 +73,8 @@ fn are_same_asked(alloc: Global, one: &Asked, two: &Asked) -> Result<bool, Alloc
         (Asked::Pause(x, one, flush), Asked::Pause(y, two, other)) => {
             Ok(x == y && one == two && flush == other)
         }
+        (Asked::Data(one), Asked::Data(two)) => Ok(one == two),
+        (Asked::Flow(x, one), Asked::Flow(y, two)) => Ok(x == y && are_same_flow(one, two)),
         _ => Ok(false),
     }
 }
@@ -87,6 +117,7 @@ pub fn are_same_told(alloc: Global, one: &Told, two: &Told) -> Result<bool, Allo
             Ok(why == other && one.as_slice() == two.as_slice())
         }
         (Told::Notified(one), Told::Notified(two)) => Ok(one == two),
+        (Told::Flowed(x, one), Told::Flowed(y, two)) => Ok(x == y && are_same_flowed(one, two)),
         (Told::Pausing, Told::Pausing) | (Told::Skipped, Told::Skipped) => Ok(true),
         (Told::No(one), Told::No(two)) => Ok(one == two),
         _ => Ok(false),

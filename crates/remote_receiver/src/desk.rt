@@ -6,7 +6,7 @@ ghost use Rattle.bind_model.specs.WireOf.{wire_of};
 ghost use Rattle.bind_model.specs.Plain.{IsOf};
 ghost use Rattle.bind_model.specs.Seen.{Saw, Waited};
 ghost use Rattle.bind_model.specs.declared.asked.Notice.TheVariants.{Query, Require, Flush};
-ghost use Rattle.bind_model.specs.declared.commands.Command.TheVariants.{Answer, Call, Notify, Pause, Take};
+ghost use Rattle.bind_model.specs.declared.commands.Command.TheVariants.{Answer, Call, Data, Flow as a_flow, Notify, Pause, Take};
 ghost use Rattle.bind_model.specs.declared.commands.Reply.TheVariants as replies;
 ghost use Rattle.wire_encoder.specs.Prepared.{IsPrepared};
 ghost use Rattle.remote_receiver.specs.Calls.{IsOther, NotSent};
@@ -21,8 +21,8 @@ use crate::jobs::Jobs;
 use crate::note::Note;
 use crate::rest::Rest;
 use crate::told::{ended_by, tell_closed, tell_taken};
-use bind_model::{Command, Notice, PendingList, Refused, Reply, Responder, Stepper};
-use handle_table::Handles;
+use bind_model::{Command, Flow, Notice, PendingList, Refused, Reply, Responder, Stepper};
+use handle_table::{Handle, Handles};
 use mj_base::EndId;
 use response_map::Key;
 use std::alloc::Global;
@@ -272,6 +272,38 @@ impl<C: Promise, P: Stepper> Desk<C, P> {
         ensures unmoved { OnErr result (kept_of self.new.jobs ≡ kept_of self.old.jobs) }
     {
         self.step(alloc, Command::Pause(end, other, flush))
+    }
+
+    /// Makes a data pipe, which holds so many bytes at most.
+    pub fn data(&mut self, alloc: Global, size: u32) -> Result<Reply, Refused>
+        requires { (P.me self.old.stepper).0 < P.seqs self.old.stepper }
+        ensures same { (P.schema self.new.stepper ≡ P.schema self.old.stepper) × (P.seqs self.new.stepper ≡ P.seqs self.old.stepper)
+            × (P.alone self.new.stepper ≡ P.alone self.old.stepper) × (P.me self.new.stepper ≡ P.me self.old.stepper) }
+        ensures home { P.home self.new.stepper ≡ P.home self.old.stepper }
+        ensures event { IfOk result (λ reply. Saw (P.schema self.old.stepper) (P.seqs self.old.stepper) (P.alone self.old.stepper)
+            (P.me self.old.stepper) (P.seen self.old.stepper) (P.seen self.new.stepper) (Data size) reply) }
+        ensures kept { IfOk result (λ reply. Follows C.promises (kept_of self.old.jobs) (step_of (Data size) reply None) (kept_of self.new.jobs)) }
+        ensures refused { IfErr result (λ refused. Waited (P.schema self.old.stepper) (P.seqs self.old.stepper) (P.alone self.old.stepper)
+            (P.me self.old.stepper) (P.seen self.old.stepper) (P.seen self.new.stepper) (Data size) refused) }
+        ensures unmoved { OnErr result (kept_of self.new.jobs ≡ kept_of self.old.jobs) }
+    {
+        self.step(alloc, Command::Data(size))
+    }
+
+    /// Moves bytes at the producer or the consumer of a data pipe, or begins or ends that.
+    pub fn flow(&mut self, alloc: Global, handle: Handle, flow: Flow) -> Result<Reply, Refused>
+        requires { (P.me self.old.stepper).0 < P.seqs self.old.stepper }
+        ensures same { (P.schema self.new.stepper ≡ P.schema self.old.stepper) × (P.seqs self.new.stepper ≡ P.seqs self.old.stepper)
+            × (P.alone self.new.stepper ≡ P.alone self.old.stepper) × (P.me self.new.stepper ≡ P.me self.old.stepper) }
+        ensures home { P.home self.new.stepper ≡ P.home self.old.stepper }
+        ensures event { IfOk result (λ reply. Saw (P.schema self.old.stepper) (P.seqs self.old.stepper) (P.alone self.old.stepper)
+            (P.me self.old.stepper) (P.seen self.old.stepper) (P.seen self.new.stepper) (a_flow handle flow) reply) }
+        ensures kept { IfOk result (λ reply. Follows C.promises (kept_of self.old.jobs) (step_of (a_flow handle flow) reply None) (kept_of self.new.jobs)) }
+        ensures refused { IfErr result (λ refused. Waited (P.schema self.old.stepper) (P.seqs self.old.stepper) (P.alone self.old.stepper)
+            (P.me self.old.stepper) (P.seen self.old.stepper) (P.seen self.new.stepper) (a_flow handle flow) refused) }
+        ensures unmoved { OnErr result (kept_of self.new.jobs ≡ kept_of self.old.jobs) }
+    {
+        self.step(alloc, Command::Flow(handle, flow))
     }
 }
 

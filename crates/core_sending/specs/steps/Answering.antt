@@ -19,6 +19,7 @@ use Rattle.core_sending.specs.declared.carried.CarriedNames.{CarriedNames}
 use Rattle.core_sending.specs.declared.answer.Response.{Response}
 use Rattle.bind_model.specs.declared.commands.Command.{Command}
 use Rattle.bind_model.specs.declared.commands.Command.TheVariants.{Answer}
+use Rattle.data_pipe.specs.Table.{Lines}
 
 -- the command that a response came with
 abbrev pub command_of : Response → Command
@@ -40,14 +41,14 @@ abbrev pub answers_to : ResponderId → Target → Bool
 answers_to r target = (target.interface == r.interface) && (target.method == r.method) && is_response target.side
 
 -- the end that an answer from an endpoint goes to
-abbrev pub way_reached : ResponderId → Prepared → CarriedNames → Contents → Routers → Result Endpoint Why → Result EndId Why
-way_reached r prepared names pipes endpoints (Err why) = Err why
-way_reached r prepared names pipes endpoints (Ok e) =
+abbrev pub way_reached : ResponderId → Prepared → CarriedNames → Contents → Lines → Routers → Result Endpoint Why → Result EndId Why
+way_reached r prepared names pipes flows endpoints (Err why) = Err why
+way_reached r prepared names pipes flows endpoints (Ok e) =
     if not (answers_to r prepared.target) then Err WrongMethod
-    else way_with prepared names pipes endpoints r.end e.peer_closed
+    else way_with prepared names pipes flows endpoints r.end e.peer_closed
 
 -- the end that an answer goes to, by whether the caller has the responder and all that goes with it
-abbrev pub way_back : SeqId → ResponderId → Prepared → CarriedNames → Bool → Contents → Routers → Result EndId Why
-way_back seq r prepared names own pipes endpoints =
+abbrev pub way_back : SeqId → ResponderId → Prepared → CarriedNames → Bool → Contents → Lines → Routers → Result EndId Why
+way_back seq r prepared names own pipes flows endpoints =
     if not own then Err NoName
-    else way_reached r prepared names pipes endpoints (reached seq (is_closed (end_of pipes.ends r.end)) (found_at endpoints r.end r.id))
+    else way_reached r prepared names pipes flows endpoints (reached seq (is_closed (end_of pipes.ends r.end)) (found_at endpoints r.end r.id))

@@ -1,5 +1,5 @@
 -- The way of a message from an endpoint: whether what goes with it fits, and the end that it goes to.
-use Rattle.std.specs.Prelude.{ℕ, Bool, ◌==◌, ◌&&◌, not, length, Option, Some, None, Result, Ok, Err, if◌then◌else◌}
+use Rattle.std.specs.Prelude.{ℕ, Bool, ◌==◌, ◌&&◌, not, length, Result, Ok, Err, if◌then◌else◌}
 use Rattle.mj_base.specs.declared.ids.EndId.{EndId}
 use Rattle.mj_base.specs.declared.ids.SeqId.{SeqId}
 use Rattle.message_pipe.specs.Contents.{Contents}
@@ -12,34 +12,30 @@ use Rattle.bind_model.specs.declared.told.Why.TheVariants.{NoName, WrongSide, Wr
 use Rattle.core_state.specs.Routers.{Routers, found_at}
 use Rattle.core_sending.specs.steps.Carrying.{all_fit, wrong_pipe}
 use Rattle.core_state.specs.Opens.{opened}
-use Rattle.core_sending.specs.steps.Ways.{asks_of, way_to}
+use Rattle.core_sending.specs.steps.Ways.{asks_of, way_to, way_unless}
+use Rattle.data_pipe.specs.Table.{Lines}
 use Rattle.core_sending.specs.declared.carried.CarriedNames.{CarriedNames}
 
 -- whether there are as many handles as the parameters name, and the pendings that they want
 abbrev pub suits : Prepared → CarriedNames → Routers → Bool
 suits prepared names endpoints = (length names.things == prepared.handles) && all_fit endpoints names.pendings prepared.endpoints.items
 
--- unless there is a reason against it
-abbrev pub way_unless : Option Why → Result EndId Why → Result EndId Why
-way_unless None way = way
-way_unless (Some why) way = Err why
-
 -- the end that a message with this goes to from an end
-abbrev pub way_with : Prepared → CarriedNames → Contents → Routers → EndId → Bool → Result EndId Why
-way_with prepared names pipes endpoints y peer_closed =
+abbrev pub way_with : Prepared → CarriedNames → Contents → Lines → Routers → EndId → Bool → Result EndId Why
+way_with prepared names pipes flows endpoints y peer_closed =
     if not (suits prepared names endpoints) then Err WrongTokens
-    else way_unless (wrong_pipe endpoints y names.pendings) (way_to pipes peer_closed names.things (peer_of (end_of pipes.ends y)))
+    else way_unless (wrong_pipe endpoints y names.pendings) (way_to pipes flows peer_closed names.things (peer_of (end_of pipes.ends y)))
 
 -- the end that a call from an open endpoint goes to
-abbrev pub way_open : Prepared → CarriedNames → Contents → Routers → EndId → Result Endpoint Why → Result EndId Why
-way_open prepared names pipes endpoints y (Err why) = Err why
-way_open prepared names pipes endpoints y (Ok r) =
+abbrev pub way_open : Prepared → CarriedNames → Contents → Lines → Routers → EndId → Result Endpoint Why → Result EndId Why
+way_open prepared names pipes flows endpoints y (Err why) = Err why
+way_open prepared names pipes flows endpoints y (Ok r) =
     if is_receiver r.side then Err WrongSide
     else (if not (asks_of r.interface prepared.target) then Err WrongMethod
-    else way_with prepared names pipes endpoints y r.peer_closed)
+    else way_with prepared names pipes flows endpoints y r.peer_closed)
 
 -- the end that a call goes to, by whether the caller has all that goes with it
-abbrev pub way : SeqId → EndId → ℕ → Prepared → CarriedNames → Bool → Contents → Routers → Result EndId Why
-way seq y id prepared names own pipes endpoints =
+abbrev pub way : SeqId → EndId → ℕ → Prepared → CarriedNames → Bool → Contents → Lines → Routers → Result EndId Why
+way seq y id prepared names own pipes flows endpoints =
     if not own then Err NoName
-    else way_open prepared names pipes endpoints y (opened seq (is_closed (end_of pipes.ends y)) id (found_at endpoints y id))
+    else way_open prepared names pipes flows endpoints y (opened seq (is_closed (end_of pipes.ends y)) id (found_at endpoints y id))

@@ -12,19 +12,20 @@ use Rattle.bind_model.specs.Replies.{from_id, is_flush, is_receiver}
 use Rattle.core_state.specs.Opens.{opened}
 use Rattle.core_state.specs.Routers.{Routers, found_at}
 use Rattle.core_sending.specs.steps.Ways.{way_to}
+use Rattle.data_pipe.specs.Table.{Lines}
 
 -- from an open endpoint: only a remote asks of versions, but any end flushes
-abbrev pub notice_from : Notice → Contents → EndId → Endpoint → Result EndId Why
-notice_from notice pipes y r =
+abbrev pub notice_from : Notice → Contents → Lines → EndId → Endpoint → Result EndId Why
+notice_from notice pipes flows y r =
     if not (is_flush notice) && is_receiver r.side then Err WrongSide
-    else way_to pipes (not (is_flush notice) && r.peer_closed) [] (peer_of (end_of pipes.ends y))
+    else way_to pipes flows (not (is_flush notice) && r.peer_closed) [] (peer_of (end_of pipes.ends y))
 
 -- from an endpoint, where it is open
-abbrev pub notice_at : Notice → Contents → EndId → Result Endpoint Why → Result EndId Why
-notice_at notice pipes y (Err why) = Err why
-notice_at notice pipes y (Ok r) = notice_from notice pipes y r
+abbrev pub notice_at : Notice → Contents → Lines → EndId → Result Endpoint Why → Result EndId Why
+notice_at notice pipes flows y (Err why) = Err why
+notice_at notice pipes flows y (Ok r) = notice_from notice pipes flows y r
 
 -- the end that a notice of a sequence goes to
-abbrev pub notice_way : SeqId → EndId → Notice → Contents → Routers → Result EndId Why
-notice_way seq y notice pipes endpoints =
-    notice_at notice pipes y (opened seq (is_closed (end_of pipes.ends y)) (from_id notice) (found_at endpoints y (from_id notice)))
+abbrev pub notice_way : SeqId → EndId → Notice → Contents → Lines → Routers → Result EndId Why
+notice_way seq y notice pipes flows endpoints =
+    notice_at notice pipes flows y (opened seq (is_closed (end_of pipes.ends y)) (from_id notice) (found_at endpoints y (from_id notice)))

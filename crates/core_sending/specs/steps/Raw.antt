@@ -16,6 +16,7 @@ use Rattle.core_state.specs.Agreement.{is_out}
 use Rattle.core_state.specs.Placing.{all_out}
 use Rattle.core_sending.specs.steps.Ways.{way_to}
 use Rattle.core_sending.specs.declared.raw.RawBytes.{RawBytes}
+use Rattle.data_pipe.specs.Table.{Lines}
 
 -- the command that raw bytes came with
 abbrev pub command_of : RawBytes → Command
@@ -26,13 +27,13 @@ abbrev pub all_out_with : Contents → Thing → List Thing → Bool
 all_out_with pipes x things = is_out (place_of pipes.table x) && (not (has things x) && all_out pipes things)
 
 -- the end that so many bytes go to from a thing
-abbrev pub raw_way_from : Thing → ℕ → List Thing → Contents → Result EndId Why
-raw_way_from (Token t) bytes things pipes = Err NotPipe
-raw_way_from (End x) bytes things pipes =
+abbrev pub raw_way_from : Thing → ℕ → List Thing → Contents → Lines → Result EndId Why
+raw_way_from (Token t) bytes things pipes flows = Err NotPipe
+raw_way_from (End x) bytes things pipes flows =
     if nat_lt MAX_RAW_BYTES bytes then Err TooLong
     else (if nat_lt MAX_RAW_HANDLES (length things) then Err TooManyHandles
-    else way_to pipes false things (peer_of (end_of pipes.ends x)))
+    else way_to pipes flows false things (peer_of (end_of pipes.ends x)))
 
 -- the end that raw bytes go to, by whether the caller has all handles
-abbrev pub raw_way : Thing → List ℕ → List Thing → Bool → Contents → Result EndId Why
-raw_way x bytes things own pipes = if not own then Err NoName else raw_way_from x (length bytes) things pipes
+abbrev pub raw_way : Thing → List ℕ → List Thing → Bool → Contents → Lines → Result EndId Why
+raw_way x bytes things own pipes flows = if not own then Err NoName else raw_way_from x (length bytes) things pipes flows

@@ -13,7 +13,7 @@ is_met_by pipes lines w = is_closed (end_of pipes.ends w.end) || (notices_at lin
 
 -- the same of a state
 abbrev pub is_met_in : State → Wait → Bool
-is_met_in s w = is_met_by s.pipes s.notices w
+is_met_in s w = is_met_by s.pipes s.tables.notices w
 
 -- the end that the first wait that isn't met is for
 abbrev pub unmet_in : State → List Wait → Option EndId

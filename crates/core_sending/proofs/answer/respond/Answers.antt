@@ -18,5 +18,5 @@ refuse-requires-clause-why c =
     rw c.into_command-in-Ok-asked.ensures
     (answer_refused s c.args.seq r c.requires c.in-Err.why
     (ap (λ (ns : CarriedNames). way_named s c.args.seq r c.requires ns) (sym c.in-Ok.ensures)
-    ∙ (ap (λ (b : Bool). way_back c.args.seq r.responder r.prepared c.in-Ok.names b s.pipes s.endpoints) (sym own)
+    ∙ (ap (λ (b : Bool). way_back c.args.seq r.responder r.prepared c.in-Ok.names b s.pipes s.tables.flows s.endpoints) (sym own)
     ∙ sym c.in-Err.ensures)))

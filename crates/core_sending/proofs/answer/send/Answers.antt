@@ -43,7 +43,7 @@ returns-clause-done c =
       log = c.push_reserved.new.self;
       pipes = c.put_all.new.pipes;
       endpoints = s.endpoints;
-      notices = s.notices;
+      tables = s.tables;
       rights = record { responders = c.spend.new.self; pendings = c.spend_all.new.table };
     } in
     subst (λ (q : ResponderId). Done s new c.args.seq (command_of r) (replies.Sent q.request c.in-Ok.writes.told)) (sym c.id-id.ensures)

@@ -21,7 +21,7 @@ refuse-requires-clause-why c =
     rw c.into_command-in-Ok-asked.ensures
     (call_refused s c.args.seq r c.requires c.in-Err.why
     (ap (λ (ns : CarriedNames). way_named s c.args.seq r c.requires ns) (sym c.in-Ok.ensures)
-    ∙ (ap (λ (b : Bool). way c.args.seq r.end r.id r.prepared c.in-Ok.names b s.pipes s.endpoints) (sym c.in-Ok-all_own.ensures)
+    ∙ (ap (λ (b : Bool). way c.args.seq r.end r.id r.prepared c.in-Ok.names b s.pipes s.tables.flows s.endpoints) (sym c.in-Ok-all_own.ensures)
     ∙ sym c.in-Err.ensures)))
 
 pub send-requires-clause-free : goal.send-requires-clause-free
@@ -29,5 +29,5 @@ send-requires-clause-free c =
     let s = c.args.state.now in
     let r = c.args.request in
     ap (λ (ns : CarriedNames). way_named s c.args.seq r c.requires ns) (sym c.in-Ok.ensures)
-    ∙ (ap (λ (b : Bool). way c.args.seq r.end r.id r.prepared c.in-Ok.names b s.pipes s.endpoints) (sym c.in-Ok-all_own.ensures)
+    ∙ (ap (λ (b : Bool). way c.args.seq r.end r.id r.prepared c.in-Ok.names b s.pipes s.tables.flows s.endpoints) (sym c.in-Ok-all_own.ensures)
     ∙ sym c.in-Ok-way.ensures)

@@ -39,4 +39,4 @@ returns-clause-done c =
     (c.in-Ok.ensures
     ∙ ap (λ (control : Control). record { bytes = written_control control; handles = []; emitted = false })
     (c.control_of.ensures ∙ ap (λ (told : Notified). control_of c.args.notice told) c.told_of-told.ensures))
-    refl refl refl refl c.in-Ok-put_message.ensures.ok c.reserve.ensures.same c.note.ensures c.push_reserved.ensures.events
+    refl refl refl refl c.in-Ok-put_message.ensures.ok refl c.reserve.ensures.same c.note.ensures c.push_reserved.ensures.events

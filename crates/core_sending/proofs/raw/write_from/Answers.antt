@@ -17,8 +17,8 @@ refuse-requires-clause-why c =
     rw c.into_command-in-Ok-copy.ensures
     (raw_refused s c.args.seq r c.requires.can c.in-Err.why
     (sym (c.in-Err.ensures
-    ∙ (ap (λ (hs : List Thing). raw_way r.handle r.bytes hs c.in-Ok.own s.pipes) others
-    ∙ ap (λ (b : Bool). raw_way r.handle r.bytes r.handles b s.pipes) own))))
+    ∙ (ap (λ (hs : List Thing). raw_way r.handle r.bytes hs c.in-Ok.own s.pipes s.tables.flows) others
+    ∙ ap (λ (b : Bool). raw_way r.handle r.bytes r.handles b s.pipes s.tables.flows) own))))
 
 pub write-requires-clause-free : goal.write-requires-clause-free
 write-requires-clause-free c =
@@ -31,5 +31,5 @@ write-requires-clause-free c =
     ∙ (ap (λ (z : Thing). all_out_with s.pipes z c.as_slice.result.now) c.thing.ensures
     ∙ ap (λ (hs : List Thing). all_out_with s.pipes r.handle hs) all) in
     sym (c.in-Ok-way.ensures
-    ∙ (ap (λ (hs : List Thing). raw_way r.handle r.bytes hs c.in-Ok.own s.pipes) others
-    ∙ ap (λ (b : Bool). raw_way r.handle r.bytes r.handles b s.pipes) own))
+    ∙ (ap (λ (hs : List Thing). raw_way r.handle r.bytes hs c.in-Ok.own s.pipes s.tables.flows) others
+    ∙ ap (λ (b : Bool). raw_way r.handle r.bytes r.handles b s.pipes s.tables.flows) own))

@@ -11,5 +11,5 @@ returns c =
     let s = c.args.state.now in
     c.is_awaited.ensures
     ∙ (ap (λ (n : ℕ). is_awaited n c.find.result) c.queries.ensures
-    ∙ (ap (λ (o : Option Endpoint). is_awaited ((notices_at s.notices c.args.end).queries c.args.id) o) c.find.ensures
+    ∙ (ap (λ (o : Option Endpoint). is_awaited ((notices_at s.tables.notices c.args.end).queries c.args.id) o) c.find.ensures
     ∙ awaited_is s c.requires c.args.end c.args.id))

@@ -13,4 +13,4 @@ answer-requires c = query_some c.args.state.now c.args.seq c.requires.able c.arg
 pub returns : goal.returns
 returns c =
     query_done c.args.state.now c.args.seq c.requires.able c.args.end c.args.id c.args.version c.requires.told _ refl refl refl
-    c.push_reserved.ensures.events refl c.answer.ensures c.pop_front-front.ensures.rest
+    c.push_reserved.ensures.events refl refl c.answer.ensures c.pop_front-front.ensures.rest

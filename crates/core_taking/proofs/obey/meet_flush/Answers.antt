@@ -10,4 +10,4 @@ pop_front-front-requires c =
 pub returns-clause-done : goal.returns-clause-done
 returns-clause-done c =
     flush_done c.args.state.now c.args.seq c.requires.able c.args.end c.args.flush c.requires.told _ refl refl refl
-    c.push_reserved.ensures.events refl c.in-Ok.ensures.ok c.pop_front-front.ensures.rest
+    c.push_reserved.ensures.events refl refl c.in-Ok.ensures.ok c.pop_front-front.ensures.rest

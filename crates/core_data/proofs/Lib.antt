@@ -1,0 +1,3 @@
+pub mod Spotted
+pub mod Flowing
+pub mod Staying

@@ -1,0 +1,7 @@
+//! Bytes that are moved at the tokens of data pipes.
+#![tactic(auto)]
+
+mod moving;
+mod spot;
+
+pub use moving::flow;
