@@ -1,5 +1,5 @@
 -- Bytes are one script.
-use Rattle.std.proofs.Common.{◌≡◌, ℕ, List, [], ◌∷◌, ◌++◌, length, sym, ◌∙◌, ap, subst}
+use Rattle.std.proofs.Common.{◌≡◌, ℕ, List, [], ◌∷◌, ◌++◌, length, refl, sym, ◌∙◌, ap, subst}
 use Rattle.std.specs.Prelude.{reverse, Some}
 use Rattle.std.proofs.lemmas.List.{reverse-append}
 use Rattle.mj_schema.specs.declared.schema.Schema.{Schema}
@@ -9,13 +9,40 @@ use Rattle.call_script.specs.declared.script.Command.TheVariants as commands
 use Rattle.call_script.specs.declared.script.Script.{Script}
 use Rattle.script_words.specs.Pieces.{text_words}
 use Rattle.script_forms.specs.Forms.{Form, Join, Auto, Of, Pipe, Mint, Bind, Associate, Attach, Call, Take, Answer, Raw, CloseToken, CloseEndpoint}
-use Rattle.script_forms.specs.Forms.{Notify, Pause}
+use Rattle.script_forms.specs.Forms.{Notify, Pause, Data, Flow, Moved, Put, Get, BeginPut, EndPut, BeginGet, EndGet}
+use Rattle.bind_model.specs.declared.flow.Flow.{Flow as FlowType}
+use Rattle.bind_model.specs.declared.flow.Flow.TheVariants as flows
 use Rattle.call_script.specs.Same.{SameCommand, SameLine, SameLines, SameReply, SameReplies, SameScript}
-use Rattle.call_script.specs.Script.{names_set, IsValueOf, Asks, IsAuto, Part, OfLine, OfReply, IsPart, lines_in, replies_in, AreTaken, AreScript, IsScriptOf}
+use Rattle.call_script.specs.Script.{names_set, IsFlowOf, IsValueOf, Asks, IsAuto, Part, OfLine, OfReply, IsPart, lines_in, replies_in, AreTaken, AreScript, IsScriptOf}
 use Rattle.script_forms.proofs.Hexes.{hex_one}
 use Rattle.call_script.proofs.OneName.{Numbered, numbered, id_one, ids_one}
 use Rattle.call_script.proofs.OneValue.{one_found, prepared_one}
 use Rattle.call_script.proofs.OneAnswer.{same_forms}
+
+-- what is moved is one
+flow_one : (f : Moved) (g h : FlowType) → IsFlowOf f g → IsFlowOf f h → g ≡ h
+flow_one (Put w all) (flows.Put b a) (flows.Put b' a') one also =
+    let bytes = hex_one b b' one.0.0 also.0.0 (sym one.0.1 ∙ also.0.1) in
+    let parts = one.1 ∙ sym also.1 in cc
+flow_one (Put w all) (flows.Put b a) h one also = absurd also
+flow_one (Put w all) g h one also = absurd one
+flow_one (Get n all) (flows.Get m a) (flows.Get m' a') one also =
+    let many = one.0 ∙ sym also.0 in
+    let parts = one.1 ∙ sym also.1 in cc
+flow_one (Get n all) (flows.Get m a) h one also = absurd also
+flow_one (Get n all) g h one also = absurd one
+flow_one BeginPut flows.BeginPut flows.BeginPut one also = refl
+flow_one BeginPut flows.BeginPut h one also = absurd also
+flow_one BeginPut g h one also = absurd one
+flow_one (EndPut w) (flows.EndPut b) (flows.EndPut b') one also = ap flows.EndPut (hex_one b b' one.0 also.0 (sym one.1 ∙ also.1))
+flow_one (EndPut w) (flows.EndPut b) h one also = absurd also
+flow_one (EndPut w) g h one also = absurd one
+flow_one BeginGet flows.BeginGet flows.BeginGet one also = refl
+flow_one BeginGet flows.BeginGet h one also = absurd also
+flow_one BeginGet g h one also = absurd one
+flow_one (EndGet n) (flows.EndGet m) (flows.EndGet m') one also = ap flows.EndGet (one ∙ sym also)
+flow_one (EndGet n) (flows.EndGet m) h one also = absurd also
+flow_one (EndGet n) g h one also = absurd one
 
 -- a form asks one thing
 module _ (schema : Schema) (before names : List (List ℕ)) (all : Numbered names) where
@@ -108,6 +135,17 @@ module _ (schema : Schema) (before names : List (List ℕ)) (all : Numbered name
       let flushes = one.2 ∙ sym also.2 in cc
   same_command (Of seq (Pause x y flush)) (commands.Pause i j k) b one also = absurd also
   same_command (Of seq (Pause x y flush)) a b one also = absurd one
+  same_command (Of seq (Data n x y)) (commands.Data k i j) (commands.Data k' i' j') one also =
+      let sizes = one.0 ∙ sym also.0 in
+      let first = id_one names all i i' _ one.1 also.1 in
+      let second = id_one names all j j' _ one.2 also.2 in cc
+  same_command (Of seq (Data n x y)) (commands.Data k i j) b one also = absurd also
+  same_command (Of seq (Data n x y)) a b one also = absurd one
+  same_command (Of seq (Flow x f)) (commands.Flow i g) (commands.Flow i' g') one also =
+      let id = id_one names all i i' _ one.0 also.0 in
+      let same = flow_one f g g' one.1 also.1 in cc
+  same_command (Of seq (Flow x f)) (commands.Flow i g) b one also = absurd also
+  same_command (Of seq (Flow x f)) a b one also = absurd one
 
 -- an automatic reply is one
 same_auto : (schema : Schema) (asker : ℕ) (method word : List ℕ) (a b : AutoReply) → IsAuto schema asker method word a → IsAuto schema asker method word b

@@ -13,7 +13,7 @@ use Rattle.call_script.specs.declared.script.Script.{Script}
 use Rattle.script_words.specs.Pieces.{Place, Outside, behind, line_words, onto, parts_words, pieces, text_lines, text_words, without_empty_last, words_at}
 use Rattle.script_words.specs.Letters.{are_names, hex_word, is_name}
 use Rattle.script_forms.specs.Forms.{Form, Join, Of, Pipe, Mint, Bind, Associate, Attach, Call, Take, Answer, Raw, CloseToken, CloseEndpoint}
-use Rattle.script_forms.specs.Forms.{Notify, Pause}
+use Rattle.script_forms.specs.Forms.{Notify, Pause, Data, Flow}
 use Rattle.script_forms.specs.Forms.{IsForm, form_words}
 use Rattle.call_script.specs.Script.{AreNamed, AreScript, AreTaken, Asks, IsTaken, Part, OfLine, OfReply, lines_in}
 use Rattle.call_script.specs.Sound.{most_ids, most_ids_of}
@@ -124,6 +124,8 @@ command_sends schema before names (Of seq (CloseToken x)) (commands.CloseToken i
 command_sends schema before names (Of seq (CloseEndpoint x n)) (commands.CloseEndpoint i m) is asks = omega arith
 command_sends schema before names (Of seq (Notify x notice)) (commands.Notify i m) is asks = omega arith
 command_sends schema before names (Of seq (Pause x y flush)) (commands.Pause i j k) is asks = omega arith
+command_sends schema before names (Of seq (Data n x y)) (commands.Data k i j) is asks = omega arith
+command_sends schema before names (Of seq (Flow x f)) (commands.Flow i g) is asks = omega arith
 command_sends schema before names form command is asks = absurd asks
 
 -- ## What the lines send

@@ -12,10 +12,12 @@ use Rattle.call_script.specs.declared.script.Script.{Script}
 use Rattle.call_script.specs.declared.script_error.ScriptError.{ScriptError}
 use Rattle.mj_base.specs.declared.ids.SeqId.{SeqId}
 use Rattle.script_forms.specs.Forms.{Form, Join, Auto, Of, Pipe, Mint, Bind, Associate, Attach, Call, Take, Answer, Raw, CloseToken, CloseEndpoint}
-use Rattle.script_forms.specs.Forms.{Notify, Pause}
+use Rattle.script_forms.specs.Forms.{Notify, Pause, Data, Flow, Moved, Put, Get, BeginPut, EndPut, BeginGet, EndGet}
+use Rattle.bind_model.specs.declared.flow.Flow.{Flow as FlowType}
+use Rattle.bind_model.specs.declared.flow.Flow.TheVariants as flows
 use Rattle.script_forms.specs.Forms.{sequences, AreThere, sets as line_sets}
-use Rattle.call_script.specs.Script.{names_set, seq_of, IsNamed, AreNamed, Asks, IsPart, Part, OfLine, OfReply, lines_in, replies_in, AreTaken, AreScript}
-use Rattle.call_script.specs.Sound.{sets, needs, others, AreWithin, IsReadWith, IsLine, IsReply, IsScript}
+use Rattle.call_script.specs.Script.{names_set, seq_of, IsNamed, AreNamed, Asks, IsPart, Part, OfLine, OfReply, lines_in, replies_in, AreTaken, AreScript, IsFlowOf}
+use Rattle.call_script.specs.Sound.{sets, needs, others, AreWithin, IsReadWith, PutsBytes, IsLine, IsReply, IsScript}
 use Rattle.call_script.specs.steps.Lines.{AnswersAll}
 use Rattle.call_script.proofs.AutoLemmas.{message_side}
 use Rattle.call_script.proofs.Sending.{all_letters, script_sends}
@@ -54,6 +56,8 @@ module _ (names : List (List ℕ)) (count : ℕ) (few : length names ≤ count) 
   sets_within schema before (Of seq (CloseEndpoint x n)) (commands.CloseEndpoint i m) asks = tt
   sets_within schema before (Of seq (Notify x notice)) (commands.Notify i m) asks = tt
   sets_within schema before (Of seq (Pause x y flush)) (commands.Pause i j k) asks = tt
+  sets_within schema before (Of seq (Data n x y)) (commands.Data k i j) asks = (one_within i _ asks.1, (one_within j _ asks.2, tt))
+  sets_within schema before (Of seq (Flow x f)) (commands.Flow i g) asks = tt
   sets_within schema before form command asks = absurd asks
 
   needs_within : (schema : Schema) (before : List (List ℕ)) (form : Form) (command : Command) → Asks schema before names form command
@@ -72,7 +76,19 @@ module _ (names : List (List ℕ)) (count : ℕ) (few : length names ≤ count) 
   needs_within schema before (Of seq (CloseEndpoint x n)) (commands.CloseEndpoint i m) asks = (one_within i _ asks.0, tt)
   needs_within schema before (Of seq (Notify x notice)) (commands.Notify i m) asks = (one_within i _ asks.0, tt)
   needs_within schema before (Of seq (Pause x y flush)) (commands.Pause i j k) asks = (one_within i _ asks.0, (one_within j _ asks.1, tt))
+  needs_within schema before (Of seq (Data n x y)) (commands.Data k i j) asks = tt
+  needs_within schema before (Of seq (Flow x f)) (commands.Flow i g) asks = (one_within i _ asks.0, tt)
   needs_within schema before form command asks = absurd asks
+
+-- the bytes that are put in
+flow_bytes : (f : Moved) (g : FlowType) → IsFlowOf f g → PutsBytes g
+flow_bytes (Put word all) (flows.Put bytes part) h = h.0.0
+flow_bytes (Get n all) (flows.Get m part) h = tt
+flow_bytes BeginPut flows.BeginPut h = tt
+flow_bytes (EndPut word) (flows.EndPut bytes) h = h.0
+flow_bytes BeginGet flows.BeginGet h = tt
+flow_bytes (EndGet n) (flows.EndGet m) h = tt
+flow_bytes f g h = absurd h
 
 -- its value or its bytes
 read_with : (schema : Schema) (before names : List (List ℕ)) (form : Form) (command : Command) → Asks schema before names form command
@@ -91,6 +107,8 @@ read_with schema before names (Of seq (CloseToken x)) (commands.CloseToken i) as
 read_with schema before names (Of seq (CloseEndpoint x n)) (commands.CloseEndpoint i m) asks = tt
 read_with schema before names (Of seq (Notify x notice)) (commands.Notify i m) asks = tt
 read_with schema before names (Of seq (Pause x y flush)) (commands.Pause i j k) asks = tt
+read_with schema before names (Of seq (Data n x y)) (commands.Data k i j) asks = tt
+read_with schema before names (Of seq (Flow x f)) (commands.Flow i g) asks = flow_bytes f g asks.1
 read_with schema before names form command asks = absurd asks
 
 -- its sequence
@@ -119,6 +137,8 @@ others_within schema seqs before names (Of seq (CloseToken x)) (commands.CloseTo
 others_within schema seqs before names (Of seq (CloseEndpoint x n)) (commands.CloseEndpoint i m) there asks = tt
 others_within schema seqs before names (Of seq (Notify x notice)) (commands.Notify i m) there asks = tt
 others_within schema seqs before names (Of seq (Pause x y flush)) (commands.Pause i j k) there asks = tt
+others_within schema seqs before names (Of seq (Data n x y)) (commands.Data k i j) there asks = tt
+others_within schema seqs before names (Of seq (Flow x f)) (commands.Flow i g) there asks = tt
 others_within schema seqs before names form command there asks = absurd asks
 
 -- what a form adds, where there are so many sequences and so many names are set at last

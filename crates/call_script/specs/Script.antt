@@ -32,7 +32,9 @@ use Rattle.script_words.specs.Pieces.{text_words}
 use Rattle.call_script.specs.Targets.{message_named}
 use Rattle.script_words.specs.Letters.{own_word, IsHexOf}
 use Rattle.script_forms.specs.Forms.{Form, Join, Auto, Of, Pipe, Mint, Bind, Associate, Attach, Call, Take, Answer, Raw, CloseToken, CloseEndpoint}
-use Rattle.script_forms.specs.Forms.{Notify, Pause}
+use Rattle.script_forms.specs.Forms.{Notify, Pause, Data, Flow, Moved, Put, Get, BeginPut, EndPut, BeginGet, EndGet}
+use Rattle.bind_model.specs.declared.flow.Flow.{Flow as FlowType}
+use Rattle.bind_model.specs.declared.flow.Flow.TheVariants as flows
 use Rattle.script_forms.specs.Forms.{form_words, header_words, AreSequences, IsForm, sequences, AreThere, is_setup, sets, sets_own, answers, needs}
 
 -- ## What stands before a line
@@ -157,6 +159,16 @@ AreNamed names [] [] = Unit {0}
 AreNamed names (id ∷ ids) (name ∷ rest) = IsNamed names id name × AreNamed names ids rest
 AreNamed names _ _ = ⊥
 
+-- what is moved, with the bytes that its word spells
+abbrev pub IsFlowOf : Moved → FlowType → Type 0
+IsFlowOf (Put word all) (flows.Put bytes all') = IsHexOf word bytes × (all' ≡ all)
+IsFlowOf (Get n all) (flows.Get n' all') = (n' ≡ n) × (all' ≡ all)
+IsFlowOf BeginPut flows.BeginPut = Unit {0}
+IsFlowOf (EndPut word) (flows.EndPut bytes) = IsHexOf word bytes
+IsFlowOf BeginGet flows.BeginGet = Unit {0}
+IsFlowOf (EndGet n) (flows.EndGet n') = n' ≡ n
+IsFlowOf moved flow = ⊥
+
 -- the command that a line's form asks, with names, interfaces and methods by their numbers and its value prepared, where names were set
 -- before it and there are these with its own
 abbrev pub Asks : Schema → List (List ℕ) → List (List ℕ) → Form → Command → Type 0
@@ -187,6 +199,9 @@ Asks schema before names (Of seq (CloseEndpoint x id)) (commands.CloseEndpoint e
 Asks schema before names (Of seq (Notify x notice)) (commands.Notify end notice') = IsNamed names end (meant before seq x) × (notice' ≡ notice)
 Asks schema before names (Of seq (Pause x y flush)) (commands.Pause end other flush') =
     IsNamed names end (meant before seq x) × IsNamed names other (meant before seq y) × (flush' ≡ flush)
+Asks schema before names (Of seq (Data size x y)) (commands.Data size' producer consumer) =
+    (size' ≡ size) × IsNamed names producer (own_word seq x) × IsNamed names consumer (own_word seq y)
+Asks schema before names (Of seq (Flow x moved)) (commands.Flow token flow) = IsNamed names token (meant before seq x) × IsFlowOf moved flow
 Asks schema before names form command = ⊥
 
 -- the line of a form behind these

@@ -11,7 +11,9 @@ use Rattle.call_script.specs.declared.script.AutoReply.{AutoReply}
 use Rattle.call_script.specs.declared.script.NameId.{NameId}
 use Rattle.call_script.specs.declared.script.Command.{Command}
 use Rattle.call_script.specs.declared.script.Command.TheVariants.{Join, Pipe, Mint, Bind, Associate, Attach, Call, Take, Answer, Raw, CloseToken, CloseEndpoint}
-use Rattle.call_script.specs.declared.script.Command.TheVariants.{Notify, Pause}
+use Rattle.call_script.specs.declared.script.Command.TheVariants.{Notify, Pause, Data, Flow}
+use Rattle.bind_model.specs.declared.flow.Flow.{Flow as FlowType}
+use Rattle.bind_model.specs.declared.flow.Flow.TheVariants as flows
 use Rattle.call_script.specs.declared.script.Line.{Line}
 use Rattle.call_script.specs.declared.script.Script.{Script}
 use Rattle.script_forms.specs.Forms.{AreSequences}
@@ -23,6 +25,7 @@ sets (Pipe first second) = first ∷ second ∷ []
 sets (Mint sort name) = name ∷ []
 sets (Associate end side interface pending) = pending ∷ []
 sets (Take end names) = names
+sets (Data size producer consumer) = producer ∷ consumer ∷ []
 sets command = []
 
 -- the names that a command needs
@@ -38,6 +41,7 @@ needs (CloseToken token) = token ∷ []
 needs (CloseEndpoint end id) = end ∷ []
 needs (Notify end notice) = end ∷ []
 needs (Pause end other flush) = end ∷ other ∷ []
+needs (Flow token flow) = token ∷ []
 needs command = []
 
 -- the sequences that a command names besides the one that asks
@@ -46,11 +50,18 @@ others (Join other first second) = other ∷ []
 others (Attach pending other) = other ∷ []
 others command = []
 
--- what a call or an answer sends was prepared with the schema, and what is sent raw is bytes
+-- what is put into a data pipe is bytes
+abbrev pub PutsBytes : FlowType → Type 0
+PutsBytes (flows.Put bytes all) = IsBytes bytes
+PutsBytes (flows.EndPut bytes) = IsBytes bytes
+PutsBytes flow = Unit {0}
+
+-- what a call or an answer sends was prepared with the schema, and what is sent raw or put into a data pipe is bytes
 abbrev pub IsReadWith : Schema → Command → Type 0
 IsReadWith schema (Call end id prepared tokens moment) = IsPrepared schema prepared
 IsReadWith schema (Answer responder prepared tokens moment) = IsPrepared schema prepared
 IsReadWith schema (Raw end bytes tokens) = IsBytes bytes
+IsReadWith schema (Flow token flow) = PutsBytes flow
 IsReadWith schema command = Unit {0}
 
 -- how many endpoint ids the message of a command can carry: one for each of its names, or for each of its bytes

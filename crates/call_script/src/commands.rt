@@ -12,6 +12,7 @@ ghost use Rattle.call_script.specs.steps.Interfaces.{IsIndexed};
 ghost use Rattle.call_script.specs.steps.Commands.{FindsAll, Named, AllNamed, StopsFor, Values, Says};
 
 use crate::indexed_schema::{IndexedSchema, interface_named};
+use crate::moving::flow_command;
 use crate::name_table::{Scope, find_name};
 use crate::script::{Command, NameId};
 use crate::script_error::LineRefusal;
@@ -64,7 +65,7 @@ fn find_all(
 }
 
 /// The number of what a name means.
-fn named(alloc: Global, scope: &Scope, name: &[u8]) -> Result<NameId, Stop>
+pub(crate) fn named(alloc: Global, scope: &Scope, name: &[u8]) -> Result<NameId, Stop>
     requires { is_name name.now ≡ true }
     ensures { Named scope.now name.now result }
 {
@@ -395,5 +396,10 @@ pub(crate) fn said_command(
         Said::Pause(end, other, flush) => {
             pause_command(alloc, schema, scope, *end, *other, *flush)
         }
+        Said::Data(size, _, _) => {
+            let consumer = NameId(scope.count + 1);
+            Ok(Command::Data(*size, NameId(scope.count), consumer))
+        }
+        Said::Flow(token, moved) => flow_command(alloc, schema, scope, *token, moved),
     }
 }

@@ -5,6 +5,7 @@ mod additions;
 mod commands;
 mod indexed_schema;
 pub mod laws;
+mod moving;
 mod name_table;
 mod reading;
 mod script;

@@ -57,6 +57,9 @@ fn set_names(alloc: Global, table: &mut NameTable, form: &Form) -> Result<bool, 
         Form::Of(seq, Said::Pipe(first, second)) => {
             add_own(alloc, table, *seq, &[*first, *second])
         }
+        Form::Of(seq, Said::Data(_, producer, consumer)) => {
+            add_own(alloc, table, *seq, &[*producer, *consumer])
+        }
         Form::Of(seq, Said::Mint(_, name)) => add_own(alloc, table, *seq, &[*name]),
         Form::Of(seq, Said::Associate(_, _, _, name)) => add_own(alloc, table, *seq, &[*name]),
         Form::Of(seq, Said::Take(_, names)) => add_own(alloc, table, *seq, *names),

@@ -1,6 +1,6 @@
 //! What a script says.
 
-use bind_model::Notice;
+use bind_model::{Flow, Notice};
 use handle_table::TokenSort;
 use mj_base::{Items, SeqId};
 use wire_encoder::{EndpointSide, Prepared};
@@ -44,6 +44,10 @@ pub enum Command {
     Notify(NameId, Notice),
     /// To take nothing at the first end until the second has consumed the flush of this number, or is closed.
     Pause(NameId, NameId, u32),
+    /// A new data pipe that holds so many bytes at most, and the names of its producer and its consumer.
+    Data(u32, NameId, NameId),
+    /// To move bytes at the producer or the consumer of a data pipe.
+    Flow(NameId, Flow),
 }
 
 /// A line that asks: its number in the text, from 1; the sequence that asks; and what it asks.

@@ -76,7 +76,7 @@ module _ (schema : Schema) where
   asked_said (askeds.Flow x flow) = refl
   asked_said (askeds.Skip line) = refl
 
-  line_said : (k : ℕ) (e : Event) → event_line schema k (said_event e) ≡ event_line schema k e
+  pub line_said : (k : ℕ) (e : Event) → event_line schema k (said_event e) ≡ event_line schema k e
   line_said k e = ap (λ (l : List ℕ). decimal k ++ (codes " " ++ (decimal e.seq.0 ++ (codes " "
       ++ (l ++ (codes " -> " ++ (told_text schema e.told ++ codes "\n"))))))) (asked_said e.asked)
 
@@ -91,7 +91,7 @@ module _ (schema : Schema) where
       ap (λ (l : List ℕ). l ++ (flat_map note_line notes ++ (flat_map left_line left ++ done_line (length events)))) (lines_said 0 events)
 
   -- what is said of a history is spelled by its text
-  its_spelled : (events : List Event) (notes : List Note) (left : List Thing) → IsPrintable schema (said events notes left)
+  pub its_spelled : (events : List Event) (notes : List Note) (left : List Thing) → IsPrintable schema (said events notes left)
       → Spells (history schema) (said events notes left) (history_text schema events notes left)
   its_spelled events notes left h = subst (λ (l : List ℕ). Spells (history schema) (said events notes left) l) (text_said events notes left)
       (spelled schema (said events notes left) h)

@@ -51,7 +51,7 @@ good_event_number : (k : ℕ) → Good is_digit is_digit (event_number k)
 unfolding event_number
 good_event_number k = good_number_if (nat_lt k (2 ^ 64)) k refl
 
-good_event_line : (schema : Schema) (names : Names) → AreWords names → (k : ℕ) → Good is_digit nothing (event_line schema names k)
+pub good_event_line : (schema : Schema) (names : Names) → AreWords names → (k : ℕ) → Good is_digit nothing (event_line schema names k)
 unfolding event_line
 good_event_line schema names w k = good_then _ (good_event_number k) (λ u. good_before blank (good_then _ good_sequence (λ seq. good_before blank
     (good_then _ (good_asked schema names w) (λ a. good_value (event_of seq a) (good_told schema names w)) (λ b e. refl))) blank_no_digit)) blank_no_digit

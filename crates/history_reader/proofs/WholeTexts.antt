@@ -67,7 +67,7 @@ module _ (schema : Schema) where
       (texts_before blank (texts_then (λ (e : Event). e.seq) (λ seq e h. h.1) texts_sequence asked_behind))
 
   -- an event where it has a number of 64 bits
-  abbrev Numbered : ℕ → Event → Type 0
+  abbrev pub Numbered : ℕ → Event → Type 0
   Numbered k e = IsWide k × IsEvent schema e
 
   line_is : (k : ℕ) (e : Event)
@@ -75,7 +75,7 @@ module _ (schema : Schema) where
       ≡ event_line schema k e
   line_is k e = simp append_assoc refl
 
-  texts_event : (k : ℕ) → HasTexts (Is (Numbered k) (event_line schema k)) (whole.event_line schema (names_of schema) k)
+  pub texts_event : (k : ℕ) → HasTexts (Is (Numbered k) (event_line schema k)) (whole.event_line schema (names_of schema) k)
   unfolding whole.event_line
   texts_event k = texts_fine (λ e h. h) (λ e h. h) (λ e h. line_is k e)
       (texts_then (λ (e : Event). tt) (λ u e h. refl) (texts_event_number k) (λ u. seq_behind))

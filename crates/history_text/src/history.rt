@@ -16,8 +16,8 @@ use handle_table::Thing;
 use mj_schema::Schema;
 use std::alloc::{AllocError, Global};
 
-/// Adds the line of an event.
-fn push_event(
+/// Adds the line of an event of this number. The error is want of memory.
+pub fn push_event(
     alloc: Global,
     out: &mut Vec<u8>,
     schema: &Schema,

@@ -12,6 +12,6 @@ mod shown_lists;
 mod told_text;
 mod words;
 
-pub use history::render;
+pub use history::{push_event, render};
 pub use notes::{Fate, Note};
 pub use words::fault_word;

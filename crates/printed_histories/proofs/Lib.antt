@@ -1,5 +1,8 @@
 pub mod SmallLists
 pub mod SmallSaid
+mod SmallTests
+mod SmallMoves
+mod SmallPipes
 mod SmallReplies
 mod ShortReplies
 pub mod SmallMail

@@ -66,8 +66,8 @@ module _ (schema : Schema) where
   asked_said (asks.Close closing) i m = closing_said closing i
   asked_said (asks.Notify y notice) i m = i
   asked_said (asks.Pause b a flush) i m = i
-  asked_said (asks.Data size) i m = absurd i
-  asked_said (asks.Flow x flow) i m = absurd i
+  asked_said (asks.Data size) i m = i
+  asked_said (asks.Flow x flow) i m = i
   asked_said (asks.Skip line) i m = i
 
   -- an event that the text can say
@@ -106,11 +106,11 @@ printable schema versions seqs some history h few small m =
     let back : length (reverse history) < 2 ^ 30 = omega (arith, short, length-reverse history) in
     let low : HasLowSlots schema × HasSmallVersions schema = (low_slots schema, versions) in
     let past : IsSmallPast (wire_of schema) (reverse history) =
-    small_past (BecomeBytes schema) (wire_of schema) (small_wire schema low) (reverse history) back small in
+    small_past (BecomeBytes schema) (wire_of schema) (small_wire schema low) seqs (reverse history) h back small in
     let says = all_reversed (SaysEvent schema) history (all_of (SaysEvent schema) history m) in
     let said_all = all_back (IsSaid schema) history (all_said schema seqs (reverse history) h small says) in (
       events_said schema 0 history (omega (arith, short)) said_all,
       notes_small (BecomeBytes schema) seqs history (all_back (IsSmallEvent (BecomeBytes schema)) history small),
-      left_small (reverse history) (λ seq. let n = past.serials seq in omega (arith, n)) past.tokens seqs some,
+      left_small (reverse history) (λ seq. let n = past.serials seq in omega (arith, n)) (λ seq. let n = past.tokens seq in omega (arith, n)) seqs some,
       omega (arith, short),
     )

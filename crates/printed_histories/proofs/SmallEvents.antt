@@ -29,7 +29,7 @@ module _ (schema : Schema) (low : HasLowSlots schema × HasSmallVersions schema)
   event_small event past h few a i =
       let there : event.seq.0 < seqs = h.0 in
       let small : IsSequence event.seq = omega (arith, some, there) in
-      let known : IsSmallPast wire past = small_past (BecomeBytes schema) wire (small_wire schema low) past few a in (
+      let known : IsSmallPast wire past = small_past (BecomeBytes schema) wire (small_wire schema low) seqs past h.2 few a in (
         small,
         i,
         subst IsSmallTold (sym h.1) (small_answer (BecomeBytes schema) wire (small_wire schema low) past known event.seq seqs event.asked small i),

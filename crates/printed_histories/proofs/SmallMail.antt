@@ -7,8 +7,6 @@ use Rattle.std.proofs.lemmas.List.Sums.{count_by-le-length}
 use Rattle.mj_base.specs.declared.ids.EndId.{EndId}
 use Rattle.mj_base.specs.declared.ids.SeqId.{SeqId}
 use Rattle.handle_table.specs.declared.thing.Thing.{Thing}
-use Rattle.handle_table.specs.declared.thing.Thing.TheVariants.{End, Token}
-use Rattle.handle_table.specs.declared.thing.TokenId.{TokenId}
 use Rattle.handle_table.specs.Things.{same_end, is_end, seq_of}
 use Rattle.message_pipe.specs.declared.message.Message.{Message}
 use Rattle.wire_encoder.specs.declared.endpoint.EndpointSide.{EndpointSide}
@@ -28,16 +26,17 @@ use Rattle.bind_model.specs.declared.limits.TheConstants.{REMOTE_IDS}
 use Rattle.bind_model.specs.declared.told.Told.{Told}
 use Rattle.bind_model.specs.declared.told.Noted.TheVariants as noted
 use Rattle.bind_model.specs.declared.told.Notified.TheVariants.{Flushing}
-use Rattle.bind_model.specs.declared.told.Told.TheVariants.{Made, Bound, Associated, Attached, Sent, Wrote, Taken, Dropped, Control, Closed, Notified as Informed, Pausing, Flowed}
-use Rattle.bind_model.specs.Data.{Begun, Nothing, begun, begun_by}
+use Rattle.bind_model.specs.declared.told.Told.TheVariants.{Made, Bound, Associated, Attached, Sent, Wrote, Taken, Dropped, Control, Closed, Notified as Informed, Pausing}
 use Rattle.bind_model.specs.Notices.{Wait, first_unmet, flushed, flushes, is_met, waits, waits_by}
 use Rattle.bind_model.specs.Machine.{Endpoints, Entry, associated, made, made_by, peer, is_gone, is_local, is_peer_closed, is_remote, is_strange, written, endpoint_at, unread, consumed, puts, lands, control_of, emits, changes, enters, enters_from, entries_of, entry_in, endpoint_named, closed_endpoint, pending_as, named_in, content_at, ids_in, closed_ids, bound_on, with_state, with_peer_closed, front_of}
-use Rattle.bind_model.specs.Replies.{Drawn, busy, drawn, draws, next_id, pause_of, paused}
+use Rattle.bind_model.specs.Replies.{Drawn, drawn, draws, legal, next_id, pause_of, paused}
 use Rattle.bind_model.specs.Wire.{Wire, Named}
 use Rattle.bind_model.proofs.TurnOf.{associated_few}
 use Rattle.history_reader.specs.Printable.{IsSmall, IsSequence, IsEnd, IsThing, AreAll}
 use Rattle.printed_histories.proofs.SmallLists.{all_both, all_dropped}
-use Rattle.printed_histories.proofs.SmallReplies.{IsWithin, IsSmallPast, IsSmallTest}
+use Rattle.printed_histories.proofs.SmallPipes.{small_pipes}
+use Rattle.printed_histories.proofs.SmallReplies.{IsWithin, IsSmallPast}
+use Rattle.printed_histories.proofs.SmallTests.{IsSmallTest}
 use Rattle.printed_histories.specs.Asked.{IsSmallAsked}
 use Rattle.printed_histories.proofs.SmallSaid.{IsSmallTold, IsSmallEvent, IsShort, IsFine, IsFineMessage, IsSmallWire}
 
@@ -324,22 +323,9 @@ module _ (F : Target → Tree → Type 0) (wire : Wire) where
   all_paused : (past : List Event) → AreAll (IsSmallEvent F) past → (x : EndId) → IsSmallTest (paused past x)
   all_paused past a x = unmet_small past (waits past x) (all_waits past a x)
 
-  -- nothing was begun at a token
-  none_begun : (told : Told) (asked : Asked) → IsSmallTold told → (t : TokenId) (b : Begun) → begun_by told asked t b ≡ b
-  none_begun (Flowed u flowed) asked i t b = absurd i
-  none_begun told asked i t b = refl
-
-  nothing_begun : (past : List Event) → AreAll (IsSmallEvent F) past → (t : TokenId) → begun past t ≡ Nothing
-  nothing_begun [] a t = refl
-  nothing_begun (event ∷ past) a t = none_begun event.told event.asked a.0.2 t (begun past t) ∙ nothing_begun past a.1 t
-
-  all_idle : (past : List Event) → AreAll (IsSmallEvent F) past → (things : List Thing) → busy past things ≡ None
-  all_idle past a [] = refl
-  all_idle past a (End x ∷ things) = all_idle past a things
-  all_idle past a (Token t ∷ things) = rw (nothing_begun past a t) (all_idle past a things)
-
-  pub small_past : IsSmallWire F wire → (past : List Event) → length past < 2 ^ 30 → AreAll (IsSmallEvent F) past → IsSmallPast wire past
-  small_past w past few a =
+  pub small_past : IsSmallWire F wire → (seqs : ℕ) (past : List Event) → legal wire seqs past → length past < 2 ^ 30 → AreAll (IsSmallEvent F) past
+      → IsSmallPast wire past
+  small_past w seqs past h few a =
       let m = (all_made past a).1 in
       record {
         mail = unread_fine F wire w past a;
@@ -350,5 +336,5 @@ module _ (F : Target → Tree → Type 0) (wire : Wire) where
         next = next_small past few;
         flushed = λ y. omega (arith, few, few_flushed past y);
         paused = all_paused past a;
-        idle = all_idle past a;
+        flows = small_pipes F wire seqs past h a;
       }

@@ -1,5 +1,5 @@
 -- The reply to what a script asks has numbers of their widths, where all before has.
-use Rattle.std.proofs.Common.{◌≡◌, ◌<◌, ◌≤◌, ℕ, suc, ◌+◌, ◌^◌, Bool, true, false, List, [], ◌∷◌, length, refl, sym, ap, subst, arith}
+use Rattle.std.proofs.Common.{◌≡◌, ◌<◌, ◌≤◌, ℕ, suc, ◌+◌, ◌^◌, Bool, true, false, List, [], ◌∷◌, length, refl, ap, arith}
 use Rattle.std.specs.Prelude.{Option, Some, None, Result, Ok, Err, if◌then◌else◌, map, not, ◌&&◌, ◌||◌, ◌==◌, nat_le, nat_lt, is_some}
 use Rattle.std.specs.List.{list_any}
 use Rattle.mj_base.specs.declared.ids.EndId.{EndId}
@@ -8,6 +8,7 @@ use Rattle.mj_base.specs.declared.fault.Fault.{Fault}
 use Rattle.mj_base.specs.declared.fault.FaultKind.TheVariants.{IllegalHandle}
 use Rattle.handle_table.specs.declared.thing.Thing.{Thing}
 use Rattle.handle_table.specs.declared.thing.Thing.TheVariants.{End, Token}
+use Rattle.handle_table.specs.declared.thing.TokenId.{TokenId}
 use Rattle.handle_table.specs.Things.{has, same_end}
 use Rattle.handle_table.proofs.ThingsLemmas.{and_right}
 use Rattle.message_pipe.specs.declared.message.Message.{Message}
@@ -34,39 +35,25 @@ use Rattle.bind_model.specs.declared.event.Event.{Event}
 use Rattle.bind_model.specs.declared.limits.TheConstants.{MAX_RAW_BYTES, MAX_RAW_HANDLES}
 use Rattle.bind_model.specs.declared.told.BadWhy.TheVariants as bads
 use Rattle.bind_model.specs.declared.told.Noted.TheVariants as noted
-use Rattle.bind_model.specs.declared.told.Told.{Told}
 use Rattle.bind_model.specs.declared.told.Told.TheVariants.{Associated, Attached, Closed, Control, No, Notified as Informed, Pausing, Wrote}
-use Rattle.bind_model.specs.declared.told.Why.{Why}
-use Rattle.bind_model.specs.declared.told.Why.TheVariants.{NoName, Disconnected, Unbound, Elsewhere, WrongSide, WrongMethod, WrongTokens, WrongPipe, SelfSend, TooLong, TooManyHandles, Full, Empty, PeerClosed, SelfPause}
+use Rattle.bind_model.specs.declared.told.Why.TheVariants.{NoName, Disconnected, Unbound, Elsewhere, WrongSide, WrongMethod, WrongTokens, WrongPipe, SelfSend, TooLong, TooManyHandles, Full, Empty, PeerClosed, SelfPause, BadSize}
+use Rattle.bind_model.specs.Data.{DataPipe, pipe_of}
 use Rattle.bind_model.specs.Machine.{Endpoints, peer, is_gone, is_local, is_strange, out, endpoint_at, unread, is_closed, first_strange, goes_with}
 use Rattle.bind_model.specs.Notices.{flushed as flushes_at, query_pends}
-use Rattle.bind_model.specs.Replies.{is_response, is_asked, drawn, serials, tokens, same_responder, responders_out, has_pending, pendings_out, first_of, unless, all_out, all_pending, unbound, elsewhere, is_receiver, suits, all_suit, tokens_right, wrong_tokens, wrong_pipe, cannot_write, is_full, same_target, busy, joined, bound_as, next_id, request_of, ids_of, picked, pendings_at, half_closed, sent, called, answered_with, wrote_at, bad, got_known, got_asked, judged, at_state, at_endpoint, is_none, version_of, is_older, heard, controlled, headed, took_front, paused, closed_at, closed, answer}
-use Rattle.bind_model.specs.Replies.{from_id, is_flush, notified, pausing, told_of}
+use Rattle.bind_model.specs.Replies.{is_response, is_asked, drawn, serials, tokens, same_responder, responders_out, has_pending, pendings_out, unless, all_out, all_pending, unbound, elsewhere, is_receiver, suits, all_suit, tokens_right, wrong_tokens, wrong_pipe, cannot_write, is_full, same_target, joined, bound_as, next_id, request_of, ids_of, picked, pendings_at, half_closed, sent, called, answered_with, wrote_at, bad, got_known, got_asked, judged, at_state, at_endpoint, is_none, version_of, is_older, heard, controlled, headed, took_front, paused, closed_at, closed, answer}
+use Rattle.bind_model.specs.Replies.{from_id, is_flush, notified, pausing, told_of, data_made, is_right_size, moved_by}
 use Rattle.bind_model.specs.Wire.{Wire, Header, Named, Content}
-use Rattle.bind_model.proofs.Outcomes.{Passes, held}
-use Rattle.history_reader.specs.Printable.{IsSmall, IsSequence, IsEnd, IsThing, IsPending, IsWide, IsMoment, IsVersion, AreAll, IsNotice, IsNotified, IsWhy}
+use Rattle.bind_model.proofs.Outcomes.{held}
+use Rattle.history_reader.specs.Printable.{IsSmall, IsSequence, IsEnd, IsThing, IsPending, IsWide, IsMoment, IsVersion, AreAll, IsNotice, IsNotified}
 use Rattle.printed_histories.proofs.SmallLists.{If}
+use Rattle.printed_histories.proofs.SmallMoves.{IsSmallPipe, moved_by_small}
+use Rattle.printed_histories.proofs.SmallTests.{IsSmallTest, busy_small, first_small, unless_small}
 use Rattle.printed_histories.specs.Asked.{IsSmallAsked, IsSmallClosing, IsSmallOut, IsSmallResponder}
 use Rattle.printed_histories.proofs.SmallSaid.{IsSmallTold, IsFineMessage, IsSmallControl, IsSmallWire}
-
--- the reason of a test that fails
-abbrev pub IsSmallTest : Option Why → Type 0
-IsSmallTest None = Unit {0}
-IsSmallTest (Some why) = IsWhy why
 
 -- an endpoint, where there is one, is bound on a sequence of its width
 abbrev pub IsWithin : Option Endpoint → Type 0
 IsWithin o = (r : Endpoint) (t : SeqId) → o ≡ Some r → r.state ≡ states.Bound t → IsSequence t
-
-unless_small : (b : Bool) (why : Why) → IsWhy why → IsSmallTest (unless b why)
-unless_small true why i = tt
-unless_small false why i = i
-
--- what is done is told where all tests passed
-first_small : (tests : List (Option Why)) (done : Told) → AreAll IsSmallTest tests → (Passes tests → IsSmallTold done) → IsSmallTold (first_of tests done)
-first_small [] done a d = d tt
-first_small (None ∷ ts) done a d = first_small ts done a.1 (λ p. d (refl, p))
-first_small (Some why ∷ ts) done a d = a.0
 
 unbound_small : (id : ℕ) (r : Endpoint) → IsSmall id → IsSmallTest (unbound id r)
 unbound_small id r i = go r.state
@@ -124,13 +111,12 @@ pub record IsSmallPast (wire : Wire) (past : List Event) : Type 0 where
   pub mail : (y : EndId) → AreAll IsFineMessage (unread wire past y)
   pub within : (y : EndId) (id : ℕ) → IsWithin (endpoint_at wire past y id)
   pub serials : (seq : ℕ) → serials past seq + 1 < 2 ^ 32
-  pub tokens : (seq : ℕ) → tokens past seq < 2 ^ 32
+  pub tokens : (seq : ℕ) → tokens past seq + 1 < 2 ^ 32
   pub drawn : (y : EndId) (id : ℕ) → length (drawn past y id) + 1 < 2 ^ 64
   pub next : (y : EndId) → IsSmall (next_id wire past y)
   pub flushed : (y : EndId) → length (flushes_at past y) + 1 < 2 ^ 32
   pub paused : (y : EndId) → IsSmallTest (paused past y)
-  -- nothing was begun at a token
-  pub idle : (things : List Thing) → busy past things ≡ None
+  pub flows : (t : TokenId) (d : DataPipe) → pipe_of past t ≡ Some d → IsSmallPipe past d
 
 module _ (F : Target → Tree → Type 0) (wire : Wire) (w : IsSmallWire F wire) (past : List Event) (k : IsSmallPast wire past) (seq : SeqId) where
   joined_small : (s t : ℕ) → IsSmall s → IsSmall t → IsSmallTold (joined past s t)
@@ -146,11 +132,12 @@ module _ (F : Target → Tree → Type 0) (wire : Wire) (w : IsSmallWire F wire)
 
   -- ## Calls and answers
 
-  write_small : (y : EndId) (peer_closed : Bool) (handles : List Thing) → AreAll IsSmallTest (cannot_write wire past y peer_closed handles)
-  write_small y peer_closed handles = (
+  write_small : (y : EndId) (peer_closed : Bool) (handles : List Thing) → AreAll IsThing handles
+      → AreAll IsSmallTest (cannot_write wire past y peer_closed handles)
+  write_small y peer_closed handles things = (
     unless_small (not (has handles (End (peer past y)))) SelfSend tt,
     (
-      subst IsSmallTest (sym (k.idle handles)) tt,
+      busy_small past handles things,
       (
         unless_small (not (is_gone past (peer past y) || peer_closed)) Disconnected tt,
         (unless_small (not (is_full wire past (peer past y))) Full tt, tt),
@@ -205,7 +192,7 @@ module _ (F : Target → Tree → Type 0) (wire : Wire) (w : IsSmallWire F wire)
                     unless_small (tokens_right wire past s) WrongTokens tt,
                     (
                       pipe_small past y s.pendings o.1,
-                      write_small y r.peer_closed s.handles,
+                      write_small y r.peer_closed s.handles o.0,
                     ),
                   ),
                 ),
@@ -239,7 +226,7 @@ module _ (F : Target → Tree → Type 0) (wire : Wire) (w : IsSmallWire F wire)
                 unless_small (tokens_right wire past s) WrongTokens tt,
                 (
                   pipe_small past r.end s.pendings o.1,
-                  write_small r.end e.peer_closed s.handles,
+                  write_small r.end e.peer_closed s.handles o.0,
                 ),
               ),
             ),
@@ -344,15 +331,16 @@ module _ (F : Target → Tree → Type 0) (wire : Wire) (w : IsSmallWire F wire)
 
   -- ## Raw bytes
 
-  wrote_small : (x : Thing) (bytes : List ℕ) (handles : List Thing) → IsThing x → IsSmallTold (wrote_at wire past x bytes handles)
-  wrote_small (Token t) bytes handles i = tt
-  wrote_small (End x) bytes handles i = first_small (
+  wrote_small : (x : Thing) (bytes : List ℕ) (handles : List Thing) → IsThing x → AreAll IsThing handles
+      → IsSmallTold (wrote_at wire past x bytes handles)
+  wrote_small (Token t) bytes handles i things = tt
+  wrote_small (End x) bytes handles i things = first_small (
       unless (nat_le (length bytes) MAX_RAW_BYTES) TooLong
       ∷ unless (nat_le (length handles) MAX_RAW_HANDLES) TooManyHandles
       ∷ cannot_write wire past x false handles)
       (Wrote x) (
         unless_small (nat_le (length bytes) MAX_RAW_BYTES) TooLong tt,
-        (unless_small (nat_le (length handles) MAX_RAW_HANDLES) TooManyHandles tt, write_small x false handles),
+        (unless_small (nat_le (length handles) MAX_RAW_HANDLES) TooManyHandles tt, write_small x false handles things),
       )
       (λ p. i)
 
@@ -384,7 +372,7 @@ module _ (F : Target → Tree → Type 0) (wire : Wire) (w : IsSmallWire F wire)
             elsewhere_small seq r v,
             (
               unless_small (is_flush notice || not (is_receiver r.side)) WrongSide tt,
-              write_small y (not (is_flush notice) && r.peer_closed) [],
+              write_small y (not (is_flush notice) && r.peer_closed) [] tt,
             ),
           ),
         ),
@@ -432,7 +420,7 @@ module _ (F : Target → Tree → Type 0) (wire : Wire) (w : IsSmallWire F wire)
   small_answer seqs Pipe s i = joined_small seq.0 seq.0 s s
   small_answer seqs (Join t) s i = first_small (unless (nat_lt t.0 seqs) NoName ∷ []) (joined past seq.0 t.0)
       (unless_small (nat_lt t.0 seqs) NoName tt, tt) (λ p. joined_small seq.0 t.0 s i)
-  small_answer seqs (Mint sort) s i = (((s, k.tokens seq.0), tt), omega arith)
+  small_answer seqs (Mint sort) s i = (((s, omega (arith, k.tokens seq.0)), tt), omega arith)
   small_answer seqs (Bind x side interface) s i = first_small (unless (has (out past) x && nat_lt interface wire.interfaces) NoName ∷ []) (bound_as x)
       (unless_small (has (out past) x && nat_lt interface wire.interfaces) NoName tt, tt) (λ p. bound_small x i)
   small_answer seqs (Associate y side interface) s i = first_small (
@@ -460,7 +448,7 @@ module _ (F : Target → Tree → Type 0) (wire : Wire) (w : IsSmallWire F wire)
   small_answer seqs (Call y id o) s i = called_small y id o (endpoint_at wire past y id) (k.within y id) i.1 i.2
   small_answer seqs (Answer r o) s i = answered_small r o (endpoint_at wire past r.end r.id) (k.within r.end r.id) i.0 i.1
   small_answer seqs (Raw x bytes handles) s i = first_small (unless (all_out past (x ∷ handles)) NoName ∷ []) (wrote_at wire past x bytes handles)
-      (unless_small (all_out past (x ∷ handles)) NoName tt, tt) (λ p. wrote_small x bytes handles i.0)
+      (unless_small (all_out past (x ∷ handles)) NoName tt, tt) (λ p. wrote_small x bytes handles i.0 i.2)
   small_answer seqs (Take y) s i = first_small
       (unless (is_some (endpoint_at wire past y 0)) NoName ∷ unless (not (is_gone past y)) Disconnected ∷ paused past y ∷ [])
       (took_front wire past seq y (unread wire past y)) (
@@ -473,6 +461,9 @@ module _ (F : Target → Tree → Type 0) (wire : Wire) (w : IsSmallWire F wire)
       notified_small y notice (endpoint_at wire past y (from_id notice)) (k.within y (from_id notice)) i.1
   small_answer seqs (Pause b a flush) s i =
       pausing_small b a (endpoint_at wire past b 0) (endpoint_at wire past a 0) (k.within b 0) (k.within a 0)
-  small_answer seqs (Data size) s i = absurd i
-  small_answer seqs (Move x flow) s i = absurd i
+  small_answer seqs (Data size) s i = first_small (unless (is_right_size size) (BadSize size) ∷ []) (data_made past seq.0)
+      (unless_small (is_right_size size) (BadSize size) i, tt)
+      (λ p. (((s, omega (arith, k.tokens seq.0)), ((s, k.tokens seq.0), tt)), omega arith))
+  small_answer seqs (Move x flow) s i = first_small (unless (has (out past) x) NoName ∷ []) (moved_by past x flow)
+      (unless_small (has (out past) x) NoName tt, tt) (λ p. moved_by_small past k.flows x flow i.0 i.1)
   small_answer seqs (Skip line) s i = tt

@@ -13,7 +13,7 @@ use Rattle.control_bytes.specs.declared.control.Control.TheVariants as says
 use Rattle.bind_model.specs.declared.event.Event.{Event}
 use Rattle.bind_model.specs.declared.told.Told.{Told}
 use Rattle.bind_model.specs.declared.told.Told.TheVariants as tells
-use Rattle.history_reader.specs.Printable.{IsSmall, IsWide, IsMoment, IsSequence, IsEnd, IsThing, IsPending, AreAll, AreBytes, IsBadWhy, IsNoted, IsNotified, IsWhy}
+use Rattle.history_reader.specs.Printable.{IsSmall, IsWide, IsMoment, IsSequence, IsEnd, IsThing, IsToken, IsPending, AreAll, AreBytes, IsBadWhy, IsFlowed, IsNoted, IsNotified, IsWhy}
 use Rattle.printed_histories.specs.Asked.{IsSmallAsked}
 
 -- bytes of a message that isn't too long
@@ -24,7 +24,7 @@ IsFine bytes = AreBytes bytes × (length bytes < 2 ^ 62)
 abbrev pub IsFineMessage : Message → Type 0
 IsFineMessage m = IsFine m.bytes
 
--- what they are told, but for the things that come and go; nothing is told of what no line asks for
+-- what they are told, but for the things that come and go
 abbrev pub IsSmallTold : Told → Type 0
 IsSmallTold (tells.Made things) = AreAll IsThing things × (length things ≤ 2)
 IsSmallTold (tells.Bound x) = IsEnd x
@@ -39,7 +39,7 @@ IsSmallTold (tells.Bad why gone) = IsBadWhy why
 IsSmallTold (tells.Closed gone) = Unit {0}
 IsSmallTold (tells.Notified notified) = IsNotified notified
 IsSmallTold tells.Pausing = Unit {0}
-IsSmallTold (tells.Flowed t flowed) = ⊥
+IsSmallTold (tells.Flowed t flowed) = IsToken t × IsFlowed flowed
 IsSmallTold tells.Skipped = Unit {0}
 IsSmallTold (tells.No why) = IsWhy why
 

@@ -50,6 +50,6 @@ told_said schema (Bad why things) i m h g = (i, g)
 told_said schema (Closed things) i m h g = g
 told_said schema (Informed notified) i m h g = i
 told_said schema Pausing i m h g = tt
-told_said schema (Flowed t flowed) i m h g = absurd i
+told_said schema (Flowed t flowed) i m h g = i
 told_said schema Skipped i m h g = tt
 told_said schema (No why) i m h g = i

@@ -24,7 +24,7 @@ use Rattle.bind_model.specs.declared.asked.Outgoing.{Outgoing}
 use Rattle.bind_model.specs.declared.endpoint.ResponderId.{ResponderId}
 use Rattle.bind_model.specs.declared.event.Event.{Event}
 use Rattle.line_parts.specs.Printable.{IsSmall, IsWide, IsMoment, IsSequence, IsEnd, IsThing, IsPending, AreAll, AreBytes}
-use Rattle.history_reader.specs.Printable.{IsNotice}
+use Rattle.history_reader.specs.Printable.{IsFlow, IsNotice}
 
 -- ## Numbers
 
@@ -43,7 +43,7 @@ IsSmallClosing (closings.Pending p) = IsPending p
 IsSmallClosing (closings.Responder r) = IsSmallResponder r
 IsSmallClosing (closings.Endpoint y id) = IsEnd y × IsSmall id
 
--- what is asked has numbers of their widths, bytes, and parameters of which this holds; it is a command that a script has: none about a data pipe
+-- what is asked has numbers of their widths, bytes, and parameters of which this holds
 abbrev pub IsSmallAsked : (Target → Tree → Type 0) → Asked → Type 0
 IsSmallAsked F asks.Pipe = Unit {0}
 IsSmallAsked F (asks.Join t) = IsSequence t
@@ -58,8 +58,8 @@ IsSmallAsked F (asks.Take y) = IsEnd y
 IsSmallAsked F (asks.Close closing) = IsSmallClosing closing
 IsSmallAsked F (asks.Notify y notice) = IsEnd y × IsNotice notice
 IsSmallAsked F (asks.Pause b a flush) = IsEnd b × (IsEnd a × IsSmall flush)
-IsSmallAsked F (asks.Data size) = ⊥
-IsSmallAsked F (asks.Flow x flow) = ⊥
+IsSmallAsked F (asks.Data size) = IsSmall size
+IsSmallAsked F (asks.Flow x flow) = IsThing x × IsFlow flow
 IsSmallAsked F (asks.Skip line) = IsSmall line
 
 -- parameters that become bytes, not too many, and that name no more endpoints than a message carries

@@ -1,5 +1,5 @@
 -- What a script's run sends fits its methods: it was prepared, and the ordinals of methods are numbers of 32 bits.
-use Rattle.std.proofs.Common.{ℕ, List, [], ◌∷◌, reverse}
+use Rattle.std.proofs.Common.{ℕ, List, [], ◌∷◌, Option, reverse}
 use Rattle.mj_schema.specs.declared.schema.Schema.{Schema}
 use Rattle.wire_model.specs.declared.target.MessageSide.{MessageSide}
 use Rattle.wire_model.specs.declared.target.MessageSide.TheVariants.{Request, Response}
@@ -52,7 +52,7 @@ module _ (schema : Schema) (words : IsPrintableSchema schema) where
   all_fit (event ∷ past) all = (asked_fits event.asked all.0, all_fit past all.1)
 
 -- what a script's run sends fits its methods
-pub run_fits : PassedIsEncodable → (schema : Schema) (bytes : List ℕ) (script : Script) (order : ℕ) (history : List Event) → IsPrintableSchema schema
+pub run_fits : PassedIsEncodable → (schema : Schema) (bytes : List ℕ) (script : Script) (order : Option ℕ) (history : List Event) → IsPrintableSchema schema
     → IsScriptOf schema bytes script → OfScript schema script order history → AllFit schema (reverse history)
 run_fits law schema bytes script order history words read of =
     all_fit schema words (reverse history) (script_asks law schema bytes script order (reverse history) read of)

@@ -25,7 +25,7 @@ use Rattle.bind_model.specs.Wire.{Wire}
 use Rattle.call_script.specs.declared.script.AutoReply.{AutoReply}
 use Rattle.call_script.specs.declared.script.Command.{Command}
 use Rattle.call_script.specs.declared.script.Command.TheVariants.{Join, Pipe, Mint, Bind, Associate, Attach, Call, Take, Answer, Raw, CloseToken, CloseEndpoint}
-use Rattle.call_script.specs.declared.script.Command.TheVariants.{Notify, Pause}
+use Rattle.call_script.specs.declared.script.Command.TheVariants.{Notify, Pause, Data, Flow}
 use Rattle.call_script.specs.declared.script.Line.{Line}
 use Rattle.call_script.specs.declared.script.NameId.{NameId}
 use Rattle.call_script.specs.declared.script.Script.{Script}
@@ -268,6 +268,8 @@ module _ (F : Target → Tree → Type 0) (wire : Wire) where
             (λ b e. if_map IsEnd (IsSmallAsked F) (λ (a : EndId). asks.Pause b a flush) (λ a f. (e, (f, i)))
             (as_end (names.stands m)) (end_small (names.stands m) (s.stands m)))
             (as_end (names.stands n)) (end_small (names.stands n) (s.stands n))
+        asked_small (Data size first second) i = i
+        asked_small (Flow n flow) i = if_map IsThing (IsSmallAsked F) (λ (x : Thing). asks.Flow x flow) (λ x j. (j, i)) (names.handle n) (s.handle n)
 
         line_small : (line : Line) → IsSmallLine G line → IsSmallAsked F (asked_by names line)
         line_small line i = go (asked_for names line.command) (asked_small line.command i.1)

@@ -24,7 +24,7 @@ use Rattle.printed_histories.proofs.SmallSaid.{IsSmallEvent}
 use Rattle.printed_runs.proofs.SmallScript.{IsSmallScript}
 use Rattle.printed_histories.proofs.SmallThings.{all_handed}
 use Rattle.printed_histories.proofs.SmallWireOf.{HasSmallVersions}
-use Rattle.script_run.specs.OfScript.{Next, GoesOn, IsPart, PastOfScript, next_join, next_of, next_take}
+use Rattle.script_run.specs.OfScript.{Next, GoesOn, IsPart, PastInSomeOrder, next_join, next_of, next_take}
 
 module _ (schema : Schema) (low : HasLowSlots schema × HasSmallVersions schema) (seqs : ℕ) (some : seqs < 2 ^ 32) where
   -- the wire of the schema
@@ -78,7 +78,7 @@ module _ (schema : Schema) (low : HasLowSlots schema × HasSmallVersions schema)
       let asked = subst (If (IsSmallAsked (BecomeBytes schema))) (newest seqs next event middle asks h.0) (step event.seq middle h.2 rest) in
       (event_small schema low seqs some event (middle ++ before) h (omega (arith, few)) rest asked, rest)
 
-module _ (schema : Schema) (low : HasLowSlots schema × HasSmallVersions schema) (script : Script) (order : ℕ) (s : IsSmallScript (IsPrepared schema) script)
+module _ (schema : Schema) (low : HasLowSlots schema × HasSmallVersions schema) (script : Script) (s : IsSmallScript (IsPrepared schema) script)
     (some : script.seqs < 2 ^ 32) where
   -- the wire of the schema
   abbrev own_wire : Wire
@@ -116,7 +116,7 @@ module _ (schema : Schema) (low : HasLowSlots schema × HasSmallVersions schema)
       subst AllSmall (sym p.whole) (part_small schema low script.seqs some (next_join script) [] join_step tt p.own
       (subst (legal own_wire script.seqs) p.whole h) (subst (λ (l : List Event). length l < 2 ^ 30) p.whole few) p.asks)
 
-  pub run_small : (past : List Event) → PastOfScript schema script order past → legal own_wire script.seqs past → length past < 2 ^ 30 → AllSmall past
+  pub run_small : (past : List Event) → PastInSomeOrder schema script past → legal own_wire script.seqs past → length past < 2 ^ 30 → AllSmall past
   run_small past is h few =
       let drain = is.drain in
       let before = is.middle ++ is.after_joins in

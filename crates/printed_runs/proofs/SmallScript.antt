@@ -7,18 +7,21 @@ use Rattle.wire_encoder.specs.Prepared.{IsPrepared}
 use Rattle.wire_encoder.specs.declared.prepared.Prepared.{Prepared}
 use Rattle.bind_model.specs.declared.asked.Notice.{Notice}
 use Rattle.bind_model.specs.declared.asked.Notice.TheVariants.{Query, Require, Flush}
+use Rattle.bind_model.specs.declared.flow.Flow.{Flow as FlowType}
+use Rattle.bind_model.specs.declared.flow.Flow.TheVariants as flows
 use Rattle.call_script.specs.declared.script.AutoReply.{AutoReply}
 use Rattle.call_script.specs.declared.script.Command.{Command}
 use Rattle.call_script.specs.declared.script.Command.TheVariants as commands
 use Rattle.call_script.specs.declared.script.Line.{Line}
 use Rattle.call_script.specs.declared.script.Script.{Script}
 use Rattle.script_forms.specs.Forms.{Form, Join, Auto, Of, Pipe, Mint, Bind, Associate, Attach, Call, Take, Answer, Raw, CloseToken, CloseEndpoint}
-use Rattle.script_forms.specs.Forms.{Notify, Pause, AreThere, IsForm, IsMoment as IsTimed, IsNotice as IsNarrow, sequences}
-use Rattle.call_script.specs.Script.{Asks, Part, OfLine, OfReply, IsPart, IsScriptOf, AreTaken, lines_in, replies_in, names_set}
-use Rattle.history_reader.specs.Printable.{IsSmall, IsMoment, IsNotice, IsSequence, AreAll, AreBytes}
+use Rattle.script_forms.specs.Forms.{Notify, Pause, Data, Flow, Moved, Put, Get, BeginPut, EndPut, BeginGet, EndGet}
+use Rattle.script_forms.specs.Forms.{AreThere, IsForm, IsMoment as IsTimed, IsMoved, IsNotice as IsNarrow, sequences}
+use Rattle.call_script.specs.Script.{Asks, IsFlowOf, Part, OfLine, OfReply, IsPart, IsScriptOf, AreTaken, lines_in, replies_in, names_set}
+use Rattle.history_reader.specs.Printable.{IsFlow, IsSmall, IsMoment, IsNotice, IsSequence, AreAll, AreBytes}
 use Rattle.printed_histories.proofs.SmallLists.{all_reversed}
 
--- sequences, ids, bytes, moments and the numbers of controls in a command, and parameters of which this holds
+-- sequences, ids, bytes, moments and the numbers of controls and of data pipes in a command, and parameters of which this holds
 abbrev pub IsSmallCommand : (Prepared → Type 0) → Command → Type 0
 IsSmallCommand G (commands.Join other first second) = IsSequence other
 IsSmallCommand G (commands.Pipe first second) = Unit {0}
@@ -34,6 +37,8 @@ IsSmallCommand G (commands.CloseToken name) = Unit {0}
 IsSmallCommand G (commands.CloseEndpoint end id) = IsSmall id
 IsSmallCommand G (commands.Notify end notice) = IsNotice notice
 IsSmallCommand G (commands.Pause end other flush) = IsSmall flush
+IsSmallCommand G (commands.Data size producer consumer) = IsSmall size
+IsSmallCommand G (commands.Flow token flow) = IsFlow flow
 
 -- a line whose number and command are
 abbrev pub IsSmallLine : (Prepared → Type 0) → Line → Type 0
@@ -56,6 +61,16 @@ notice_small : (notice : Notice) → IsNarrow notice → IsNotice notice
 notice_small (Query id) i = i
 notice_small (Require id version) i = i
 notice_small Flush i = tt
+
+-- what is moved
+flow_small : (f : Moved) (g : FlowType) → IsMoved f → IsFlowOf f g → IsFlow g
+flow_small (Put word all) (flows.Put bytes part) i is = bytes_small bytes is.0.0
+flow_small (Get n all) (flows.Get m part) i is = let same : m ≡ n = is.0 in omega (arith, i, same)
+flow_small BeginPut flows.BeginPut i is = tt
+flow_small (EndPut word) (flows.EndPut bytes) i is = bytes_small bytes is.0
+flow_small BeginGet flows.BeginGet i is = tt
+flow_small (EndGet n) (flows.EndGet m) i is = let same : m ≡ n = is in omega (arith, i, same)
+flow_small f g i is = absurd is
 
 -- what the numbers of a form give, in a script of not too many sequences
 command_small : (schema : Schema) (seqs : ℕ) (before names : List (List ℕ)) (form : Form) (command : Command) → seqs < 2 ^ 32 → IsForm form
@@ -82,6 +97,9 @@ command_small schema seqs before names (Of seq (Notify x notice)) (commands.Noti
     subst IsNotice (sym asks.1) (notice_small notice sound.1)
 command_small schema seqs before names (Of seq (Pause x y flush)) (commands.Pause i j k) few sound there asks =
     let below : flush < 2 ^ 32 = sound.2 in let same : k ≡ flush = asks.2 in omega (arith, below, same)
+command_small schema seqs before names (Of seq (Data n x y)) (commands.Data k i j) few sound there asks =
+    let below : n < 2 ^ 32 = sound.2 in let same : k ≡ n = asks.0 in omega (arith, below, same)
+command_small schema seqs before names (Of seq (Flow x f)) (commands.Flow i g) few sound there asks = flow_small f g sound.1 asks.1
 command_small schema seqs before names form command few sound there asks = absurd asks
 
 -- what a form adds is

@@ -17,6 +17,7 @@ use Rattle.wire_encoder.specs.declared.prepared.Prepared.{Prepared}
 use Rattle.handle_table.specs.declared.thing.Thing.{Thing}
 use Rattle.message_laws.specs.Filled.{AreBytes}
 use Rattle.bind_model.specs.Ready.{ready}
+use Rattle.bind_model.specs.Replies.{legal}
 use Rattle.bind_model.specs.Seen.{own_of}
 use Rattle.bind_model.specs.Wire.{Wire}
 use Rattle.bind_model.specs.WireOf.{wire_of}
@@ -28,7 +29,7 @@ use Rattle.bind_model.specs.declared.endpoint.PendingId.{PendingId}
 use Rattle.bind_model.specs.declared.endpoint.ResponderId.{ResponderId}
 use Rattle.bind_model.specs.declared.event.Event.{Event}
 use Rattle.script_forms.specs.Forms.{Form, Join, Auto, Of, Pipe, Mint, Bind, Associate, Attach, Call, Take, Answer, Raw, CloseToken, CloseEndpoint}
-use Rattle.script_forms.specs.Forms.{Notify, Pause, AreThere, IsForm, sequences}
+use Rattle.script_forms.specs.Forms.{Notify, Pause, Data, Flow, AreThere, IsForm, sequences}
 use Rattle.call_script.specs.Script.{names_set, Asks, IsValueOf, IsPart, Part, OfLine, OfReply, lines_in, replies_in, AreTaken, IsScriptOf}
 use Rattle.call_script.specs.Targets.{message_named}
 use Rattle.call_script.specs.declared.script.AutoReply.{AutoReply}
@@ -38,7 +39,7 @@ use Rattle.call_script.specs.declared.script.Line.{Line}
 use Rattle.call_script.specs.declared.script.Script.{Script}
 use Rattle.script_names.specs.Autos.{Due, due, line_at, lines_done}
 use Rattle.script_names.specs.Names.{Named, has_name, pendings_named, things_named, unnamed}
-use Rattle.script_run.specs.OfScript.{Next, GoesOn, PastOfScript, joins_by, names_of, next_join, next_of, next_take}
+use Rattle.script_run.specs.OfScript.{Next, GoesOn, PastInSomeOrder, PastOfScript, joins_by, names_of, next_join, next_of, next_take}
 use Rattle.script_names.specs.Asking.{all_held, as_end, asked_by, asked_for, closed_of}
 use Rattle.script_run.specs.OfScript.{replied, reply_first, reply_or}
 use Rattle.script_names.specs.Asking.{or_skip, outgoing}
@@ -48,7 +49,8 @@ use Rattle.printed_histories.proofs.ValueLists.{both, turned}
 use Rattle.printed_histories.proofs.ValueSent.{PassedIsEncodable}
 use Rattle.printed_runs.proofs.OwnEvents.{MiddleAsks, newest, rest_asks}
 use Rattle.printed_runs.proofs.SentWords.{named_parameters, sent_value}
-use Rattle.printed_runs.proofs.ValueTurns.{IsOneOf, due_in, filtered, found_at, turns_within}
+use Rattle.printed_runs.proofs.SomeOrder.{in_some_order, legal_behind, legal_there}
+use Rattle.printed_runs.proofs.ValueTurns.{IsOneOf, due_in, filtered, found_at, taken_within}
 
 bytes_of : (bytes : List ℕ) → IsBytes bytes → AreBytes bytes
 bytes_of [] are = All-nil (λ (n : ℕ). n < 2 ^ 8)
@@ -105,6 +107,8 @@ module _ (law : PassedIsEncodable) (schema : Schema) where
   command_said before names (Of seq (CloseEndpoint x n)) (commands.CloseEndpoint i m) sound asked = tt
   command_said before names (Of seq (Notify x notice)) (commands.Notify i n) sound asked = tt
   command_said before names (Of seq (Pause x y flush)) (commands.Pause i j k) sound asked = tt
+  command_said before names (Of seq (Data n x y)) (commands.Data k i j) sound asked = tt
+  command_said before names (Of seq (Flow x f)) (commands.Flow i g) sound asked = tt
   command_said before names form command sound asked = absurd asked
 
   -- what a line sends
@@ -225,6 +229,8 @@ module _ (law : PassedIsEncodable) (schema : Schema) where
         of_end (λ (y : EndId). asks.Close (closings.Endpoint y id)) (λ y. tt) (as_end (names.stands name))
     of_command (commands.Notify name notice) said = of_end (λ (y : EndId). asks.Notify y notice) (λ y. tt) (as_end (names.stands name))
     of_command (commands.Pause name other flush) said = of_pause flush (as_end (names.stands name)) (as_end (names.stands other))
+    of_command (commands.Data size first second) said = tt
+    of_command (commands.Flow name flow) said = of_thing (λ (x : Thing). asks.Flow x flow) (λ x. tt) (names.handle name)
 
   -- ## What is next
 
@@ -303,24 +309,41 @@ module _ (law : PassedIsEncodable) (schema : Schema) where
     all_own seqs next said middle within.1 (rest_asks seqs next event middle asks),
   )
 
-  -- what the events of a script call and answer
-  pub script_asks : (bytes : List ℕ) (script : Script) (order : ℕ) (past : List Event) → IsScriptOf schema bytes script
-      → PastOfScript schema script order past → AllAskSaid schema past
-  script_asks bytes script order past is run =
+  -- what the events of a script call and answer, where those of its lines are of sequences that are there
+  asks_within : (bytes : List ℕ) (script : Script) (past : List Event) → IsScriptOf schema bytes script → (run : PastInSomeOrder schema script past)
+      → AllByRecursion (λ (event : Event). IsOneOf script.seqs event.seq) run.middle → AllAskSaid schema past
+  asks_within bytes script past is run there =
       let parts = turned (PartSaid script.seqs) is.parts (parts_said script.seqs is.forms is.parts is.taken) in
       let replies : AllByRecursion ReplySaid script.autos =
       subst (AllByRecursion ReplySaid) (sym is.autos) (replies_said script.seqs (reverse is.parts) parts) in
-      let within : AllByRecursion (λ (reply : AutoReply). IsOneOf script.seqs reply.seq) script.autos =
-      subst (AllByRecursion (λ (reply : AutoReply). IsOneOf script.seqs reply.seq)) (sym is.autos) (replies_within script.seqs (reverse is.parts) parts) in
       let lines : AllByRecursion LineSaid script.lines =
       subst (AllByRecursion LineSaid) (sym is.lines) (lines_said script.seqs (reverse is.parts) parts) in
       let wire = wire_of schema in
       let asked = λ (event : Event). AsksSaid schema event.asked in
       let first = all_next (next_join script) (of_join wire script replies lines) run.joins.own run.joins.asks in
       let joins : AllAskSaid schema run.after_joins = subst (AllAskSaid schema) (sym run.joins.whole) (both asked run.joins.own [] first tt) in
-      let middle = all_own script.seqs (next_of wire script run.after_joins) (of_own wire script replies lines run.after_joins) run.middle
-      (turns_within wire script order within run.middle run.turns) (λ s w. (run.lines s w).asks) in
+      let middle = all_own script.seqs (next_of wire script run.after_joins) (of_own wire script replies lines run.after_joins) run.middle there
+      (λ s w. (run.lines s w).asks) in
       let before = run.middle ++ run.after_joins in
       let last = all_next (next_take wire script.autos before) (of_take wire script replies lines before) run.drain.own run.drain.asks in
       subst (AllAskSaid schema) (sym run.drain.whole)
       (both asked run.drain.own before last (both asked run.middle run.after_joins middle joins))
+
+  -- so they are where they come in turns, or side by side
+  pub script_asks : (bytes : List ℕ) (script : Script) (order : Option ℕ) (past : List Event) → IsScriptOf schema bytes script
+      → PastOfScript schema script order past → AllAskSaid schema past
+  script_asks bytes script order past is run =
+      let parts = turned (PartSaid script.seqs) is.parts (parts_said script.seqs is.forms is.parts is.taken) in
+      let within : AllByRecursion (λ (reply : AutoReply). IsOneOf script.seqs reply.seq) script.autos =
+      subst (AllByRecursion (λ (reply : AutoReply). IsOneOf script.seqs reply.seq)) (sym is.autos) (replies_within script.seqs (reverse is.parts) parts) in
+      asks_within bytes script past is (in_some_order schema script order past run)
+      (taken_within (wire_of schema) script order within run.middle run.turns)
+
+  -- and where the history is legal
+  pub legal_asks : (bytes : List ℕ) (script : Script) (past : List Event) → IsScriptOf schema bytes script → legal (wire_of schema) script.seqs past
+      → PastInSomeOrder schema script past → AllAskSaid schema past
+  legal_asks bytes script past is h run =
+      asks_within bytes script past is run
+      (legal_there (wire_of schema) script.seqs run.middle run.after_joins
+      (legal_behind (wire_of schema) script.seqs run.drain.own (run.middle ++ run.after_joins)
+      (subst (legal (wire_of schema) script.seqs) run.drain.whole h)))

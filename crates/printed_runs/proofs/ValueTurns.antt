@@ -12,7 +12,7 @@ use Rattle.bind_model.specs.declared.event.Event.{Event}
 use Rattle.call_script.specs.declared.script.AutoReply.{AutoReply}
 use Rattle.call_script.specs.declared.script.Script.{Script}
 use Rattle.script_names.specs.Autos.{Due, due, due_for, lines_done, replies_to}
-use Rattle.script_run.specs.Order.{InTurns, drawn, due_first, has_left, next_drawn, sequences, turn, with_lines}
+use Rattle.script_run.specs.Order.{InTurns, TakeTurns, drawn, due_first, has_left, next_drawn, sequences, turn, with_lines}
 
 -- ## Lists
 
@@ -83,7 +83,13 @@ module _ (wire : Wire) (script : Script) (order : ℕ) (autos : AllByRecursion (
           subst (IsOneOf script.seqs) same (due_in (λ (x : AutoReply). IsOneOf script.seqs x.seq) wire script.autos past r reply autos is)
       go None is f = drawn_within past s f
 
-  -- events in turns are of the script's sequences
-  pub turns_within : (middle : List Event) → InTurns (turn wire script order) middle → AllByRecursion (λ (event : Event). IsOneOf script.seqs event.seq) middle
+  -- events in turns by an order are of the script's sequences
+  turns_within : (middle : List Event) → InTurns (turn wire script order) middle → AllByRecursion (λ (event : Event). IsOneOf script.seqs event.seq) middle
   turns_within [] turns = tt
   turns_within (event ∷ past) turns = (turn_within past event.seq turns.0, turns_within past turns.1)
+
+-- so are those of turns that are taken
+pub taken_within : (wire : Wire) (script : Script) (order : Option ℕ) → AllByRecursion (λ (reply : AutoReply). IsOneOf script.seqs reply.seq) script.autos
+    → (middle : List Event) → TakeTurns wire script order middle → AllByRecursion (λ (event : Event). IsOneOf script.seqs event.seq) middle
+taken_within wire script (Some order) autos middle turns = turns_within wire script order autos middle turns
+taken_within wire script None autos middle turns = turns

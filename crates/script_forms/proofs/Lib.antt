@@ -1,7 +1,9 @@
 pub mod Endpoints
 pub mod Hexes
 pub mod Moments
+pub mod MoveWords
 pub mod Sayings
 pub mod Sendings
+pub mod Movings
 pub mod Behind
 pub mod OneForm

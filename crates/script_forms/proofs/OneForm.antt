@@ -12,12 +12,14 @@ use Rattle.wire_encoder.specs.declared.endpoint.EndpointSide.{EndpointSide}
 use Rattle.wire_encoder.specs.declared.endpoint.EndpointSide.TheVariants.{Remote, Receiver}
 use Rattle.script_words.specs.Letters.{endpoint_word, is_name}
 use Rattle.script_forms.specs.Forms.{Said, Pipe, Mint, Bind, Associate, Attach, Call, Take, Answer, Raw, CloseToken, CloseEndpoint, Notify, Pause}
+use Rattle.script_forms.specs.Forms.{Data, Flow}
 use Rattle.script_forms.specs.Forms.{Form, Join, Auto, Of, IsForm, IsSaid, said_words, form_words, sort_word, side_word}
 use Rattle.script_forms.specs.Forms.{said_sequences, sequences, AreThere}
 use Rattle.script_forms.specs.steps.Numbers.{IsEndpoint}
 use Rattle.script_forms.proofs.Endpoints.{parts_of, name_parts}
 use Rattle.script_forms.proofs.Sayings.{first_is, rest_is, apart, pipe_only, mint_only, bind_only, associate_only, attach_only, take_only}
-use Rattle.script_forms.proofs.Sayings.{raw_only, close_only, query_only, require_only, flush_only, pause_only}
+use Rattle.script_forms.proofs.MoveWords.{moved_one}
+use Rattle.script_forms.proofs.Sayings.{raw_only, close_only, query_only, require_only, flush_only, pause_only, data_only, flow_only}
 use Rattle.script_forms.proofs.Sayings.{Closes, Token, Endpoint}
 use Rattle.script_forms.proofs.Sendings.{answer_moment, answer_only, call_moment, call_only}
 
@@ -117,6 +119,15 @@ module _ (seqs : ℕ) (few : seqs < 2 ^ 64) where
       let p = pause_only (x ∷ y ∷ decimal k ∷ []) b hb e in
       let digits : decimal k ≡ decimal p.flush = cc in
       let flushes : k ≡ p.flush = decimal_injective k p.flush (omega (arith, ha.2)) (omega (arith, p.small)) digits in cc
+  said_one (Data n x y) b ha hb ta tb e =
+      let p = data_only (decimal n ∷ x ∷ y ∷ []) b hb e in
+      let digits : decimal n ≡ decimal p.size = cc in
+      let sizes : n ≡ p.size = decimal_injective n p.size (omega (arith, ha.2)) (omega (arith, p.small)) digits in cc
+  said_one (Flow x f) b ha hb ta tb e =
+      let p = flow_only x f b hb e in
+      let named : x ≡ p.name = p.named in
+      let same : f ≡ p.found = moved_one f p.found ha.1 p.fine p.word p.tail in
+      let is : b ≡ Flow p.name p.found = p.is in cc
 
   join_word : (seq : ℕ) → seq < seqs → codes "join" ≡ decimal seq ++ codes ":" → ⊥
   join_word seq h e = not_joined 106 111 (codes "in") (decimal seq) (lit≤ tt) (decimal_is_IsNumeral seq (omega (arith, few, h))).0.1 e

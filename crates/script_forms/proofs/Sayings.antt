@@ -1,5 +1,5 @@
 -- What a command's words can be.
-use Rattle.std.proofs.Common.{◌≡◌, ◌<◌, ◌^◌, ℕ, List, [], ◌∷◌, refl, ap, true, false}
+use Rattle.std.proofs.Common.{◌≡◌, ◌<◌, ◌^◌, ℕ, List, [], ◌∷◌, refl, sym, ap, true, false}
 use Rattle.std.specs.Prelude.{codes, decimal, Some, None}
 use Rattle.std.specs.Str.{bytes_eq}
 use Rattle.std.proofs.lemmas.Slice.Eq.{bytes_eq-Decides}
@@ -7,8 +7,10 @@ use Rattle.bind_model.specs.declared.asked.Notice.TheVariants.{Query, Require, F
 use Rattle.handle_table.specs.declared.thing.TokenSort.{TokenSort}
 use Rattle.wire_encoder.specs.declared.endpoint.EndpointSide.{EndpointSide}
 use Rattle.script_forms.specs.Forms.{Said, Pipe, Mint, Bind, Associate, Attach, Call, Take, Answer, Raw, CloseToken, CloseEndpoint, Notify, Pause}
+use Rattle.script_forms.specs.Forms.{Data, Flow, IsMoved, Moved, move_tail, move_word}
 use Rattle.script_forms.specs.Forms.{IsSaid, said_words, sort_word, side_word}
 use Rattle.script_words.specs.Letters.{is_name, are_names, endpoint_word, is_interface_word, IsHexWord}
+use Rattle.script_forms.proofs.MoveWords.{no_move}
 
 -- what is behind the first of two equal lists
 abbrev rest : {A : Type 0} → List A → List A
@@ -56,6 +58,8 @@ pipe_only words (Notify x (Query n)) h e = absurd (apart _ _ _ _ refl e)
 pipe_only words (Notify x (Require n v)) h e = absurd (apart _ _ _ _ refl e)
 pipe_only words (Notify x Flush) h e = absurd (apart _ _ _ _ refl e)
 pipe_only words (Pause x y k) h e = absurd (apart _ _ _ _ refl e)
+pipe_only words (Data n x y) h e = absurd (apart _ _ _ _ refl e)
+pipe_only words (Flow x f) h e = absurd (no_move (codes "pipe") f refl (first_is _ _ _ _ e))
 
 pub record IsMint (words : List (List ℕ)) (said : Said) : Type 0 where
   pub sort : TokenSort
@@ -82,6 +86,8 @@ mint_only words (Notify x (Query n)) h e = absurd (apart _ _ _ _ refl e)
 mint_only words (Notify x (Require n v)) h e = absurd (apart _ _ _ _ refl e)
 mint_only words (Notify x Flush) h e = absurd (apart _ _ _ _ refl e)
 mint_only words (Pause x y k) h e = absurd (apart _ _ _ _ refl e)
+mint_only words (Data n x y) h e = absurd (apart _ _ _ _ refl e)
+mint_only words (Flow x f) h e = absurd (no_move (codes "mint") f refl (first_is _ _ _ _ e))
 
 pub record IsBind (words : List (List ℕ)) (said : Said) : Type 0 where
   pub end : List ℕ
@@ -110,6 +116,8 @@ bind_only words (Notify x (Query n)) h e = absurd (apart _ _ _ _ refl e)
 bind_only words (Notify x (Require n v)) h e = absurd (apart _ _ _ _ refl e)
 bind_only words (Notify x Flush) h e = absurd (apart _ _ _ _ refl e)
 bind_only words (Pause x y k) h e = absurd (apart _ _ _ _ refl e)
+bind_only words (Data n x y) h e = absurd (apart _ _ _ _ refl e)
+bind_only words (Flow x f) h e = absurd (no_move (codes "bind") f refl (first_is _ _ _ _ e))
 
 pub record IsAssociate (words : List (List ℕ)) (said : Said) : Type 0 where
   pub end : List ℕ
@@ -150,6 +158,8 @@ associate_only words (Notify x (Query n)) h e = absurd (apart _ _ _ _ refl e)
 associate_only words (Notify x (Require n v)) h e = absurd (apart _ _ _ _ refl e)
 associate_only words (Notify x Flush) h e = absurd (apart _ _ _ _ refl e)
 associate_only words (Pause x y k) h e = absurd (apart _ _ _ _ refl e)
+associate_only words (Data n x y) h e = absurd (apart _ _ _ _ refl e)
+associate_only words (Flow x f) h e = absurd (no_move (codes "associate") f refl (first_is _ _ _ _ e))
 
 pub record IsAttach (words : List (List ℕ)) (said : Said) : Type 0 where
   pub pending : List ℕ
@@ -176,6 +186,8 @@ attach_only words (Notify x (Query n)) h e = absurd (apart _ _ _ _ refl e)
 attach_only words (Notify x (Require n v)) h e = absurd (apart _ _ _ _ refl e)
 attach_only words (Notify x Flush) h e = absurd (apart _ _ _ _ refl e)
 attach_only words (Pause x y k) h e = absurd (apart _ _ _ _ refl e)
+attach_only words (Data n x y) h e = absurd (apart _ _ _ _ refl e)
+attach_only words (Flow x f) h e = absurd (no_move (codes "attach") f refl (first_is _ _ _ _ e))
 
 pub record IsTake (words : List (List ℕ)) (said : Said) : Type 0 where
   pub end : List ℕ
@@ -203,6 +215,8 @@ take_only words (Notify x (Query n)) h e = absurd (apart _ _ _ _ refl e)
 take_only words (Notify x (Require n v)) h e = absurd (apart _ _ _ _ refl e)
 take_only words (Notify x Flush) h e = absurd (apart _ _ _ _ refl e)
 take_only words (Pause x y k) h e = absurd (apart _ _ _ _ refl e)
+take_only words (Data n x y) h e = absurd (apart _ _ _ _ refl e)
+take_only words (Flow x f) h e = absurd (no_move (codes "take") f refl (first_is _ _ _ _ e))
 
 pub record IsRaw (words : List (List ℕ)) (said : Said) : Type 0 where
   pub end : List ℕ
@@ -241,6 +255,8 @@ raw_only words (Notify x (Query n)) h e = absurd (apart _ _ _ _ refl e)
 raw_only words (Notify x (Require n v)) h e = absurd (apart _ _ _ _ refl e)
 raw_only words (Notify x Flush) h e = absurd (apart _ _ _ _ refl e)
 raw_only words (Pause x y k) h e = absurd (apart _ _ _ _ refl e)
+raw_only words (Data n x y) h e = absurd (apart _ _ _ _ refl e)
+raw_only words (Flow x f) h e = absurd (no_move (codes "raw") f refl (first_is _ _ _ _ e))
 
 pub record IsQuery (words : List (List ℕ)) (said : Said) : Type 0 where
   pub end : List ℕ
@@ -268,6 +284,8 @@ query_only words (CloseEndpoint x n) h e = absurd (apart _ _ _ _ refl e)
 query_only words (Notify x (Require n v)) h e = absurd (apart _ _ _ _ refl e)
 query_only words (Notify x Flush) h e = absurd (apart _ _ _ _ refl e)
 query_only words (Pause x y k) h e = absurd (apart _ _ _ _ refl e)
+query_only words (Data n x y) h e = absurd (apart _ _ _ _ refl e)
+query_only words (Flow x f) h e = absurd (no_move (codes "query") f refl (first_is _ _ _ _ e))
 
 pub record IsRequire (words : List (List ℕ)) (said : Said) : Type 0 where
   pub end : List ℕ
@@ -306,6 +324,8 @@ require_only words (CloseEndpoint x n) h e = absurd (apart _ _ _ _ refl e)
 require_only words (Notify x (Query n)) h e = absurd (apart _ _ _ _ refl e)
 require_only words (Notify x Flush) h e = absurd (apart _ _ _ _ refl e)
 require_only words (Pause x y k) h e = absurd (apart _ _ _ _ refl e)
+require_only words (Data n x y) h e = absurd (apart _ _ _ _ refl e)
+require_only words (Flow x f) h e = absurd (no_move (codes "require") f refl (first_is _ _ _ _ e))
 
 pub record IsFlush (words : List (List ℕ)) (said : Said) : Type 0 where
   pub end : List ℕ
@@ -331,6 +351,8 @@ flush_only words (CloseEndpoint x n) h e = absurd (apart _ _ _ _ refl e)
 flush_only words (Notify x (Query n)) h e = absurd (apart _ _ _ _ refl e)
 flush_only words (Notify x (Require n v)) h e = absurd (apart _ _ _ _ refl e)
 flush_only words (Pause x y k) h e = absurd (apart _ _ _ _ refl e)
+flush_only words (Data n x y) h e = absurd (apart _ _ _ _ refl e)
+flush_only words (Flow x f) h e = absurd (no_move (codes "flush") f refl (first_is _ _ _ _ e))
 
 pub record IsPause (words : List (List ℕ)) (said : Said) : Type 0 where
   pub end : List ℕ
@@ -369,6 +391,86 @@ pause_only words (CloseEndpoint x n) h e = absurd (apart _ _ _ _ refl e)
 pause_only words (Notify x (Query n)) h e = absurd (apart _ _ _ _ refl e)
 pause_only words (Notify x (Require n v)) h e = absurd (apart _ _ _ _ refl e)
 pause_only words (Notify x Flush) h e = absurd (apart _ _ _ _ refl e)
+pause_only words (Data n x y) h e = absurd (apart _ _ _ _ refl e)
+pause_only words (Flow x f) h e = absurd (no_move (codes "pause") f refl (first_is _ _ _ _ e))
+
+pub record IsData (words : List (List ℕ)) (said : Said) : Type 0 where
+  pub size : ℕ
+  pub producer : List ℕ
+  pub consumer : List ℕ
+  pub is : said ≡ Data size producer consumer
+  pub are : words ≡ decimal size ∷ producer ∷ consumer ∷ []
+  pub one : is_name producer ≡ true
+  pub two : is_name consumer ≡ true
+  pub small : size < 2 ^ 32
+
+pub data_only : (words : List (List ℕ)) (said : Said) → IsSaid said → codes "data" ∷ words ≡ said_words said → IsData words said
+data_only words (Data n x y) h e = record {
+  size = n;
+  producer = x;
+  consumer = y;
+  is = refl;
+  are = rest_is _ _ _ _ e;
+  one = h.0;
+  two = h.1;
+  small = h.2;
+}
+data_only words (Pipe x y) h e = absurd (apart _ _ _ _ refl e)
+data_only words (Mint s x) h e = absurd (apart _ _ _ _ refl e)
+data_only words (Bind x s i) h e = absurd (apart _ _ _ _ refl e)
+data_only words (Associate x s i p) h e = absurd (apart _ _ _ _ refl e)
+data_only words (Attach x n) h e = absurd (apart _ _ _ _ refl e)
+data_only words (Call x n m v ts None) h e = absurd (apart _ _ _ _ refl e)
+data_only words (Call x n m v ts (Some z)) h e = absurd (apart _ _ _ _ refl e)
+data_only words (Take x ns) h e = absurd (apart _ _ _ _ refl e)
+data_only words (Answer r m v ts None) h e = absurd (apart _ _ _ _ refl e)
+data_only words (Answer r m v ts (Some z)) h e = absurd (apart _ _ _ _ refl e)
+data_only words (Raw x b ts) h e = absurd (apart _ _ _ _ refl e)
+data_only words (CloseToken x) h e = absurd (apart _ _ _ _ refl e)
+data_only words (CloseEndpoint x n) h e = absurd (apart _ _ _ _ refl e)
+data_only words (Notify x (Query n)) h e = absurd (apart _ _ _ _ refl e)
+data_only words (Notify x (Require n v)) h e = absurd (apart _ _ _ _ refl e)
+data_only words (Notify x Flush) h e = absurd (apart _ _ _ _ refl e)
+data_only words (Pause x y k) h e = absurd (apart _ _ _ _ refl e)
+data_only words (Flow x f) h e = absurd (no_move (codes "data") f refl (first_is _ _ _ _ e))
+
+pub record IsFlow (token : List ℕ) (moved : Moved) (said : Said) : Type 0 where
+  pub name : List ℕ
+  pub found : Moved
+  pub is : said ≡ Flow name found
+  pub named : token ≡ name
+  pub word : move_word moved ≡ move_word found
+  pub tail : move_tail moved ≡ move_tail found
+  pub fine : IsMoved found
+
+pub flow_only : (token : List ℕ) (f : Moved) (said : Said) → IsSaid said → move_word f ∷ token ∷ move_tail f ≡ said_words said → IsFlow token f said
+flow_only token f (Flow x g) h e = record {
+  name = x;
+  found = g;
+  is = refl;
+  named = first_is _ _ _ _ (rest_is _ _ _ _ e);
+  word = first_is _ _ _ _ e;
+  tail = rest_is _ _ _ _ (rest_is _ _ _ _ e);
+  fine = h.1;
+}
+flow_only token f (Pipe x y) h e = absurd (no_move (codes "pipe") f refl (sym (first_is _ _ _ _ e)))
+flow_only token f (Mint s x) h e = absurd (no_move (codes "mint") f refl (sym (first_is _ _ _ _ e)))
+flow_only token f (Bind x s i) h e = absurd (no_move (codes "bind") f refl (sym (first_is _ _ _ _ e)))
+flow_only token f (Associate x s i p) h e = absurd (no_move (codes "associate") f refl (sym (first_is _ _ _ _ e)))
+flow_only token f (Attach x n) h e = absurd (no_move (codes "attach") f refl (sym (first_is _ _ _ _ e)))
+flow_only token f (Call x n m v ts None) h e = absurd (no_move (codes "call") f refl (sym (first_is _ _ _ _ e)))
+flow_only token f (Call x n m v ts (Some z)) h e = absurd (no_move (codes "call-at") f refl (sym (first_is _ _ _ _ e)))
+flow_only token f (Take x ns) h e = absurd (no_move (codes "take") f refl (sym (first_is _ _ _ _ e)))
+flow_only token f (Answer r m v ts None) h e = absurd (no_move (codes "answer") f refl (sym (first_is _ _ _ _ e)))
+flow_only token f (Answer r m v ts (Some z)) h e = absurd (no_move (codes "answer-at") f refl (sym (first_is _ _ _ _ e)))
+flow_only token f (Raw x b ts) h e = absurd (no_move (codes "raw") f refl (sym (first_is _ _ _ _ e)))
+flow_only token f (CloseToken x) h e = absurd (no_move (codes "close") f refl (sym (first_is _ _ _ _ e)))
+flow_only token f (CloseEndpoint x n) h e = absurd (no_move (codes "close") f refl (sym (first_is _ _ _ _ e)))
+flow_only token f (Notify x (Query n)) h e = absurd (no_move (codes "query") f refl (sym (first_is _ _ _ _ e)))
+flow_only token f (Notify x (Require n v)) h e = absurd (no_move (codes "require") f refl (sym (first_is _ _ _ _ e)))
+flow_only token f (Notify x Flush) h e = absurd (no_move (codes "flush") f refl (sym (first_is _ _ _ _ e)))
+flow_only token f (Pause x y k) h e = absurd (no_move (codes "pause") f refl (sym (first_is _ _ _ _ e)))
+flow_only token f (Data n x y) h e = absurd (no_move (codes "data") f refl (sym (first_is _ _ _ _ e)))
 
 -- a close is of a token, or of an endpoint
 pub data Closes (words : List (List ℕ)) (said : Said) : Type 0 where
@@ -393,3 +495,5 @@ close_only words (Notify x (Query n)) h e = absurd (apart _ _ _ _ refl e)
 close_only words (Notify x (Require n v)) h e = absurd (apart _ _ _ _ refl e)
 close_only words (Notify x Flush) h e = absurd (apart _ _ _ _ refl e)
 close_only words (Pause x y k) h e = absurd (apart _ _ _ _ refl e)
+close_only words (Data n x y) h e = absurd (apart _ _ _ _ refl e)
+close_only words (Flow x f) h e = absurd (no_move (codes "close") f refl (first_is _ _ _ _ e))

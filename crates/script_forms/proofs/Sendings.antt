@@ -7,8 +7,10 @@ use Rattle.bind_model.specs.declared.asked.Notice.TheVariants.{Query, Require, F
 use Rattle.script_words.specs.Letters.{is_name, are_names, endpoint_word, is_method_word}
 use Rattle.script_words.proofs.Splits.{and_true}
 use Rattle.script_forms.specs.Forms.{Said, Pipe, Mint, Bind, Associate, Attach, Call, Take, Answer, Raw, CloseToken, CloseEndpoint, Notify, Pause}
+use Rattle.script_forms.specs.Forms.{Data, Flow}
 use Rattle.script_forms.specs.Forms.{IsMoment, IsSaid, answer_start, call_start, said_words}
 use Rattle.script_forms.proofs.Moments.{moment_one}
+use Rattle.script_forms.proofs.MoveWords.{no_move}
 use Rattle.script_forms.proofs.Sayings.{apart, first_is, rest_is}
 
 -- a moment is told apart by the words that a call or an answer begins with
@@ -101,6 +103,8 @@ call_only None words (Notify x (Query n)) h e = absurd (apart _ _ _ _ refl e)
 call_only None words (Notify x (Require n v)) h e = absurd (apart _ _ _ _ refl e)
 call_only None words (Notify x Flush) h e = absurd (apart _ _ _ _ refl e)
 call_only None words (Pause x y k) h e = absurd (apart _ _ _ _ refl e)
+call_only None words (Data n x y) h e = absurd (apart _ _ _ _ refl e)
+call_only None words (Flow x f) h e = absurd (no_move (codes "call") f refl (first_is _ _ _ _ e))
 call_only (Some z) words (Pipe x y) h e = absurd (apart _ _ _ _ refl e)
 call_only (Some z) words (Mint s x) h e = absurd (apart _ _ _ _ refl e)
 call_only (Some z) words (Bind x s i) h e = absurd (apart _ _ _ _ refl e)
@@ -117,6 +121,8 @@ call_only (Some z) words (Notify x (Query n)) h e = absurd (apart _ _ _ _ refl e
 call_only (Some z) words (Notify x (Require n v)) h e = absurd (apart _ _ _ _ refl e)
 call_only (Some z) words (Notify x Flush) h e = absurd (apart _ _ _ _ refl e)
 call_only (Some z) words (Pause x y k) h e = absurd (apart _ _ _ _ refl e)
+call_only (Some z) words (Data n x y) h e = absurd (apart _ _ _ _ refl e)
+call_only (Some z) words (Flow x f) h e = absurd (no_move (codes "call-at") f refl (first_is _ _ _ _ e))
 
 pub record IsAnswer (moment : Option ℤ) (words : List (List ℕ)) (said : Said) : Type 0 where
   pub responder : List ℕ
@@ -188,6 +194,8 @@ answer_only None words (Notify x (Query n)) h e = absurd (apart _ _ _ _ refl e)
 answer_only None words (Notify x (Require n v)) h e = absurd (apart _ _ _ _ refl e)
 answer_only None words (Notify x Flush) h e = absurd (apart _ _ _ _ refl e)
 answer_only None words (Pause x y k) h e = absurd (apart _ _ _ _ refl e)
+answer_only None words (Data n x y) h e = absurd (apart _ _ _ _ refl e)
+answer_only None words (Flow x f) h e = absurd (no_move (codes "answer") f refl (first_is _ _ _ _ e))
 answer_only (Some z) words (Pipe x y) h e = absurd (apart _ _ _ _ refl e)
 answer_only (Some z) words (Mint s x) h e = absurd (apart _ _ _ _ refl e)
 answer_only (Some z) words (Bind x s i) h e = absurd (apart _ _ _ _ refl e)
@@ -204,6 +212,8 @@ answer_only (Some z) words (Notify x (Query n)) h e = absurd (apart _ _ _ _ refl
 answer_only (Some z) words (Notify x (Require n v)) h e = absurd (apart _ _ _ _ refl e)
 answer_only (Some z) words (Notify x Flush) h e = absurd (apart _ _ _ _ refl e)
 answer_only (Some z) words (Pause x y k) h e = absurd (apart _ _ _ _ refl e)
+answer_only (Some z) words (Data n x y) h e = absurd (apart _ _ _ _ refl e)
+answer_only (Some z) words (Flow x f) h e = absurd (no_move (codes "answer-at") f refl (first_is _ _ _ _ e))
 
 -- ## Words that are none
 

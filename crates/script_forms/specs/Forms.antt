@@ -13,6 +13,15 @@ use Rattle.wire_encoder.specs.declared.endpoint.EndpointSide.TheVariants.{Remote
 use Rattle.script_forms.specs.declared.sequences.TheConstants.{MAX_SEQUENCES}
 use Rattle.script_words.specs.Letters.{endpoint_word, own_word, is_name, are_names, is_interface_word, is_method_word, IsHexWord}
 
+-- what is moved at a token of a data pipe, with bytes as a word
+pub data Moved : Type 0 where
+  Put : (bytes : List ℕ) (all : Bool) → Moved
+  Get : (count : ℕ) (all : Bool) → Moved
+  BeginPut : Moved
+  EndPut : (bytes : List ℕ) → Moved
+  BeginGet : Moved
+  EndGet : (count : ℕ) → Moved
+
 -- what a sequence is told to do
 pub data Said : Type 0 where
   Pipe : (first second : List ℕ) → Said
@@ -28,6 +37,8 @@ pub data Said : Type 0 where
   CloseEndpoint : (end : List ℕ) (id : ℕ) → Said
   Notify : (end : List ℕ) (notice : Notice) → Said
   Pause : (end other : List ℕ) (flush : ℕ) → Said
+  Data : (size : ℕ) (producer consumer : List ℕ) → Said
+  Flow : (token : List ℕ) (moved : Moved) → Said
 
 -- a line behind the first: of the setup, or of a sequence
 pub data Form : Type 0 where
@@ -61,6 +72,34 @@ notice_words end (Query id) = codes "query" ∷ endpoint_word end id ∷ []
 notice_words end (Require id version) = codes "require" ∷ endpoint_word end id ∷ decimal version ∷ []
 notice_words end Flush = codes "flush" ∷ end ∷ []
 
+-- the word for what is moved, where bytes go in: all, or as many as there is room for
+abbrev pub put_word : Bool → List ℕ
+put_word false = codes "put"
+put_word true = codes "put-all"
+
+-- and where bytes come out: all, or as many as are held
+abbrev pub get_word : Bool → List ℕ
+get_word false = codes "get"
+get_word true = codes "get-all"
+
+-- the word for what is moved
+abbrev pub move_word : Moved → List ℕ
+move_word (Put bytes all) = put_word all
+move_word (Get count all) = get_word all
+move_word BeginPut = codes "begin-put"
+move_word (EndPut bytes) = codes "end-put"
+move_word BeginGet = codes "begin-get"
+move_word (EndGet count) = codes "end-get"
+
+-- the words behind the token
+abbrev pub move_tail : Moved → List (List ℕ)
+move_tail (Put bytes all) = bytes ∷ []
+move_tail (Get count all) = decimal count ∷ []
+move_tail BeginPut = []
+move_tail (EndPut bytes) = bytes ∷ []
+move_tail BeginGet = []
+move_tail (EndGet count) = decimal count ∷ []
+
 -- the words behind the sequence
 abbrev pub said_words : Said → List (List ℕ)
 said_words (Pipe first second) = codes "pipe" ∷ first ∷ second ∷ []
@@ -76,6 +115,8 @@ said_words (CloseToken token) = codes "close" ∷ token ∷ []
 said_words (CloseEndpoint end id) = codes "close" ∷ endpoint_word end id ∷ []
 said_words (Notify end notice) = notice_words end notice
 said_words (Pause end other flush) = codes "pause" ∷ end ∷ other ∷ decimal flush ∷ []
+said_words (Data size producer consumer) = codes "data" ∷ decimal size ∷ producer ∷ consumer ∷ []
+said_words (Flow token moved) = move_word moved ∷ token ∷ move_tail moved
 
 -- the words of a line
 abbrev pub form_words : Form → List (List ℕ)
@@ -101,6 +142,15 @@ IsNotice (Query id) = id < 2 ^ 32
 IsNotice (Require id version) = (id < 2 ^ 32) × (version < 2 ^ 32)
 IsNotice Flush = Unit {0}
 
+-- bytes are spelled in hexadecimal, and how many are got has 32 bits
+abbrev pub IsMoved : Moved → Type 0
+IsMoved (Put bytes all) = IsHexWord bytes
+IsMoved (Get count all) = count < 2 ^ 32
+IsMoved BeginPut = Unit {0}
+IsMoved (EndPut bytes) = IsHexWord bytes
+IsMoved BeginGet = Unit {0}
+IsMoved (EndGet count) = count < 2 ^ 32
+
 -- names are names, numbers are in their range, and what names an interface or a method has the letters of one
 abbrev pub IsSaid : Said → Type 0
 IsSaid (Pipe first second) = (is_name first ≡ true) × (is_name second ≡ true)
@@ -118,6 +168,8 @@ IsSaid (CloseToken token) = is_name token ≡ true
 IsSaid (CloseEndpoint end id) = (is_name end ≡ true) × (id < 2 ^ 32)
 IsSaid (Notify end notice) = (is_name end ≡ true) × IsNotice notice
 IsSaid (Pause end other flush) = (is_name end ≡ true) × (is_name other ≡ true) × (flush < 2 ^ 32)
+IsSaid (Data size producer consumer) = (is_name producer ≡ true) × (is_name consumer ≡ true) × (size < 2 ^ 32)
+IsSaid (Flow token moved) = (is_name token ≡ true) × IsMoved moved
 
 -- what is said is said right
 abbrev pub IsForm : Form → Type 0
@@ -161,6 +213,8 @@ said_sets (CloseToken token) = []
 said_sets (CloseEndpoint end id) = []
 said_sets (Notify end notice) = []
 said_sets (Pause end other flush) = []
+said_sets (Data size producer consumer) = producer ∷ consumer ∷ []
+said_sets (Flow token moved) = []
 
 -- the names of its sequence's own that a line sets
 abbrev pub sets_own : Form → List (List ℕ)
@@ -195,6 +249,8 @@ said_needs (CloseToken token) = token ∷ []
 said_needs (CloseEndpoint end id) = end ∷ []
 said_needs (Notify end notice) = end ∷ []
 said_needs (Pause end other flush) = end ∷ other ∷ []
+said_needs (Data size producer consumer) = []
+said_needs (Flow token moved) = token ∷ []
 
 -- the names that a line needs
 abbrev pub needs : Form → List (List ℕ)

@@ -2,10 +2,22 @@
 use Rattle.std.specs.Prelude.{map}
 use Rattle.script_forms.specs.declared.form.Form.{Form as WrittenForm}
 use Rattle.script_forms.specs.declared.form.Form.TheVariants as forms
+use Rattle.script_forms.specs.declared.form.Moved.{Moved as WrittenMoved}
+use Rattle.script_forms.specs.declared.form.Moved.TheVariants as moveds
 use Rattle.script_forms.specs.declared.form.Said.{Said as WrittenSaid}
 use Rattle.script_forms.specs.declared.form.Said.TheVariants as saids
 use Rattle.script_forms.specs.Forms.{Said, Pipe, Mint, Bind, Associate, Attach, Call, Take, Answer, Raw, CloseToken, CloseEndpoint, Notify, Pause}
+use Rattle.script_forms.specs.Forms.{Data, Flow, Moved, Put, Get, BeginPut, EndPut, BeginGet, EndGet}
 use Rattle.script_forms.specs.Forms.{Form, Join, Auto, Of}
+
+-- what is moved, without where its word lies
+abbrev pub moved_view : WrittenMoved → Moved
+moved_view (moveds.Put bytes all) = Put bytes.now all
+moved_view (moveds.Get count all) = Get count all
+moved_view moveds.BeginPut = BeginPut
+moved_view (moveds.EndPut bytes) = EndPut bytes.now
+moved_view moveds.BeginGet = BeginGet
+moved_view (moveds.EndGet count) = EndGet count
 
 -- what is said to a sequence, without where its words lie
 abbrev pub said_view : WrittenSaid → Said
@@ -24,6 +36,8 @@ said_view (saids.CloseToken token) = CloseToken token.now
 said_view (saids.CloseEndpoint end id) = CloseEndpoint end.now id
 said_view (saids.Notify end notice) = Notify end.now notice
 said_view (saids.Pause end other flush) = Pause end.now other.now flush
+said_view (saids.Data size producer consumer) = Data size producer.now consumer.now
+said_view (saids.Flow token moved) = Flow token.now (moved_view moved)
 
 -- a form, without where its words lie
 abbrev pub form_view : WrittenForm → Form

@@ -4,6 +4,19 @@ use bind_model::Notice;
 use handle_table::TokenSort;
 use wire_encoder::EndpointSide;
 
+/// What is to be moved at a token of a data pipe, with bytes as a word in hexadecimal.
+#[derive(Clone, Copy)]
+pub enum Moved<'a> {
+    /// These bytes in: all, where that is said, else as many as there is room for.
+    Put(&'a [u8], bool),
+    /// So many bytes out: all, where that is said, else as many as are held.
+    Get(u32, bool),
+    BeginPut,
+    EndPut(&'a [u8]),
+    BeginGet,
+    EndGet(u32),
+}
+
 /// What a sequence is told to do.
 #[derive(Clone, Copy)]
 pub enum Said<'w, 'a> {
@@ -26,6 +39,10 @@ pub enum Said<'w, 'a> {
     Notify(&'a [u8], Notice),
     /// The name of an end, that of the end that it waits for, and the number of a flush there.
     Pause(&'a [u8], &'a [u8], u32),
+    /// How many bytes a data pipe holds at most, and names for the tokens of its producer and its consumer.
+    Data(u32, &'a [u8], &'a [u8]),
+    /// The name of a token of a data pipe, and what is moved there.
+    Flow(&'a [u8], Moved<'a>),
 }
 
 /// A line behind the first: of the setup, or of a sequence.

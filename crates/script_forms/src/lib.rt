@@ -3,6 +3,7 @@
 
 mod form;
 mod lines;
+mod moving;
 mod notices;
 mod numbers;
 mod parts;
@@ -10,7 +11,7 @@ mod saying;
 mod sending;
 mod sequences;
 
-pub use form::{Form, Said};
+pub use form::{Form, Moved, Said};
 pub use lines::read_form;
 pub use numbers::hex_bytes;
 pub use sequences::{MAX_SEQUENCES, sequences_of};

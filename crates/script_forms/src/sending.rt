@@ -1,10 +1,11 @@
-//! What writes a message.
+//! What writes a message, or is of a data pipe.
 
 ghost use Rattle.std.specs.Prelude.{IfOk, map, codes};
 ghost use Rattle.script_forms.specs.Forms.{answer_start, call_start};
 ghost use Rattle.script_forms.specs.steps.Sayings.{SpellsFrom, SpellsSaid, SpellsWriting};
 
 use crate::form::Said;
+use crate::moving::behind_moving;
 use crate::notices::{flush_of, query_of, require_of};
 use crate::numbers::{endpoint, hex_bytes, moment};
 use crate::parts::is_named_list;
@@ -122,7 +123,7 @@ fn raw_of<'w, 'a>(alloc: Global, words: &'w [&'a [u8]]) -> Result<Option<Said<'w
     }
 }
 
-/// What is said by a command and the words behind it, where it writes a message.
+/// What is said by a command and the words behind it, where it writes a message or is of a data pipe.
 pub(crate) fn behind_writing<'w, 'a>(
     alloc: Global,
     command: &[u8],
@@ -154,5 +155,5 @@ pub(crate) fn behind_writing<'w, 'a>(
     if command == b"flush".as_slice() {
         return Ok(flush_of(words));
     }
-    Ok(None)
+    behind_moving(alloc, command, words)
 }

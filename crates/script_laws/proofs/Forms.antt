@@ -17,6 +17,7 @@ use Rattle.script_words.specs.Letters.{endpoint_word, is_name, are_names, is_int
 use Rattle.script_words.specs.Pieces.{pieces}
 use Rattle.script_forms.specs.declared.sequences.TheConstants.{MAX_SEQUENCES}
 use Rattle.script_forms.specs.Forms.{Said, Pipe, Mint, Bind, Associate, Attach, Call, Take, Answer, Raw, CloseToken, CloseEndpoint, Notify, Pause}
+use Rattle.script_forms.specs.Forms.{Data, Flow, Moved, Put, Get, BeginPut, EndPut, BeginGet, EndGet, IsMoved}
 use Rattle.script_forms.specs.Forms.{Form, Join, Auto, Of, IsMoment, IsNotice, IsSaid, IsForm, AreThere, said_words, said_sequences, form_words, sequences}
 use Rattle.call_script.specs.Script.{IsFormOf, is_placed}
 use Rattle.script_forms.proofs.Endpoints.{parts_of, name_parts}
@@ -230,7 +231,50 @@ abbrev pause_in : List (List ℕ) → Said
 pause_in (x ∷ y ∷ digits ∷ []) = Pause x y (number_of (number_in decimal digits (2 ^ 32)))
 pause_in words = nothing
 
--- by a command with a moment, or of a control or a wait, or by `close`
+-- behind `data`
+abbrev data_in : List (List ℕ) → Said
+data_in (digits ∷ x ∷ y ∷ []) = Data (number_of (number_in decimal digits (2 ^ 32))) x y
+data_in words = nothing
+
+-- behind `put` and `put-all`
+abbrev put_in : Bool → List (List ℕ) → Said
+put_in all (x ∷ bytes ∷ []) = Flow x (Put bytes all)
+put_in all words = nothing
+
+-- behind `get` and `get-all`
+abbrev get_in : Bool → List (List ℕ) → Said
+get_in all (x ∷ digits ∷ []) = Flow x (Get (number_of (number_in decimal digits (2 ^ 32))) all)
+get_in all words = nothing
+
+-- behind `begin-put` and `begin-get`
+abbrev begin_in : Moved → List (List ℕ) → Said
+begin_in moved (x ∷ []) = Flow x moved
+begin_in moved words = nothing
+
+-- behind `end-put`
+abbrev end_put_in : List (List ℕ) → Said
+end_put_in (x ∷ bytes ∷ []) = Flow x (EndPut bytes)
+end_put_in words = nothing
+
+-- behind `end-get`
+abbrev end_get_in : List (List ℕ) → Said
+end_get_in (x ∷ digits ∷ []) = Flow x (EndGet (number_of (number_in decimal digits (2 ^ 32))))
+end_get_in words = nothing
+
+-- of a data pipe, or by `close`
+abbrev said_last : List ℕ → List (List ℕ) → Said
+said_last command words =
+    if bytes_eq command (codes "data") then data_in words else
+    (if bytes_eq command (codes "put") then put_in false words else
+    (if bytes_eq command (codes "put-all") then put_in true words else
+    (if bytes_eq command (codes "get") then get_in false words else
+    (if bytes_eq command (codes "get-all") then get_in true words else
+    (if bytes_eq command (codes "begin-put") then begin_in BeginPut words else
+    (if bytes_eq command (codes "end-put") then end_put_in words else
+    (if bytes_eq command (codes "begin-get") then begin_in BeginGet words else
+    (if bytes_eq command (codes "end-get") then end_get_in words else close_in words))))))))
+
+-- by a command with a moment, or of a control or a wait, or of a data pipe, or by `close`
 abbrev said_later : List ℕ → List (List ℕ) → Said
 said_later command words =
     if bytes_eq command (codes "call-at") then timed_call_in words else
@@ -238,7 +282,7 @@ said_later command words =
     (if bytes_eq command (codes "query") then query_in words else
     (if bytes_eq command (codes "require") then require_in words else
     (if bytes_eq command (codes "flush") then flush_in words else
-    (if bytes_eq command (codes "pause") then pause_in words else close_in words)))))
+    (if bytes_eq command (codes "pause") then pause_in words else said_last command words)))))
 
 -- by the command
 abbrev said_behind : ℕ → List ℕ → List (List ℕ) → Said
@@ -301,6 +345,18 @@ module _ (seqs : ℕ) (few : seqs ≤ MAX_SEQUENCES) where
   said_one (Notify x Flush) is there = refl
   said_one (Pause x y flush) is there =
       ap (λ (o : Option ℕ). Pause x y (unwrap_or o 0)) (digits_found (decimal flush) (2 ^ 32) flush (omega arith) is.2 refl)
+  said_one (Data n x y) is there = ap (λ (o : Option ℕ). Data (unwrap_or o 0) x y) (digits_found (decimal n) (2 ^ 32) n (omega arith) is.2 refl)
+  said_one (Flow x (Put bytes false)) is there = refl
+  said_one (Flow x (Put bytes true)) is there = refl
+  said_one (Flow x (Get n false)) is there =
+      ap (λ (o : Option ℕ). Flow x (Get (unwrap_or o 0) false)) (digits_found (decimal n) (2 ^ 32) n (omega arith) is.1 refl)
+  said_one (Flow x (Get n true)) is there =
+      ap (λ (o : Option ℕ). Flow x (Get (unwrap_or o 0) true)) (digits_found (decimal n) (2 ^ 32) n (omega arith) is.1 refl)
+  said_one (Flow x BeginPut) is there = refl
+  said_one (Flow x (EndPut bytes)) is there = refl
+  said_one (Flow x BeginGet) is there = refl
+  said_one (Flow x (EndGet n)) is there =
+      ap (λ (o : Option ℕ). Flow x (EndGet (unwrap_or o 0))) (digits_found (decimal n) (2 ^ 32) n (omega arith) is.1 refl)
 
   -- a moment has 64 bits, or not
   fits : (z : ℤ) → Decided (FitsSigned w64 z)
@@ -319,6 +375,15 @@ module _ (seqs : ℕ) (few : seqs ≤ MAX_SEQUENCES) where
   timed : (moment : Option ℤ) → Decided (IsMoment moment)
   timed None = inl tt
   timed (Some z) = fits z
+
+  -- what is moved is
+  moved_right : (f : Moved) → Decided (IsMoved f)
+  moved_right (Put bytes all) = hex_word bytes
+  moved_right (Get n all) = below n (2 ^ 32)
+  moved_right BeginPut = inl tt
+  moved_right (EndPut bytes) = hex_word bytes
+  moved_right BeginGet = inl tt
+  moved_right (EndGet n) = below n (2 ^ 32)
 
   -- what is said is said right, or not
   said_right : (said : Said) → Decided (IsSaid said)
@@ -339,6 +404,8 @@ module _ (seqs : ℕ) (few : seqs ≤ MAX_SEQUENCES) where
   said_right (Notify x (Require id version)) = both (by_test (is_name x)) (both (below id (2 ^ 32)) (below version (2 ^ 32)))
   said_right (Notify x Flush) = let no_number : Decided (IsNotice Flush) = inl tt in both (by_test (is_name x)) no_number
   said_right (Pause x y flush) = three (by_test (is_name x)) (by_test (is_name y)) (below flush (2 ^ 32))
+  said_right (Data n x y) = three (by_test (is_name x)) (by_test (is_name y)) (below n (2 ^ 32))
+  said_right (Flow x f) = both (by_test (is_name x)) (moved_right f)
 
 -- ## Lines
 

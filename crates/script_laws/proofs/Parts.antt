@@ -16,8 +16,11 @@ use Rattle.script_words.specs.Letters.{endpoint_word, own_word}
 use Rattle.call_script.specs.declared.script.Command.{Command}
 use Rattle.call_script.specs.declared.script.Command.TheVariants as commands
 use Rattle.script_forms.specs.Forms.{Pipe, Mint, Bind, Associate, Attach, Call, Take, Answer, Raw, CloseToken, CloseEndpoint, Notify, Pause}
+use Rattle.script_forms.specs.Forms.{Data, Flow, Moved, Put, Get, BeginPut, EndPut, BeginGet, EndGet, IsMoved}
+use Rattle.bind_model.specs.declared.flow.Flow.{Flow as FlowType}
+use Rattle.bind_model.specs.declared.flow.Flow.TheVariants as flows
 use Rattle.script_forms.specs.Forms.{Form, Join, Auto, Of, IsForm, form_words, needs}
-use Rattle.call_script.specs.Script.{names_set, line_number, seq_of, finds, knows, is_set, meant, Asks, HasNoValue, IsNoBareValue, IsNoValue, IsPart, IsValueOf, Part, OfLine, OfReply}
+use Rattle.call_script.specs.Script.{names_set, line_number, seq_of, finds, knows, is_set, meant, Asks, IsFlowOf, HasNoValue, IsNoBareValue, IsNoValue, IsPart, IsValueOf, Part, OfLine, OfReply}
 use Rattle.call_script.specs.Targets.{message_named, target_named}
 use Rattle.call_script.proofs.OneValue.{one_found}
 use Rattle.call_script.proofs.Sending.{letters}
@@ -40,6 +43,15 @@ named_there schema side word target number found = go (target_named schema side 
         → parameters_of schema target ≡ Some number
     go None e = absurd cc
     go (Some t) e = inner t (parameters_of schema t) refl e
+
+-- what is moved has its bytes
+flow_for : (f : Moved) → IsMoved f → (g : FlowType) × IsFlowOf f g
+flow_for (Put word all) h = (flows.Put h.0 all, (h.1, refl))
+flow_for (Get n all) h = (flows.Get n all, (refl, refl))
+flow_for BeginPut h = (flows.BeginPut, tt)
+flow_for (EndPut word) h = (flows.EndPut h.0, h.1)
+flow_for BeginGet h = (flows.BeginGet, tt)
+flow_for (EndGet n) h = (flows.EndGet n, refl)
 
 module _ (passed : Passed) (schema : Schema) (past : List Form) where
   -- what a line comes to
@@ -243,3 +255,12 @@ module _ (passed : Passed) (schema : Schema) (past : List Form) where
       let end = before names [] (meant names seq x) n.0 in
       let other = before names [] (meant names seq y) (needed seq y [] n.1).0 in
       line_of (Of seq (Pause x y flush)) (commands.Pause end.0 other.0 flush, (end.1, other.1, refl))
+  on (Of seq (Data n x y)) is known small =
+      let first = next names (own_word seq x) (own_word seq y ∷ []) in
+      let last = second names (own_word seq x) (own_word seq y) in
+      line_of (Of seq (Data n x y)) (commands.Data n first.0 last.0, (refl, first.1, last.1))
+  on (Of seq (Flow x f)) is known small =
+      let k = known_parts (Of seq (Flow x f)) known in
+      let token = before names [] (meant names seq x) (needed seq x [] k.1).0 in
+      let flow = flow_for f is.1 in
+      line_of (Of seq (Flow x f)) (commands.Flow token.0 flow.0, (token.1, flow.1))

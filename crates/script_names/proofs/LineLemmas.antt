@@ -17,7 +17,7 @@ use Rattle.bind_model.specs.declared.endpoint.PendingId.{PendingId}
 use Rattle.bind_model.specs.declared.endpoint.ResponderId.{ResponderId}
 use Rattle.call_script.specs.declared.script.Command.{Command as LineCommand}
 use Rattle.call_script.specs.declared.script.Command.TheVariants.{Join, Pipe, Mint, Bind, Associate, Attach, Call, Take, Answer, Raw, CloseToken, CloseEndpoint}
-use Rattle.call_script.specs.declared.script.Command.TheVariants.{Notify, Pause}
+use Rattle.call_script.specs.declared.script.Command.TheVariants.{Notify, Pause, Data, Flow}
 use Rattle.call_script.specs.declared.script.Line.{Line}
 use Rattle.call_script.specs.declared.script.NameId.{NameId}
 use Rattle.script_names.specs.Names.{Named, handles_spent, has_name, pendings_named, pendings_spent, responders_spent, things_named}
@@ -144,6 +144,7 @@ module _ (one : Option NameId) (handle_names pending_names : List NameId) where
   handles_asked (asks.Answer r out) = handle_names
   handles_asked (asks.Raw x bytes xs) = before_list one handle_names
   handles_asked (asks.Close (closings.Handle x)) = listed one
+  handles_asked (asks.Flow x f) = before_list one []
   handles_asked asked = []
 
   -- of its pendings
@@ -172,13 +173,15 @@ module _ (one : Option NameId) (handle_names pending_names : List NameId) where
   responder_are (commands.Close (close.Responder r)) = refl
   responder_are command = refl
 
--- with the name of an end that bytes are written from
+-- with the name of an end that bytes are written from, or of a token that they are moved at
 abbrev own_asked : Asked → Option NameId → List NameId → List NameId
 own_asked (asks.Raw x bytes xs) one spent = before_list one spent
+own_asked (asks.Flow x f) one spent = before_list one spent
 own_asked asked one spent = spent
 
 own_are : (command : Command) (one : Option NameId) (spent : List NameId) → own_before command one spent ≡ own_asked (asked_of command) one spent
 own_are (commands.Raw x bytes xs) one spent = refl
+own_are (commands.Flow x f) one spent = refl
 own_are (commands.Close (close.Handle x)) one spent = refl
 own_are command one spent = refl
 
@@ -264,6 +267,10 @@ spends_for held number (Pause n m flush) names are =
     with_two (SpendsAsked held.stands (Pause n m flush) names) number (spends_nothing held.stands (Pause n m flush) names number)
     (λ b a. asks.Pause b a flush) (as_end (held.stands n)) (as_end (held.stands m))
     (λ b a. record { handles = refl; pendings = refl; responder = refl })
+spends_for held number (Data size first second) names are = record { handles = refl; pendings = refl; responder = refl }
+spends_for held number (Flow n flow) names are =
+    with_one (SpendsAsked held.stands (Flow n flow) names) number (spends_nothing held.stands (Flow n flow) names number)
+    (λ x. asks.Flow x flow) (held.handle n) (λ x. record { handles = refl; pendings = refl; responder = refl })
 
 -- the command that asks what its line does takes from under the names of what is spent
 pub spends_as : (held : Named) (line : Line) (names : Names) (command : Command) → AreNames (λ (n : NameId). is_some (held.stands n)) line.command names

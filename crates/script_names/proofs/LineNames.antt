@@ -8,13 +8,13 @@ use Rattle.mj_base.specs.declared.ids.SeqId.{SeqId}
 use Rattle.handle_table.specs.declared.thing.Thing.{Thing}
 use Rattle.bind_model.specs.Machine.{handed}
 use Rattle.bind_model.specs.Pendings.{Half, names_of}
-use Rattle.bind_model.specs.Plain.{asked_of, told_of, HandsBack, HandsEnd, HandsResponders, responders_in}
+use Rattle.bind_model.specs.Plain.{asked_of, told_of, HandsBack, HandsEnd, HandsResponders, HandsToken, responders_in}
 use Rattle.bind_model.specs.Replies.{answer}
 use Rattle.bind_model.specs.Wire.{Wire}
 use Rattle.bind_model.specs.declared.commands.Command.{Command}
-use Rattle.bind_model.specs.declared.commands.Command.TheVariants.{Raw}
+use Rattle.bind_model.specs.declared.commands.Command.TheVariants.{Raw, Flow}
 use Rattle.bind_model.specs.declared.commands.Reply.{Reply}
-use Rattle.bind_model.specs.declared.commands.Reply.TheVariants.{Made, Associated, Wrote, Got, No}
+use Rattle.bind_model.specs.declared.commands.Reply.TheVariants.{Made, Associated, Wrote, Got, Flowed, No}
 use Rattle.bind_model.specs.declared.endpoint.PendingId.{PendingId}
 use Rattle.bind_model.specs.declared.endpoint.ResponderId.{ResponderId}
 use Rattle.bind_model.specs.declared.event.Event.{Event}
@@ -36,7 +36,7 @@ use Rattle.script_names.specs.Held.{held_at}
 use Rattle.script_names.specs.Tables.{filled, filled_one, given, left_by, taken_from}
 use Rattle.script_names.proofs.NameLemmas.{first_back, given_one, then_given, then_left, then_same, within_drop}
 use Rattle.script_names.proofs.TableLemmas.{all_back}
-use Rattle.script_names.proofs.WhatIsTold.{is_raw, not_raw, wrote_raw}
+use Rattle.script_names.proofs.WhatIsTold.{comes_back, flowed_flow, is_flow, is_raw, not_back, wrote_raw}
 
 -- ## The names of pendings
 
@@ -65,10 +65,11 @@ then_names names spent halves holds n =
     ∙ (ap (λ (o : Option PendingId). or_before o (name_of (if has_name spent n then None else holds n))) (came_names names halves n)
     ∙ ap (λ (o : Option PendingId). or_before (came names (names_of halves) n) o) (unless_names (has_name spent n) (holds n)))
 
--- ## The end that bytes are written from
+-- ## The end that bytes are written from, and the token that they are moved at
 
-plain_before : (command : Command) (one : Option NameId) (spent : List NameId) → is_raw command ≡ false → own_before command one spent ≡ spent
+plain_before : (command : Command) (one : Option NameId) (spent : List NameId) → comes_back command ≡ false → own_before command one spent ≡ spent
 plain_before (Raw handle bytes handles) one spent plain = absurd (true≢false plain)
+plain_before (Flow handle flow) one spent plain = absurd (true≢false plain)
 plain_before command one spent plain = refl
 
 wrote_held : (command : Command) (one : Option NameId) (hs ps spent : List NameId) (table : List (Option Thing)) (back : Thing)
@@ -81,6 +82,17 @@ wrote_held (Raw handle bytes handles) (Some m) hs ps spent table back raw hands 
     let same : hs ≡ spent = cc in
     ap (λ (x : Thing). filled (left_by table (m ∷ hs)) m x) hands ∙ (first_back hs table m handle handles taken ∙ ap (left_by table) same)
 wrote_held command one hs ps spent table back raw hands taken under = absurd (true≢false (sym raw))
+
+moved_held : (command : Command) (one : Option NameId) (hs ps spent : List NameId) (table : List (Option Thing)) (back : Thing)
+    → is_flow command ≡ true → HandsToken back command
+    → taken_from table (handles_under one hs ps command) ≡ Some (things_with command)
+    → handles_under one hs ps command ≡ own_before command one spent
+    → filled_one one back (left_by table (handles_under one hs ps command)) ≡ left_by table spent
+moved_held (Flow handle flow) None hs ps spent table back moves hands taken under = absurd cc
+moved_held (Flow handle flow) (Some m) hs ps spent table back moves hands taken under =
+    let same : ◌≡◌ {A = List NameId} [] spent = cc in
+    ap (λ (x : Thing). filled (left_by table (m ∷ [])) m x) hands ∙ (first_back [] table m handle [] taken ∙ ap (left_by table) same)
+moved_held command one hs ps spent table back moves hands taken under = absurd (true≢false (sym moves))
 
 -- ## Responders
 
@@ -159,18 +171,18 @@ module _ (wire : Wire) (seqs : ℕ) (past : List Event) (me : SeqId) (line : Lin
 
   -- ## Handles
 
-  plain_left : is_raw command ≡ false → mid.handles.named.items ≡ left_by old.handles.named.items gone_handles
+  plain_left : comes_back command ≡ false → mid.handles.named.items ≡ left_by old.handles.named.items gone_handles
   plain_left plain =
       took.no_handles ∙ ap (left_by old.handles.named.items) (spends.handles ∙ plain_before command names.one gone_handles plain)
 
-  handles_came : (things : List Thing) → is_raw command ≡ false → (n : NameId)
+  handles_came : (things : List Thing) → comes_back command ≡ false → (n : NameId)
       → held_at (given names.sets.items things mid.handles.named.items) n ≡ then_held ns things gone_handles these n
   handles_came things plain n =
       ap (λ (ms : List NameId). held_at (given ms things mid.handles.named.items) n) are.sets
       ∙ (ap (λ (t : List (Option Thing)). held_at (given ns things t) n) (plain_left plain)
       ∙ then_given ns gone_handles things old.handles.named.items (within_as old.handles.named.items have.handles) n)
 
-  handles_left : is_raw command ≡ false → (n : NameId) → held_at mid.handles.named.items n ≡ then_held ns [] gone_handles these n
+  handles_left : comes_back command ≡ false → (n : NameId) → held_at mid.handles.named.items n ≡ then_held ns [] gone_handles these n
   handles_left plain n =
       ap (λ (t : List (Option Thing)). held_at t n) (plain_left plain) ∙ then_left ns gone_handles old.handles.named.items n
 
@@ -185,16 +197,22 @@ module _ (wire : Wire) (seqs : ℕ) (past : List Event) (me : SeqId) (line : Lin
   handles_after : (reply : Reply) → told_of reply ≡ answer wire seqs past me (asked_of command) → HandsBack command reply → (n : NameId)
       → held_at (settled_handles names reply mid.handles.named.items) n
       ≡ then_held ns (handed (told_of reply)) (if is_done (told_of reply) then gone_handles else []) these n
-  handles_after (Made things) told hands n = handles_came things (not_raw wire seqs past me command (told_of (Made things)) told refl) n
-  handles_after (Got g) told hands n = handles_came g.handles (not_raw wire seqs past me command (told_of (Got g)) told refl) n
+  handles_after (Made things) told hands n = handles_came things (not_back wire seqs past me command (told_of (Made things)) told refl) n
+  handles_after (Got g) told hands n = handles_came g.handles (not_back wire seqs past me command (told_of (Got g)) told refl) n
   handles_after (Wrote back) told hands n =
       ap (λ (t : List (Option Thing)). held_at (filled_one names.one back t) n) took.no_handles
       ∙ (ap (λ (t : List (Option Thing)). held_at t n)
       (wrote_held command names.one names.handles.items names.pendings.items gone_handles old.handles.named.items back
       (wrote_raw wire seqs past me command _ told) hands took.handles spends.handles)
       ∙ then_left ns gone_handles old.handles.named.items n)
+  handles_after (Flowed back w) told hands n =
+      ap (λ (t : List (Option Thing)). held_at (filled_one names.one back t) n) took.no_handles
+      ∙ (ap (λ (t : List (Option Thing)). held_at t n)
+      (moved_held command names.one names.handles.items names.pendings.items gone_handles old.handles.named.items back
+      (flowed_flow wire seqs past me command _ _ told) hands took.handles spends.handles)
+      ∙ then_left ns gone_handles old.handles.named.items n)
   handles_after (No why back) told hands n = ap (λ (t : List (Option Thing)). held_at t n) (handles_back back hands) ∙ then_same ns these n
-  handles_after reply told hands n = handles_left (not_raw wire seqs past me command (told_of reply) told refl) n
+  handles_after reply told hands n = handles_left (not_back wire seqs past me command (told_of reply) told refl) n
 
   -- ## Pendings
 

@@ -8,7 +8,7 @@ use Rattle.bind_model.specs.declared.commands.Command.{Command}
 use Rattle.bind_model.specs.declared.commands.Command.TheVariants as commands
 use Rattle.bind_model.specs.declared.commands.ToClose.TheVariants as close
 use Rattle.bind_model.specs.declared.commands.Reply.{Reply}
-use Rattle.bind_model.specs.declared.commands.Reply.TheVariants.{Made, Associated, Wrote, Got, No}
+use Rattle.bind_model.specs.declared.commands.Reply.TheVariants.{Made, Associated, Wrote, Got, Flowed, No}
 use Rattle.bind_model.specs.declared.endpoint.ResponderId.{ResponderId}
 use Rattle.call_script.specs.declared.script.NameId.{NameId}
 use Rattle.script_names.specs.declared.names.Names.{Names}
@@ -86,6 +86,7 @@ module _ (names : Names) where
   handles_length (Made things) table = length_given names.sets.items things table
   handles_length (Got g) table = length_given names.sets.items g.handles table
   handles_length (Wrote back) table = length_filled names.one back table
+  handles_length (Flowed back flowed) table = length_filled names.one back table
   handles_length (No why command) table =
       length_given (handles_under names.one names.handles.items names.pendings.items command) (things_with command) table
   handles_length reply table = refl
@@ -192,6 +193,7 @@ module _ (names : Names) (none : AreNone names) where
   handles_still (Made things) table = given_nowhere names.sets.items things table none.sets
   handles_still (Got g) table = given_nowhere names.sets.items g.handles table none.sets
   handles_still (Wrote back) table = none_one back table
+  handles_still (Flowed back flowed) table = none_one back table
   handles_still (No why command) table =
       given_nowhere (handles_under names.one names.handles.items names.pendings.items command) (things_with command) table (none_handles command)
   handles_still reply table = refl

@@ -14,7 +14,7 @@ use Rattle.bind_model.specs.declared.endpoint.PendingId.{PendingId}
 use Rattle.bind_model.specs.declared.endpoint.ResponderId.{ResponderId}
 use Rattle.call_script.specs.declared.script.Command.{Command}
 use Rattle.call_script.specs.declared.script.Command.TheVariants.{Join, Pipe, Mint, Bind, Associate, Attach, Call, Take, Answer, Raw, CloseToken, CloseEndpoint}
-use Rattle.call_script.specs.declared.script.Command.TheVariants.{Notify, Pause}
+use Rattle.call_script.specs.declared.script.Command.TheVariants.{Notify, Pause, Data, Flow}
 use Rattle.call_script.specs.declared.script.Line.{Line}
 use Rattle.call_script.specs.declared.script.NameId.{NameId}
 use Rattle.script_names.specs.Names.{Named, has_name, pendings_named, things_named}
@@ -88,6 +88,8 @@ module _ (names : Named) where
   asked_for (Pause n m flush) = option_and_then
       (λ (b : EndId). option_map (λ (a : EndId). asks.Pause b a flush) (as_end (names.stands m)))
       (as_end (names.stands n))
+  asked_for (Data size first second) = Some (asks.Data size)
+  asked_for (Flow n flow) = option_map (λ (x : Thing). asks.Flow x flow) (names.handle n)
 
   -- what a line asks
   abbrev pub asked_by : Line → Asked

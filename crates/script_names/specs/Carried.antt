@@ -4,10 +4,10 @@ use Rattle.handle_table.specs.declared.thing.Thing.{Thing}
 use Rattle.bind_model.specs.Pendings.{Half}
 use Rattle.bind_model.specs.declared.endpoint.ResponderId.{ResponderId}
 use Rattle.bind_model.specs.declared.commands.Command.{Command}
-use Rattle.bind_model.specs.declared.commands.Command.TheVariants.{Bind, Associate, Attach, Call, Answer, Raw, Close}
+use Rattle.bind_model.specs.declared.commands.Command.TheVariants.{Bind, Associate, Attach, Call, Answer, Raw, Close, Flow}
 use Rattle.bind_model.specs.declared.commands.ToClose.TheVariants as close
 use Rattle.bind_model.specs.declared.commands.Reply.{Reply}
-use Rattle.bind_model.specs.declared.commands.Reply.TheVariants.{Associated, Wrote, No}
+use Rattle.bind_model.specs.declared.commands.Reply.TheVariants.{Associated, Wrote, Flowed, No}
 
 -- ## With a command
 
@@ -18,6 +18,7 @@ things_with (Call end id prepared handles pendings moment) = handles
 things_with (Answer responder prepared handles pendings moment) = handles
 things_with (Raw handle bytes handles) = handle ∷ handles
 things_with (Close (close.Handle handle)) = handle ∷ []
+things_with (Flow handle flow) = handle ∷ []
 things_with command = []
 
 -- the pendings that go with a command
@@ -44,6 +45,7 @@ responder_with command = None
 -- for how many handles that come back there is to be room
 abbrev pub things_back : Reply → List Thing
 things_back (Wrote handle) = handle ∷ []
+things_back (Flowed handle flowed) = handle ∷ []
 things_back (No why command) = things_with command
 things_back reply = []
 

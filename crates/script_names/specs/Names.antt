@@ -70,7 +70,7 @@ things_named stands list = filter (λ (n : NameId). is_some (stands n)) list
 abbrev pub pendings_named : (NameId → Option Thing) → List NameId → List NameId
 pendings_named stands list = filter (λ (n : NameId). not (is_some (stands n))) list
 
--- the names whose handles a command spends, where it asked this; an end that bytes are written from comes back
+-- the names whose handles a command spends, where it asked this; an end that bytes are written from and a token that they are moved at come back
 abbrev pub handles_spent : (NameId → Option Thing) → Command → Asked → List NameId
 handles_spent stands command (asks.Skip number) = []
 handles_spent stands (Bind n side interface) asked = n ∷ []

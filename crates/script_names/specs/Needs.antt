@@ -1,7 +1,7 @@
 -- The names of a line, by what it has them for.
 use Rattle.std.specs.Prelude.{◌≡◌, Bool, true, false, List, [], filter, not, Option, Some, None}
 use Rattle.call_script.specs.declared.script.Command.{Command}
-use Rattle.call_script.specs.declared.script.Command.TheVariants.{Bind, Attach, Call, Answer, Raw, CloseToken}
+use Rattle.call_script.specs.declared.script.Command.TheVariants.{Bind, Attach, Call, Answer, Raw, CloseToken, Flow}
 use Rattle.call_script.specs.declared.script.NameId.{NameId}
 use Rattle.call_script.specs.Sound.{sets}
 use Rattle.script_names.specs.declared.names.Names.{Names}
@@ -13,6 +13,7 @@ needed (Attach n seq) = Some n
 needed (Answer n prepared names moment) = Some n
 needed (Raw n bytes names) = Some n
 needed (CloseToken n) = Some n
+needed (Flow n flow) = Some n
 needed command = None
 
 -- of the names in a command's list those whose handles it needs, and those whose pendings

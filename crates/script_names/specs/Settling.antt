@@ -5,10 +5,10 @@ use Rattle.bind_model.specs.Pendings.{Half}
 use Rattle.bind_model.specs.Plain.{asked_of}
 use Rattle.bind_model.specs.declared.endpoint.ResponderId.{ResponderId}
 use Rattle.bind_model.specs.declared.commands.Command.{Command}
-use Rattle.bind_model.specs.declared.commands.Command.TheVariants.{Bind, Attach, Call, Answer, Raw, Close}
+use Rattle.bind_model.specs.declared.commands.Command.TheVariants.{Bind, Attach, Call, Answer, Raw, Close, Flow}
 use Rattle.bind_model.specs.declared.commands.ToClose.TheVariants as close
 use Rattle.bind_model.specs.declared.commands.Reply.{Reply}
-use Rattle.bind_model.specs.declared.commands.Reply.TheVariants.{Made, Associated, Wrote, Got, No}
+use Rattle.bind_model.specs.declared.commands.Reply.TheVariants.{Made, Associated, Wrote, Got, Flowed, No}
 use Rattle.call_script.specs.declared.script.Command.{Command as LineCommand}
 use Rattle.call_script.specs.declared.script.NameId.{NameId}
 use Rattle.script_names.specs.declared.names.Names.{Names}
@@ -43,6 +43,7 @@ module _ (one : Option NameId) (handle_names pending_names : List NameId) where
   handles_under (Answer responder prepared hs ps moment) = handle_names
   handles_under (Raw handle bytes hs) = before_list one handle_names
   handles_under (Close (close.Handle handle)) = listed one
+  handles_under (Flow handle flow) = before_list one []
   handles_under command = []
 
   -- those of the pendings
@@ -74,9 +75,10 @@ module _ (one : Option NameId) (handle_names pending_names : List NameId) where
 abbrev pub TookFor : Names → Command → Rooms → Rooms → Type 0
 TookFor names command old new = Took names.one names.handles.items names.pendings.items command old new
 
--- the name of an end that bytes are written from stands before those of the list: it comes back, so that it isn't spent
+-- the name of an end that bytes are written from, or of a token that bytes are moved at, stands before those of the list: it comes back, so that it isn't spent
 abbrev pub own_before : Command → Option NameId → List NameId → List NameId
 own_before (Raw handle bytes hs) one spent = before_list one spent
+own_before (Flow handle flow) one spent = before_list one spent
 own_before command one spent = spent
 
 -- the names under which the command of a line takes are those that are spent where it is done
@@ -95,11 +97,12 @@ module _ (names : Names) where
   settled_stands (Got g) table = given names.sets.items g.handles table
   settled_stands reply table = table
 
-  -- the handles under names then: those that came, and those that come back from what was refused or written
+  -- the handles under names then: those that came, and those that come back from what was refused, written or moved
   abbrev pub settled_handles : Reply → List (Option Thing) → List (Option Thing)
   settled_handles (Made handles) table = given names.sets.items handles table
   settled_handles (Got g) table = given names.sets.items g.handles table
   settled_handles (Wrote handle) table = filled_one names.one handle table
+  settled_handles (Flowed handle flowed) table = filled_one names.one handle table
   settled_handles (No why command) table = given (handles_under names.one names.handles.items names.pendings.items command) (things_with command) table
   settled_handles reply table = table
 

@@ -10,7 +10,7 @@ pub fn count_handles(command: &Command) -> usize
     ensures { result ≡ length (things_with command.now) }
 {
     match command {
-        Command::Bind(_, _, _) | Command::Close(ToClose::Handle(_)) => 1,
+        Command::Bind(_, _, _) | Command::Close(ToClose::Handle(_)) | Command::Flow(_, _) => 1,
         Command::Call(_, _, _, handles, _, _) | Command::Answer(_, _, handles, _, _) => {
             handles.as_slice().len()
         }
@@ -24,6 +24,7 @@ pub fn count_handles(command: &Command) -> usize
         | Command::Close(ToClose::Pending(_) | ToClose::Responder(_) | ToClose::Endpoint(_, _))
         | Command::Notify(_, _)
         | Command::Pause(_, _, _)
+        | Command::Data(_)
         | Command::Skip(_) => 0,
     }
 }
@@ -48,6 +49,8 @@ pub fn count_pendings(command: &Command) -> usize
         | Command::Close(ToClose::Handle(_) | ToClose::Responder(_) | ToClose::Endpoint(_, _))
         | Command::Notify(_, _)
         | Command::Pause(_, _, _)
+        | Command::Data(_)
+        | Command::Flow(_, _)
         | Command::Skip(_) => 0,
     }
 }

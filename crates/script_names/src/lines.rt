@@ -5,7 +5,7 @@ ghost use Rattle.mj_schema.specs.declared.schema.Schema.{Schema};
 ghost use Rattle.bind_model.specs.Plain.{asked_of, IsOf};
 ghost use Rattle.call_script.specs.Sound.{IsReadWith};
 ghost use Rattle.script_names.specs.Asking.{asked_by};
-ghost use Rattle.script_names.specs.steps.Lines.{associated, attached, bound, noticed, paused, shut, shut_at, taken, TakesNothing};
+ghost use Rattle.script_names.specs.steps.Lines.{associated, attached, bound, flowing, noticed, paused, shut, shut_at, taken, TakesNothing};
 ghost use Rattle.script_names.specs.Needs.{AreNames};
 ghost use Rattle.script_names.specs.Held.{name_of, names_in};
 ghost use Rattle.script_names.specs.Settling.{SpendsAs, Took, TookFor};
@@ -16,7 +16,7 @@ use crate::names::Names;
 use crate::no_memory::NoMemory;
 use crate::rooms::Rooms;
 use crate::tokens::{answer, call, raw};
-use bind_model::{Command, Notice, ToClose};
+use bind_model::{Command, Flow, Notice, ToClose};
 use call_script::{Command as Asked, Line, NameId};
 use mj_base::{EndId, SeqId};
 use std::alloc::Global;
@@ -129,6 +129,27 @@ fn pause(number: u32, end: Option<EndId>, other: Option<EndId>, flush: u32) -> C
     }
 }
 
+/// To move bytes at the token that is held under a name; else nothing, which is noted.
+fn flow(
+    rooms: &mut Rooms,
+    alloc: Global,
+    number: u32,
+    name: NameId,
+    moved: &Flow,
+) -> Result<Command, NoMemory>
+    ensures asked { IfOk result (λ command. asked_of command ≡ flowing number moved.now (held_at rooms.old.handles.named.items name)) }
+    ensures took { IfOk result (λ command. (handles pendings : List name_id) → Took (Some name) handles pendings command rooms.old rooms.new) }
+    ensures plain { IfOk result (λ command. (schema : Schema) → IsOf schema command) }
+{
+    let Ok(copy) = moved.copy(alloc) else {
+        return Err(NoMemory);
+    };
+    match rooms.handles.take(name) {
+        Some(handle) => Ok(Command::Flow(handle, copy)),
+        None => Ok(Command::Skip(number)),
+    }
+}
+
 /// The command of a line, with what it needs, which it takes from its names.
 pub fn command_of(
     rooms: &mut Rooms,
@@ -168,5 +189,7 @@ pub fn command_of(
             let end = rooms.stands.end(*name);
             Ok(pause(number, end, rooms.stands.end(*other), *flush))
         }
+        Asked::Data(size, _, _) => Ok(Command::Data(*size)),
+        Asked::Flow(name, moved) => flow(rooms, alloc, number, *name, moved),
     }
 }

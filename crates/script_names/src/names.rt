@@ -24,9 +24,9 @@ fn sets(alloc: Global, line: &Asked) -> Result<Vec<NameId>, AllocError>
     ensures { IfOk result (λ names. names.items ≡ sets line.now) }
 {
     match line {
-        Asked::Join(_, first, second) | Asked::Pipe(first, second) => {
-            Vec::from_slice(alloc, &[*first, *second])
-        }
+        Asked::Join(_, first, second)
+        | Asked::Pipe(first, second)
+        | Asked::Data(_, first, second) => Vec::from_slice(alloc, &[*first, *second]),
         Asked::Mint(_, name) | Asked::Associate(_, _, _, name) => Vec::from_slice(alloc, &[*name]),
         Asked::Take(_, names) => Vec::from_slice(alloc, names.as_slice()),
         Asked::Bind(_, _, _)
@@ -37,7 +37,8 @@ fn sets(alloc: Global, line: &Asked) -> Result<Vec<NameId>, AllocError>
         | Asked::CloseToken(_)
         | Asked::CloseEndpoint(_, _)
         | Asked::Notify(_, _)
-        | Asked::Pause(_, _, _) => Ok(Vec::new(alloc)),
+        | Asked::Pause(_, _, _)
+        | Asked::Flow(_, _) => Ok(Vec::new(alloc)),
     }
 }
 
@@ -50,7 +51,8 @@ fn needed(line: &Asked) -> Option<NameId>
         | Asked::Attach(name, _)
         | Asked::Answer(name, _, _, _)
         | Asked::Raw(name, _, _)
-        | Asked::CloseToken(name) => Some(*name),
+        | Asked::CloseToken(name)
+        | Asked::Flow(name, _) => Some(*name),
         Asked::Join(_, _, _)
         | Asked::Pipe(_, _)
         | Asked::Mint(_, _)
@@ -59,7 +61,8 @@ fn needed(line: &Asked) -> Option<NameId>
         | Asked::Take(_, _)
         | Asked::CloseEndpoint(_, _)
         | Asked::Notify(_, _)
-        | Asked::Pause(_, _, _) => None,
+        | Asked::Pause(_, _, _)
+        | Asked::Data(_, _, _) => None,
     }
 }
 

@@ -228,6 +228,7 @@ impl Rooms {
     {
         match command {
             Command::Bind(handle, _, _) => self.handles.give_one(names.one, handle),
+            Command::Flow(handle, _) => self.handles.give_one(names.one, handle),
             Command::Attach(pending, _) => self.pendings.give_one(names.one, pending),
             Command::Call(_, _, _, handles, pendings, _) => {
                 self.give_handles(names, handles);
@@ -247,6 +248,7 @@ impl Rooms {
             | Command::Take(_)
             | Command::Notify(_, _)
             | Command::Pause(_, _, _)
+            | Command::Data(_)
             | Command::Skip(_) => {}
         }
     }
@@ -266,6 +268,10 @@ impl Rooms {
                 Ok(())
             }
             Reply::Wrote(handle) => {
+                self.handles.give_one(names.one, handle);
+                Ok(())
+            }
+            Reply::Flowed(handle, _) => {
                 self.handles.give_one(names.one, handle);
                 Ok(())
             }

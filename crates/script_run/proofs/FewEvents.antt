@@ -1,7 +1,7 @@
 -- A script that was read from 1,048,576 bytes at most never has as many events as a core keeps.
 use Rattle.std.proofs.Common.{◌≡◌, ◌≤◌, ◌<◌, ℕ, suc, ◌+◌, Bool, true, false, List, [], ◌∷◌, ◌++◌, length, refl, sym, ap, ◌∙◌, subst, arith, length-append}
 use Rattle.std.proofs.lemmas.List.{append-nil, length-reverse}
-use Rattle.std.specs.Prelude.{filter, if◌then◌else◌, ◌==◌}
+use Rattle.std.specs.Prelude.{Option, filter, if◌then◌else◌, ◌==◌}
 use Rattle.std.specs.List.{AllByRecursion}
 use Rattle.mj_base.specs.declared.ids.SeqId.{SeqId}
 use Rattle.mj_base.specs.declared.limits.TheConstants.{MAX_EVENTS, MAX_FILE_BYTES}
@@ -200,7 +200,7 @@ pub part_goes : (script : Script) (after_joins : List Event) → IsPart (next_jo
 part_goes script after_joins part = subst (GoesOn (next_join script)) (sym (append-nil part.own) ∙ sym part.whole) part.asks
 
 -- and so few has a whole run
-pub ran_few : (schema : Schema) (script : Script) → IsScript schema script → script.bytes ≤ MAX_FILE_BYTES → (order : ℕ) (history : List Event)
+pub ran_few : (schema : Schema) (script : Script) → IsScript schema script → script.bytes ≤ MAX_FILE_BYTES → (order : Option ℕ) (history : List Event)
     → Legal (wire_of schema) script.seqs history → OfScript schema script order history → length history < MAX_EVENTS
 ran_few schema script is short order history h of =
     let past : legal (wire_of schema) script.seqs (of.drain.own ++ (of.middle ++ of.after_joins)) =

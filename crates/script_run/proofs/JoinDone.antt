@@ -30,7 +30,8 @@ use Rattle.script_run.specs.declared.plain.Plain.{Plain}
 use Rattle.script_names.specs.declared.rooms.Rooms.{Rooms}
 use Rattle.script_run.specs.Draining.{IsCoreOf, past_in}
 use Rattle.script_run.specs.steps.Going.{HasJoined, HaveRooms}
-use Rattle.script_run.specs.steps.Joints.{GaveBoth, HasMade, filled_if, joint_event}
+use Rattle.script_run.specs.steps.Joints.{HasMade, joint_event}
+use Rattle.script_run.specs.Rooms.{GaveBoth, filled_if}
 use Rattle.script_names.specs.Held.{HaveNames, name_of, names_in}
 use Rattle.script_names.specs.Held.{held_at}
 use Rattle.script_names.specs.Tables.{filled}

@@ -32,7 +32,8 @@ use Rattle.script_run.specs.AtDesk.{Seen}
 use Rattle.script_run.specs.steps.Desks.{SawAt, Went}
 use Rattle.script_run.specs.Draining.{HaveRested}
 use Rattle.script_run.specs.steps.Going.{IsPutBack, IsWoken}
-use Rattle.script_run.specs.steps.Joints.{Come, Gave, GaveBoth, Joined, Knows, KnowsIf, Spared, filled_if}
+use Rattle.script_run.specs.steps.Joints.{Gave, Joined, Knows, KnowsIf, Spared}
+use Rattle.script_run.specs.Rooms.{Come, GaveBoth, filled_if}
 use Rattle.script_names.specs.Rooms.{SameHeld}
 use Rattle.script_names.specs.Tables.{filled}
 use Rattle.script_run.proofs.Waking.{grew_went, play_of, rested_again}
@@ -41,15 +42,15 @@ use Rattle.script_run.proofs.Waking.{grew_went, play_of, rested_again}
 
 module _ (schema : Schema) (seqs : ℕ) (me other : SeqId) (before : List Event) where
   -- the end that the sequence gets
-  abbrev first_end : Thing
+  abbrev pub first_end : Thing
   first_end = End (record { seq = me.0; serial = serials (reverse before) me.0 })
 
   -- the end that the other one gets
-  abbrev second_end : Thing
+  abbrev pub second_end : Thing
   second_end = End (record { seq = other.0; serial = serials (reverse before) other.0 + (if other.0 == me.0 then 1 else 0) })
 
   -- both ends, where the other sequence is there
-  joins_made : other.0 < seqs → told_behind schema seqs me before (commands.Join other) ≡ tells.Made (first_end ∷ second_end ∷ [])
+  pub joins_made : other.0 < seqs → told_behind schema seqs me before (commands.Join other) ≡ tells.Made (first_end ∷ second_end ∷ [])
   joins_made within =
       ap (λ (b : Bool). first_of (unless b NoName ∷ []) (joins (reverse before) me.0 other.0)) (lt-ltb other.0 seqs within)
 

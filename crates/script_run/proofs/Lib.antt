@@ -1,20 +1,20 @@
 mod AllLines
 mod Coming
 mod Ending
-mod JoinDone
+pub mod JoinDone
 mod Later
 mod Gates
-mod Joining
+pub mod Joining
 mod LineDone
 mod LineTurns
 mod OrderLists
 mod OrderSteps
-mod RunParts
+pub mod RunParts
 mod Sequences
 mod Serving
 mod TakeTurns
 mod TurnLemmas
-mod Waking
+pub mod Waking
 mod DueReplies
 mod EventShares
 mod EventsDone

@@ -45,7 +45,8 @@ use Rattle.script_run.specs.Draining.{DrainedAll, HasDrained, HaveRested, IsCore
 use Rattle.script_run.specs.steps.Going.{HasDone, HasJoined, Played, PlayedAll}
 use Rattle.script_run.specs.steps.Orders.{AreInOrder}
 use Rattle.script_names.specs.Held.{HaveNames, name_of, names_in}
-use Rattle.script_run.specs.steps.Running.{AreDone, AreLines, AreUnnamed, IsRunning, IsUnnamed}
+use Rattle.script_run.specs.steps.Running.{AreDone, AreLines, IsRunning}
+use Rattle.script_run.specs.Rooms.{AreUnnamed, IsUnnamed}
 use Rattle.script_names.specs.Held.{held_at}
 use Rattle.script_run.proofs.OrderLists.{kept_passes}
 use Rattle.script_run.proofs.TurnLemmas.{AreCounted, line_holds, over_left}
@@ -138,7 +139,7 @@ joins_ask line e = go line.command refl e
     go command h join = absurd cc
 
 -- no automatic reply is due behind a join
-none_joined : (wire : Wire) (script : Script) (past : List Event) → GoesOn (next_join script) past → due wire script.autos past ≡ None
+pub none_joined : (wire : Wire) (script : Script) (past : List Event) → GoesOn (next_join script) past → due wire script.autos past ≡ None
 none_joined wire script [] goes = refl
 none_joined wire script (event ∷ past) goes = by (slice_get (joins_of script) (length past)) refl goes.0
   where
@@ -283,8 +284,8 @@ module _ (schema : Schema) (script : Script) (order : ℕ) (drained : Drained) (
       (subst (λ (s : Schema). Legal (wire_of s) script.seqs drained.core.events) all.core.schema
       (subst (λ (n : ℕ). Legal (wire_of drained.core.schema) n drained.core.events) all.core.seqs all.core.legal))
 
-  pub ran_script : OfScript schema script order ran.history.events
-  ran_script = subst (OfScript schema script order) (sym history) all.whole
+  pub ran_script : OfScript schema script (Some order) ran.history.events
+  ran_script = subst (OfScript schema script (Some order)) (sym history) all.whole
 
   pub ran_left : (things : List Thing) → things ≡ left drained.core.seqs (reverse drained.core.events)
       → things ≡ left script.seqs (reverse ran.history.events)

@@ -3,4 +3,5 @@ pub mod OfScript
 pub mod AtDesk
 pub mod Working
 pub mod Draining
+pub mod Rooms
 pub mod steps

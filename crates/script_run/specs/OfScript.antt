@@ -18,7 +18,7 @@ use Rattle.call_script.specs.declared.script.Script.{Script}
 use Rattle.script_names.specs.Autos.{Due, due, line_at}
 use Rattle.script_names.specs.Names.{Named, unnamed, joined, named}
 use Rattle.script_names.specs.Asking.{outgoing, asked_by}
-use Rattle.script_run.specs.Order.{InTurns, joins_of, lines_of, turn}
+use Rattle.script_run.specs.Order.{TakeTurns, joins_of, lines_of}
 
 -- ## Parts of a history
 
@@ -98,15 +98,27 @@ next_take wire autos before own =
 abbrev pub DoesLines : Wire → Script → List Event → List Event → Type 0
 DoesLines wire script after_joins middle = (s : SeqId) → s.0 < script.seqs → AsksAll (next_of wire script after_joins s) (own_of s middle)
 
--- the events, the newest first, are the script's, where its sequences do their lines in turns by this order
-pub record PastOfScript (schema : Schema) (script : Script) (order : ℕ) (past : List Event) : Type 0 where
+-- the events, the newest first, are the script's, in whatever order its sequences do their lines
+pub record PastInSomeOrder (schema : Schema) (script : Script) (past : List Event) : Type 0 where
   pub after_joins : List Event
   pub middle : List Event
   pub joins : IsPart (next_join script) [] after_joins
   pub lines : DoesLines (wire_of schema) script after_joins middle
-  pub turns : InTurns (turn (wire_of schema) script order) middle
+  pub drain : IsPart (next_take (wire_of schema) script.autos (middle ++ after_joins)) (middle ++ after_joins) past
+
+-- the events, in order, are the script's, in whatever order its sequences do their lines
+abbrev pub InSomeOrder : Schema → Script → List Event → Type 0
+InSomeOrder schema script history = PastInSomeOrder schema script (reverse history)
+
+-- the events, the newest first, are the script's, where its sequences do their lines in turns by this order, or side by side where there is none
+pub record PastOfScript (schema : Schema) (script : Script) (order : Option ℕ) (past : List Event) : Type 0 where
+  pub after_joins : List Event
+  pub middle : List Event
+  pub joins : IsPart (next_join script) [] after_joins
+  pub lines : DoesLines (wire_of schema) script after_joins middle
+  pub turns : TakeTurns (wire_of schema) script order middle
   pub drain : IsPart (next_take (wire_of schema) script.autos (middle ++ after_joins)) (middle ++ after_joins) past
 
 -- the events, in order, are the script's
-abbrev pub OfScript : Schema → Script → ℕ → List Event → Type 0
+abbrev pub OfScript : Schema → Script → Option ℕ → List Event → Type 0
 OfScript schema script order history = PastOfScript schema script order (reverse history)

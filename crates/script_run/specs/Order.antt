@@ -1,6 +1,7 @@
--- Which sequence does its next line, where they don't do theirs side by side.
-use Rattle.std.specs.Prelude.{ℕ, ◌≡◌, ◌∷◌, zero, suc, ◌+◌, ◌*◌, ◌/◌, ◌%◌, ◌^◌, nat_lt, Bool}
+-- Which sequence does its next line.
+use Rattle.std.specs.Prelude.{ℕ, ◌≡◌, ◌<◌, ◌∷◌, zero, suc, ◌+◌, ◌*◌, ◌/◌, ◌%◌, ◌^◌, nat_lt, Bool}
 use Rattle.std.specs.Prelude.{true, false, ◌&&◌, List, [], filter, length, map, not, Option, Some, None, slice_get}
+use Rattle.std.specs.List.{AllByRecursion}
 use Rattle.mj_base.specs.declared.ids.SeqId.{SeqId}
 use Rattle.bind_model.specs.declared.event.Event.{Event}
 use Rattle.bind_model.specs.Laws.{up_from}
@@ -78,3 +79,8 @@ turn wire script order past = due_first (due wire script.autos past) (next_drawn
 abbrev pub InTurns : (List Event → Option SeqId) → List Event → Type 0
 InTurns whose [] = Unit {0}
 InTurns whose (event ∷ past) = (whose past ≡ Some event.seq) × InTurns whose past
+
+-- the sequences of a script take these turns, the newest first: by this order, or whichever they take side by side, where there is none
+abbrev pub TakeTurns : Wire → Script → Option ℕ → List Event → Type 0
+TakeTurns wire script (Some order) past = InTurns (turn wire script order) past
+TakeTurns wire script None past = AllByRecursion (λ (event : Event). event.seq.0 < script.seqs) past

@@ -50,6 +50,7 @@ pub fn due_after<'s>(autos: &'s [AutoReply], seq: SeqId, reply: &Reply) -> Optio
         | Reply::Closed(_)
         | Reply::Notified(_)
         | Reply::Pausing
+        | Reply::Flowed(_, _)
         | Reply::Skipped
         | Reply::No(_, _) => None,
     }

@@ -61,7 +61,7 @@ pub fn leave(desk: Desk<Plain, Seat>) -> Core
     core
 }
 
-/// Desks without callbacks, at rest.
+/// Desks without callbacks, at rest, one for each sequence.
 pub fn at_rest(alloc: Global, seqs: u32) -> Result<Vec<Rest<Plain>>, NoMemory>
     ensures { IfOk result (λ rests. (schema : schema) → HaveRested (record { schema = schema; seqs = seqs; events = [] }) rests.items) }
 {

@@ -14,7 +14,8 @@ ghost use Rattle.script_run.specs.steps.Cutting.{CutJoin};
 ghost use Rattle.script_run.specs.steps.Desks.{IfSpent};
 ghost use Rattle.script_run.specs.Draining.{HaveRested};
 ghost use Rattle.script_run.specs.steps.Going.{HasJoined};
-ghost use Rattle.script_run.specs.steps.Joints.{Come, Gave, GaveBoth, HasMade, HasPlacesAt, HasSpaceAt, Joined, Knows, Spared};
+ghost use Rattle.script_run.specs.steps.Joints.{Gave, HasMade, HasSpaceAt, Joined, Knows, Spared};
+ghost use Rattle.script_run.specs.Rooms.{Come, GaveBoth, HasPlacesAt};
 ghost use Rattle.script_names.specs.Rooms.{HasPlaces, SameHeld};
 
 use crate::cut::Cut;
@@ -33,11 +34,11 @@ use std::alloc::Global;
 
 /// A line that joins: who asks, whose the second end is, and the names of both.
 #[derive(Clone, Copy)]
-struct Joint {
-    seq: SeqId,
-    other: SeqId,
-    first: NameId,
-    second: NameId,
+pub struct Joint {
+    pub seq: SeqId,
+    pub other: SeqId,
+    pub first: NameId,
+    pub second: NameId,
 }
 
 /// All sequences know what a name stands for.
@@ -109,8 +110,8 @@ fn hold(rooms: &mut [Rooms], joint: Joint, handles: Handles) -> Result<(), Cut>
     Ok(())
 }
 
-/// Holds what comes of a join, which is told two ends.
-fn settle(rooms: &mut [Rooms], joint: Joint, reply: Reply) -> Result<(), Cut>
+/// Holds what comes of a join, which is told two ends, in the rooms of its two sequences. Without memory the ends are kept.
+pub fn settle(rooms: &mut [Rooms], joint: Joint, reply: Reply) -> Result<(), Cut>
     requires made { (x : thing_of) × (y : thing_of) × (told_of reply ≡ Made (x ∷ y ∷ [])) }
     requires seq { joint.seq.0 < length rooms.old }
     requires other { joint.other.0 < length rooms.old }

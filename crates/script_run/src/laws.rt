@@ -1,6 +1,6 @@
 //! What holds of the events of scripts: these functions do nothing.
 
-ghost use Rattle.std.specs.Prelude.{ℕ, ◌≤◌, ◌<◌, ◌++◌, List, length};
+ghost use Rattle.std.specs.Prelude.{ℕ, ◌≤◌, ◌<◌, ◌++◌, List, Option, length};
 ghost use Rattle.mj_base.specs.declared.ids.SeqId.{SeqId};
 ghost use Rattle.mj_base.specs.declared.limits.TheConstants.{MAX_EVENTS, MAX_FILE_BYTES};
 ghost use Rattle.mj_schema.specs.declared.schema.Schema.{Schema};
@@ -26,6 +26,6 @@ pub fn few_events()
 
 /// A law: so the history of such a script has fewer events. It is one that a core keeps.
 pub fn ran_few()
-    ensures { (schema : Schema) (script : Script) → IsScript schema script → script.bytes ≤ MAX_FILE_BYTES → (order : ℕ) (history : List Event)
+    ensures { (schema : Schema) (script : Script) → IsScript schema script → script.bytes ≤ MAX_FILE_BYTES → (order : Option ℕ) (history : List Event)
         → Legal (wire_of schema) script.seqs history → OfScript schema script order history → length history < MAX_EVENTS }
 {}

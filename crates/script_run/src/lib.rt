@@ -19,7 +19,10 @@ mod serve;
 mod worker;
 
 pub use cut::Cut;
-pub use draining::{Drained, drain};
+pub use desks::at_rest;
+pub use draining::{Drained, cut_off, drain};
+pub use joins::{Joint, settle};
 pub use plain::Plain;
-pub use runner::{Ran, run_alone};
+pub use run::open_rooms;
+pub use runner::{Ran, end, run_alone};
 pub use sequence::{Worked, work, work_on};

@@ -10,7 +10,8 @@ ghost use Rattle.script_run.specs.steps.Desks.{IfSpent};
 ghost use Rattle.script_run.specs.Draining.{HaveRested, past_in};
 ghost use Rattle.script_run.specs.steps.Going.{HasDone, Played};
 ghost use Rattle.script_run.specs.steps.Orders.{AreInOrder};
-ghost use Rattle.script_run.specs.steps.Running.{AreDone, AreLines, AreUnnamed, DidTurn, IsRunning};
+ghost use Rattle.script_run.specs.steps.Running.{AreDone, AreLines, DidTurn, IsRunning};
+ghost use Rattle.script_run.specs.Rooms.{AreUnnamed};
 
 use crate::cut::Cut;
 use crate::desks::{leave, put_to_rest, wake};
@@ -52,8 +53,8 @@ fn add_names(rooms: &mut [Rooms], names: usize) -> Result<(), Cut>
     Ok(())
 }
 
-/// A room for each sequence, with the names of the script.
-fn open_rooms(rooms: &mut Vec<Rooms>, alloc: Global, script: &Script) -> Result<(), Cut>
+/// A room for each sequence, with the names of the script, which stand for nothing.
+pub fn open_rooms(rooms: &mut Vec<Rooms>, alloc: Global, script: &Script) -> Result<(), Cut>
     requires { rooms.old.items ≡ [] }
     ensures { OnOk result (AreUnnamed script.now.seqs script.now.names rooms.new.items) }
 {

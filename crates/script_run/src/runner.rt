@@ -1,6 +1,6 @@
 //! A whole run.
 
-ghost use Rattle.std.specs.Prelude.{◌≡◌, ◌≤◌, length, reverse, None, Ok, IfOk, OnOk, ◌<◌, IfSome};
+ghost use Rattle.std.specs.Prelude.{◌≡◌, ◌≤◌, length, reverse, None, Some, Ok, IfOk, OnOk, ◌<◌, IfSome};
 ghost use Rattle.std.specs.Arc.{arc_value};
 ghost use Rattle.bind_model.specs.Replies.{Legal};
 ghost use Rattle.bind_model.specs.WireOf.{wire_of};
@@ -43,8 +43,9 @@ fn retire_all(mut rooms: Vec<Rooms>, over: &Ended) {
     rooms.destroy_empty();
 }
 
-/// Ends a run: what it leaves, where it wasn't cut off. It never is but for want of memory.
-fn end(alloc: Global, drained: Drained, rooms: Vec<Rooms>) -> Result<Ran, NoMemory>
+/// Ends a run: what it leaves, where it wasn't cut off. It never is but for want of memory. What is held in the rooms may then
+/// be let go.
+pub fn end(alloc: Global, drained: Drained, rooms: Vec<Rooms>) -> Result<Ran, NoMemory>
     requires { IfSome drained.cut IsUnspent }
     ensures whole { OnOk result (drained.cut ≡ None) }
     ensures history { IfOk result (λ ran. ran.history.events ≡ drained.core.events) }
@@ -86,7 +87,7 @@ pub fn run_alone(
     requires script { IsScript (arc_value schema) script.now }
     requires short { script.now.bytes ≤ MAX_FILE_BYTES }
     ensures legal { IfOk result (λ ran. Legal (wire_of (arc_value schema)) script.now.seqs ran.history.events) }
-    ensures script { IfOk result (λ ran. OfScript (arc_value schema) script.now order ran.history.events) }
+    ensures script { IfOk result (λ ran. OfScript (arc_value schema) script.now (Some order) ran.history.events) }
     ensures left { IfOk result (λ ran. ran.left ≡ left script.now.seqs (reverse ran.history.events)) }
     ensures notes { IfOk result (λ ran. ran.notes ≡ callbacks script.now.seqs ran.history.events) }
     ensures few { IfOk result (λ ran. length ran.history.events < MAX_EVENTS) }

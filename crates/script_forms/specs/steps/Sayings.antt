@@ -4,7 +4,7 @@ use Rattle.handle_table.specs.declared.thing.TokenSort.{TokenSort}
 use Rattle.wire_encoder.specs.declared.endpoint.EndpointSide.{EndpointSide}
 use Rattle.script_forms.specs.declared.form.Form.{Form as WrittenForm}
 use Rattle.script_forms.specs.declared.form.Said.{Said as WrittenSaid}
-use Rattle.script_forms.specs.Forms.{Said, Call, Answer, Raw, Notify, Of}
+use Rattle.script_forms.specs.Forms.{Said, Call, Answer, Raw, Notify, Data, Flow, Of}
 use Rattle.script_forms.specs.Forms.{IsSaid, IsForm, sequences, said_sequences, AreThere, said_words, form_words, sort_word, side_word}
 use Rattle.script_forms.specs.Views.{said_view, form_view}
 
@@ -41,15 +41,17 @@ SpellsSaid command words found = (seqs : ℕ) → SpellsBehind seqs command word
 abbrev pub SpellsFrom : List (List ℕ) → List (List ℕ) → Option WrittenSaid → Type 0
 SpellsFrom start words found = (seqs : ℕ) → SpellsAll seqs (start ++ words) found
 
--- whether what is said writes a message
+-- whether what is said writes a message, or is of a data pipe
 abbrev pub writes : Said → Bool
 writes (Call end id method value tokens moment) = true
 writes (Answer responder method value tokens moment) = true
 writes (Raw end bytes tokens) = true
 writes (Notify end notice) = true
+writes (Data size producer consumer) = true
+writes (Flow token moved) = true
 writes said = false
 
--- what is said by a command and these words, or none where nothing is that writes a message
+-- what is said by a command and these words, or none where nothing is that writes a message or is of a data pipe
 abbrev pub SpellsWriting : List ℕ → List (List ℕ) → Option WrittenSaid → Type 0
 SpellsWriting command words (Some said) = SpellsSaid command words (Some said)
 SpellsWriting command words None = (said : Said) → writes said ≡ true → IsSaid said → command ∷ words ≡ said_words said → ⊥

@@ -12,6 +12,7 @@ use Rattle.bind_model.specs.declared.asked.Notice.{Notice}
 use Rattle.bind_model.specs.declared.endpoint.PendingId.{PendingId}
 use Rattle.bind_model.specs.declared.endpoint.ResponderId.{ResponderId}
 use Rattle.bind_model.specs.declared.commands.Command.{Command}
+use Rattle.bind_model.specs.declared.flow.Flow.{Flow}
 use Rattle.call_script.specs.declared.script.NameId.{NameId}
 use Rattle.script_names.specs.declared.rooms.Rooms.{Rooms}
 use Rattle.script_names.specs.Asking.{closed_of, or_skip}
@@ -49,6 +50,10 @@ noticed number notice end = or_skip number (option_map (λ (y : EndId). asks.Not
 abbrev pub paused : ℕ → ℕ → Option EndId → Option EndId → Asked
 paused number flush end other =
     or_skip number (option_and_then (λ (b : EndId). option_map (λ (a : EndId). asks.Pause b a flush) other) end)
+
+-- to move bytes at what is held, or to skip the line of this number
+abbrev pub flowing : ℕ → Flow → Option Thing → Asked
+flowing number flow thing = or_skip number (option_map (λ (x : Thing). asks.Flow x flow) thing)
 
 -- nothing goes with a command, so that whatever its names are nothing is taken for it
 abbrev pub TakesNothing : Command → Type 0

@@ -83,7 +83,7 @@ pub record IsPutBack (s : SeqId) (old after : List (Rest Plain)) (had : Kept Pla
 -- a whole run that wasn't cut off
 pub record PlayedAll (schema : Schema) (script : Script) (order : ℕ) (drained : Drained) : Type 0 where
   pub core : IsCoreOf schema script drained.core
-  pub whole : OfScript schema script order drained.core.events
+  pub whole : OfScript schema script (Some order) drained.core.events
   pub notes : IfOk drained.notes (λ notes. notes ≡ callbacks script.seqs drained.core.events)
 
 -- it is a whole run, where it wasn't cut off

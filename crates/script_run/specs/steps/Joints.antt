@@ -1,5 +1,5 @@
 -- What a join gives to the sequences.
-use Rattle.std.specs.Prelude.{ℕ, Bool, true, false, ◌≡◌, ◌+◌, ◌≤◌, ◌<◌, ◌==◌, ◌++◌, List, [], ◌∷◌, length, Option, Some, slice_get, vec_len, vec_capacity}
+use Rattle.std.specs.Prelude.{ℕ, Bool, true, false, ◌≡◌, ◌+◌, ◌≤◌, ◌<◌, ◌==◌, ◌++◌, List, [], ◌∷◌, length, Some, slice_get, vec_len, vec_capacity}
 use Rattle.mj_base.specs.declared.ids.SeqId.{SeqId}
 use Rattle.mj_base.specs.declared.limits.TheConstants.{MAX_EVENTS}
 use Rattle.handle_table.specs.declared.thing.Thing.{Thing}
@@ -14,20 +14,10 @@ use Rattle.script_run.specs.declared.joins.Joint.{Joint}
 use Rattle.script_run.specs.declared.plain.Plain.{Plain}
 use Rattle.script_names.specs.declared.rooms.Rooms.{Rooms}
 use Rattle.script_run.specs.Draining.{HaveRested}
-use Rattle.script_names.specs.Rooms.{HasPlaces}
 use Rattle.script_names.specs.Tables.{filled}
+use Rattle.script_run.specs.Rooms.{Come, GaveBoth, filled_if}
 
--- ## Rooms by their numbers
-
--- each of the rooms comes of the one at its number before
-abbrev pub ComesOf : (ℕ → Rooms → Rooms → Type 0) → List Rooms → List Rooms → Type 0
-ComesOf how old new =
-    (k : ℕ) (after : Rooms) → slice_get new k ≡ Some after → (before : Rooms) × (slice_get old k ≡ Some before) × how k before after
-
--- so does each, and there are as many as before
-pub record Come (how : ℕ → Rooms → Rooms → Type 0) (old new : List Rooms) : Type 0 where
-  pub count : length new ≡ length old
-  pub each : ComesOf how old new
+-- ## Space in rooms
 
 -- in a room there is a place for so many handles without names
 abbrev pub HasSpace : ℕ → Rooms → Type 0
@@ -36,10 +26,6 @@ HasSpace count room = count + vec_len room.handles.others ≤ vec_capacity room.
 -- in the room of a sequence there is such a place
 abbrev pub HasSpaceAt : ℕ → SeqId → List Rooms → Type 0
 HasSpaceAt count s rooms = (room : Rooms) → slice_get rooms s.0 ≡ Some room → HasSpace count room
-
--- and for so much that there may be no place for
-abbrev pub HasPlacesAt : ℕ → SeqId → List Rooms → Type 0
-HasPlacesAt count s rooms = (room : Rooms) → slice_get rooms s.0 ≡ Some room → HasPlaces count room
 
 -- ## What happens to a room
 
@@ -63,11 +49,6 @@ abbrev pub KnowsIf : NameId → Thing → Bool → ℕ → Rooms → Rooms → T
 KnowsIf n x true k before after = Knows n x k before after
 KnowsIf n x false k before after = after ≡ before
 
--- it is held under the name, where it is for this sequence
-abbrev pub filled_if : Bool → List (Option Thing) → NameId → Thing → List (Option Thing)
-filled_if true table n x = filled table n x
-filled_if false table n x = table
-
 -- an end came under a name: all know it, and the sequence that it is for holds it
 pub record Gave (s : SeqId) (n : NameId) (x : Thing) (k : ℕ) (before after : Rooms) : Type 0 where
   pub stands : after.stands.things.items ≡ filled before.stands.things.items n x
@@ -76,14 +57,6 @@ pub record Gave (s : SeqId) (n : NameId) (x : Thing) (k : ℕ) (before after : R
   pub responders : after.responders.named ≡ before.responders.named
   pub used : vec_len after.handles.others ≤ vec_len before.handles.others + 1
   pub space : vec_capacity after.handles.others ≡ vec_capacity before.handles.others
-
--- both ends of a join came under their names
-pub record GaveBoth (joint : Joint) (x y : Thing) (k : ℕ) (before after : Rooms) : Type 0 where
-  pub stands : after.stands.things.items ≡ filled (filled before.stands.things.items joint.second y) joint.first x
-  pub handles : after.handles.named.items
-      ≡ filled_if (joint.seq.0 == k) (filled_if (joint.other.0 == k) before.handles.named.items joint.second y) joint.first x
-  pub pendings : after.pendings.named ≡ before.pendings.named
-  pub responders : after.responders.named ≡ before.responders.named
 
 -- ## The whole join
 

@@ -1,5 +1,5 @@
 -- What holds of a run between its turns, and what its turns do.
-use Rattle.std.specs.Prelude.{ℕ, true, ◌≡◌, ◌++◌, List, [], length, replicate, set, Some, None, slice_get}
+use Rattle.std.specs.Prelude.{ℕ, true, ◌≡◌, ◌++◌, List, [], length, set, Some, None, slice_get}
 use Rattle.std.specs.List.{AllByRecursion}
 use Rattle.mj_base.specs.declared.ids.EndId.{EndId}
 use Rattle.mj_base.specs.declared.ids.SeqId.{SeqId}
@@ -21,20 +21,6 @@ use Rattle.script_run.specs.AtDesk.{Seen}
 use Rattle.script_run.specs.steps.Desks.{DidLine, TookAt}
 use Rattle.script_run.specs.Draining.{HaveRested, IsCoreOf, past_in}
 use Rattle.script_names.specs.Held.{HaveNames, names_in}
-
--- ## Rooms at the start
-
--- a room with so many names, which stand for nothing
-pub record IsUnnamed (size : ℕ) (room : Rooms) : Type 0 where
-  pub stands : room.stands.things.items ≡ replicate size None
-  pub handles : room.handles.named.items ≡ replicate size None
-  pub pendings : room.pendings.named.items ≡ replicate size None
-  pub responders : room.responders.named.items ≡ replicate size None
-
--- so many of them
-pub record AreUnnamed (seqs size : ℕ) (rooms : List Rooms) : Type 0 where
-  pub count : length rooms ≡ seqs
-  pub each : (k : ℕ) (room : Rooms) → slice_get rooms k ≡ Some room → IsUnnamed size room
 
 -- ## Between turns
 

@@ -57,3 +57,8 @@ pub returns-in-Pause : goal.returns-in-Pause
 returns-in-Pause c =
     subst (λ said. Says c.args.indexed.now.schema.now c.args.scope.now (said_view said) c.pause_command.result)
     (sym c.in-Pause.is) c.pause_command.ensures
+
+pub returns-in-Flow : goal.returns-in-Flow
+returns-in-Flow c =
+    subst (λ said. Says c.args.indexed.now.schema.now c.args.scope.now (said_view said) c.flow_command.result)
+    (sym c.in-Flow.is) c.flow_command.ensures

@@ -1,4 +1,4 @@
-use Rattle.script_forms.proofs.Behind.{none_writing, writes_ok, writes_one}
+use Rattle.script_forms.proofs.Behind.{moving_all, writes_ok, writes_one}
 use Rattle.script_forms.proofs.sending.behind_writing.Goals as goal
 
 pub returns-then-eq : goal.returns-then-eq
@@ -27,7 +27,7 @@ returns-then-eq-8 c = writes_one c.args.command.now _ _ _ (rw c.as_slice-8.ensur
 
 pub returns : goal.returns
 returns c =
-    none_writing c.args.command.now _
+    moving_all c.args.command.now _
     (rw c.as_slice.ensures at c.if-eq.ensures)
     (rw c.as_slice-2.ensures at c.if-eq-2.ensures)
     (rw c.as_slice-3.ensures at c.if-eq-3.ensures)
@@ -36,3 +36,4 @@ returns c =
     (rw c.as_slice-6.ensures at c.if-eq-6.ensures)
     (rw c.as_slice-7.ensures at c.if-eq-7.ensures)
     (rw c.as_slice-8.ensures at c.if-eq-8.ensures)
+    c.behind_moving.result c.behind_moving.ensures

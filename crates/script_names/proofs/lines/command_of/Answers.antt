@@ -1,7 +1,10 @@
-use Rattle.std.proofs.Common.{ap, ◌∙◌}
+use Rattle.std.proofs.Common.{ap, subst, sym, ◌∙◌}
+use Rattle.std.specs.Prelude.{Option}
+use Rattle.call_script.specs.declared.script.NameId.{NameId}
 use Rattle.std.proofs.lemmas.Result.{IfOk-weaker}
 use Rattle.script_names.specs.Needs.{needed}
 use Rattle.script_names.specs.Held.{names_in}
+use Rattle.script_names.specs.Settling.{Took}
 use Rattle.script_names.proofs.LineLemmas.{answered_is, asked_is, called_is, spends_as, written_is}
 use Rattle.script_names.proofs.lines.command_of.Goals as goal
 
@@ -168,3 +171,35 @@ returns-in-Raw-clause-spends c =
     spends_as (names_in c.args.rooms.now) c.args.line.now c.args.names.now command c.requires
     (a ∙ written_is c.args.rooms.now c.args.names.now c.args.line.now c.requires c.in-Raw.is))
     asked
+
+pub returns-in-Data-clause-spends : goal.returns-in-Data-clause-spends
+returns-in-Data-clause-spends c =
+    let held = names_in c.args.rooms.now in
+    spends_as held c.args.line.now c.args.names.now _ c.requires (asked_is held c.args.line.now c.in-Data.is)
+
+pub returns-in-Flow-clause-asked : goal.returns-in-Flow-clause-asked
+returns-in-Flow-clause-asked c =
+    let asked = c.flow.ensures.asked in
+    IfOk-weaker c.flow.result _ _ (λ command a. a ∙ asked_is (names_in c.args.rooms.now) c.args.line.now c.in-Flow.is) asked
+
+pub returns-in-Flow-clause-took : goal.returns-in-Flow-clause-took
+returns-in-Flow-clause-took c =
+    let took = c.flow.ensures.took in
+    let hs = c.args.names.now.handles.items in
+    let ps = c.args.names.now.pendings.items in
+    let named = c.requires.one ∙ ap needed c.in-Flow.is in
+    IfOk-weaker c.flow.result _ _
+    (λ command t. subst (λ (one : Option NameId). Took one hs ps command c.args.rooms.now c.flow.new.rooms) (sym named) (t hs ps)) took
+
+pub returns-in-Flow-clause-spends : goal.returns-in-Flow-clause-spends
+returns-in-Flow-clause-spends c =
+    let asked = c.flow.ensures.asked in
+    IfOk-weaker c.flow.result _ _
+    (λ command a.
+    spends_as (names_in c.args.rooms.now) c.args.line.now c.args.names.now command c.requires
+    (a ∙ asked_is (names_in c.args.rooms.now) c.args.line.now c.in-Flow.is))
+    asked
+
+pub returns-in-Flow-clause-prepared : goal.returns-in-Flow-clause-prepared
+returns-in-Flow-clause-prepared c =
+    let plain = c.flow.ensures.plain in IfOk-weaker c.flow.result _ _ (λ command p schema read. p schema) plain

@@ -1,7 +1,8 @@
 use Rattle.std.proofs.Common.{◌<◌, ℕ, refl, subst, sym}
 use Rattle.std.proofs.lemmas.Option.{slice_get-get_or}
 use Rattle.handle_table.specs.declared.thing.Thing.{Thing}
-use Rattle.script_run.specs.steps.Joints.{Come, Knows}
+use Rattle.script_run.specs.steps.Joints.{Knows}
+use Rattle.script_run.specs.Rooms.{Come}
 use Rattle.script_run.proofs.Joining.{come_gave}
 use Rattle.script_run.proofs.joins.give.Goals as goal
 

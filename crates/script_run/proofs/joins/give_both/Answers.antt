@@ -1,6 +1,7 @@
 use Rattle.std.proofs.Common.{◌∙◌, subst, sym}
 use Rattle.handle_table.specs.declared.thing.Thing.{Thing}
-use Rattle.script_run.specs.steps.Joints.{Come, Gave}
+use Rattle.script_run.specs.steps.Joints.{Gave}
+use Rattle.script_run.specs.Rooms.{Come}
 use Rattle.script_run.proofs.Joining.{come_both, two_popped}
 use Rattle.script_run.proofs.joins.give_both.Goals as goal
 

@@ -1,7 +1,7 @@
 use Rattle.std.proofs.Common.{arith, sym, ap, ◌∙◌, List}
 use Rattle.std.specs.Prelude.{slice_get}
 use Rattle.script_names.specs.declared.rooms.Rooms.{Rooms}
-use Rattle.script_run.specs.steps.Running.{IsUnnamed}
+use Rattle.script_run.specs.Rooms.{IsUnnamed}
 use Rattle.script_run.proofs.RunParts.{each_pushed, unnamed_new}
 use Rattle.script_run.proofs.run.add_rooms.Goals as goal
 

@@ -1,7 +1,7 @@
 use Rattle.std.proofs.Common.{◌≡◌, ◌≤◌, ℕ, Some, vec_len, vec_capacity}
 use Rattle.std.specs.Prelude.{slice_get}
 use Rattle.script_names.specs.declared.rooms.Rooms.{Rooms}
-use Rattle.script_run.specs.steps.Running.{IsUnnamed}
+use Rattle.script_run.specs.Rooms.{IsUnnamed}
 use Rattle.script_run.proofs.run.add_rooms.Given as goal
 
 abbrev pub invariant-loop : goal.invariant-loop

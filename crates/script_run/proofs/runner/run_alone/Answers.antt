@@ -1,4 +1,4 @@
-use Rattle.std.proofs.Common.{◌≡◌, ◌∙◌, ap, map, subst, sym, Bor, List, Ok, reverse}
+use Rattle.std.proofs.Common.{◌≡◌, ◌∙◌, ap, map, subst, sym, Bor, List, Ok, Some, reverse}
 use Rattle.std.specs.Arc.{arc_value}
 use Rattle.mj_schema.specs.declared.schema.Schema.{Schema}
 use Rattle.bind_core.specs.Play.{Play}
@@ -49,7 +49,7 @@ returns c =
           (λ r all h q. ran_notes schema script order drained r all h q);
       few =
           ran (λ r. Unit {0}) _ played whole history (if_any c.end.result)
-          (λ r all h q. ran_few schema script c.requires.script c.requires.short order r.history.events (ran_legal schema script order drained r all h)
+          (λ r all h q. ran_few schema script c.requires.script c.requires.short (Some order) r.history.events (ran_legal schema script order drained r all h)
           (ran_script schema script order drained r all h));
     }
 
