@@ -80,3 +80,19 @@ impl Gate for OpenGate {
         self.calls.note(GateCall::After(seq, n));
     }
 }
+
+/// Makes the gates of workers.
+pub trait Gates<G> {
+    /// The gate of the worker of this sequence.
+    fn gate(&self, seq: SeqId) -> G;
+}
+
+/// Makes gates that do nothing.
+#[derive(Clone, Copy)]
+pub struct OpenGates;
+
+impl Gates<OpenGate> for OpenGates {
+    fn gate(&self, _seq: SeqId) -> OpenGate {
+        OpenGate::new()
+    }
+}

@@ -1,0 +1,5 @@
+pub mod Lists
+pub mod Keeping
+pub mod Steps
+pub mod Seats
+pub mod Telling
