@@ -1,0 +1,10 @@
+pub mod Places
+pub mod Showing
+pub mod Merging
+pub mod Joined
+pub mod Resting
+pub mod Crossing
+pub mod Seating
+pub mod Starting
+pub mod Returning
+pub mod Whole
