@@ -1,0 +1,8 @@
+use Rattle.std.proofs.Common.{◌≡◌, drop}
+use Rattle.compat_model.specs.Changes.{field_moved}
+use Rattle.compat_model.specs.Members.{first_found}
+use Rattle.breaking_changes.proofs.fields.first_moved.Given as goal
+
+-- the first of what is left is the first of all
+abbrev pub invariant-loop-field : goal.invariant-loop-field
+invariant-loop-field l = first_found (field_moved l.newer) (drop l.field-index l.older) ≡ first_found (field_moved l.newer) l.older

@@ -1,0 +1,8 @@
+use Rattle.std.proofs.Common.{◌≡◌, ◌++◌, drop, map, Some}
+use Rattle.mj_schema.specs.declared.rows.EnumRow.{EnumRow}
+use Rattle.compat_check.proofs.names.names_of_enums.Given as goal
+
+-- what is made and what is left are all
+abbrev pub invariant-loop-row : goal.invariant-loop-row
+invariant-loop-row l =
+    l.made.items ++ map (λ (row : EnumRow). Some row.name) (drop l.row-index l.enums) ≡ map (λ (row : EnumRow). Some row.name) l.enums

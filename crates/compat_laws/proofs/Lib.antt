@@ -1,0 +1,10 @@
+pub mod Numbers
+pub mod FittingKinds
+pub mod Structs
+pub mod Members
+pub mod Rows
+pub mod There
+pub mod Closed
+pub mod Messages
+pub mod Stable
+pub mod OneVerdict
