@@ -1,5 +1,6 @@
 //! What the proved code makes of a message, beside what it literally is.
 
+use crate::getters::gives;
 use message_validator::{Checked, check};
 use mj_base::Fault;
 use mj_schema::{Kind, KindNode, Schema};
@@ -29,15 +30,16 @@ pub enum Verdict {
     Differs,
 }
 
-/// Whether a message that is read where it lies has the text of a value.
-fn has_text(alloc: Global, checked: &Checked<'_>, value: &Value) -> Result<bool, AllocError> {
+/// Whether a message that is read where it lies has the text of a value, and all its parts by each getter.
+fn is_seen_as(alloc: Global, checked: &Checked<'_>, value: &Value) -> Result<bool, AllocError> {
     let kind = Kind::new(KindNode::Struct {
         number: checked.number,
         nullable: false,
     });
-    let seen = write_view(alloc, checked.schema, &kind, &root(checked))?;
+    let view = root(checked);
+    let seen = write_view(alloc, checked.schema, &kind, &view)?;
     let wanted = write_value(alloc, checked.schema, &kind, value)?;
-    Ok(seen.as_slice() == wanted.as_slice())
+    Ok(seen.as_slice() == wanted.as_slice() && gives(alloc, checked.schema, view, &kind, value)?)
 }
 
 /// Compares the value of a message that stands.
@@ -54,7 +56,7 @@ fn compare_value(
         && checked.request == message.request
         && checked.moment == message.moment
         && are_same(alloc, &value, &message.value)?
-        && has_text(alloc, checked, &message.value)?;
+        && is_seen_as(alloc, checked, &message.value)?;
     if is_same {
         Ok(Verdict::Stands)
     } else {

@@ -6,5 +6,6 @@ mod case;
 mod compare;
 mod edits;
 mod files;
+mod getters;
 
 pub use files::run;

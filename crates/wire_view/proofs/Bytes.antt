@@ -24,14 +24,14 @@ cut : (bytes : List ℕ) (q : ℕ) → q < length bytes → drop q bytes ≡ sli
 cut bytes q lt = rw (drop-cons bytes q 0) refl
 
 -- elements of 8 bits are the bytes where they lie
-bytes_are : (next : Behind) (schema : Schema) (bytes : List ℕ) (base : ℕ) (flagged : Bool) (place n : ℕ) → place % 8 ≡ 0
+bytes_are : (next : Behind) (schema : Schema) (bytes : List ℕ) (base place n : ℕ) → place % 8 ≡ 0
     → base + place / 8 + n ≤ length bytes
-    → all_bytes (slots_value next schema bytes base (element_slots (kinds.IntKind Bits8 false flagged) place n) none) ≡ take n (drop (base + place / 8) bytes)
+    → all_bytes (slots_value next schema bytes base (element_slots (kinds.IntKind Bits8 false false) place n) none) ≡ take n (drop (base + place / 8) bytes)
 unfolding slots_value slot_value cell_value
-bytes_are next schema bytes base flagged place zero e le = refl
-bytes_are next schema bytes base flagged place (suc n) e le =
+bytes_are next schema bytes base place zero e le = refl
+bytes_are next schema bytes base place (suc n) e le =
     let later : base + (place + 8) / 8 ≡ suc (base + place / 8) = omega arith in
-    let rest = bytes_are next schema bytes base flagged (place + 8) n (omega arith) (omega (arith, later)) in
+    let rest = bytes_are next schema bytes base (place + 8) n (omega arith) (omega (arith, later)) in
     ap (λ (l : List ℕ). slice_index bytes (base + place / 8) ∷ l) (rest ∙ ap (λ (q : ℕ). take n (drop q bytes)) later)
     ∙ sym (ap (take (suc n)) (cut bytes (base + place / 8) (omega arith)))
 
@@ -52,17 +52,17 @@ unfolding pointer_value
 null_bytes left schema bytes p k none' = rw none' refl
 
 -- a pointer to such an array
-module _ (left : ℕ) (schema : Schema) (bytes : List ℕ) (p : ℕ) (flagged : Bool) (count : Option ℕ) (nullable x : Bool)
-    (h : AreReadable (length bytes) (pointer_marks (visit left schema bytes) bytes p (kinds.ArrayKind (kinds.IntKind Bits8 false flagged) count nullable)
+module _ (left : ℕ) (schema : Schema) (bytes : List ℕ) (p : ℕ) (count : Option ℕ) (nullable x : Bool)
+    (h : AreReadable (length bytes) (pointer_marks (visit left schema bytes) bytes p (kinds.ArrayKind (kinds.IntKind Bits8 false false) count nullable)
     x)) where
   abbrev k : KindTree
-  k = kinds.ArrayKind (kinds.IntKind Bits8 false flagged) count nullable
+  k = kinds.ArrayKind (kinds.IntKind Bits8 false false) count nullable
 
   there : IsThere bytes p
   there = λ some.
       let level = some_level (length bytes) left schema bytes p k x some h in
       let behind = readable_behind (length bytes) left (left - 1) schema bytes p k x level some h in
-      let array = object_array (length bytes) (visit (left - 1) schema bytes) schema bytes (p + number64 bytes p) k (kinds.IntKind Bits8 false flagged)
+      let array = object_array (length bytes) (visit (left - 1) schema bytes) schema bytes (p + number64 bytes p) k (kinds.IntKind Bits8 false false)
       count nullable refl
       behind.1 in
       omega (arith, array.within)
@@ -76,7 +76,7 @@ module _ (left : ℕ) (schema : Schema) (bytes : List ℕ) (p : ℕ) (flagged : 
       let first : q + 8 + 0 / 8 ≡ q + 8 = omega arith in
       let within : q + 8 + 0 / 8 + n ≤ length bytes = omega (arith, there some, first) in
       ap (λ (l : List ℕ). Some l)
-      (sym (bytes_are (value (left - 1) schema bytes) schema bytes (q + 8) flagged 0 n refl within ∙ ap (λ (o : ℕ). take n (drop o bytes)) first))
+      (sym (bytes_are (value (left - 1) schema bytes) schema bytes (q + 8) 0 n refl within ∙ ap (λ (o : ℕ). take n (drop o bytes)) first))
 
   read : bytes_behind bytes p ≡ array_bytes (pointer_value (value left schema bytes) bytes p k)
   read =
@@ -95,32 +95,32 @@ pub slot_bytes : (left : ℕ) (schema : Schema) (bytes : List ℕ) (p bit : ℕ)
     → AreReadable (length bytes) (slot_marks (visit left schema bytes) schema bytes p k) → is_bytes k ≡ true
     → IsThere bytes p × (bytes_behind bytes p ≡ array_bytes (slot_value (value left schema bytes) schema bytes p bit k))
 unfolding slot_marks cell_marks slot_value cell_value
-slot_bytes left schema bytes p bit (kinds.ArrayKind (kinds.IntKind Bits8 false flagged) count nullable) h e =
-    pointed left schema bytes p flagged count nullable nullable h
+slot_bytes left schema bytes p bit (kinds.ArrayKind (kinds.IntKind Bits8 false false) count nullable) h e =
+    pointed left schema bytes p count nullable nullable h
 slot_bytes left schema bytes p bit k h e = absurd cc
 
 pub cell_bytes : (left : ℕ) (schema : Schema) (bytes : List ℕ) (p bit : ℕ) (k : KindTree)
     → AreReadable (length bytes) (cell_marks (visit left schema bytes) schema bytes p k) → is_bytes k ≡ true
     → IsThere bytes p × (bytes_behind bytes p ≡ array_bytes (cell_value (value left schema bytes) bytes p bit k))
 unfolding cell_marks cell_value
-cell_bytes left schema bytes p bit (kinds.ArrayKind (kinds.IntKind Bits8 false flagged) count nullable) h e =
-    pointed left schema bytes p flagged count nullable nullable h
+cell_bytes left schema bytes p bit (kinds.ArrayKind (kinds.IntKind Bits8 false false) count nullable) h e =
+    pointed left schema bytes p count nullable nullable h
 cell_bytes left schema bytes p bit k h e = absurd cc
 
 pub list_bytes : (left : ℕ) (schema : Schema) (bytes : List ℕ) (p : ℕ) (of : KindTree)
     → AreReadable (length bytes) (pointer_marks (visit left schema bytes) bytes p (kinds.ArrayKind of None false) false)
     → is_bytes (kinds.ArrayKind of None false) ≡ true
     → IsThere bytes p × (bytes_behind bytes p ≡ array_bytes (pointer_value (value left schema bytes) bytes p (kinds.ArrayKind of None false)))
-list_bytes left schema bytes p (kinds.IntKind Bits8 false flagged) h e = pointed left schema bytes p flagged None false false h
+list_bytes left schema bytes p (kinds.IntKind Bits8 false false) h e = pointed left schema bytes p None false false h
 list_bytes left schema bytes p of h e = absurd cc
 
 -- such a kind takes 8 bytes
 pub slot_room : (k : KindTree) (p n : ℕ) → p + bytes_of k ≤ n → is_bytes k ≡ true → p + 8 ≤ n
-slot_room (kinds.ArrayKind (kinds.IntKind Bits8 false flagged) count nullable) p n le e = le
+slot_room (kinds.ArrayKind (kinds.IntKind Bits8 false false) count nullable) p n le e = le
 slot_room k p n le e = absurd cc
 
 pub cell_room : (k : KindTree) (p n : ℕ) → p + (cell_size k + 7) / 8 ≤ n → is_bytes k ≡ true → p + 8 ≤ n
-cell_room (kinds.ArrayKind (kinds.IntKind Bits8 false flagged) count nullable) p n le e = le
+cell_room (kinds.ArrayKind (kinds.IntKind Bits8 false false) count nullable) p n le e = le
 cell_room k p n le e = absurd cc
 
 -- a part of that kind

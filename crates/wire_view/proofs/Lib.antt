@@ -1,7 +1,10 @@
 pub mod Bytes
 pub mod Counts
 pub mod Defaults
+pub mod FieldParts
 pub mod Fields
+pub mod Kept
+pub mod KindsOf
 pub mod Members
 pub mod Nths
 pub mod ObjectFacts

@@ -3,7 +3,7 @@ use Rattle.std.proofs.Common.{◌≡◌, ℕ, true, List, [], ◌∷◌, refl}
 use Rattle.std.proofs.lemmas.Bool.{and_parts, and_from, leb-true, le-leb}
 use Rattle.wire_model.specs.Marks.{Mark, Test, Object, Handle, Id}
 use Rattle.readable_marks.specs.Readable.{AreReadable}
-use Rattle.wire_view.specs.steps.Readable.{are_readable}
+use Rattle.wire_view.specs.Readable.{are_readable}
 
 -- the test, and what it says
 pub to_readable : (n : ℕ) (ms : List Mark) → are_readable n ms ≡ true → AreReadable n ms

@@ -1,5 +1,5 @@
 -- What a view stands on.
-use Rattle.std.proofs.Common.{◌≡◌, ℕ, ◌+◌, ◌≤◌, Bool, true, false, cond, List, Some, None, Bor, refl, sym, ap, subst, ◌∙◌}
+use Rattle.std.proofs.Common.{◌≡◌, ℕ, ◌+◌, ◌≤◌, Bool, true, false, cond, List, Option, Some, None, Bor, refl, sym, ap, subst, ◌∙◌}
 use Rattle.std.specs.Prelude.{◌==◌, slice_get}
 use Rattle.mj_schema.specs.KindTrees.{StructKind, ArrayKind, MapKind, UnionKind, KindTree, kind_view}
 use Rattle.mj_schema.specs.declared.kind.KindNode.{KindNode}
@@ -16,19 +16,24 @@ use Rattle.wire_view.specs.Ons.{on_kind}
 use Rattle.wire_view.specs.Parts.{is_object}
 use Rattle.wire_view.specs.declared.on.On.{On}
 use Rattle.wire_view.specs.declared.on.On.TheVariants as ons
-use Rattle.wire_view.specs.steps.Readable.{are_readable}
+use Rattle.wire_view.specs.Readable.{are_readable}
 use Rattle.wire_view.proofs.Readable.{to_readable}
 use Rattle.wire_view.proofs.Targets.{pointed_union}
+
+-- the marks of a struct whose row is there
+pub row_readable : (n : ℕ) (next : Next) (schema : Schema) (bytes : List ℕ) (at number : ℕ) (row : StructRow) → Some row ≡ slice_get schema.structs number
+    → AreReadable n (object_marks next schema bytes at (StructKind number false)) → AreReadable n (struct_marks next schema bytes at row)
+unfolding object_marks
+row_readable n next schema bytes at number row found h = subst (λ r. AreReadable n (found_struct_marks next schema bytes at r)) (sym found) h
 
 module _ (n : ℕ) (next : Next) (schema : Schema) (bytes : List ℕ) (at : ℕ) (on : On)
     (readable : are_readable n (object_marks next schema bytes at (on_kind on)) ≡ true) where
   pub struct_readable : (number : ℕ) (row : StructRow) → on ≡ ons.Struct number → Some row ≡ slice_get schema.structs number
       → AreReadable n (struct_marks next schema bytes at row)
-  unfolding object_marks
   struct_readable number row is found =
       let marks : AreReadable n (object_marks next schema bytes at (StructKind number false)) =
       subst (λ o. AreReadable n (object_marks next schema bytes at (on_kind o))) is (to_readable n (object_marks next schema bytes at (on_kind on)) readable) in
-      subst (λ r. AreReadable n (found_struct_marks next schema bytes at r)) (sym found) marks
+      row_readable n next schema bytes at number row found marks
 
   pub array_readable : (of : Bor KindNode) → on ≡ ons.Array of → ReadableArray n next schema bytes at (kind_view of.now)
   array_readable of is =
@@ -57,10 +62,18 @@ module _ (next : Behind) (schema : Schema) (bytes : List ℕ) (at : ℕ) (on : O
   struct_tree number row is found =
       ap (found_struct_value next schema bytes at) found ∙ ap (λ o. object_value next schema bytes at (on_kind o)) (sym is)
 
-  pub no_tree : (number : ℕ) → on ≡ ons.Struct number → None ≡ slice_get schema.structs number → Null ≡ object_value next schema bytes at (on_kind on)
+  -- the row of a struct is there
+  some_row : (o : Option StructRow) → is_object (found_struct_value next schema bytes at o) ≡ true → (row : StructRow) × (Some row ≡ o)
+  some_row None whole = absurd cc
+  some_row (Some row) whole = (row, refl)
+
+  pub row_there : (number : ℕ) → on ≡ ons.Struct number → is_object (object_value next schema bytes at (on_kind on)) ≡ true
+      → (row : StructRow) × (Some row ≡ slice_get schema.structs number)
   unfolding object_value
-  no_tree number is found =
-      ap (found_struct_value next schema bytes at) found ∙ ap (λ o. object_value next schema bytes at (on_kind o)) (sym is)
+  row_there number is whole =
+      let tree : found_struct_value next schema bytes at (slice_get schema.structs number) ≡ object_value next schema bytes at (on_kind on) =
+      ap (λ o. object_value next schema bytes at (on_kind o)) (sym is) in
+      some_row (slice_get schema.structs number) (ap is_object tree ∙ whole)
 
   pub array_tree : (of : Bor KindNode) → on ≡ ons.Array of
       → Items (slots_value next schema bytes (at + 8) (element_slots (kind_view of.now) 0 (number32 bytes (at + 4))) none)

@@ -97,9 +97,17 @@ kind_at schema (kinds.MapKind key one nullable) i = list_kind key one i
 kind_at schema (kinds.UnionKind number nullable) i = kind_in (slice_get schema.unions number) i
 kind_at schema k i = None
 
+-- a kind without what says nothing of the object itself: whether it may be null, and how many elements it has
+abbrev pub plain : KindTree → KindTree
+plain (kinds.ArrayKind of n nullable) = kinds.ArrayKind of None false
+plain (kinds.MapKind key one nullable) = kinds.MapKind key one false
+plain (kinds.StructKind number nullable) = kinds.StructKind number false
+plain (kinds.UnionKind number nullable) = kinds.UnionKind number false
+plain k = k
+
 -- an array of uint8
 abbrev pub is_bytes : KindTree → Bool
-is_bytes (kinds.ArrayKind (kinds.IntKind Bits8 false flagged) n nullable) = true
+is_bytes (kinds.ArrayKind (kinds.IntKind Bits8 false false) n nullable) = true
 is_bytes k = false
 
 -- the byte that a value is

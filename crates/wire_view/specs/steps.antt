@@ -1,4 +1,4 @@
 -- Definitions that serve proofs alone: no public clause cites them.
 pub mod Lists
 pub mod Placed
-pub mod Readable
+pub mod Proper

@@ -1,12 +1,12 @@
 //! What a field reads as that the version of a struct lacks.
 
-ghost use Rattle.std.specs.Prelude.{◌≡◌, IsTrue, true};
+ghost use Rattle.std.specs.Prelude.{◌≡◌, IsTrue, true, None};
 ghost use Rattle.std.specs.Option.{option_copied, option_map_or};
 ghost use Rattle.std.specs.Str.{is_utf8};
 ghost use Rattle.mj_schema.specs.KindTrees.{kind_view};
 ghost use Rattle.mj_schema.specs.Sound.{is_text};
 ghost use Rattle.wire_model.specs.Absent.{literal_value, has_zero, first_number, enum_number, absent_kind, absent_field};
-ghost use Rattle.wire_view.specs.PartValues.{tree_in};
+ghost use Rattle.wire_view.specs.PartValues.{tree_in, object_in};
 
 use crate::parts::Part;
 use crate::texts::Utf8;
@@ -25,7 +25,8 @@ fn text_of(bytes: &Items<u8>) -> Utf8<'_>
 /// The value that a file has written out.
 fn literal_value<'a>(literal: &'a Literal) -> Part<'a>
     requires { IsTrue (is_text literal.now) }
-    ensures { tree_in result ≡ literal_value literal.now }
+    ensures value { tree_in result ≡ literal_value literal.now }
+    ensures leaf { object_in result ≡ None }
 {
     match literal {
         Literal::Bool(bool) => Part::Bool(*bool),
@@ -67,7 +68,8 @@ fn enum_number(row: Option<&EnumRow>) -> i32
 
 /// What a kind reads as.
 fn absent_kind<'a>(schema: &Schema, kind: &'a KindNode) -> Part<'a>
-    ensures { tree_in result ≡ absent_kind schema.now (kind_view kind.now) }
+    ensures value { tree_in result ≡ absent_kind schema.now (kind_view kind.now) }
+    ensures leaf { object_in result ≡ None }
 {
     match kind {
         KindNode::Bool { nullable: false } => Part::Bool(false),
@@ -89,7 +91,8 @@ fn absent_kind<'a>(schema: &Schema, kind: &'a KindNode) -> Part<'a>
 /// What a field reads as: its default, or else what its kind does.
 pub fn absent_field<'a>(schema: &Schema, field: &'a FieldRow) -> Part<'a>
     requires { IsTrue (option_map_or is_text field.now.default true) }
-    ensures { tree_in result ≡ absent_field schema.now field.now.default field.now.kind }
+    ensures value { tree_in result ≡ absent_field schema.now field.now.default field.now.kind }
+    ensures leaf { object_in result ≡ None }
 {
     match &field.default {
         Some(literal) => literal_value(literal),

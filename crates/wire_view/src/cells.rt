@@ -1,6 +1,6 @@
 //! What lies in a slot.
 
-ghost use Rattle.std.specs.Prelude.{◌≡◌, ◌+◌, ◌/◌, ◌<◌, ◌≤◌, length};
+ghost use Rattle.std.specs.Prelude.{◌≡◌, ◌+◌, ◌/◌, ◌<◌, ◌≤◌, length, IfSome, Some, None};
 ghost use Rattle.mj_schema.specs.KindTrees.{kind_view};
 ghost use Rattle.mj_schema.specs.Versions.{bytes_of};
 ghost use Rattle.wire_model.specs.Marks.{visit, object_marks, slot_marks, cell_marks, pointer_marks};
@@ -8,7 +8,8 @@ ghost use Rattle.wire_model.specs.Trees as trees;
 ghost use Rattle.wire_model.specs.Values.{value, object_value, slot_value, cell_value, pointer_value, or_null};
 ghost use Rattle.wire_model.specs.steps.Cells.{cell_size};
 ghost use Rattle.readable_marks.specs.Readable.{AreReadable};
-ghost use Rattle.wire_view.specs.PartValues.{tree_in};
+ghost use Rattle.wire_view.specs.PartValues.{tree_in, object_in};
+ghost use Rattle.wire_view.specs.Views.{IsOf};
 
 use crate::numbers::whole_at;
 use crate::objects::{array_at, inline_at, map_at, string_at, struct_at};
@@ -17,8 +18,10 @@ use mj_schema::{KindNode, Schema};
 use wire_model::{NO_INDEX, bit_at, le32, le64};
 
 /// A handle or a receiver, or null.
+#[inline(always)]
 fn handle<'a>(index: u32) -> Part<'a>
-    ensures { tree_in result ≡ or_null index (trees.Handle index) }
+    ensures value { tree_in result ≡ or_null index (trees.Handle index) }
+    ensures leaf { object_in result ≡ None }
 {
     if index == NO_INDEX {
         return Part::Null;
@@ -27,8 +30,10 @@ fn handle<'a>(index: u32) -> Part<'a>
 }
 
 /// A remote, or null.
+#[inline(always)]
 fn remote<'a>(index: u32, version: u32) -> Part<'a>
-    ensures { tree_in result ≡ or_null index (trees.Remote index version) }
+    ensures value { tree_in result ≡ or_null index (trees.Remote index version) }
+    ensures leaf { object_in result ≡ None }
 {
     if index == NO_INDEX {
         return Part::Null;
@@ -37,8 +42,10 @@ fn remote<'a>(index: u32, version: u32) -> Part<'a>
 }
 
 /// The receiver of an associated endpoint, or null.
+#[inline(always)]
 fn endpoint<'a>(index: u32) -> Part<'a>
-    ensures { tree_in result ≡ or_null index (trees.Endpoint index) }
+    ensures value { tree_in result ≡ or_null index (trees.Endpoint index) }
+    ensures leaf { object_in result ≡ None }
 {
     if index == NO_INDEX {
         return Part::Null;
@@ -47,8 +54,10 @@ fn endpoint<'a>(index: u32) -> Part<'a>
 }
 
 /// The remote of an associated endpoint, or null.
+#[inline(always)]
 fn endpoint_remote<'a>(index: u32, version: u32) -> Part<'a>
-    ensures { tree_in result ≡ or_null index (trees.EndpointRemote index version) }
+    ensures value { tree_in result ≡ or_null index (trees.EndpointRemote index version) }
+    ensures leaf { object_in result ≡ None }
 {
     if index == NO_INDEX {
         return Part::Null;
@@ -58,6 +67,7 @@ fn endpoint_remote<'a>(index: u32, version: u32) -> Part<'a>
 
 /// What stands at a place, where at most `left` more levels of objects may be behind it.
 #[tactic(auto, unfolding(wire_model::specs::Values::object_value))]
+#[inline(always)]
 fn object_at<'a>(
     schema: &'a Schema,
     bytes: &'a [u8],
@@ -66,7 +76,8 @@ fn object_at<'a>(
     left: u32,
 ) -> Part<'a>
     requires { AreReadable (length bytes.now) (object_marks (visit left schema.now bytes.now) schema.now bytes.now at (kind_view kind.now)) }
-    ensures { tree_in result ≡ object_value (value left schema.now bytes.now) schema.now bytes.now at (kind_view kind.now) }
+    ensures value { tree_in result ≡ object_value (value left schema.now bytes.now) schema.now bytes.now at (kind_view kind.now) }
+    ensures kind { IfSome (object_in result) (IsOf schema.now (Some (kind_view kind.now))) }
 {
     match kind {
         KindNode::Text { .. } => Part::Text(string_at(bytes, at)),
@@ -82,6 +93,7 @@ fn object_at<'a>(
 
 /// A slot of a struct or of an array, at a byte and for a bool its bit, which has a union itself.
 #[tactic(auto, unfolding(wire_model::specs::Marks::slot_marks, wire_model::specs::Values::slot_value))]
+#[inline(always)]
 pub fn slot_at<'a>(
     schema: &'a Schema,
     bytes: &'a [u8],
@@ -93,7 +105,8 @@ pub fn slot_at<'a>(
     requires bit { bit < 8 }
     requires within { at + bytes_of (kind_view kind.now) ≤ length bytes.now }
     requires readable { AreReadable (length bytes.now) (slot_marks (visit left schema.now bytes.now) schema.now bytes.now at (kind_view kind.now)) }
-    ensures { tree_in result ≡ slot_value (value left schema.now bytes.now) schema.now bytes.now at bit (kind_view kind.now) }
+    ensures value { tree_in result ≡ slot_value (value left schema.now bytes.now) schema.now bytes.now at bit (kind_view kind.now) }
+    ensures kind { IfSome (object_in result) (IsOf schema.now (Some (kind_view kind.now))) }
 {
     match kind {
         KindNode::Union { number, .. } => inline_at(schema, bytes, at, *number, left),
@@ -103,6 +116,7 @@ pub fn slot_at<'a>(
 
 /// A slot in which a union stands behind a pointer.
 #[tactic(auto, unfolding(wire_model::specs::Marks::cell_marks, wire_model::specs::Values::cell_value))]
+#[inline(always)]
 pub fn cell_at<'a>(
     schema: &'a Schema,
     bytes: &'a [u8],
@@ -114,7 +128,8 @@ pub fn cell_at<'a>(
     requires bit { bit < 8 }
     requires within { at + (cell_size (kind_view kind.now) + 7) / 8 ≤ length bytes.now }
     requires readable { AreReadable (length bytes.now) (cell_marks (visit left schema.now bytes.now) schema.now bytes.now at (kind_view kind.now)) }
-    ensures { tree_in result ≡ cell_value (value left schema.now bytes.now) bytes.now at bit (kind_view kind.now) }
+    ensures value { tree_in result ≡ cell_value (value left schema.now bytes.now) bytes.now at bit (kind_view kind.now) }
+    ensures kind { IfSome (object_in result) (IsOf schema.now (Some (kind_view kind.now))) }
 {
     match kind {
         KindNode::Bool { .. } => Part::Bool(bit_at(bytes, at, bit)),
@@ -134,6 +149,7 @@ pub fn cell_at<'a>(
 
 /// What the pointer at a place leads to, or null.
 #[tactic(auto, unfolding(wire_model::specs::Marks::pointer_marks, wire_model::specs::Marks::visit, wire_model::specs::Values::pointer_value))]
+#[inline(always)]
 fn behind<'a>(
     schema: &'a Schema,
     bytes: &'a [u8],
@@ -144,7 +160,8 @@ fn behind<'a>(
 ) -> Part<'a>
     requires within { at + 8 ≤ length bytes.now }
     requires readable { AreReadable (length bytes.now) (pointer_marks (visit left schema.now bytes.now) bytes.now at (kind_view kind.now) nullable) }
-    ensures { tree_in result ≡ pointer_value (value left schema.now bytes.now) bytes.now at (kind_view kind.now) }
+    ensures value { tree_in result ≡ pointer_value (value left schema.now bytes.now) bytes.now at (kind_view kind.now) }
+    ensures kind { IfSome (object_in result) (IsOf schema.now (Some (kind_view kind.now))) }
 {
     let pointer = le64(bytes, at);
     if pointer == 0 && nullable {

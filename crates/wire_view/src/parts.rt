@@ -27,12 +27,13 @@ pub enum Part<'a> {
 }
 
 impl<'a> Part<'a> {
-    ghost use Rattle.wire_view.specs.PartValues.{tree_in};
+    ghost use Rattle.wire_view.specs.PartValues.{tree_in, object_in};
     ghost use Rattle.wire_view.specs.Parts.{number_of, version_of, text_of, held};
     ghost use Rattle.wire_view.specs.Views.{tree_of};
 
     /// The number that it is: a bool as 0 or 1, an integer, an enum or an index.
     #[tactic(auto, using(crate::proofs::ObjectFacts::no_number))]
+    #[inline(always)]
     pub fn as_number(&self) -> Option<i128>
         ensures { result ≡ number_of (tree_in self.now) }
     {
@@ -51,6 +52,7 @@ impl<'a> Part<'a> {
 
     /// The version of a remote.
     #[tactic(auto, using(crate::proofs::ObjectFacts::no_version))]
+    #[inline(always)]
     pub fn as_version(&self) -> Option<u32>
         ensures { result ≡ version_of (tree_in self.now) }
     {
@@ -64,6 +66,7 @@ impl<'a> Part<'a> {
 
     /// The string that it is.
     #[tactic(auto, using(crate::proofs::ObjectFacts::no_text))]
+    #[inline(always)]
     pub fn as_text(&self) -> Option<&'a str>
         ensures { option_copied result ≡ text_of (tree_in self.now) }
     {
@@ -76,8 +79,10 @@ impl<'a> Part<'a> {
 
     /// The object that it is.
     #[tactic(auto, using(crate::proofs::ObjectFacts::is_held))]
+    #[inline(always)]
     pub fn as_object(&self) -> Option<View<'a>>
-        ensures { option_map tree_of result ≡ held (tree_in self.now) }
+        ensures value { option_map tree_of result ≡ held (tree_in self.now) }
+        ensures same { result ≡ object_in self.now }
     {
         match self {
             Part::Object(view) => Some(*view),

@@ -37,6 +37,7 @@ pub enum Place<'a> {
 }
 
 /// The field of an ordinal; none exactly where there is none.
+#[inline(always)]
 pub fn field_at(fields: &[FieldRow], i: u32) -> Option<&FieldRow>
     ensures { option_copied result ≡ slice_get fields.now i }
 {
@@ -61,7 +62,7 @@ fn is_byte(kind: &KindNode) -> bool
         KindNode::Int {
             width: Width::Bits8,
             signed: false,
-            ..
+            nullable: false,
         } => true,
         _ => false,
     }

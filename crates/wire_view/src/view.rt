@@ -1,11 +1,15 @@
 //! Views.
 
-ghost use Rattle.std.specs.Prelude.{length, IsTrue};
+ghost use Rattle.std.specs.Prelude.{◌≡◌, ◌+◌, ℕ, length, IsTrue};
+ghost use Rattle.wire_model.specs.Bytes.{number32};
 ghost use Rattle.wire_model.specs.Marks.{visit, object_marks};
+ghost use Rattle.wire_model.specs.Rows.{row_of};
 ghost use Rattle.wire_model.specs.Values.{value, object_value};
+ghost use Rattle.wire_view.specs.Known.{fields_of, known_of};
 ghost use Rattle.wire_view.specs.Ons.{on_kind};
 ghost use Rattle.wire_view.specs.Parts.{is_object};
-ghost use Rattle.wire_view.specs.steps.Readable.{are_readable};
+ghost use Rattle.wire_view.specs.Readable.{are_readable};
+ghost use Rattle.wire_view.specs.steps.Proper.{fields-prop};
 
 use crate::absent::absent_field;
 use crate::cells::{cell_at, slot_at};
@@ -14,101 +18,137 @@ use crate::on::On;
 use crate::parts::Part;
 use crate::places::{Place, field_at, list_bytes, slot_bytes};
 use crate::shapes::Shape;
-use mj_schema::{KindNode, Schema, StructRow};
-use schema_rows::{find_struct, has_value, kind_in, present, size_of};
+use mj_schema::{FieldRow, KindNode, Schema, StructRow};
+use schema_rows::{has_value, kind_in, row_for, size_of};
 use wire_model::le32;
 
 /// A struct, an array, a map or a union of a message that was checked, at a byte place, where at most
-/// `left` more levels of objects may be behind it.
+/// `left` more levels of objects may be behind it. Of a struct it keeps the `fields`, and how many of them
+/// its version has, so that no getter looks for them.
 #[derive(Clone, Copy)]
 pub struct View<'a> {
     schema: &'a Schema,
     bytes: &'a [u8],
     at: u64,
     left: u32,
+    known: u32,
+    fields: &'a [FieldRow],
     on: On<'a>,
     ghost readable: { IsTrue (are_readable (length bytes.now) (object_marks (visit left schema.now bytes.now) schema.now bytes.now at (on_kind on))) },
     ghost whole: { IsTrue (is_object (object_value (value left schema.now bytes.now) schema.now bytes.now at (on_kind on))) },
+    ghost kept: { fields.now ≡ fields_of (row_of schema.now (on_kind on)) } by { fields-prop fields.now (fields_of (row_of schema.now (on_kind on))) },
+    ghost counted: { known ≡ known_of (row_of schema.now (on_kind on)) (number32 bytes.now (at + 4)) },
 }
 
 impl<'a> View<'a> {
-    ghost use Rattle.std.specs.Prelude.{◌≡◌, ◌+◌, ◌≤◌, true, false, Some, None, slice_get, option_and_then};
+    ghost use Rattle.std.specs.Prelude.{◌≤◌, true, false, Some, None, slice_get, option_and_then, IfSome};
     ghost use Rattle.std.specs.Option.{option_copied, option_map};
-    ghost use Rattle.mj_schema.specs.KindTrees.{kind_view, ArrayKind};
-    ghost use Rattle.mj_schema.specs.Layout.{draft_of};
-    ghost use Rattle.mj_schema.specs.Sound.{has_texts};
+    ghost use Rattle.mj_schema.specs.KindTrees.{kind_view, ArrayKind, StructKind};
     ghost use Rattle.mj_schema.specs.Versions.{is_table};
-    ghost use Rattle.wire_model.specs.Bytes.{number32};
-    ghost use Rattle.wire_model.specs.Marks.{struct_marks, content_marks, pointer_marks, found_union_marks};
-    ghost use Rattle.wire_model.specs.Readable.{IsReadableRow};
+    ghost use Rattle.wire_model.specs.Marks.{content_marks, pointer_marks, found_union_marks};
     ghost use Rattle.wire_model.specs.Rows.{kind_in};
     ghost use Rattle.wire_model.specs.Slots.{element_bytes, element_slots};
     ghost use Rattle.wire_model.specs.Trees.{Items, Pairs, none, more};
-    ghost use Rattle.wire_model.specs.Values.{struct_value, slots_value, pointer_value, found_union_value};
+    ghost use Rattle.wire_model.specs.Values.{slots_value, pointer_value, found_union_value};
     ghost use Rattle.readable_marks.specs.Readable.{AreReadable};
-    ghost use Rattle.wire_view.specs.PartValues.{tree_in};
+    ghost use Rattle.wire_view.specs.PartValues.{tree_in, object_in};
     ghost use Rattle.wire_view.specs.Parts.{part, how_many, number_of, version_of, text_of, held, item_of, tag_of, list_kind, kind_at, bytes_of_part};
     ghost use Rattle.wire_view.specs.Shapes.{HasShape};
-    ghost use Rattle.wire_view.specs.Views.{tree_of};
+    ghost use Rattle.wire_view.specs.Views.{tree_of, kind_of, schema_of, IsOf};
     ghost use Rattle.wire_view.specs.steps.Placed.{IsPlace};
 
     /// A view of an object at a place, which isn't null.
+    #[inline(always)]
     pub(crate) fn standing(
         schema: &'a Schema,
         bytes: &'a [u8],
         at: u64,
         left: u32,
         on: On<'a>,
+        fields: &'a [FieldRow],
+        known: u32,
     ) -> View<'a>
         requires readable { AreReadable (length bytes.now) (object_marks (visit left schema.now bytes.now) schema.now bytes.now at (on_kind on)) }
         requires whole { is_object (object_value (value left schema.now bytes.now) schema.now bytes.now at (on_kind on)) ≡ true }
-        ensures { tree_of result ≡ object_value (value left schema.now bytes.now) schema.now bytes.now at (on_kind on.entry) }
+        requires row { fields.now ≡ fields_of (row_of schema.now (on_kind on)) }
+        requires version { known ≡ known_of (row_of schema.now (on_kind on)) (number32 bytes.now (at + 4)) }
+        ensures value { tree_of result ≡ object_value (value left schema.now bytes.now) schema.now bytes.now at (on_kind on.entry) }
+        ensures kind { kind_of result ≡ on_kind on.entry }
+        ensures schema { schema_of result ≡ schema.now }
     {
         View {
             schema,
             bytes,
             at,
             left,
+            known,
+            fields,
             on,
         }
     }
 
-    /// Where the field of an ordinal of a struct lies.
-    fn field_place(&self, row: &'a StructRow, i: u32) -> Place<'a>
-        requires row { IsReadableRow row.now }
+    /// A view of a struct at a place.
+    #[inline(always)]
+    pub(crate) fn of_struct(
+        schema: &'a Schema,
+        bytes: &'a [u8],
+        at: u64,
+        left: u32,
+        number: u32,
+        row: &'a StructRow,
+    ) -> View<'a>
+        requires found { Some row.now ≡ slice_get schema.now.structs number }
         requires rising { IsTrue (is_table row.now.versions) }
-        requires texts { IsTrue (has_texts (draft_of row.now)) }
-        requires readable { AreReadable (length self.now.bytes.now)
-            (struct_marks (visit self.now.left self.now.schema.now self.now.bytes.now) self.now.schema.now self.now.bytes.now self.now.at row.now) }
+        requires readable { AreReadable (length bytes.now) (object_marks (visit left schema.now bytes.now) schema.now bytes.now at (StructKind number false)) }
+        ensures value { tree_of result ≡ object_value (value left schema.now bytes.now) schema.now bytes.now at (StructKind number false) }
+        ensures kind { kind_of result ≡ StructKind number false }
+        ensures schema { schema_of result ≡ schema.now }
+    {
+        let version = le32(bytes, at + 4);
+        let found = row_for(row.versions.as_slice(), version);
+        View::standing(
+            schema,
+            bytes,
+            at,
+            left,
+            On::Struct(number),
+            row.fields.as_slice(),
+            found.fields,
+        )
+    }
+
+    /// Where the field of an ordinal of a struct lies.
+    #[inline(always)]
+    fn field_place(&self, i: u32) -> Place<'a>
+        requires { (number : ℕ) × (self.now.on ≡ On.Struct number) }
         ensures { IsPlace (length self.now.bytes.now) (visit self.now.left self.now.schema.now self.now.bytes.now)
             (value self.now.left self.now.schema.now self.now.bytes.now) self.now.schema.now self.now.bytes.now
-            (part (struct_value (value self.now.left self.now.schema.now self.now.bytes.now) self.now.schema.now self.now.bytes.now self.now.at row.now
-            (number32 self.now.bytes.now (self.now.at + 4))) i)
-            (option_map (λ field. field.kind) (slice_get row.now.fields i)) result }
+            (part (tree_of self.now) i) (kind_at self.now.schema.now (on_kind self.now.on) i) result }
     {
-        let bytes = self.bytes;
-        let at = self.at;
-        let version = le32(bytes, at + 4);
-        match field_at(present(row, version), i) {
+        let base = self.at + 8;
+        let known = self.known;
+        match field_at(self.fields, i) {
             Some(field) => {
-                if has_value(bytes, at + 8, field.flag) {
-                    Place::Slot {
-                        at: at + 8 + u64::from(field.offset),
-                        bit: field.bit,
-                        kind: field.kind.node(),
+                if i < known {
+                    if has_value(self.bytes, base, field.flag) {
+                        Place::Slot {
+                            at: base + u64::from(field.offset),
+                            bit: field.bit,
+                            kind: field.kind.node(),
+                        }
+                    } else {
+                        Place::Null
                     }
                 } else {
-                    Place::Null
+                    Place::Absent(field)
                 }
             }
-            None => match field_at(row.fields.as_slice(), i) {
-                Some(field) => Place::Absent(field),
-                None => Place::Nothing,
-            },
+            None => Place::Nothing,
         }
     }
 
     /// Where the element of a number of an array lies.
+    #[inline(always)]
     fn element_place(&self, of: &'a KindNode, i: u32) -> Place<'a>
         requires within { self.now.at + 8 + element_bytes (kind_view of.now) (number32 self.now.bytes.now (self.now.at + 4)) ≤ length self.now.bytes.now }
         requires readable { AreReadable (length self.now.bytes.now)
@@ -135,6 +175,7 @@ impl<'a> View<'a> {
     }
 
     /// Where one of the two lists of a map lies.
+    #[inline(always)]
     fn list_place(&self, key: &'a KindNode, one: &'a KindNode, i: u32) -> Place<'a>
         requires within { self.now.at + 24 ≤ length self.now.bytes.now }
         requires keys { AreReadable (length self.now.bytes.now)
@@ -170,6 +211,7 @@ impl<'a> View<'a> {
     }
 
     /// Where what a union holds lies, which is a part by its tag alone.
+    #[inline(always)]
     fn member_place(&self, number: u32, i: u32) -> Place<'a>
         requires within { self.now.at + 16 ≤ length self.now.bytes.now }
         requires readable { AreReadable (length self.now.bytes.now)
@@ -197,16 +239,14 @@ impl<'a> View<'a> {
     }
 
     /// Where the part of a number lies.
+    #[inline(always)]
     fn place(&self, i: u32) -> Place<'a>
         ensures { IsPlace (length self.now.bytes.now) (visit self.now.left self.now.schema.now self.now.bytes.now)
             (value self.now.left self.now.schema.now self.now.bytes.now) self.now.schema.now self.now.bytes.now
             (part (tree_of self.now) i) (kind_at self.now.schema.now (on_kind self.now.on) i) result }
     {
         match self.on {
-            On::Struct(number) => match find_struct(self.schema, number) {
-                Some(row) => self.field_place(row, i),
-                None => Place::Nothing,
-            },
+            On::Struct(_) => self.field_place(i),
             On::Array(of) => self.element_place(of, i),
             On::Map(key, one) => self.list_place(key, one, i),
             On::Union(number) => self.member_place(number, i),
@@ -215,8 +255,10 @@ impl<'a> View<'a> {
 
     /// The part of a number: a struct's field by its ordinal, an array's element, a map's keys (0) and
     /// values (1), or what a union holds by its tag. None exactly where no part has that number.
+    #[inline(always)]
     pub fn part(&self, i: u32) -> Option<Part<'a>>
-        ensures { option_map tree_in result ≡ part (tree_of self.now) i }
+        ensures value { option_map tree_in result ≡ part (tree_of self.now) i }
+        ensures kind { IfSome (option_and_then object_in result) (IsOf (schema_of self.now) (kind_at (schema_of self.now) (kind_of self.now) i)) }
     {
         match self.place(i) {
             Place::Nothing => None,
@@ -245,6 +287,7 @@ impl<'a> View<'a> {
 
     /// The number that a part is: a bool as 0 or 1, an integer, an enum, or an index. None exactly where
     /// there is no such part, or it is null or of another kind.
+    #[inline(always)]
     pub fn number(&self, i: u32) -> Option<i128>
         ensures { result ≡ option_and_then number_of (part (tree_of self.now) i) }
     {
@@ -256,6 +299,7 @@ impl<'a> View<'a> {
 
     /// The version of a part that is a remote. None exactly where there is no such part, or it is null or
     /// of another kind.
+    #[inline(always)]
     pub fn version(&self, i: u32) -> Option<u32>
         ensures { result ≡ option_and_then version_of (part (tree_of self.now) i) }
     {
@@ -267,6 +311,7 @@ impl<'a> View<'a> {
 
     /// The text of a part that is a string, which takes a pass over its bytes. None exactly where there is
     /// no such part, or it is null or of another kind.
+    #[inline(always)]
     pub fn text(&self, i: u32) -> Option<&'a str>
         ensures { option_copied result ≡ option_and_then text_of (part (tree_of self.now) i) }
     {
@@ -279,7 +324,7 @@ impl<'a> View<'a> {
     /// The bytes of a part that is an array of uint8. None exactly where there is no such part, or it is
     /// null or of another kind.
     pub fn bytes(&self, i: u32) -> Option<&'a [u8]>
-        ensures { option_copied result ≡ bytes_of_part (kind_at self.now.schema.now (on_kind self.now.on) i) (part (tree_of self.now) i) }
+        ensures { option_copied result ≡ bytes_of_part (kind_at (schema_of self.now) (kind_of self.now) i) (part (tree_of self.now) i) }
     {
         match self.place(i) {
             Place::Slot { at, kind, .. } => slot_bytes(self.bytes, at, kind),
@@ -293,8 +338,10 @@ impl<'a> View<'a> {
 
     /// The view of a part that is a struct, an array, a map or a union. None exactly where there is no
     /// such part, or it is null or of another kind.
+    #[inline(always)]
     pub fn child(&self, i: u32) -> Option<View<'a>>
-        ensures { option_map tree_of result ≡ option_and_then held (part (tree_of self.now) i) }
+        ensures value { option_map tree_of result ≡ option_and_then held (part (tree_of self.now) i) }
+        ensures kind { IfSome result (IsOf (schema_of self.now) (kind_at (schema_of self.now) (kind_of self.now) i)) }
     {
         match self.part(i) {
             Some(part) => part.as_object(),
@@ -304,7 +351,8 @@ impl<'a> View<'a> {
 
     /// The view of an element of an array; none where this is no array, too.
     fn item(&self, j: u32) -> Option<View<'a>>
-        ensures { option_map tree_of result ≡ item_of (tree_of self.now) j }
+        ensures value { option_map tree_of result ≡ item_of (tree_of self.now) j }
+        ensures kind { IfSome result (IsOf (schema_of self.now) (kind_at (schema_of self.now) (kind_of self.now) j)) }
     {
         match self.shape() {
             Shape::Array => self.child(j),
@@ -317,7 +365,9 @@ impl<'a> View<'a> {
     /// The view of an element of the array that a part is. None exactly where no part of that number is an
     /// array, or it has no such element, or the element is null or no struct, array, map or union.
     pub fn element(&self, i: u32, j: u32) -> Option<View<'a>>
-        ensures { option_map tree_of result ≡ option_and_then (λ array. item_of array j) (part (tree_of self.now) i) }
+        ensures value { option_map tree_of result ≡ option_and_then (λ array. item_of array j) (part (tree_of self.now) i) }
+        ensures kind { IfSome result (IsOf (schema_of self.now)
+            (option_and_then (λ of. kind_at (schema_of self.now) of j) (kind_at (schema_of self.now) (kind_of self.now) i))) }
     {
         match self.child(i) {
             Some(array) => array.item(j),
@@ -327,15 +377,12 @@ impl<'a> View<'a> {
 
     /// How many parts there are: all fields that the schema knows, of a union the one that it holds, or
     /// none where it lacks the tag.
-    #[tactic(auto, using(crate::proofs::Counts::few))]
+    #[inline(always)]
     pub fn len(&self) -> u32
         ensures { result ≡ how_many (tree_of self.now) }
     {
         match self.on {
-            On::Struct(number) => match find_struct(self.schema, number) {
-                Some(row) => row.fields.as_slice().len() as u32,
-                None => 0,
-            },
+            On::Struct(_) => self.fields.len() as u32,
             On::Array(_) => le32(self.bytes, self.at + 4),
             On::Map(_, _) => 2,
             On::Union(number) => self.members(number),
@@ -355,6 +402,7 @@ impl<'a> View<'a> {
     }
 
     /// The tag of a union. None exactly where this is no union.
+    #[inline(always)]
     pub fn tag(&self) -> Option<u32>
         ensures { result ≡ tag_of (tree_of self.now) }
     {
@@ -367,6 +415,7 @@ impl<'a> View<'a> {
     }
 
     /// What this is a view of.
+    #[inline(always)]
     pub fn shape(&self) -> Shape
         ensures { HasShape result (tree_of self.now) }
     {

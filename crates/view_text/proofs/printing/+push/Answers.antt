@@ -26,16 +26,16 @@ Parted i out mid = ((i ≡ 0) × (mid.items ≡ out.items)) ⊎ ((0 < i) × (mid
 
 pub push_part-push_view-requires : goal.push_part-push_view-requires
 push_part-push_view-requires t c =
-    let deep = ap brackets (held_is (tree_of c.in-Some.view) (tree_in c.args.part.now) c.in-Some.ensures) in
+    let deep = ap brackets (held_is (tree_of c.in-Some.view) (tree_in c.args.part.now) c.in-Some.ensures.value) in
     omega (arith, deep)
 
 pub push_part-push_leaf-requires : goal.push_part-push_leaf-requires
-push_part-push_leaf-requires t c = not_held (tree_in c.args.part.now) c.in-None.ensures
+push_part-push_leaf-requires t c = not_held (tree_in c.args.part.now) c.in-None.ensures.value
 
 pub push_part-returns-in-Some : goal.push_part-returns-in-Some
 push_part-returns-in-Some t c =
     subst (λ (x : Tree). OnOk c.push_view.result (c.push_view.new.out.items ≡ c.args.out.now.items ++ spell c.args.schema.now (kind_view c.args.kind.now) x))
-    (held_is (tree_of c.in-Some.view) (tree_in c.args.part.now) c.in-Some.ensures) c.push_view.ensures
+    (held_is (tree_of c.in-Some.view) (tree_in c.args.part.now) c.in-Some.ensures.value) c.push_view.ensures
 
 pub push_part-returns-in-None : goal.push_part-returns-in-None
 push_part-returns-in-None t c =
@@ -195,7 +195,7 @@ pub push_union-push_member-requires : goal.push_union-push_member-requires
 push_union-push_member-requires t c =
     let union = tree_of c.args.view.now in
     let x = tree_in c.in-Some.part in
-    let is = member_is union c.tag_at-tag.result x c.requires c.tag_at-tag.ensures c.in-Some.ensures in
+    let is = member_is union c.tag_at-tag.result x c.requires c.tag_at-tag.ensures c.in-Some.ensures.value in
     let deep : brackets union ≡ suc (brackets x) = ap brackets is in
     omega (arith, deep)
 
@@ -203,13 +203,13 @@ pub push_union-returns-in-Some : goal.push_union-returns-in-Some
 push_union-returns-in-Some t c =
     let union = tree_of c.args.view.now in
     let x = tree_in c.in-Some.part in
-    let is = member_is union c.tag_at-tag.result x c.requires c.tag_at-tag.ensures c.in-Some.ensures in
+    let is = member_is union c.tag_at-tag.result x c.requires c.tag_at-tag.ensures c.in-Some.ensures.value in
     subst (λ (s : List ℕ). OnOk c.push_member.result (c.push_member.new.out.items ≡ c.args.out.now.items ++ s))
     (member_spelled c.args.schema.now (kind_view c.args.kind.now) union c.tag_at-tag.result x is) c.push_member.ensures
 
 pub push_union-returns-in-None : goal.push_union-returns-in-None
 push_union-returns-in-None t c =
     let union = tree_of c.args.view.now in
-    let is = unknown_is union c.tag_at-tag.result c.requires c.tag_at-tag.ensures c.in-None.ensures in
+    let is = unknown_is union c.tag_at-tag.result c.requires c.tag_at-tag.ensures c.in-None.ensures.value in
     subst (λ (s : List ℕ). OnOk c.push_unknown.result (c.push_unknown.new.out.items ≡ c.args.out.now.items ++ s))
     (unknown_spelled c.args.schema.now (kind_view c.args.kind.now) union c.tag_at-tag.result is) c.push_unknown.ensures

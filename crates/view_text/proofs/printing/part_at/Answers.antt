@@ -7,7 +7,7 @@ use Rattle.view_text.proofs.printing.part_at.Goals as goal
 pub unreachable-requires : goal.unreachable-requires
 unreachable-requires c =
     nth_there (inside (tree_of c.args.view.now)) c.args.i (omega (arith, c.requires.within, c.requires.listed.many))
-    (c.in-None.ensures ∙ c.requires.listed.parts c.args.i)
+    (c.in-None.ensures.value ∙ c.requires.listed.parts c.args.i)
 
 pub returns : goal.returns
-returns c = c.in-Some.ensures ∙ c.requires.listed.parts c.args.i
+returns c = c.in-Some.ensures.value ∙ c.requires.listed.parts c.args.i

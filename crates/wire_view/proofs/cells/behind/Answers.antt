@@ -14,10 +14,10 @@ object_at-requires c =
     some c.requires.readable in
     rw c.le64-pointer.ensures behind.1
 
-pub returns : goal.returns
-returns c =
+pub returns-clause-value : goal.returns-clause-value
+returns-clause-value c =
     let bytes = c.args.bytes.now in
     let some = not_zero c.le64-pointer.result (number64 bytes c.args.at) c.le64-pointer.ensures c.if-pointer-eq0-2.false in
     let level = one_less c.args.left c.if-left-eq0.false in
-    let object = rw c.le64-pointer.ensures at c.object_at.ensures in
+    let object = rw c.le64-pointer.ensures at c.object_at.ensures.value in
     object ∙ sym (value_behind c.args.left (c.args.left - 1) c.args.schema.now bytes c.args.at (kind_view c.args.kind.now) level some)

@@ -13,10 +13,10 @@ array_at-requires c =
     let behind = readable_behind (length bytes) c.args.left (c.args.left - 1) c.args.schema.now bytes c.args.at k false level some c.requires.readable in
     rw c.le64-pointer.ensures behind.1
 
-pub returns : goal.returns
-returns c =
+pub returns-clause-value : goal.returns-clause-value
+returns-clause-value c =
     let bytes = c.args.bytes.now in
     let some = not_zero c.le64-pointer.result (number64 bytes c.args.at) c.le64-pointer.ensures c.if-pointer-eq0.false in
     let level = one_less c.args.left c.if-left-eq0.false in
-    let array = rw c.le64-pointer.ensures at c.array_at.ensures in
+    let array = rw c.le64-pointer.ensures at c.array_at.ensures.value in
     array ∙ sym (value_behind c.args.left (c.args.left - 1) c.args.schema.now bytes c.args.at (ArrayKind (kind_view c.args.of.now) None false) level some)

@@ -6,7 +6,7 @@ use Rattle.wire_view.proofs.places.is_bytes.Goals as goal
 
 -- whether an array has a fixed count, or may be null, changes nothing
 by_element : (of : KindTree) (count : Option ℕ) (nullable : Bool) → is_bytes (ArrayKind of None false) ≡ is_bytes (ArrayKind of count nullable)
-by_element (IntKind Bits8 false flagged) count nullable = refl
+by_element (IntKind Bits8 false false) count nullable = refl
 by_element of count nullable = refl
 
 pub returns-in-Array : goal.returns-in-Array

@@ -5,8 +5,9 @@ use Rattle.wire_model.specs.Marks.{visit}
 use Rattle.wire_model.specs.Rows.{row_for}
 use Rattle.wire_model.specs.Values.{value}
 use Rattle.wire_view.specs.Parts.{how_many}
-use Rattle.wire_view.proofs.Counts.{count_fields, count_elements}
-use Rattle.wire_view.proofs.Standing.{array_readable, union_readable, struct_tree, no_tree, array_tree, map_tree, found_tree}
+use Rattle.wire_view.proofs.Counts.{few, count_fields, count_elements}
+use Rattle.wire_view.proofs.Kept.{the_row, found, fields_are, tree_is}
+use Rattle.wire_view.proofs.Standing.{array_readable, union_readable, array_tree, map_tree, found_tree}
 use Rattle.wire_view.proofs.view.View.len.Goals as goal
 
 pub overflow_add-self : goal.overflow_add-self
@@ -29,19 +30,20 @@ members-requires c =
     (union_readable (length v.bytes.now) (visit v.left v.schema.now v.bytes.now) v.schema.now v.bytes.now v.at v.on v.readable c.in-Union.number
     c.in-Union.is).0
 
-pub returns-in-Some : goal.returns-in-Some
-returns-in-Some c =
+pub overflow_cast-result : goal.overflow_cast-result
+overflow_cast-result c =
+    let v = c.args.self.now in
+    let few' = few v.schema.now c.in-Struct.field-0 (the_row v c.in-Struct.field-0 c.in-Struct.is) (found v c.in-Struct.field-0 c.in-Struct.is) in
+    omega (arith, few', ap length (fields_are v c.in-Struct.field-0 c.in-Struct.is))
+
+pub returns-in-Struct : goal.returns-in-Struct
+returns-in-Struct c =
     let v = c.args.self.now in
     let next = value v.left v.schema.now v.bytes.now in
-    let row = c.in-Some.row.now in
-    ap length c.as_slice.ensures
+    let row = the_row v c.in-Struct.field-0 c.in-Struct.is in
+    ap length (fields_are v c.in-Struct.field-0 c.in-Struct.is)
     ∙ sym (count_fields next v.schema.now v.bytes.now (v.at + 8) (row_for row.versions (number32 v.bytes.now (v.at + 4))).fields row.fields)
-    ∙ ap how_many (struct_tree next v.schema.now v.bytes.now v.at v.on c.in-Struct.number row c.in-Struct.is c.in-Some.ensures.found)
-
-pub returns-in-None : goal.returns-in-None
-returns-in-None c =
-    let v = c.args.self.now in
-    ap how_many (no_tree (value v.left v.schema.now v.bytes.now) v.schema.now v.bytes.now v.at v.on c.in-Struct.number c.in-Struct.is c.in-None.ensures.found)
+    ∙ ap how_many (tree_is v c.in-Struct.field-0 c.in-Struct.is)
 
 pub returns-in-Array : goal.returns-in-Array
 returns-in-Array c =

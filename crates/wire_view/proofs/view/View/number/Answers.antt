@@ -4,7 +4,7 @@ use Rattle.wire_view.specs.Parts.{number_of}
 use Rattle.wire_view.proofs.view.View.number.Goals as goal
 
 pub returns-in-Some : goal.returns-in-Some
-returns-in-Some c = c.as_number.ensures ∙ ap (option_and_then number_of) c.in-Some.ensures
+returns-in-Some c = c.as_number.ensures ∙ ap (option_and_then number_of) c.in-Some.ensures.value
 
 pub returns-in-None : goal.returns-in-None
-returns-in-None c = ap (option_and_then number_of) c.in-None.ensures
+returns-in-None c = ap (option_and_then number_of) c.in-None.ensures.value

@@ -1,39 +1,16 @@
-use Rattle.std.proofs.Common.{length, sym, ap}
+use Rattle.std.proofs.Common.{length, ap}
 use Rattle.wire_model.specs.Marks.{visit}
 use Rattle.wire_model.specs.Trees.{Tree}
 use Rattle.wire_model.specs.Values.{value}
 use Rattle.wire_view.specs.Parts.{part}
-use Rattle.wire_view.proofs.Defaults.{row_texts}
-use Rattle.wire_view.proofs.PartKinds.{moved, struct_kind, array_kind, map_kind, union_kind}
-use Rattle.wire_view.proofs.Standing.{struct_readable, array_readable, map_readable, union_readable, struct_tree, no_tree, array_tree, map_tree, found_tree, union_sized}
+use Rattle.wire_view.proofs.PartKinds.{moved, array_kind, map_kind, union_kind}
+use Rattle.wire_view.proofs.Standing.{array_readable, map_readable, union_readable, array_tree, map_tree, found_tree, union_sized}
 use Rattle.wire_view.proofs.view.View.place.Goals as goal
 
 -- structs
 
-pub field_place-requires-clause-texts : goal.field_place-requires-clause-texts
-field_place-requires-clause-texts c = row_texts c.args.self.now.schema.now c.in-Struct.number c.in-Some.row.now c.in-Some.ensures.found
-
-pub field_place-requires-clause-readable : goal.field_place-requires-clause-readable
-field_place-requires-clause-readable c =
-    let v = c.args.self.now in
-    struct_readable (length v.bytes.now) (visit v.left v.schema.now v.bytes.now) v.schema.now v.bytes.now v.at v.on v.readable c.in-Struct.number
-    c.in-Some.row.now
-    c.in-Struct.is c.in-Some.ensures.found
-
-pub returns-in-Some : goal.returns-in-Some
-returns-in-Some c =
-    let v = c.args.self.now in
-    let next = value v.left v.schema.now v.bytes.now in
-    moved (length v.bytes.now) (visit v.left v.schema.now v.bytes.now) next v.schema.now v.bytes.now c.field_place.result _ _ _ _
-    (ap (λ (t : Tree). part t c.args.i)
-    (struct_tree next v.schema.now v.bytes.now v.at v.on c.in-Struct.number c.in-Some.row.now c.in-Struct.is c.in-Some.ensures.found))
-    (struct_kind v.schema.now v.on c.args.i c.in-Struct.number c.in-Some.row.now c.in-Struct.is c.in-Some.ensures.found) c.field_place.ensures
-
-pub returns-in-None : goal.returns-in-None
-returns-in-None c =
-    let v = c.args.self.now in
-    ap (λ (t : Tree). part t c.args.i)
-    (sym (no_tree (value v.left v.schema.now v.bytes.now) v.schema.now v.bytes.now v.at v.on c.in-Struct.number c.in-Struct.is c.in-None.ensures.found))
+pub field_place-requires : goal.field_place-requires
+field_place-requires c = (c.in-Struct.field-0, c.in-Struct.is)
 
 -- arrays
 

@@ -11,4 +11,6 @@ invariant_of-result c =
     record {
       readable = from_readable (length bytes) (object_marks (visit c.args.left schema bytes) schema bytes c.args.at (on_kind c.args.on)) c.requires.readable;
       whole = c.requires.whole;
+      kept = c.requires.row;
+      counted = c.requires.version;
     }
