@@ -3,7 +3,7 @@
 use crate::files::schema_at;
 use crate::sealing::{target_of, time_encode};
 use crate::timing::{ROUNDS, least, mebibytes_a_second, nanoseconds_each, now};
-use crate::viewing::time_views;
+use crate::viewing::{Way, time_views};
 use check_files::bytes_of;
 use message_validator::{Checked, check};
 use mj_base::limits::MAX_PAYLOAD_BYTES;
@@ -133,8 +133,10 @@ fn time<R: Print + AllocGlobal + CpuClock>(
         Ok(checked) => checked,
         Err(fault) => return println!(rt; "refused at {}", fault.at),
     };
-    let best = time_views(rt, &checked, times)?;
+    let best = time_views(rt, &checked, times, Way::Parts)?;
     show(rt, "viewed", best, times, size)?;
+    let best = time_views(rt, &checked, times, Way::Batch)?;
+    show(rt, "viewed as a batch", best, times, size)?;
     let best = time_decode(rt, &checked, times)?;
     show(rt, "decoded", best, times, size)?;
     let value = decode(rt.alloc(), &checked)?;

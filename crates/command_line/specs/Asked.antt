@@ -1,6 +1,6 @@
 -- What the words of the command line ask for.
 use Rattle.std.specs.Prelude.{ℕ, List, [], ◌∷◌, map, Option, Some, None, unwrap_or, option_and_then, option_map, codes, if◌then◌else◌}
-use Rattle.std.specs.Prelude.{◌≡◌, ◌⊎◌, ◌^◌, ◌&&◌, nat_le, nat_lt}
+use Rattle.std.specs.Prelude.{Bool, ◌≡◌, ◌⊎◌, ◌^◌, ◌&&◌, nat_le, nat_lt}
 use Rattle.std.specs.Borrow.{Bor}
 use Rattle.std.specs.Fmt.{decimal}
 use Rattle.std.specs.Option.{option_map_or}
@@ -11,19 +11,23 @@ use Rattle.clap.specs.Words.{Kinds, Row, Text, all_of, fault_of, first_of, subco
 use Rattle.command_line.specs.Definition.{tool}
 use Rattle.command_line.specs.declared.asked.Command.{Command as Read}
 use Rattle.command_line.specs.declared.asked.Command.TheVariants as read
+use Rattle.command_line.specs.declared.asked.RunAtOnce.{RunAtOnce}
 use Rattle.command_line.specs.declared.asked.Side.{Side}
 use Rattle.command_line.specs.declared.asked.Side.TheVariants.{Request, Response}
+use Rattle.command_line.specs.declared.asked.Words.{Words}
+use Rattle.command_line.specs.declared.asked.Words.TheVariants as sorts
 use Rattle.command_line.specs.declared.asked.WordsError.{WordsError}
 use Rattle.command_line.specs.declared.asked.WordsError.TheVariants.{WrongUse, Memory}
 
--- the names, and the number that decides which sequence goes on, in `run --script SCRIPT [--order ORDER] FILE..`
+-- the names, and the number that decides which sequence goes on, in `run --script SCRIPT [--order ORDER] [--threads] FILE..`; there is no such
+-- number where `--threads` stands
 pub record RunWords : Type 0 where
   pub script : List ℕ
-  pub order : ℕ
+  pub order : Option ℕ
   pub files : List (List ℕ)
 
 -- these words of `run`
-abbrev pub run_words : List ℕ → ℕ → List (List ℕ) → RunWords
+abbrev pub run_words : List ℕ → Option ℕ → List (List ℕ) → RunWords
 run_words script order files = record { script = script; order = order; files = files }
 
 -- the method, which of its messages, and the names of files in `encode --method METHOD [--response] --value VALUE FILE..`
@@ -52,13 +56,14 @@ decode_words interface side handles message files =
     record { interface = interface; side = side; handles = handles; message = message; files = files }
 
 -- what the words ask for: a run, the text of a file, `print FILE`, the tables of files, `check FILE..`, the message of a
--- value, or the value of a message
+-- value, the value of a message, or whether one file reads what another writes, `compat OLD NEW`
 pub data Command : Type 0 where
   Run : RunWords → Command
   Print : (file : List ℕ) → Command
   Check : (files : List (List ℕ)) → Command
   Encode : EncodeWords → Command
   Decode : DecodeWords → Command
+  Compat : (old new : List ℕ) → Command
 
 -- the value under a name; each that is asked for below is there, so the empty text stands for none
 abbrev pub text_at : Text → List Row → Text
@@ -80,9 +85,17 @@ order_of text = let n = digits_value 10 text in if bytes_eq (decimal n) text && 
 abbrev pub order_in : List Row → Option ℕ
 order_in rows = option_map_or order_of (first_of (codes "order") rows) (Some 0)
 
+-- `--threads` stands
+abbrev pub is_at_once : List Row → Bool
+is_at_once rows = bytes_eq (text_at (codes "threads") rows) (codes "true")
+
+-- the order, where `--threads` doesn't stand
+abbrev pub turns_in : List Row → ℕ → Option ℕ
+turns_in rows order = if is_at_once rows then None else Some order
+
 -- `run` with these values and this order
 abbrev pub run_with : List Row → ℕ → Command
-run_with rows order = Run (run_words (text_at (codes "script") rows) order (texts_at (codes "FILE") rows))
+run_with rows order = Run (run_words (text_at (codes "script") rows) (turns_in rows order) (texts_at (codes "FILE") rows))
 
 -- `run` with these values, where the order is one
 abbrev pub run_in : List Row → Option Command
@@ -111,13 +124,14 @@ decode_with rows handles =
 abbrev pub decode_in : List Row → Option Command
 decode_in rows = option_map (decode_with rows) (handles_in rows)
 
--- the command of this name with these values; there are five, and `run` and `decode` alone can be none, by their numbers
+-- the command of this name with these values; there are six, and `run` and `decode` alone can be none, by their numbers
 abbrev pub command_in : Text × List Row → Option Command
 command_in (name, rows) =
     if bytes_eq name (codes "run") then run_in rows
     else if bytes_eq name (codes "print") then Some (Print (text_at (codes "FILE") rows))
     else if bytes_eq name (codes "check") then Some (Check (texts_at (codes "FILE") rows))
     else if bytes_eq name (codes "encode") then Some (encode_in rows)
+    else if bytes_eq name (codes "compat") then Some (Compat (text_at (codes "OLD") rows) (text_at (codes "NEW") rows))
     else decode_in rows
 
 -- where `clap` finds a fault in the words, or a call for help, they ask for nothing
@@ -128,6 +142,16 @@ unless_fault (fault ∷ faults) asked = None
 -- what the words, the program's name first, ask for
 abbrev pub command_of : List (List ℕ) → Option Command
 command_of words = unless_fault (fault_of tool words) (option_and_then command_in (subcommand_of tool words))
+
+-- the words are `run` with `--threads`
+abbrev pub AsksThreads : Option Command → Type 0
+AsksThreads None = ⊥
+AsksThreads (Some (Run words)) = words.order ≡ None
+AsksThreads (Some (Print file)) = ⊥
+AsksThreads (Some (Check files)) = ⊥
+AsksThreads (Some (Encode words)) = ⊥
+AsksThreads (Some (Decode words)) = ⊥
+AsksThreads (Some (Compat old new)) = ⊥
 
 -- the words are `run` with an order that is no number of 64 bits, or `decode` with a number of handles that is no number from 0 to 64
 abbrev pub HasWrongNumber : Option (Text × List Row) → Type 0
@@ -141,12 +165,22 @@ texts = map (λ text. text.now)
 
 -- what the command that was read asks for
 abbrev pub asked_of : Read → Command
-asked_of (read.Run script order files) = Run (run_words script.now order (texts files.items))
+asked_of (read.Run script order files) = Run (run_words script.now (Some order) (texts files.items))
 asked_of (read.Print file) = Print file.now
 asked_of (read.Check files) = Check (texts files.items)
 asked_of (read.Encode method side value files) = Encode (encode_words method.now side value.now (texts files.items))
 asked_of (read.Decode interface side handles message files) =
     Decode (decode_words interface.now side handles message.now (texts files.items))
+asked_of (read.Compat old new) = Compat old.now new.now
+
+-- what a run with threads that was read asks for
+abbrev pub at_once_of : RunAtOnce → Command
+at_once_of run = Run (run_words run.script.now None (texts run.files.items))
+
+-- what the words that were read ask for
+abbrev pub asked_by : Words → Command
+asked_by (sorts.AtOnce run) = at_once_of run
+asked_by (sorts.Alone command) = asked_of command
 
 -- an error other than want of memory comes only where this holds
 abbrev pub OnWrongUse : Type 0 → WordsError → Type 0

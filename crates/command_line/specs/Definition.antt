@@ -19,17 +19,25 @@ free_option name = record (long name) { action = Some Set }
 abbrev pub flag : Text → Rule
 flag name = record (long name) { action = Some SetTrue }
 
+-- a word that stands just once, by its place
+abbrev pub one_word : Text → Rule
+one_word name = record (new_rule name) { required = true; action = Some Set }
+
 -- just one file
 abbrev pub one_file : Rule
-one_file = record (new_rule (codes "FILE")) { required = true; action = Some Set }
+one_file = one_word (codes "FILE")
 
 -- one file or more
 abbrev pub files : Rule
 files = record (new_rule (codes "FILE")) { required = true; action = Some Append }
 
--- `run --script SCRIPT [--order ORDER] FILE..`
+-- `run` with its script and its order
+abbrev pub run_start : App
+run_start = with_rule (with_rule (new_app (codes "run")) (option (codes "script"))) (free_option (codes "order"))
+
+-- `run --script SCRIPT [--order ORDER] [--threads] FILE..`
 abbrev pub run : App
-run = with_rule (with_rule (with_rule (new_app (codes "run")) (option (codes "script"))) (free_option (codes "order"))) files
+run = with_rule (with_rule run_start (flag (codes "threads"))) files
 
 -- `print FILE`
 abbrev pub print : App
@@ -59,6 +67,10 @@ decode_middle = with_rule (with_rule decode_start (option (codes "handles"))) (o
 abbrev pub decode : App
 decode = with_rule decode_middle files
 
+-- `compat OLD NEW`
+abbrev pub compat : App
+compat = with_rule (with_rule (new_app (codes "compat")) (one_word (codes "OLD"))) (one_word (codes "NEW"))
+
 -- the program alone: a command is wanted
 abbrev pub bare : App
 bare = let app = new_app (codes "mojo") in record app { top = record app.top { subcommand_required = true } }
@@ -70,5 +82,8 @@ two_commands = with_subcommand (with_subcommand bare run.top) print.top
 abbrev pub four_commands : App
 four_commands = with_subcommand (with_subcommand two_commands check.top) encode.top
 
+abbrev pub five_commands : App
+five_commands = with_subcommand four_commands decode.top
+
 abbrev pub tool : App
-tool = with_subcommand four_commands decode.top
+tool = with_subcommand five_commands compat.top

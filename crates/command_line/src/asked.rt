@@ -14,7 +14,21 @@ pub enum Side {
     Response,
 }
 
-/// What the words ask for.
+/// What the words ask for: a run with threads, or what is done on one thread.
+#[derive(Drop)]
+pub enum Words<'a> {
+    AtOnce(RunAtOnce<'a>),
+    Alone(Command<'a>),
+}
+
+/// To run a script over Mojom files, with a thread for each sequence.
+#[derive(Drop)]
+pub struct RunAtOnce<'a> {
+    pub script: &'a str,
+    pub files: Vec<&'a str>,
+}
+
+/// What is done on one thread.
 #[derive(Drop)]
 pub enum Command<'a> {
     /// To run a script over Mojom files, with the number that decides which sequence goes on.
@@ -46,6 +60,11 @@ pub enum Command<'a> {
         handles: u32,
         message: &'a str,
         files: Vec<&'a str>,
+    },
+    /// Whether the file `new` reads what the stable definitions of the file `old` write.
+    Compat {
+        old: &'a str,
+        new: &'a str,
     },
 }
 

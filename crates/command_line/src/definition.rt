@@ -3,16 +3,17 @@
 ghost use Rattle.std.specs.Prelude.{◌≡◌, IfOk, false};
 ghost use Rattle.clap.specs.Words.{app_of, rule_of};
 ghost use Rattle.clap.specs.declared.builder.command.Command.TheViews.{out-Command};
-ghost use Rattle.command_line.specs.Definition.{long, option, free_option, flag, one_file, files, run, print, check, encode, decode, tool};
-ghost use Rattle.command_line.specs.Definition.{encode_start, decode_start, decode_middle, two_commands, four_commands};
+ghost use Rattle.command_line.specs.Definition.{long, option, free_option, flag, one_word, one_file, files, run, print, check, encode, decode};
+ghost use Rattle.command_line.specs.Definition.{run_start, encode_start, decode_start, decode_middle, compat, tool};
+ghost use Rattle.command_line.specs.Definition.{two_commands, four_commands, five_commands};
 
 use clap::{Arg, ArgAction, Command};
 use std::alloc::{AllocError, Global};
 
 /// What the exit statuses of the program say, for its help.
 const STATUSES: &str =
-    "Exit status: 0 all was done; 1 a file is refused; 2 the words are no command, or ask for help;
-3 a file could not be read; 4 standard output failed; 5 want of memory.";
+    "Exit status: 0 all was done; 1 a file is refused, or incompatible; 2 the words are no command,
+or ask for help; 3 a file could not be read; 4 standard output failed; 5 want of memory.";
 
 /// An argument that `--name` stands for.
 fn long_arg<'a>(alloc: Global, name: &'a str, help: &'a str) -> Arg<'a>
@@ -48,6 +49,17 @@ fn flag_arg<'a>(alloc: Global, name: &'a str, help: &'a str) -> Arg<'a>
     long_arg(alloc, name, help).action(ArgAction::SetTrue)
 }
 
+/// A word that stands once, by its place.
+fn word_arg<'a>(alloc: Global, name: &'a str, help: &'a str) -> Arg<'a>
+    ensures rule { rule_of result ≡ one_word name.entry.now }
+    ensures local { result.global ≡ false }
+{
+    Arg::new(alloc, name)
+        .required(true)
+        .action(ArgAction::Set)
+        .help(help)
+}
+
 /// One file.
 fn file_arg<'a>(alloc: Global, help: &'a str) -> Arg<'a>
     ensures rule { rule_of result ≡ one_file }
@@ -70,9 +82,9 @@ fn files_arg<'a>(alloc: Global, help: &'a str) -> Arg<'a>
         .help(help)
 }
 
-/// `run --script SCRIPT [--order ORDER] FILE..`.
-fn run_command<'a>(alloc: Global) -> Result<Command<'a>, AllocError>
-    ensures app { IfOk result (λ command. app_of command ≡ run) }
+/// `run` with its script and its order.
+fn run_start_command<'a>(alloc: Global) -> Result<Command<'a>, AllocError>
+    ensures app { IfOk result (λ command. app_of command ≡ run_start) }
     ensures local { IfOk result (λ command. (out-Command command).has_globals ≡ false) }
 {
     Command::new(alloc, "run")
@@ -82,6 +94,19 @@ fn run_command<'a>(alloc: Global) -> Result<Command<'a>, AllocError>
             alloc,
             "order",
             "The number that decides which sequence goes on, 0 where none is given",
+        ))
+}
+
+/// `run --script SCRIPT [--order ORDER] [--threads] FILE..`.
+fn run_command<'a>(alloc: Global) -> Result<Command<'a>, AllocError>
+    ensures app { IfOk result (λ command. app_of command ≡ run) }
+    ensures local { IfOk result (λ command. (out-Command command).has_globals ≡ false) }
+{
+    run_start_command(alloc)?
+        .arg(flag_arg(
+            alloc,
+            "threads",
+            "Runs each sequence in a thread of its own, whatever the order",
         ))?
         .arg(files_arg(alloc, "The Mojom files, with the script's interfaces"))
 }
@@ -171,6 +196,17 @@ fn decode_command<'a>(alloc: Global) -> Result<Command<'a>, AllocError>
     ))
 }
 
+/// `compat OLD NEW`.
+fn compat_command<'a>(alloc: Global) -> Result<Command<'a>, AllocError>
+    ensures app { IfOk result (λ command. app_of command ≡ compat) }
+    ensures local { IfOk result (λ command. (out-Command command).has_globals ≡ false) }
+{
+    Command::new(alloc, "compat")
+        .about("Tells whether a newer Mojom file reads what an older one writes")
+        .arg(word_arg(alloc, "OLD", "The older Mojom file"))?
+        .arg(word_arg(alloc, "NEW", "The newer Mojom file"))
+}
+
 /// The program with its first two commands.
 fn two_command<'a>(alloc: Global) -> Result<Command<'a>, AllocError>
     ensures app { IfOk result (λ command. app_of command ≡ two_commands) }
@@ -192,9 +228,16 @@ fn four_command<'a>(alloc: Global) -> Result<Command<'a>, AllocError>
         .subcommand(encode_command(alloc)?)
 }
 
+/// The program with its first five commands.
+fn five_command<'a>(alloc: Global) -> Result<Command<'a>, AllocError>
+    ensures app { IfOk result (λ command. app_of command ≡ five_commands) }
+{
+    four_command(alloc)?.subcommand(decode_command(alloc)?)
+}
+
 /// The whole command line.
 pub fn tool_command<'a>(alloc: Global) -> Result<Command<'a>, AllocError>
     ensures app { IfOk result (λ command. app_of command ≡ tool) }
 {
-    four_command(alloc)?.subcommand(decode_command(alloc)?)
+    five_command(alloc)?.subcommand(compat_command(alloc)?)
 }

@@ -2,10 +2,10 @@
 
 ghost use Rattle.std.specs.Prelude.{◌≡◌, IfErr, IfOk, None, Some, map, option_and_then, string_bytes};
 ghost use Rattle.clap.specs.Words.{found_of, kind_of, rows_of, subcommand_rows_of};
-ghost use Rattle.command_line.specs.Asked.{OnWrongUse, asked_of, command_in, command_of, decode_in, encode_in, run_in};
-ghost use Rattle.command_line.specs.Asked.{handles_of, order_in, order_of, side_in, text_at, texts, texts_at};
+ghost use Rattle.command_line.specs.Asked.{OnWrongUse, asked_by, asked_of, command_in, command_of, decode_in, encode_in, run_in};
+ghost use Rattle.command_line.specs.Asked.{handles_of, is_at_once, order_in, order_of, side_in, text_at, texts, texts_at};
 
-use crate::asked::{Command, Side, WordsError};
+use crate::asked::{Command, RunAtOnce, Side, Words, WordsError};
 use crate::definition::tool_command;
 use clap::error::ErrorKind;
 use clap::{ArgMatches, Error};
@@ -103,17 +103,29 @@ fn found_order(alloc: Global, found: &ArgMatches<'_>) -> Result<u64, WordsError>
     }
 }
 
+/// Whether `--threads` stands.
+fn at_once(found: &ArgMatches<'_>) -> bool
+    ensures { result ≡ is_at_once (rows_of (found_of found.now)) }
+{
+    text_of(found, "threads") == "true"
+}
+
 /// `run` with the values that `clap` found.
-fn found_run<'a>(alloc: Global, found: &ArgMatches<'a>) -> Result<Command<'a>, WordsError>
-    ensures ok { IfOk result (λ command. Some (asked_of command) ≡ run_in (rows_of (found_of found.now))) }
+fn found_run<'a>(alloc: Global, found: &ArgMatches<'a>) -> Result<Words<'a>, WordsError>
+    ensures ok { IfOk result (λ words. Some (asked_by words) ≡ run_in (rows_of (found_of found.now))) }
     ensures wrong_use { IfErr result (OnWrongUse (run_in (rows_of (found_of found.now)) ≡ None)) }
 {
     let order = found_order(alloc, found)?;
-    Ok(Command::Run {
-        script: text_of(found, "script"),
+    let script = text_of(found, "script");
+    let files = texts_of(alloc, found, "FILE")?;
+    if at_once(found) {
+        return Ok(Words::AtOnce(RunAtOnce { script, files }));
+    }
+    Ok(Words::Alone(Command::Run {
+        script,
         order,
-        files: texts_of(alloc, found, "FILE")?,
-    })
+        files,
+    }))
 }
 
 /// `encode` with the values that `clap` found.
@@ -129,26 +141,26 @@ fn found_encode<'a>(alloc: Global, found: &ArgMatches<'a>) -> Result<Command<'a>
 }
 
 /// `decode` with the values that `clap` found.
-fn found_decode<'a>(alloc: Global, found: &ArgMatches<'a>) -> Result<Command<'a>, WordsError>
-    ensures ok { IfOk result (λ command. Some (asked_of command) ≡ decode_in (rows_of (found_of found.now))) }
+fn found_decode<'a>(alloc: Global, found: &ArgMatches<'a>) -> Result<Words<'a>, WordsError>
+    ensures ok { IfOk result (λ words. Some (asked_by words) ≡ decode_in (rows_of (found_of found.now))) }
     ensures wrong_use { IfErr result (OnWrongUse (decode_in (rows_of (found_of found.now)) ≡ None)) }
 {
     let text = text_of(found, "handles");
     let Some(handles) = read_handles(alloc, text)? else {
         return Err(wrong_number(alloc, text, "handles", 64)?);
     };
-    Ok(Command::Decode {
+    Ok(Words::Alone(Command::Decode {
         interface: text_of(found, "interface"),
         side: side_of(found),
         handles,
         message: text_of(found, "message"),
         files: texts_of(alloc, found, "FILE")?,
-    })
+    }))
 }
 
 /// The command that `clap` found.
-fn found_command<'a>(alloc: Global, matches: &ArgMatches<'a>) -> Result<Command<'a>, WordsError>
-    ensures ok { IfOk result (λ command. Some (asked_of command) ≡ option_and_then command_in (subcommand_rows_of matches.now)) }
+fn found_command<'a>(alloc: Global, matches: &ArgMatches<'a>) -> Result<Words<'a>, WordsError>
+    ensures ok { IfOk result (λ words. Some (asked_by words) ≡ option_and_then command_in (subcommand_rows_of matches.now)) }
     ensures wrong_use { IfErr result (OnWrongUse (option_and_then command_in (subcommand_rows_of matches.now) ≡ None)) }
 {
     let Some((name, found)) = matches.subcommand() else {
@@ -159,17 +171,23 @@ fn found_command<'a>(alloc: Global, matches: &ArgMatches<'a>) -> Result<Command<
         return found_run(alloc, found);
     }
     if name == "print" {
-        return Ok(Command::Print {
+        return Ok(Words::Alone(Command::Print {
             file: text_of(found, "FILE"),
-        });
+        }));
     }
     if name == "check" {
-        return Ok(Command::Check {
+        return Ok(Words::Alone(Command::Check {
             files: texts_of(alloc, found, "FILE")?,
-        });
+        }));
     }
     if name == "encode" {
-        return Ok(found_encode(alloc, found)?);
+        return Ok(Words::Alone(found_encode(alloc, found)?));
+    }
+    if name == "compat" {
+        return Ok(Words::Alone(Command::Compat {
+            old: text_of(found, "OLD"),
+            new: text_of(found, "NEW"),
+        }));
     }
     found_decode(alloc, found)
 }
@@ -187,16 +205,16 @@ fn refusal(alloc: Global, error: Error) -> WordsError
     }
 }
 
-/// The command in the words, which begin with the program's name: `run --script SCRIPT [--order ORDER] FILE..`,
-/// `print FILE`, `check FILE..`, `encode --method METHOD [--response] --value VALUE FILE..` or
-/// `decode --interface INTERFACE [--response] --handles HANDLES --message MESSAGE FILE..`, in each
+/// The command in the words, which begin with the program's name: `run --script SCRIPT [--order ORDER] [--threads] FILE..`,
+/// `print FILE`, `check FILE..`, `encode --method METHOD [--response] --value VALUE FILE..`,
+/// `decode --interface INTERFACE [--response] --handles HANDLES --message MESSAGE FILE..` or `compat OLD NEW`, in each
 /// spelling that `clap` takes, where ORDER is a number of 64 bits, and HANDLES one from 0 to 64, without a sign
-/// or a leading zero.
+/// or a leading zero. With `--threads` the order is read, but it is for nothing.
 ///
 /// Words that are no command, or ask for help, are a wrong use, with the text for it, `clap`'s own but
 /// for a wrong number, which only tests look at. The other error is want of memory.
-pub fn read_words<'a>(alloc: Global, words: &'a [String]) -> Result<Command<'a>, WordsError>
-    ensures ok { IfOk result (λ command. Some (asked_of command) ≡ command_of (map string_bytes words.now)) }
+pub fn read_words<'a>(alloc: Global, words: &'a [String]) -> Result<Words<'a>, WordsError>
+    ensures ok { IfOk result (λ read. Some (asked_by read) ≡ command_of (map string_bytes words.now)) }
     ensures wrong_use { IfErr result (OnWrongUse (command_of (map string_bytes words.now) ≡ None)) }
 {
     let tool = tool_command(alloc)?;

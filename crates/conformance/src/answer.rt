@@ -7,7 +7,7 @@ use std::io;
 use std::io::Print;
 use std::sync::Wait;
 use std::thread::Threads;
-use step_gate::OpenGate;
+use step_gate::OpenGates;
 
 /// The status that says that the words are faulty. What is said of them is free where none is wanted.
 const WRONG_USE: u8 = 2;
@@ -34,15 +34,7 @@ pub fn run<R: Wait + Threads + Sync>(
     let mut files = MemoryFiles::new(files, failing.fetches);
     let mut out = MemorySink::new(alloc, MOST_AT_ONCE, failing.out);
     let mut err = MemorySink::new(alloc, MOST_AT_ONCE, failing.err);
-    let status = mojo_tool::mojo_main(
-        rt,
-        alloc,
-        words,
-        &mut files,
-        &mut out,
-        &mut err,
-        &OpenGate::new(),
-    );
+    let status = mojo_tool::mojo_main(rt, alloc, words, &mut files, &mut out, &mut err, &OpenGates);
     Ok(Answer {
         status,
         out: out.text().to_vec(alloc)?,

@@ -7,7 +7,7 @@ use mj_io::{
 };
 use std::alloc::{AllocError, Global};
 use std::test::Fail;
-use step_gate::{Gate, OpenGate};
+use step_gate::{Gate, Gates, OpenGate, OpenGates};
 
 /// A file `a` of three bytes, and an empty file.
 fn two_files(alloc: Global) -> Result<Vec<NamedFile>, AllocError> {
@@ -112,7 +112,7 @@ fn standard_output(rt: HostRuntime) {
 
 #[test]
 fn the_open_gate_does_nothing(_rt: HostRuntime) {
-    let mut gate = OpenGate::new();
+    let mut gate: OpenGate = OpenGates.gate(SeqId(0));
     gate.before(SeqId(0), 0);
     gate.after(SeqId(0), 0);
 }

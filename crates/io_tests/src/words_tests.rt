@@ -1,6 +1,6 @@
 //! Spellings that are taken, words that are not, and what is said of them.
 
-use command_line::{Command, Side, WordsError, read_words};
+use command_line::{Command, Side, Words, WordsError, read_words};
 use std::alloc::{AllocError, Global};
 use std::test::Fail;
 
@@ -14,13 +14,14 @@ Commands:
   check   Checks Mojom files, and prints their tables
   encode  Encodes the text of a value, and prints the message in hexadecimal
   decode  Decodes a message in hexadecimal, and prints its method, request id and value
+  compat  Tells whether a newer Mojom file reads what an older one writes
   help    Print this message or the help of the given subcommand(s)
 
 Options:
   -h, --help  Print help
 
-Exit status: 0 all was done; 1 a file is refused; 2 the words are no command, or ask for help;
-3 a file could not be read; 4 standard output failed; 5 want of memory.
+Exit status: 0 all was done; 1 a file is refused, or incompatible; 2 the words are no command,
+or ask for help; 3 a file could not be read; 4 standard output failed; 5 want of memory.
 ";
 
 const NO_FILE: &str = "error: the following required arguments were not provided:
@@ -113,6 +114,7 @@ fn command_text(alloc: Global, command: Command<'_>) -> Result<String, AllocErro
             )?;
             with_files(line, files.as_slice())
         }
+        Command::Compat { old, new } => format!(in alloc; "compat {old} then {new}"),
     }
 }
 
@@ -123,7 +125,14 @@ fn answer(alloc: Global, line: &str) -> Result<String, AllocError> {
         words.push(String::from_str(alloc, word)?)?;
     }
     match read_words(alloc, words.as_slice()) {
-        Ok(command) => command_text(alloc, command),
+        Ok(Words::AtOnce(run)) => {
+            let script = run.script;
+            with_files(
+                format!(in alloc; "run {script} at once")?,
+                run.files.as_slice(),
+            )
+        }
+        Ok(Words::Alone(command)) => command_text(alloc, command),
         Err(WordsError::WrongUse(text)) => Ok(text),
         Err(WordsError::Memory) => Err(AllocError),
     }
@@ -151,6 +160,16 @@ fn each_spelling_is_taken(rt: HostRuntime) -> Result<(), Fail> {
             "run s by 18446744073709551615 then g then f"
         );
     }
+    for line in [
+        "mojo run --script s --threads g f",
+        "mojo run g --threads f --script=s",
+        "mojo run --threads --order 7 --script s g -- f",
+    ] {
+        assert_eq!(rt;
+            answer(rt.alloc(), line)?.as_str(),
+            "run s at once then g then f"
+        );
+    }
     assert_eq!(rt;
         answer(rt.alloc(), "mojo print -- -f")?.as_str(),
         "print -f"
@@ -160,6 +179,9 @@ fn each_spelling_is_taken(rt: HostRuntime) -> Result<(), Fail> {
             answer(rt.alloc(), line)?.as_str(),
             "check then g then f then g"
         );
+    }
+    for line in ["mojo compat g f", "mojo compat -- g f"] {
+        assert_eq!(rt; answer(rt.alloc(), line)?.as_str(), "compat g then f");
     }
     Ok(())
 }
@@ -230,7 +252,12 @@ fn other_words_are_refused(rt: HostRuntime) -> Result<(), Fail> {
         "mojo run --script s --order=-1 f",
         "mojo run --script s --order 0x7 f",
         "mojo run --script s --order 18446744073709551616 f",
+        "mojo run --script s --threads --threads f",
+        "mojo run --script s --threads=true f",
+        "mojo run --script s --threads --order 07 f",
+        "mojo run --script s --threads",
         "mojo print f f",
+        "mojo print --threads f",
         "mojo print --script s f",
         "mojo check",
         "mojo check --",
@@ -251,6 +278,9 @@ fn other_words_are_refused(rt: HostRuntime) -> Result<(), Fail> {
         "mojo decode --interface t.A --message m f --handles=-1",
         "mojo decode --interface t.A --message m f --handles 257",
         "mojo decode --interface t.A --message m f --handles x",
+        "mojo compat f",
+        "mojo compat f g h",
+        "mojo compat f --new g",
         "mojo --version",
     ] {
         assert!(rt; answer(rt.alloc(), line)?.as_str().starts_with("error: "));

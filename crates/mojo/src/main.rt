@@ -7,7 +7,7 @@ use std::env::Env;
 use std::io::ErrorKind;
 use std::process::ExitCode;
 use std::{env, io};
-use step_gate::OpenGate;
+use step_gate::OpenGates;
 
 /// The words of the command line, the program's name first.
 fn words<R: Env + Alloc<A = Global>>(rt: &R) -> io::Result<Vec<String>> {
@@ -37,7 +37,7 @@ fn main(rt: HostRuntime) -> ExitCode {
         &mut files,
         &mut out,
         &mut err,
-        &OpenGate::new(),
+        &OpenGates,
     );
     ExitCode::from(status)
 }

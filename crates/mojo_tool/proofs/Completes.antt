@@ -2,14 +2,14 @@
 use Rattle.std.proofs.Common.{◌≡◌, ℕ, List, [], Some, None, refl, sym, ap, ◌∙◌, ◌++◌, subst, inl, inr}
 use Rattle.std.specs.Prelude.{Option, ◌⊎◌, codes, decimal}
 use Rattle.mj_io.specs.Outside.{Named, Rose}
-use Rattle.command_line.specs.Asked.{Command, Run, Print, Check, Encode, Decode, command_of}
+use Rattle.command_line.specs.Asked.{Command, Run, Print, Check, Encode, Decode, Compat, command_of}
 use Rattle.history_text.specs.Words.{fault_word}
 use Rattle.mojom_compile.specs.Causes.{cause_text}
 use Rattle.mojo_tool.specs.LanguageCauses.{language_text}
-use Rattle.mojo_tool.specs.Work.{Work, WrongWords, Missing, TooLong, Refuses, Rejects, RefusesLine, UnknownName, BadText, Unfit, BadHex, Faulty}
-use Rattle.mojo_tool.specs.Work.{Runs, Prints, Checks, Encodes, Decodes, AskedFor, IsWork}
+use Rattle.mojo_tool.specs.Work.{Work, WrongWords, Missing, TooLong, Refuses, Rejects, RefusesLine, UnknownName, BadText, Unfit, BadHex, Faulty, Breaks}
+use Rattle.mojo_tool.specs.Work.{Runs, Prints, Checks, Encodes, Decodes, Reads, AskedFor, IsWork}
 use Rattle.mojo_tool.specs.Answers.{Seen, Answers, asked_by, IsTextFor, IsRightText, ReadFailed, WroteOrFailed, refused_work}
-use Rattle.mojo_tool.specs.Lines.{refusal_text, line_refusal_name, unfit_text, error_line, read_text}
+use Rattle.mojo_tool.specs.Lines.{refusal_text, line_refusal_name, unfit_text, reason_text, error_line, read_text}
 use Rattle.mojo_tool.specs.Complete.{CanBeDone, CanBeServed, IsAsked, IsDoable, IsDoneOrShort, IsRefusedOrShort, IsUnreadOrShort, IsComplete}
 use Rattle.mojo_tool.proofs.OneWork.{one_work}
 use Rattle.mojo_tool.specs.declared.refusal.ToolRefusal.{ToolRefusal}
@@ -41,6 +41,8 @@ not_refused s can refusals.BadHex asked =
     can.hexadecimal (asked_of s.files_before.held can.files (asked_by s) BadHex can.held asked)
 not_refused s can (refusals.Faulty fault) asked =
     can.sound fault (asked_of s.files_before.held can.files (asked_by s) (Faulty fault) can.held asked)
+not_refused s can (refusals.Incompatible reason) asked =
+    can.compatible reason (asked_of s.files_before.held can.files (asked_by s) (Breaks reason) can.held asked)
 
 -- a fetch that failed, though no file that is there did, is of a name that isn't there
 missed : (s : Seen) (files : List Named) (name : List ℕ) → s.files_before.held ≡ Some files → ¬ Rose s.files_before.faults_on_present s.files.faults_on_present
@@ -77,13 +79,15 @@ message_doable (BadText at) text is = absurd is
 message_doable (Unfit why) text is = absurd is
 message_doable BadHex text is = absurd is
 message_doable (Faulty fault) text is = absurd is
+message_doable (Breaks reason) text is = absurd is
 message_doable (Checks schema) text is = absurd is
 message_doable (Prints tree) text is = absurd is
 message_doable (Runs schema script order) text is = absurd is
 message_doable (Encodes message) text is = tt
 message_doable (Decodes interface method request value) text is = tt
+message_doable (Reads stable) text is = absurd is
 
--- a text that is right is that of a run, a tree, a schema, a message or its value that is asked for
+-- a text that is right is that of a run, a tree, a schema, a message or its value, or of files that are compatible, as is asked for
 text_work : (command : Option Command) (before now : List Named) (held : Option (List Named)) (files : List Named)
     (ask : List Named → Work → Type 0) (text : List ℕ) → held ≡ Some files
     → IsRightText command before now held ask text → (work : Work) × IsDoable work × ask files work
@@ -96,6 +100,8 @@ text_work (Some (Encode words)) before now held files ask text e right =
     (right.work, message_doable right.work text right.text_of, asked_of held files ask right.work e right.asked)
 text_work (Some (Decode words)) before now held files ask text e right =
     (right.work, message_doable right.work text right.text_of, asked_of held files ask right.work e right.asked)
+text_work (Some (Compat old new)) before now held files ask text e right =
+    (Reads right.stable, tt, asked_of held files ask (Reads right.stable) e right.asked)
 
 -- the line of a refusal that is asked for
 abbrev line_of : Work → List ℕ
@@ -110,11 +116,13 @@ line_of (BadText at) = codes "BadText " ++ decimal at
 line_of (Unfit why) = unfit_text why
 line_of BadHex = codes "BadHex"
 line_of (Faulty fault) = fault_word fault.kind ++ (codes " " ++ decimal fault.at)
+line_of (Breaks reason) = codes "Incompatible " ++ reason_text reason
 line_of (Checks schema) = []
 line_of (Prints tree) = []
 line_of (Runs schema script order) = []
 line_of (Encodes message) = []
 line_of (Decodes interface method request value) = []
+line_of (Reads stable) = []
 
 its_line : (refusal : ToolRefusal) → refusal_text refusal ≡ line_of (refused_work refusal)
 its_line (refusals.RefusedLine line why) = refl
@@ -126,6 +134,7 @@ its_line (refusals.BadText at) = refl
 its_line (refusals.Unfit why) = refl
 its_line refusals.BadHex = refl
 its_line (refusals.Faulty fault) = refl
+its_line (refusals.Incompatible reason) = refl
 
 -- equal refusals have one line
 same_text : (a b : ToolRefusal) → refused_work a ≡ refused_work b → refusal_text a ≡ refusal_text b
@@ -142,6 +151,7 @@ not_doable (refusals.BadText at) doable = doable
 not_doable (refusals.Unfit why) doable = doable
 not_doable refusals.BadHex doable = doable
 not_doable (refusals.Faulty fault) doable = doable
+not_doable (refusals.Incompatible reason) doable = doable
 
 not_missing : (refusal : ToolRefusal) (name : List ℕ) → Missing name ≡ refused_work refusal → ⊥
 not_missing (refusals.RefusedLine line why) name e = absurd cc
@@ -153,6 +163,7 @@ not_missing (refusals.BadText at) name e = absurd cc
 not_missing (refusals.Unfit why) name e = absurd cc
 not_missing refusals.BadHex name e = absurd cc
 not_missing (refusals.Faulty fault) name e = absurd cc
+not_missing (refusals.Incompatible reason) name e = absurd cc
 
 not_wrong : (refusal : ToolRefusal) → WrongWords ≡ refused_work refusal → ⊥
 not_wrong (refusals.RefusedLine line why) e = absurd cc
@@ -164,6 +175,7 @@ not_wrong (refusals.BadText at) e = absurd cc
 not_wrong (refusals.Unfit why) e = absurd cc
 not_wrong refusals.BadHex e = absurd cc
 not_wrong (refusals.Faulty fault) e = absurd cc
+not_wrong (refusals.Incompatible reason) e = absurd cc
 
 module _ (s : Seen) (work : Work) (is : IsAsked s work) where
   -- whatever else is asked for is that work
@@ -173,7 +185,7 @@ module _ (s : Seen) (work : Work) (is : IsAsked s work) where
   asked_here : (other : Work) → AskedFor s.files_before.held (asked_by s) other → other ≡ work
   asked_here other asked = one other (asked_of s.files_before.held is.files (asked_by s) other is.held asked)
 
-  -- a work that has a text is a run, a tree, a schema, a message or its value
+  -- a work that has a text is a run, a tree, a schema, a message or its value, or files that are compatible
   has_text : (text : List ℕ) → IsRightText (command_of s.words) s.files_before.read s.files.read s.files_before.held (asked_by s) text → IsDoable work
   has_text text right =
       let t = text_work (command_of s.words) s.files_before.read s.files.read s.files_before.held is.files (asked_by s) text is.held right in
@@ -211,7 +223,7 @@ is_unread s ReadFault a name is =
 is_unread s WriteFault a name is = absurd (has_text s (Missing name) is a.text a.right)
 is_unread s NoMemory a name is = inr refl
 
--- where a run, a text, tables, a message or its value are asked for, nothing is refused or missing
+-- where a run, a text, tables, a message or its value, or compatible files are asked for, nothing is refused or missing
 can_be_done : (s : Seen) → CanBeServed s → CanBeDone s
 can_be_done s can = record {
   files = can.asked.files;
@@ -227,6 +239,7 @@ can_be_done s can = record {
   fit = λ why. only (Unfit why);
   hexadecimal = only BadHex;
   sound = λ fault. only (Faulty fault);
+  compatible = λ reason. only (Breaks reason);
   steady = can.asked.steady;
   written = can.written;
 }

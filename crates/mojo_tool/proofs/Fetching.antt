@@ -204,6 +204,7 @@ too_long_name (refusals.BadText place) name e = absurd cc
 too_long_name (refusals.Unfit why) name e = absurd cc
 too_long_name refusals.BadHex name e = absurd cc
 too_long_name (refusals.Faulty fault) name e = absurd cc
+too_long_name (refusals.Incompatible reason) name e = absurd cc
 
 pub refuses_name : (refusal : ToolRefusal) (name : List ℕ) (is : FileRefusal) → refused_work refusal ≡ Refuses name is → refused_name refusal ≡ Some name
 refuses_name (refusals.RefusedLine line why) name is e = absurd cc
@@ -215,6 +216,7 @@ refuses_name (refusals.BadText place) name is e = absurd cc
 refuses_name (refusals.Unfit why) name is e = absurd cc
 refuses_name refusals.BadHex name is e = absurd cc
 refuses_name (refusals.Faulty fault) name is e = absurd cc
+refuses_name (refusals.Incompatible reason) name is e = absurd cc
 
 rejects_name : (refusal : ToolRefusal) (name : List ℕ) (at : ℕ) (is : Cause) → refused_work refusal ≡ Rejects name at is → refused_name refusal ≡ Some name
 rejects_name (refusals.RefusedLine line why) name at is e = absurd cc
@@ -226,6 +228,7 @@ rejects_name (refusals.BadText place) name at is e = absurd cc
 rejects_name (refusals.Unfit why) name at is e = absurd cc
 rejects_name refusals.BadHex name at is e = absurd cc
 rejects_name (refusals.Faulty fault) name at is e = absurd cc
+rejects_name (refusals.Incompatible reason) name at is e = absurd cc
 
 -- states of files
 
@@ -294,14 +297,14 @@ stopped_first before now names next stop why =
     (λ files bytes w. FetchingAll files why.left (why.fetched ++ record { name = why.name; bytes = bytes } ∷ []) (next files) w) stop why.not))
 
 -- where not all were fetched there is no text
-not_all_stops : (before now : FilesState) (names : List (List ℕ)) (next : List Named → List Source → Work → Type 0) (stop : Stop)
+pub not_all_stops : (before now : FilesState) (names : List (List ℕ)) (next : List Named → List Source → Work → Type 0) (stop : Stop)
     → NotAllFetched before now names stop → Stops before now (λ files w. FetchingAll files names [] (next files) w) stop
 not_all_stops before now names next (Refused refusal) why = stopped_first before now names next (Refused refusal) why
 not_all_stops before now names next (ReadFault name) why = stopped_first before now names next (ReadFault name) why
 not_all_stops before now names next NoMemory why = tt
 
 -- and the name is one of these
-not_all_reached : (before now : FilesState) (names : List (List ℕ)) (stop : Stop) → NotAllFetched before now names stop → IsOf (IsAmong names) stop
+pub not_all_reached : (before now : FilesState) (names : List (List ℕ)) (stop : Stop) → NotAllFetched before now names stop → IsOf (IsAmong names) stop
 not_all_reached before now names (Refused refusal) why =
     rw (why.all, too_long_name refusal why.name why.not.1) (among_append why.first why.left why.name)
 not_all_reached before now names (ReadFault name) why = rw (why.all, why.not.0) (among_append why.first why.left why.name)
@@ -310,7 +313,7 @@ not_all_reached before now names NoMemory why = tt
 -- what files mean
 
 -- what files that were fetched ask for is asked for
-asked_of_all : (held : Option (List Named)) (names : List (List ℕ)) (sources : List Source) (next : List Named → List Source → Work → Type 0) (work : Work)
+pub asked_of_all : (held : Option (List Named)) (names : List (List ℕ)) (sources : List Source) (next : List Named → List Source → Work → Type 0) (work : Work)
     → AreBytes held names sources → AskedFor held (λ files w. next files sources w) work
     → AskedFor held (λ files w. FetchingAll files names [] (next files) w) work
 asked_of_all None names sources next work are asked = tt
@@ -352,7 +355,7 @@ not_tabled_stops before now names sources next error (ReadFault name) are is not
 not_tabled_stops before now names sources next error NoMemory are is not = tt
 
 -- and the name is one of these
-not_tabled_reached : (names : List (List ℕ)) (error : SchemaError) (stop : Stop) → NotTabled names error stop → IsOf (IsAmong names) stop
+pub not_tabled_reached : (names : List (List ℕ)) (error : SchemaError) (stop : Stop) → NotTabled names error stop → IsOf (IsAmong names) stop
 not_tabled_reached names (errors.Unread file why) (Refused refusal) not = rw (refuses_name refusal not.0 why not.2) (among_at names file not.0 not.1)
 not_tabled_reached names (errors.Refused why) (Refused refusal) not =
     rw (rejects_name refusal not.0 why.at why.cause not.2) (among_at names why.file not.0 not.1)

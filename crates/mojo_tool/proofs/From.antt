@@ -7,7 +7,7 @@ use Rattle.mj_io.specs.Outside.{Named, Fetch}
 use Rattle.mj_schema.specs.Lookups.{interface_named}
 use Rattle.mj_schema.specs.declared.schema.Schema.{Schema}
 use Rattle.wire_model.specs.declared.target.Target.{Target}
-use Rattle.command_line.specs.Asked.{RunWords, EncodeWords, DecodeWords, Run, Encode, Decode}
+use Rattle.command_line.specs.Asked.{RunWords, EncodeWords, DecodeWords, Run, Encode, Decode, Compat}
 use Rattle.call_script.specs.Targets.{message_named}
 use Rattle.mojom_compile.specs.Compiled.{IsUnread}
 use Rattle.mojom_compile.specs.Schemas.{IsRefusalOf, IsWhy}
@@ -68,7 +68,7 @@ parsing_stops name bytes (ReadFault other) why = absurd why
 parsing_stops name bytes NoMemory why = tt
 
 -- the name of a file of this number
-name_of : (names : List (List ℕ)) (sources : List Source) (i : ℕ) (name : List ℕ) → map (λ (source : Source). source.name) sources ≡ names
+pub name_of : (names : List (List ℕ)) (sources : List Source) (i : ℕ) (name : List ℕ) → map (λ (source : Source). source.name) sources ≡ names
     → slice_get names i ≡ Some name → name_at sources i ≡ name
 name_of names sources i name named at =
     found (slice_get sources i)
@@ -150,6 +150,10 @@ decode_lacks words before now schema refusal first e is = inr (inr (inl (record 
 pub run_early : (words : RunWords) (before now : List Named) (stop : Stop) → StoppedFrom (AreRefused words.files before now) stop
     → StoppedFrom (RefusedFrom (Some (Run words)) before now) stop
 run_early words before now stop from = from_goes (AreRefused words.files before now) (RefusedFrom (Some (Run words)) before now) stop (λ w is. inl is) from
+
+pub compat_early : (old new : List ℕ) (before now : List Named) (stop : Stop) → StoppedFrom (λ work. ⊥) stop
+    → StoppedFrom (RefusedFrom (Some (Compat old new)) before now) stop
+compat_early old new before now stop long = from_goes (λ work. ⊥) (RefusedFrom (Some (Compat old new)) before now) stop (λ w no. absurd no) long
 
 pub encode_early : (words : EncodeWords) (before now : List Named) (stop : Stop) → StoppedFrom (AreRefused words.files before now) stop
     → StoppedFrom (RefusedFrom (Some (Encode words)) before now) stop

@@ -16,7 +16,7 @@ use Rattle.wire_model.specs.declared.target.Target.{Target}
 use Rattle.mojo_tool.specs.Work.{Work, Reading, Sealing, Preparing, Valuing, Writing, Unhexing, Judged, Judging, Showing, without_line_end}
 use Rattle.mojo_tool.specs.steps.Made.{IsOfAll}
 
-pub reading_late : (schema : Schema) (order : ℕ) (bytes : List ℕ) (work : Work) → Reading schema order bytes work → IsOfAll work
+pub reading_late : (schema : Schema) (order : Option ℕ) (bytes : List ℕ) (work : Work) → Reading schema order bytes work → IsOfAll work
 reading_late schema order bytes work (inl a) = subst IsOfAll (sym a.2) tt
 reading_late schema order bytes work (inr a) = subst IsOfAll (sym a.3) tt
 

@@ -6,6 +6,7 @@ pub mod Fetching
 pub mod Made
 pub mod Late
 pub mod From
+pub mod Comparing
 pub mod Deciding
 pub mod Texts
 pub mod OneValue

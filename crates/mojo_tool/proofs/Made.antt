@@ -11,8 +11,8 @@ use Rattle.mj_io.specs.declared.FilesError.TheVariants.{Failed, Memory}
 use Rattle.mojom_compile.specs.declared.error.FileRefusal.{FileRefusal}
 use Rattle.mojom_compile.specs.declared.schema_error.SchemaError.{SchemaError}
 use Rattle.mojom_compile.specs.declared.schema_error.SchemaError.TheVariants as errors
-use Rattle.mojo_tool.specs.Work.{Work, WrongWords, Missing, TooLong, Refuses, Rejects, RefusesLine, UnknownName, BadText, Unfit, BadHex, Faulty}
-use Rattle.mojo_tool.specs.Work.{Checks, Prints, Runs, Encodes, Decodes}
+use Rattle.mojo_tool.specs.Work.{Work, WrongWords, Missing, TooLong, Refuses, Rejects, RefusesLine, UnknownName, BadText, Unfit, BadHex, Faulty, Breaks}
+use Rattle.mojo_tool.specs.Work.{Checks, Prints, Runs, Encodes, Decodes, Reads}
 use Rattle.mojo_tool.specs.Answers.{refused_work}
 use Rattle.mojo_tool.specs.Fetched.{whole, FetchedAll, EndedAt, FetchedFront, FetchedFor}
 use Rattle.mojo_tool.specs.steps.Stops.{NotCompiled, StopsAt}
@@ -109,7 +109,7 @@ unfetched_for : (mojoms last : List (List ℕ)) (work : Work) (before now : List
 unfetched_for mojoms last work before now (inl e) = subst (λ (w : Work). FetchedFor mojoms last w before now) (sym e.1) e.2
 unfetched_for mojoms last work before now (inr e) = subst (λ (w : Work). FetchedFor mojoms last w before now) (sym e.1) e.2
 
-mojoms_for : (mojoms last : List (List ℕ)) (work : Work) (before now : List Fetch) → IsOfMojoms work → FetchedAll mojoms before now
+pub mojoms_for : (mojoms last : List (List ℕ)) (work : Work) (before now : List Fetch) → IsOfMojoms work → FetchedAll mojoms before now
     → FetchedFor mojoms last work before now
 mojoms_for mojoms last WrongWords before now is a = absurd is
 mojoms_for mojoms last (Missing name) before now is a = absurd is
@@ -122,13 +122,15 @@ mojoms_for mojoms last (BadText at) before now is a = absurd is
 mojoms_for mojoms last (Unfit why) before now is a = absurd is
 mojoms_for mojoms last BadHex before now is a = absurd is
 mojoms_for mojoms last (Faulty fault) before now is a = absurd is
+mojoms_for mojoms last (Breaks reason) before now is a = absurd is
 mojoms_for mojoms last (Checks schema) before now is a = absurd is
 mojoms_for mojoms last (Prints tree) before now is a = absurd is
 mojoms_for mojoms last (Runs schema script order) before now is a = absurd is
 mojoms_for mojoms last (Encodes message) before now is a = absurd is
 mojoms_for mojoms last (Decodes interface method request value) before now is a = absurd is
+mojoms_for mojoms last (Reads stable) before now is a = absurd is
 
-all_for : (mojoms last : List (List ℕ)) (work : Work) (before now : List Fetch) → IsOfAll work → FetchedAll (mojoms ++ last) before now
+pub all_for : (mojoms last : List (List ℕ)) (work : Work) (before now : List Fetch) → IsOfAll work → FetchedAll (mojoms ++ last) before now
     → FetchedFor mojoms last work before now
 all_for mojoms last WrongWords before now is a = absurd is
 all_for mojoms last (Missing name) before now is a = absurd is
@@ -141,11 +143,13 @@ all_for mojoms last (BadText at) before now is a = a
 all_for mojoms last (Unfit why) before now is a = a
 all_for mojoms last BadHex before now is a = a
 all_for mojoms last (Faulty fault) before now is a = a
+all_for mojoms last (Breaks reason) before now is a = a
 all_for mojoms last (Checks schema) before now is a = a
 all_for mojoms last (Prints tree) before now is a = a
 all_for mojoms last (Runs schema script order) before now is a = a
 all_for mojoms last (Encodes message) before now is a = a
 all_for mojoms last (Decodes interface method request value) before now is a = a
+all_for mojoms last (Reads stable) before now is a = a
 
 early_for : (mojoms last : List (List ℕ)) (before now : List Fetch) (work : Work) → EarlyFor mojoms before now work → FetchedFor mojoms last work before now
 early_for mojoms last before now work (inl e) = unfetched_for mojoms last work before now (unfetched_wider mojoms last work before now e)
@@ -172,11 +176,13 @@ front_for mojoms last (BadText at) before now a = front_all (mojoms ++ last) bef
 front_for mojoms last (Unfit why) before now a = front_all (mojoms ++ last) before now a
 front_for mojoms last BadHex before now a = front_all (mojoms ++ last) before now a
 front_for mojoms last (Faulty fault) before now a = front_all (mojoms ++ last) before now a
+front_for mojoms last (Breaks reason) before now a = front_all (mojoms ++ last) before now a
 front_for mojoms last (Checks schema) before now a = front_all (mojoms ++ last) before now a
 front_for mojoms last (Prints tree) before now a = front_all (mojoms ++ last) before now a
 front_for mojoms last (Runs schema script order) before now a = front_all (mojoms ++ last) before now a
 front_for mojoms last (Encodes message) before now a = front_all (mojoms ++ last) before now a
 front_for mojoms last (Decodes interface method request value) before now a = front_all (mojoms ++ last) before now a
+front_for mojoms last (Reads stable) before now a = front_all (mojoms ++ last) before now a
 
 -- stops
 

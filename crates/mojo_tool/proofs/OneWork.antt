@@ -5,7 +5,10 @@ use Rattle.mj_io.specs.Outside.{Named, find_file}
 use Rattle.mojom_compile.proofs.Readings.{one_tree}
 use Rattle.mojom_compile.specs.declared.source.Source.{Source}
 use Rattle.call_script.proofs.OneAnswer.{never_both, one_refusal}
-use Rattle.command_line.specs.Asked.{EncodeWords, DecodeWords, Command, Run, Print, Check, Encode, Decode}
+use Rattle.command_line.specs.Asked.{EncodeWords, DecodeWords, Command, Run, Print, Check, Encode, Decode, Compat}
+use Rattle.compat_model.specs.declared.reason.Verdict.{Verdict}
+use Rattle.compat_model.specs.declared.reason.Verdict.TheVariants.{Compatible, Broken}
+use Rattle.compat_laws.proofs.OneVerdict.{one_verdict}
 use Rattle.hex.specs.Hex.{decode_of}
 use Rattle.hex.specs.declared.error.FromHexError.{FromHexError}
 use Rattle.mj_schema.specs.Lookups.{interface_named}
@@ -25,9 +28,9 @@ use Rattle.wire_encoder.specs.Prepared.{verdict}
 use Rattle.value_text.specs.Spelling.{spell}
 use Rattle.call_script.specs.Targets.{message_named}
 use Rattle.mojo_tool.specs.Targets.{side_of, expected_of}
-use Rattle.mojo_tool.specs.Work.{Work, Refuses, RefusesLine, Prints, BadText, Decodes, Leads, Parsing, Reading, Scripting, FetchingAll, Tabling}
+use Rattle.mojo_tool.specs.Work.{Work, Refuses, RefusesLine, Prints, BadText, Breaks, Decodes, Reads, Leads, Parsing, Reading, Scripting, FetchingAll, Tabling}
 use Rattle.mojo_tool.specs.Work.{Gathering}
-use Rattle.mojo_tool.specs.Work.{Listing, Valuing, Sealing, Preparing, Writing, Finding, Encoding, Unhexing, IsShown, Judged, Judging, Showing, Decoding}
+use Rattle.mojo_tool.specs.Work.{Listing, Valuing, Sealing, Preparing, Writing, Finding, Encoding, Unhexing, IsShown, Judged, Judging, Showing, Decoding, Comparing, Pairing}
 use Rattle.mojo_tool.specs.Work.{parameters_kind, without_line_end, unchecked, IsWork}
 use Rattle.mojo_tool.proofs.OneValue.{one_value}
 use Rattle.mojom_compile.proofs.OneSchemaOfFiles.{one_schema as one_schema_of_files}
@@ -46,7 +49,7 @@ parsing name bytes w v (inl a) (inr b) = absurd ((one_tree bytes).never_both a.0
 parsing name bytes w v (inr a) (inl b) = absurd ((one_tree bytes).never_both b.0 a.0 b.1 a.1)
 parsing name bytes w v (inr a) (inr b) = a.2 ∙ ap (Refuses name) ((one_tree bytes).one_refusal a.0 b.0 a.1 b.1) ∙ sym b.2
 
-reading : (s : Schema) (order : ℕ) (bytes : List ℕ) (w v : Work) → Reading s order bytes w → Reading s order bytes v → w ≡ v
+reading : (s : Schema) (order : Option ℕ) (bytes : List ℕ) (w v : Work) → Reading s order bytes w → Reading s order bytes v → w ≡ v
 reading s order bytes w v (inl a) (inl b) = a.2 ∙ sym b.2
 reading s order bytes w v (inl a) (inr b) = absurd (never_both s bytes a.0 b.0 b.1 a.1 b.2)
 reading s order bytes w v (inr a) (inl b) = absurd (never_both s bytes b.0 a.0 a.1 b.1 a.2)
@@ -54,7 +57,7 @@ reading s order bytes w v (inr a) (inr b) =
     let one = one_refusal s bytes a.0 b.0 a.1 b.1 a.2 b.2 in
     a.3 ∙ ap (λ (line : ℕ). RefusesLine line a.1) one.0 ∙ ap (RefusesLine b.0) one.1 ∙ sym b.3
 
-scripting : (files : List Named) (name : List ℕ) (order : ℕ) (s : Schema) (w v : Work) → Scripting files name order s w
+scripting : (files : List Named) (name : List ℕ) (order : Option ℕ) (s : Schema) (w v : Work) → Scripting files name order s w
     → Scripting files name order s v → w ≡ v
 scripting files name order s w v = leads name (Reading s order) (find_file files name) w v (λ bytes. reading s order bytes w v)
 
@@ -156,6 +159,25 @@ decoding files words schema w v =
     (find_file files words.message) w v
     (λ bytes. showing schema (expected_of interface (side_of words.side)) words.interface words.handles bytes w v))
 
+-- the work that a verdict stands for
+abbrev work_of : Verdict → Work
+work_of (Compatible stable) = Reads stable
+work_of (Broken reason) = Breaks reason
+
+comparing : (old new : Schema) (w v : Work) → Comparing old new w → Comparing old new v → w ≡ v
+comparing old new w v (inl a) (inl b) = a.2 ∙ ap work_of (one_verdict old new (Compatible a.0) (Compatible b.0) a.1 b.1) ∙ sym b.2
+comparing old new w v (inl a) (inr b) = a.2 ∙ ap work_of (one_verdict old new (Compatible a.0) (Broken b.0) a.1 b.1) ∙ sym b.2
+comparing old new w v (inr a) (inl b) = a.2 ∙ ap work_of (one_verdict old new (Broken a.0) (Compatible b.0) a.1 b.1) ∙ sym b.2
+comparing old new w v (inr a) (inr b) = a.2 ∙ ap work_of (one_verdict old new (Broken a.0) (Broken b.0) a.1 b.1) ∙ sym b.2
+
+pairing : (sources : List Source) (w v : Work) → Pairing sources w → Pairing sources v → w ≡ v
+pairing [] w v a b = absurd a
+pairing (old ∷ []) w v a b = absurd a
+pairing (old ∷ (new ∷ [])) w v a b =
+    tabling (λ (s : Schema) u. Tabling (Comparing s) (new ∷ []) u) (old ∷ []) w v
+    (λ s. tabling (Comparing s) (new ∷ []) w v (λ t. comparing s t w v)) a b
+pairing (old ∷ (new ∷ (more ∷ sources))) w v a b = absurd a
+
 -- two works that a command asks for over the same files are equal
 pub one_work : (command : Option Command) (files : List Named) (w v : Work) → IsWork command files w → IsWork command files v → w ≡ v
 one_work None files w v a b = a ∙ sym b
@@ -167,3 +189,5 @@ one_work (Some (Encode words)) files w v a b =
     gathering files words.files (Encoding files words) w v (λ schema. encoding files words schema w v) a b
 one_work (Some (Decode words)) files w v a b =
     gathering files words.files (Decoding files words) w v (λ schema. decoding files words schema w v) a b
+one_work (Some (Compat old new)) files w v a b =
+    fetching_all files (old ∷ new ∷ []) [] Pairing w v (λ sources. pairing sources w v) a b

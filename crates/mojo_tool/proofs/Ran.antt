@@ -1,5 +1,5 @@
 -- What a run leaves is the text of its script.
-use Rattle.std.proofs.Common.{◌≡◌, ◌≤◌, ℕ, List, [], ◌∷◌, length, reverse, Ok, sym, ap, ◌∙◌, subst}
+use Rattle.std.proofs.Common.{◌≡◌, ◌≤◌, ℕ, List, [], ◌∷◌, length, reverse, Ok, Option, sym, ap, ◌∙◌, subst}
 use Rattle.std.proofs.lemmas.List.{length-reverse}
 use Rattle.mj_base.specs.declared.limits.TheConstants.{MAX_EVENTS}
 use Rattle.mj_schema.specs.declared.schema.Schema.{Schema}
@@ -8,6 +8,7 @@ use Rattle.bind_model.specs.declared.event.Event.{Event}
 use Rattle.bind_model.specs.WireOf.{wire_of}
 use Rattle.bind_model.specs.Replies.{legal, Legal}
 use Rattle.bind_model.proofs.Askers.{of_askers}
+use Rattle.bind_model.proofs.DataLemmas.{data_in_order}
 use Rattle.bind_model.proofs.Fresh.{one_place}
 use Rattle.bind_model.proofs.Responses.{own_responses, in_order, all_stand}
 use Rattle.bind_model.proofs.FlushLemmas.{flushes_numbered}
@@ -56,6 +57,7 @@ keeps_laws law schema seqs past is few fit = record {
   flushes = flushes_numbered (wire_of schema) seqs past is;
   behind = all_behind schema seqs past is few;
   unpaused = all_unpaused (wire_of schema) seqs past is;
+  flows = data_in_order (wire_of schema) seqs past is;
   one_place = one_place (wire_of schema) seqs past is;
   one_owner = one_owner (wire_of schema) seqs past is;
 }
@@ -81,7 +83,7 @@ printable_of_files sources schema is =
 -- ## The text
 
 -- the text of a legal history that is the script's, over the schema of files
-pub text_of_run : PassedIsEncodable → (schema : Schema) (script : Script) (order : ℕ) (history : List Event) (notes : List Note) (things : List Thing)
+pub text_of_run : PassedIsEncodable → (schema : Schema) (script : Script) (order : Option ℕ) (history : List Event) (notes : List Note) (things : List Thing)
     (text : List ℕ) → ((sources : List Source) × IsSchemaOfFiles sources schema) → ((bytes : List ℕ) × IsScriptOf schema bytes script)
     → Legal (wire_of schema) script.seqs history → OfScript schema script order history → length history ≤ MAX_EVENTS
     → notes ≡ callbacks script.seqs history → things ≡ left script.seqs (reverse history) → text ≡ history_text schema history notes things

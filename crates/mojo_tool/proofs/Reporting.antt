@@ -1,8 +1,12 @@
 -- The answers of the last steps.
-use Rattle.std.proofs.Common.{◌≡◌, ℕ, List, Some, None, ◌++◌, refl, subst}
+use Rattle.std.proofs.Common.{◌≡◌, ℕ, List, Some, None, ◌++◌, refl, sym, ◌∙◌, subst}
 use Rattle.std.specs.Prelude.{Option, ◌⊎◌}
+use Rattle.std.proofs.lemmas.Option.{none-some}
 use Rattle.mj_io.specs.Outside.{FilesState, SinkState, Fetch}
-use Rattle.command_line.specs.Asked.{Command, command_of}
+use Rattle.command_line.specs.Asked.{AsksThreads, Command, asked_of, at_once_of, command_of}
+use Rattle.command_line.specs.declared.asked.Command.{Command as Read}
+use Rattle.command_line.specs.declared.asked.Command.TheVariants as read
+use Rattle.command_line.specs.declared.asked.RunAtOnce.{RunAtOnce}
 use Rattle.mojo_tool.specs.Work.{Missing, ComesTo, IsWork}
 use Rattle.mojo_tool.specs.Answers.{Seen, Answers, IsRightText, IsTooLong, RefusedFrom, refused_work}
 use Rattle.mojo_tool.specs.Fetched.{FetchedAll, FetchedFront, AllFetched, FetchedUpTo, PartFetched, mojoms_of, last_of}
@@ -99,3 +103,37 @@ module _ (words : List (List ℕ)) (command : Command) (e : Some command ≡ com
   reported er stop.NoMemory Refused stops of after from said = absurd (let s = said.0 in cc)
   reported er stop.NoMemory WriteFault stops of after from said = absurd (let s = said.0 in cc)
   reported er stop.NoMemory ReadFault stops of after from said = absurd (let s = said.0 in cc)
+
+-- ## Runs with threads
+
+-- words that are a command aren't none
+pub none_wrong : (command : Command) (asked : Option Command) → Some command ≡ asked → asked ≡ None → ⊥
+none_wrong command asked is none = none-some command (sym (is ∙ none))
+
+-- what one thread does is no run with threads
+pub never_threads : (words : List (List ℕ)) (command : Read) → Some (asked_of command) ≡ command_of words → AsksThreads (command_of words) → ⊥
+never_threads words command is asks = go command (subst AsksThreads (sym is) asks)
+  where
+    go : (c : Read) → AsksThreads (Some (asked_of c)) → ⊥
+    go (read.Run script order files) e = none-some order (sym e)
+    go (read.Print file) e = e
+    go (read.Check files) e = e
+    go (read.Encode method side value files) e = e
+    go (read.Decode interface side handles message files) e = e
+    go (read.Compat old new) e = e
+
+-- and one that was read is
+pub asks_at_once : (words : List (List ℕ)) (run : RunAtOnce) → Some (at_once_of run) ≡ command_of words → AsksThreads (command_of words)
+asks_at_once words run is = subst AsksThreads is refl
+
+-- where nothing was fetched or written before
+pub from_same : (words : List (List ℕ)) (fb mid f : FilesState) (ob om o eb em er : SinkState) (status : Status) → mid ≡ fb → om ≡ ob → em ≡ eb
+    → Answers (record { words = words; files_before = mid; files = f; out_before = om; out = o; err_before = em; err = er }) status
+    → Answers (record { words = words; files_before = fb; files = f; out_before = ob; out = o; err_before = eb; err = er }) status
+from_same words fb mid f ob om o eb em er status same_f same_o same_e answers =
+    subst (λ (x : FilesState). Answers (record { words = words; files_before = x; files = f; out_before = ob; out = o; err_before = eb; err = er }) status)
+    same_f
+    (subst (λ (x : SinkState). Answers (record { words = words; files_before = mid; files = f; out_before = x; out = o; err_before = eb; err = er }) status)
+    same_o
+    (subst (λ (x : SinkState). Answers (record { words = words; files_before = mid; files = f; out_before = om; out = o; err_before = x; err = er }) status)
+    same_e answers))

@@ -20,13 +20,14 @@ use Rattle.mojo_tool.proofs.Messages.{passed, later, stops_at, bytes_lead, of_st
 -- ## The script
 
 -- a line that is refused
-pub script_refused : (schema : Schema) (order : ℕ) (bytes : List ℕ) (stop : Stop) → NoScript schema bytes stop → StopsAt (Reading schema order bytes) stop
+pub script_refused : (schema : Schema) (order : Option ℕ) (bytes : List ℕ) (stop : Stop) → NoScript schema bytes stop
+    → StopsAt (Reading schema order bytes) stop
 script_refused schema order bytes (Refused refusal) not = inr not
 script_refused schema order bytes (ReadFault name) not = absurd not
 script_refused schema order bytes NoMemory not = tt
 
 -- a file that is no script
-pub no_script : (before now : FilesState) (name : List ℕ) (order : ℕ) (schema : Schema) (bytes : List ℕ) (stop : Stop)
+pub no_script : (before now : FilesState) (name : List ℕ) (order : Option ℕ) (schema : Schema) (bytes : List ℕ) (stop : Stop)
     → HasBytes before.held name bytes → length bytes ≤ MAX_FILE_BYTES → NoScript schema bytes stop
     → Stops before now (λ files w. Scripting files name order schema w) stop
 no_script before now name order schema bytes stop has short not =
@@ -34,7 +35,7 @@ no_script before now name order schema bytes stop has short not =
     (bytes_lead before.held name bytes (Reading schema order) has short) (script_refused schema order bytes stop not)
 
 -- the text of a run of the script in an order
-pub script_text : (held : Option (List Named)) (before now : List Named) (name bytes text : List ℕ) (order : ℕ) (schema : Schema) (script : Script)
+pub script_text : (held : Option (List Named)) (before now : List Named) (name bytes text : List ℕ) (order : Option ℕ) (schema : Schema) (script : Script)
     → HasBytes held name bytes → length bytes ≤ MAX_FILE_BYTES → now ≡ before ++ record { name = name; bytes = bytes } ∷ []
     → IsScriptOf schema bytes script → IsTextOf schema script order text
     → IsScriptText schema order name before now held (λ files w. Scripting files name order schema w) text

@@ -10,7 +10,7 @@ use Rattle.mj_io.specs.Outside.{Named, find_file}
 use Rattle.mj_schema.specs.Lookups.{interface_named}
 use Rattle.mj_schema.specs.declared.rows.MethodRow.{MethodRow}
 use Rattle.mj_schema.specs.declared.schema.Schema.{Schema}
-use Rattle.command_line.specs.Asked.{Command, Run, Print, Check, Encode, Decode}
+use Rattle.command_line.specs.Asked.{Command, Run, Print, Check, Encode, Decode, Compat}
 use Rattle.mojom_ast.specs.declared.file.File.{File}
 use Rattle.mojom_compile.specs.Compiled.{IsParsed, IsUnread}
 use Rattle.mojom_compile.specs.declared.error.FileRefusal.{FileRefusal}
@@ -37,6 +37,10 @@ use Rattle.wire_model.specs.declared.target.Expected.{Expected}
 use Rattle.wire_model.specs.declared.target.MessageSide.{MessageSide}
 use Rattle.wire_model.specs.declared.target.Target.{Target}
 use Rattle.sealed_laws.specs.Sealed.{FewAreMet, PassedIsRead}
+use Rattle.compat_model.specs.declared.reason.Verdict.{Verdict}
+use Rattle.compat_model.specs.declared.reason.Verdict.TheVariants.{Compatible, Broken}
+use Rattle.compat_model.specs.Verdicts.{Judges as judges}
+use Rattle.compat_check.proofs.SomeVerdict.{some_verdict}
 use Rattle.byte_rules.specs.Lang.{Lang}
 use Rattle.byte_rules.specs.steps.Reading.{Judges}
 use Rattle.byte_rules.specs.steps.Reading as reading
@@ -47,13 +51,13 @@ use Rattle.value_text.specs.Rules.{value}
 use Rattle.value_text.specs.Spelling.{spell}
 use Rattle.call_script.specs.Targets.{message_named}
 use Rattle.mojo_tool.specs.Targets.{side_of, expected_of}
-use Rattle.mojo_tool.specs.Work.{Work, WrongWords, Missing, TooLong, Refuses, UnknownName, BadText, Unfit, BadHex, Faulty, Checks, Prints, Runs, RefusesLine, Encodes, Decodes}
+use Rattle.mojo_tool.specs.Work.{Work, WrongWords, Missing, TooLong, Refuses, UnknownName, BadText, Unfit, BadHex, Faulty, Checks, Prints, Runs, RefusesLine, Encodes, Decodes, Breaks, Reads}
 use Rattle.mojo_tool.specs.Work.{AreFetched, HaveSchema, Leads, Parsing, Reading, Tabling, FetchingAll, Gathering, Scripting, Listing, Sealing}
 use Rattle.mojo_tool.specs.Work.{Preparing, Writing}
-use Rattle.mojo_tool.specs.Work.{Finding, Encoding, Unhexing, IsShown, Judged, Judging, Showing, Decoding, IsWork, unchecked, flaw_at, printed_message}
+use Rattle.mojo_tool.specs.Work.{Finding, Encoding, Unhexing, IsShown, Judged, Judging, Showing, Decoding, Comparing, Pairing, IsWork, unchecked, flaw_at, printed_message}
 use Rattle.mojo_tool.specs.Work.{parameters_kind, without_line_end}
 use Rattle.script_laws.specs.Answer.{HasAnswer}
-use Rattle.mojo_tool.specs.Complete.{HaveTooManyRows}
+use Rattle.mojo_tool.specs.Complete.{AreTooMany, HaveTooManyRows}
 use Rattle.printed_histories.proofs.ValueSent.{has_struct}
 use Rattle.printed_runs.proofs.SentWords.{named_parameters}
 use Rattle.mojo_tool.proofs.Ran.{printable_of_files}
@@ -93,23 +97,23 @@ all_some Else files (name ∷ names) fetched next more =
     (sym (append_assoc fetched (record { name = name; bytes = bytes } ∷ []) sources))
     (more (record { name = name; bytes = bytes } ∷ sources) (refl, found, short, are))))
 
--- the Mojom files of these names have more rows than a schema can have
-abbrev Many : List Named → List (List ℕ) → Type 0
-Many files names = (sources : List Source) × AreFetched files names sources × HasTooManyRows sources
+-- files have a schema that leads on, or are refused
+tabling_some : (Else : Type 0) (sources : List Source) (next : Schema → Work → Type 0) → (HasTooManyRows sources → Else)
+    → ((schema : Schema) → IsSchemaOfFiles sources schema → Some_or Else (next schema)) → Some_or Else (λ w. Tabling next sources w)
+tabling_some Else sources next too_many more = tabled (one_schema sources).some
+  where
+    tabled : ((schema : Schema) × IsSchemaOfFiles sources schema) ⊎ (((error : SchemaError) × IsRefusalOf sources error) ⊎ HasTooManyRows sources)
+        → Some_or Else (λ w. Tabling next sources w)
+    tabled (inl some) = also Else (next some.0) (λ w. Tabling next sources w) (λ w is. inl (some.0, some.1, is)) (more some.0 some.1)
+    tabled (inr (inl refused)) = inl (unchecked sources refused.0, inr (refused.0, refused.1, refl))
+    tabled (inr (inr many)) = inr (too_many many)
 
-gathering_some : (Else : Type 0) (files : List Named) (names : List (List ℕ)) (next : Schema → Work → Type 0) → (Many files names → Else)
+gathering_some : (Else : Type 0) (files : List Named) (names : List (List ℕ)) (next : Schema → Work → Type 0) → (AreTooMany files names → Else)
     → ((schema : Schema) → HaveSchema files names schema → Some_or Else (next schema)) → Some_or Else (Gathering files names next)
 gathering_some Else files names next too_many more =
-    all_some Else files names [] (λ sources w. Tabling next sources w) (λ sources are. tabled sources are (one_schema sources).some)
-  where
-    tabled : (sources : List Source) → AreFetched files names sources
-        → ((schema : Schema) × IsSchemaOfFiles sources schema) ⊎ (((error : SchemaError) × IsRefusalOf sources error) ⊎ HasTooManyRows sources)
-        → Some_or Else (λ w. Tabling next sources w)
-    tabled sources are (inl some) =
-        also Else (next some.0) (λ w. Tabling next sources w) (λ w is. inl (some.0, some.1, is))
-        (more some.0 (record { sources = sources; are = are; schema_of = some.1 }))
-    tabled sources are (inr (inl refused)) = inl (unchecked sources refused.0, inr (refused.0, refused.1, refl))
-    tabled sources are (inr (inr many)) = inr (too_many (sources, are, many))
+    all_some Else files names [] (λ sources w. Tabling next sources w)
+    (λ sources are. tabling_some Else sources next (λ many. too_many (sources, are, many))
+    (λ schema is. more schema (record { sources = sources; are = are; schema_of = is })))
 
 parsing_some : (Else : Type 0) (name bytes : List ℕ) → Some_or Else (Parsing name bytes)
 parsing_some Else name bytes = go (one_tree bytes).some
@@ -119,7 +123,7 @@ parsing_some Else name bytes = go (one_tree bytes).some
     go (inr some) = inl (Refuses name some.0, inr (some.0, some.1, refl))
 
 -- the bytes of a script are one, or have a line that is refused
-reading_some : Scripts → (Else : Type 0) (schema : Schema) (order : ℕ) (bytes : List ℕ) → length bytes ≤ MAX_FILE_BYTES
+reading_some : Scripts → (Else : Type 0) (schema : Schema) (order : Option ℕ) (bytes : List ℕ) → length bytes ≤ MAX_FILE_BYTES
     → Some_or Else (Reading schema order bytes)
 reading_some scripts Else schema order bytes short = go (scripts schema bytes (omega (arith, short)))
   where
@@ -230,21 +234,40 @@ showing_some Else schema expected name handles bytes = go (decode_of (without_li
     go (Ok digits) = judging_some Else schema expected name handles digits
     go (Err error) = inl (BadHex, refl)
 
+-- two files
+
+comparing_some : (Else : Type 0) (old new : Schema) → Some_or Else (Comparing old new)
+comparing_some Else old new = go (some_verdict old new).0 (some_verdict old new).1
+  where
+    go : (verdict : Verdict) → judges old new verdict → Some_or Else (Comparing old new)
+    go (Compatible stable) is = inl (Reads stable, inl (stable, is, refl))
+    go (Broken reason) is = inl (Breaks reason, inr (reason, is, refl))
+
+pairing_some : (files : List Named) (old new : List ℕ) (sources : List Source) → AreFetched files (old ∷ new ∷ []) sources
+    → Some_or (AreTooMany files (old ∷ []) ⊎ AreTooMany files (new ∷ [])) (Pairing sources)
+pairing_some files old new [] are = absurd are
+pairing_some files old new (a ∷ []) are = absurd are.3
+pairing_some files old new (a ∷ (b ∷ [])) are =
+    tabling_some _ (a ∷ []) (λ (s : Schema) w. Tabling (Comparing s) (b ∷ []) w)
+    (λ many. inl (a ∷ [], (are.0, are.1, are.2, tt), many))
+    (λ s is. tabling_some _ (b ∷ []) (Comparing s) (λ many. inr (b ∷ [], (are.3.0, are.3.1, are.3.2, tt), many)) (λ t also_. comparing_some _ s t))
+pairing_some files old new (a ∷ (b ∷ (c ∷ sources))) are = absurd are.3.3
+
 -- all commands
 
 pub some_work : Scripts → PassedIsRead → FewAreMet → (command : Option Command) (files : List Named)
     → Some_or (HaveTooManyRows files command) (IsWork command files)
 some_work scripts law few None files = inl (WrongWords, refl)
 some_work scripts law few (Some (Run words)) files =
-    gathering_some (Many files words.files) files words.files (Scripting files words.script words.order) (λ many. many)
+    gathering_some (AreTooMany files words.files) files words.files (Scripting files words.script words.order) (λ many. many)
     (λ schema have. leads_some _ words.script (Reading schema words.order) (find_file files words.script)
     (λ bytes found short. reading_some scripts _ schema words.order bytes short))
 some_work scripts law few (Some (Print file)) files =
     leads_some _ file (Parsing file) (find_file files file) (λ bytes found short. parsing_some _ file bytes)
 some_work scripts law few (Some (Check names)) files =
-    gathering_some (Many files names) files names Listing (λ many. many) (λ schema have. inl (Checks schema, refl))
+    gathering_some (AreTooMany files names) files names Listing (λ many. many) (λ schema have. inl (Checks schema, refl))
 some_work scripts law few (Some (Encode words)) files =
-    gathering_some (Many files words.files) files words.files (Encoding files words) (λ many. many)
+    gathering_some (AreTooMany files words.files) files words.files (Encoding files words) (λ many. many)
     (λ schema have. finding_some _ words.method (λ found w. Leads words.value (Writing schema found) (find_file files words.value) w)
     (message_named schema (side_of words.side) words.method)
     (λ found e. leads_some _ words.value (Writing schema found) (find_file files words.value)
@@ -252,7 +275,7 @@ some_work scripts law few (Some (Encode words)) files =
     let fits = target_fits have.sources schema (side_of words.side) words.method found have.schema_of e in
     writing_some law few _ schema found bytes fits.0 fits.1)))
 some_work scripts law few (Some (Decode words)) files =
-    gathering_some (Many files words.files) files words.files (Decoding files words) (λ many. many)
+    gathering_some (AreTooMany files words.files) files words.files (Decoding files words) (λ many. many)
     (λ schema have. finding_some _ words.interface
     (λ interface w. Leads words.message (Showing schema (expected_of interface (side_of words.side)) words.interface words.handles)
     (find_file files words.message) w)
@@ -260,3 +283,5 @@ some_work scripts law few (Some (Decode words)) files =
     (λ interface e. leads_some _ words.message (Showing schema (expected_of interface (side_of words.side)) words.interface words.handles)
     (find_file files words.message)
     (λ bytes at short. showing_some _ schema (expected_of interface (side_of words.side)) words.interface words.handles bytes)))
+some_work scripts law few (Some (Compat old new)) files =
+    all_some _ files (old ∷ new ∷ []) [] Pairing (λ sources are. pairing_some files old new sources are)

@@ -1,14 +1,14 @@
 -- What each status says of the words, the files and the sinks, before the call and after it.
 use Rattle.std.specs.Prelude.{ℕ, ◌≡◌, List, [], ◌∷◌, ◌++◌, map, reverse, Option, Some, None, Ok, IfSome, ◌⊎◌}
 use Rattle.mj_io.specs.Outside.{Named, FilesState, SinkState, Rose, Wrote, WroteSome}
-use Rattle.command_line.specs.Asked.{Command, RunWords, EncodeWords, DecodeWords, Run, Print, Check, Encode, Decode, command_of}
+use Rattle.command_line.specs.Asked.{Command, RunWords, EncodeWords, DecodeWords, Run, Print, Check, Encode, Decode, Compat, command_of}
 use Rattle.mj_schema.specs.Lookups.{interface_named}
 use Rattle.mj_schema.specs.declared.schema.Schema.{Schema}
 use Rattle.bind_model.specs.declared.event.Event.{Event}
 use Rattle.bind_model.specs.WireOf.{wire_of}
 use Rattle.bind_model.specs.Replies.{Legal}
 use Rattle.bind_model.specs.Flushes.{AllBehind, FlushesNumbered}
-use Rattle.bind_model.specs.Laws.{InOrder, AllOfAskers, AllStand, AllUnpaused, OwnResponses, OnePlace}
+use Rattle.bind_model.specs.Laws.{DataInOrder, InOrder, AllOfAskers, AllStand, AllUnpaused, OwnResponses, OnePlace}
 use Rattle.bind_model.specs.Origins.{HaveWriters}
 use Rattle.history_laws.specs.Owners.{OneOwner}
 use Rattle.reply_laws.specs.Once.{AllFirst}
@@ -29,11 +29,11 @@ use Rattle.history_reader.specs.Texts.{Tells}
 use Rattle.history_reader.specs.Whole as texts
 use Rattle.printed_histories.specs.Runs.{run_said, run_text}
 use Rattle.printed_runs.specs.Fitting.{AllFit}
-use Rattle.mojo_tool.specs.Work.{Work, Missing, TooLong, Refuses, Rejects, RefusesLine, UnknownName, BadText, Unfit, BadHex, Faulty}
-use Rattle.mojo_tool.specs.Work.{Runs, Prints, Checks, Encodes, Decodes, ComesTo, Parsing, Reading, Writing, Showing, IsWork, AskedFor, unchecked}
+use Rattle.mojo_tool.specs.Work.{Work, Missing, TooLong, Refuses, Rejects, RefusesLine, UnknownName, BadText, Unfit, BadHex, Faulty, Breaks}
+use Rattle.mojo_tool.specs.Work.{Runs, Prints, Checks, Encodes, Decodes, Reads, ComesTo, Parsing, Reading, Writing, Showing, Pairing, IsWork, AskedFor, unchecked}
 use Rattle.mojo_tool.specs.Targets.{side_of, expected_of}
 use Rattle.mojo_tool.specs.Fetched.{AllFetched, FetchedUpTo, PartFetched}
-use Rattle.mojo_tool.specs.Lines.{refusal_text, error_line, read_text, hex_line, shown_line}
+use Rattle.mojo_tool.specs.Lines.{refusal_text, error_line, read_text, hex_line, shown_line, compatible_line}
 use Rattle.mojo_tool.specs.declared.refusal.ToolRefusal.{ToolRefusal}
 use Rattle.mojo_tool.specs.declared.refusal.ToolRefusal.TheVariants as refusals
 use Rattle.mojo_tool.specs.declared.status.Status.{Status}
@@ -84,14 +84,16 @@ pub record KeepsLaws (schema : Schema) (seqs : ℕ) (past : List Event) : Type 0
   pub behind : AllBehind (wire_of schema) past
   -- nothing is consumed, or found bad, at an end that waits for a flush, before that is consumed or its end is gone
   pub unpaused : AllUnpaused past
+  -- what comes out of a data pipe is the beginning of what went in, and it holds the rest, which is never more than its capacity
+  pub flows : DataInOrder past
   -- each thing that was made has one place: with a caller, in an unread message, bound, or gone
   pub one_place : OnePlace (wire_of schema) past
   -- each is left at the end or has gone, once, and nothing is made twice
   pub one_owner : OneOwner seqs past
 
--- the text is that of one history, which is legal for the schema, is of the script's events in turns by this order, and keeps the laws, of
--- what became of each callback, and of what is left
-pub record IsTextOf (schema : Schema) (script : Script) (order : ℕ) (text : List ℕ) : Type 0 where
+-- the text is that of one history, which is legal for the schema, is of the script's events in turns by this order, or in whatever turns where
+-- there is none, and keeps the laws, of what became of each callback, and of what is left
+pub record IsTextOf (schema : Schema) (script : Script) (order : Option ℕ) (text : List ℕ) : Type 0 where
   pub history : List Event
   pub legal : Legal (wire_of schema) script.seqs history
   pub events : OfScript schema script order history
@@ -175,6 +177,21 @@ pub record IsMessageText (names : List (List ℕ)) (last : List ℕ) (From : Sch
   pub made : From schema bytes work
   pub text_of : IsTextFor work text
 
+-- two files of these names came, one behind the other, and no other, which ask for this
+pub record AreCompared (names : List (List ℕ)) (before now : List Named) (work : Work) : Type 0 where
+  pub sources : List Source
+  pub named : map (λ (source : Source). source.name) sources ≡ names
+  pub came : now ≡ before ++ map read_as sources
+  pub made : Pairing sources work
+
+-- the text is that of files that are compatible, as is asked for, and the files that came are so
+pub record IsCompatText (names : List (List ℕ)) (before now : List Named) (held : Option (List Named)) (ask : List Named → Work → Type 0)
+    (text : List ℕ) : Type 0 where
+  pub stable : ℕ
+  pub asked : AskedFor held ask (Reads stable)
+  pub from : AreCompared names before now (Reads stable)
+  pub text_of : text ≡ compatible_line stable
+
 -- the text is one that the words and the files ask for, and so do the files that came, whole, between these two moments
 abbrev pub IsRightText : Option Command → List Named → List Named → Option (List Named) → (List Named → Work → Type 0) → List ℕ → Type 0
 IsRightText None before now held ask text = ⊥
@@ -183,6 +200,7 @@ IsRightText (Some (Print file)) before now held ask text = IsPrintText file befo
 IsRightText (Some (Check names)) before now held ask text = IsCheckText names before now held ask text
 IsRightText (Some (Encode words)) before now held ask text = IsMessageText words.files words.value (EncodesFrom words) before now held ask text
 IsRightText (Some (Decode words)) before now held ask text = IsMessageText words.files words.message (DecodesFrom words) before now held ask text
+IsRightText (Some (Compat old new)) before now held ask text = IsCompatText (old ∷ new ∷ []) before now held ask text
 
 -- Mojom files of these names came, and no other, and are refused
 pub record AreRefused (names : List (List ℕ)) (before now : List Named) (work : Work) : Type 0 where
@@ -226,6 +244,7 @@ RefusedFrom (Some (Decode words)) before now work =
     AreRefused words.files before now work
     ⊎ (IsUnknown words.files words.interface (λ (schema : Schema). interface_named schema.interfaces words.interface ≡ None) before now work
     ⊎ LastAsks words.files words.message (DecodesFrom words) before now work)
+RefusedFrom (Some (Compat old new)) before now work = AreCompared (old ∷ new ∷ []) before now work
 
 -- the work is that of a file that is too long
 abbrev pub IsTooLong : Work → Type 0
@@ -242,6 +261,7 @@ refused_work (refusals.BadText at) = BadText at
 refused_work (refusals.Unfit why) = Unfit why
 refused_work refusals.BadHex = BadHex
 refused_work (refusals.Faulty fault) = Faulty fault
+refused_work (refusals.Incompatible reason) = Breaks reason
 
 -- the file that its line names, where it names one
 abbrev pub refused_name : ToolRefusal → Option (List ℕ)
@@ -254,6 +274,7 @@ refused_name (refusals.BadText at) = None
 refused_name (refusals.Unfit why) = None
 refused_name refusals.BadHex = None
 refused_name (refusals.Faulty fault) = None
+refused_name (refusals.Incompatible reason) = None
 
 -- the whole text was taken, or a front of it where a fault was counted
 abbrev pub WroteOrFailed : SinkState → SinkState → List ℕ → Type 0

@@ -5,7 +5,7 @@ use Rattle.mj_io.specs.declared.Fetched.{Fetched}
 use Rattle.mj_io.specs.declared.Fetched.TheVariants.{Whole, Longer}
 use Rattle.mj_io.specs.declared.FilesError.{FilesError}
 use Rattle.mj_io.specs.declared.FilesError.TheVariants.{Failed}
-use Rattle.command_line.specs.Asked.{Command, Run, Print, Check, Encode, Decode}
+use Rattle.command_line.specs.Asked.{Command, Run, Print, Check, Encode, Decode, Compat}
 use Rattle.mojo_tool.specs.Work.{Work, WrongWords, Missing, TooLong, Refuses, Rejects, UnknownName}
 
 -- the Mojom files that a command names, in the order of the words
@@ -15,6 +15,7 @@ mojoms_of (Print file) = file ∷ []
 mojoms_of (Check files) = files
 mojoms_of (Encode words) = words.files
 mojoms_of (Decode words) = words.files
+mojoms_of (Compat old new) = old ∷ new ∷ []
 
 -- the file that comes behind them: a script, a value or a message
 abbrev pub last_of : Command → List (List ℕ)
@@ -23,6 +24,7 @@ last_of (Print file) = []
 last_of (Check files) = []
 last_of (Encode words) = words.value ∷ []
 last_of (Decode words) = words.message ∷ []
+last_of (Compat old new) = []
 
 -- a fetch of this name that got the whole file
 abbrev pub whole : List ℕ → Fetch

@@ -1,6 +1,11 @@
--- The lines on standard error, and those of a message and of its value.
+-- The lines on standard error, and those of a message, of its value and of two files that are compatible.
 use Rattle.std.specs.Prelude.{ℕ, decimal, ◌++◌, List, [], ◌∷◌, codes}
 use Rattle.std.specs.List.{flat_map}
+use Rattle.std.specs.Fmt.{signed_decimal}
+use Rattle.compat_model.specs.declared.reason.Change.{Change}
+use Rattle.compat_model.specs.declared.reason.Change.TheVariants as changes
+use Rattle.compat_model.specs.declared.reason.Reason.{Reason}
+use Rattle.compat_model.specs.Words.{word_of}
 use Rattle.hex.specs.Hex.{encode_lower}
 use Rattle.wire_encoder.specs.declared.refusal.PrepareError.{PrepareError}
 use Rattle.wire_encoder.specs.declared.refusal.PrepareError.TheVariants as unfit
@@ -9,7 +14,7 @@ use Rattle.call_script.specs.declared.script_error.LineRefusal.{LineRefusal}
 use Rattle.call_script.specs.declared.script_error.LineRefusal.TheVariants as lines
 use Rattle.mojom_compile.specs.Causes.{cause_text}
 use Rattle.mojo_tool.specs.declared.refusal.ToolRefusal.{ToolRefusal}
-use Rattle.mojo_tool.specs.declared.refusal.ToolRefusal.TheVariants.{RefusedLine, FileTooLong, Refused, Rejected, UnknownName, BadText, Unfit, BadHex, Faulty}
+use Rattle.mojo_tool.specs.declared.refusal.ToolRefusal.TheVariants.{RefusedLine, FileTooLong, Refused, Rejected, UnknownName, BadText, Unfit, BadHex, Faulty, Incompatible}
 use Rattle.mojo_tool.specs.LanguageCauses.{language_text}
 use Rattle.mojo_tool.specs.Work.{line_feed}
 
@@ -38,6 +43,24 @@ line_refusal_name lines.UnknownName = codes "UnknownName"
 line_refusal_name lines.BadValue = codes "BadValue"
 line_refusal_name lines.TooManyLines = codes "TooManyLines"
 
+-- the number of a member, a tag or an ordinal behind a change, with a blank before it
+abbrev pub number_text : Change → List ℕ
+number_text changes.Missing = []
+number_text changes.NotStable = []
+number_text changes.ExtensibleGone = []
+number_text (changes.MemberGone number) = codes " " ++ signed_decimal number
+number_text (changes.TagGone tag) = codes " " ++ decimal tag
+number_text (changes.MethodGone ordinal) = codes " " ++ decimal ordinal
+number_text (changes.ResponseChanged ordinal) = codes " " ++ decimal ordinal
+number_text (changes.FieldGone ordinal) = codes " " ++ decimal ordinal
+number_text (changes.KindChanged ordinal) = codes " " ++ decimal ordinal
+number_text (changes.VersionChanged ordinal) = codes " " ++ decimal ordinal
+number_text (changes.EarlyField ordinal) = codes " " ++ decimal ordinal
+
+-- why a newer file doesn't read an older one's messages: the change, and the full name that goes with it
+abbrev pub reason_text : Reason → List ℕ
+reason_text reason = word_of reason.change ++ (codes " " ++ (reason.name ++ number_text reason.change))
+
 -- a refusal: of a file by the file's name as it was given, for a Mojom file with the byte place; of a line of a script by its number
 abbrev pub refusal_text : ToolRefusal → List ℕ
 refusal_text (RefusedLine line why) = codes "script " ++ (decimal line ++ (codes ": " ++ line_refusal_name why))
@@ -49,6 +72,7 @@ refusal_text (BadText at) = codes "BadText " ++ decimal at
 refusal_text (Unfit why) = unfit_text why
 refusal_text BadHex = codes "BadHex"
 refusal_text (Faulty fault) = fault_word fault.kind ++ (codes " " ++ decimal fault.at)
+refusal_text (Incompatible reason) = codes "Incompatible " ++ reason_text reason
 
 -- a line on standard error
 abbrev pub error_line : List ℕ → List ℕ
@@ -66,3 +90,7 @@ hex_line bytes = encode_lower bytes ++ line_feed ∷ []
 abbrev pub shown_line : List ℕ → List ℕ → ℕ → List ℕ → List ℕ
 shown_line interface method request value =
     interface ++ (codes "." ++ (method ++ (codes " " ++ (decimal request ++ (codes " " ++ (value ++ line_feed ∷ []))))))
+
+-- two files that are compatible, with how many definitions of the older one are stable
+abbrev pub compatible_line : ℕ → List ℕ
+compatible_line stable = codes "compatible " ++ (decimal stable ++ line_feed ∷ [])

@@ -1,11 +1,12 @@
 -- What the command and the files ask for, in the order in which a call finds it out: the words, the Mojom files, and then the script
--- and its run, or the method, the value and its message, or the interface, the message and its value.
+-- and its run, or the method, the value and its message, or the interface, the message and its value; or what two files by themselves
+-- say of each other.
 use Rattle.std.specs.Prelude.{ℕ, ◌≡◌, ◌≤◌, ◌<◌, ◌-◌, ◌==◌, ◌&&◌, Bool, false, List, [], ◌∷◌, ◌++◌, length, slice_get, slice_index, take}
 use Rattle.std.specs.Prelude.{nat_lt, Option, Some, None, IsSome, Result, Ok, Err, ◌⊎◌, if◌then◌else◌}
 use Rattle.std.specs.Option.{option_map_or}
 use Rattle.mj_base.specs.declared.limits.TheConstants.{MAX_FILE_BYTES}
 use Rattle.mj_io.specs.Outside.{Named, find_file}
-use Rattle.command_line.specs.Asked.{Command, RunWords, EncodeWords, DecodeWords, Run, Print, Check, Encode, Decode}
+use Rattle.command_line.specs.Asked.{Command, RunWords, EncodeWords, DecodeWords, Run, Print, Check, Encode, Decode, Compat}
 use Rattle.mj_schema.specs.KindTrees.{KindTree, StructKind}
 use Rattle.mj_schema.specs.Lookups.{interface_named}
 use Rattle.mj_schema.specs.declared.rows.MethodRow.{MethodRow}
@@ -43,6 +44,9 @@ use Rattle.wire_encoder.specs.declared.refusal.PrepareError.{PrepareError}
 use Rattle.wire_encoder.specs.declared.refusal.PrepareError.TheVariants as unfit
 use Rattle.sealed_laws.specs.Sealed.{IsReadAs, expected_for}
 use Rattle.byte_rules.specs.Judged.{Spells, IsBad}
+use Rattle.compat_model.specs.declared.reason.Reason.{Reason}
+use Rattle.compat_model.specs.declared.reason.Verdict.TheVariants.{Compatible, Broken}
+use Rattle.compat_model.specs.Verdicts.{Judges}
 use Rattle.value_text.specs.Brackets.{MAX_BRACKETS}
 use Rattle.value_text.specs.Rules.{value}
 use Rattle.value_text.specs.Spelling.{spell}
@@ -96,6 +100,7 @@ ComesTo (Some (Print file)) held name = name ≡ file
 ComesTo (Some (Check files)) held name = IsAmong files name
 ComesTo (Some (Encode words)) held name = IsAmong words.files name ⊎ ((name ≡ words.value) × HasMessageAt held words)
 ComesTo (Some (Decode words)) held name = IsAmong words.files name ⊎ ((name ≡ words.message) × HasInterfaceAt held words)
+ComesTo (Some (Compat old new)) held name = IsAmong (old ∷ new ∷ []) name
 
 -- what is asked for
 pub data Work : Type 0 where
@@ -121,16 +126,20 @@ pub data Work : Type 0 where
   BadHex : Work
   -- a message stands for nothing: its first fault
   Faulty : Fault → Work
+  -- a newer file doesn't read what the stable definitions of an older one write, for this reason first
+  Breaks : Reason → Work
   -- the tables of this schema
   Checks : (schema : Schema) → Work
   -- the text of this tree
   Prints : (tree : File) → Work
-  -- a run of the script that these bytes are, whose sequences do their lines in turns by this order
-  Runs : (schema : Schema) → (script : List ℕ) → (order : ℕ) → Work
+  -- a run of the script that these bytes are, whose sequences do their lines in turns by this order, or each in a thread of its own
+  Runs : (schema : Schema) → (script : List ℕ) → (order : Option ℕ) → Work
   -- the bytes of this message
   Encodes : (message : List ℕ) → Work
   -- the method, the request id and the text of the value of a message
   Decodes : (interface method : List ℕ) (request : ℕ) (value : List ℕ) → Work
+  -- a newer file reads what so many stable definitions of an older one write
+  Reads : (stable : ℕ) → Work
 
 -- the file is not there, or too long, or its bytes lead on
 abbrev pub Leads : List ℕ → (List ℕ → Work → Type 0) → Option (List ℕ) → Work → Type 0
@@ -147,14 +156,14 @@ Parsing name bytes work =
     ((tree : File) × IsParsed bytes tree × (work ≡ Prints tree))
     ⊎ ((refusal : FileRefusal) × IsUnread bytes refusal × (work ≡ Refuses name refusal))
 
--- the bytes are a script, which is run in this order, or have a first line that is refused
-abbrev pub Reading : Schema → ℕ → List ℕ → Work → Type 0
+-- the bytes are a script, which is run in these turns, or have a first line that is refused
+abbrev pub Reading : Schema → Option ℕ → List ℕ → Work → Type 0
 Reading schema order bytes work =
     ((script : Script) × IsScriptOf schema bytes script × (work ≡ Runs schema bytes order))
     ⊎ ((line : ℕ) × (why : LineRefusal) × IsFirstRefusal schema bytes line why × (work ≡ RefusesLine line why))
 
 -- the script's file comes after the Mojom files
-abbrev pub Scripting : List Named → List ℕ → ℕ → Schema → Work → Type 0
+abbrev pub Scripting : List Named → List ℕ → Option ℕ → Schema → Work → Type 0
 Scripting files name order schema work = Fetching files name (Reading schema order) work
 
 -- the Mojom file alone
@@ -328,6 +337,17 @@ Decoding files words schema work =
     (λ interface w. Fetching files words.message (Showing schema (expected_of interface (side_of words.side)) words.interface words.handles) w)
     (interface_named schema.interfaces words.interface) work
 
+-- the newer schema reads what the stable definitions of the older one write, or doesn't
+abbrev pub Comparing : Schema → Schema → Work → Type 0
+Comparing old new work =
+    ((stable : ℕ) × Judges old new (Compatible stable) × (work ≡ Reads stable))
+    ⊎ ((reason : Reason) × Judges old new (Broken reason) × (work ≡ Breaks reason))
+
+-- two files have a schema each, by themselves, or are refused, the older one first
+abbrev pub Pairing : List Source → Work → Type 0
+Pairing (old ∷ new ∷ []) work = Tabling (λ (a : Schema) w. Tabling (Comparing a) (new ∷ []) w) (old ∷ []) work
+Pairing _ work = ⊥
+
 -- the work that a command asks for over these files
 abbrev pub IsWork : Option Command → List Named → Work → Type 0
 IsWork None files work = work ≡ WrongWords
@@ -336,6 +356,7 @@ IsWork (Some (Print file)) files work = Printing files file work
 IsWork (Some (Check names)) files work = Checking files names work
 IsWork (Some (Encode words)) files work = Gathering files words.files (Encoding files words) work
 IsWork (Some (Decode words)) files work = Gathering files words.files (Decoding files words) work
+IsWork (Some (Compat old new)) files work = FetchingAll files (old ∷ new ∷ []) [] Pairing work
 
 -- over files that say what they hold, this is what is asked for
 abbrev pub AskedFor : Option (List Named) → (List Named → Work → Type 0) → Work → Type 0

@@ -4,3 +4,4 @@ pub mod Stops
 pub mod Fetches
 pub mod Messages
 pub mod Made
+pub mod Pairs

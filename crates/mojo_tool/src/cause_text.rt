@@ -46,7 +46,7 @@ fn push_numbered(out: &mut Vec<u8>, word: &str, name: &str, number: u32) -> Resu
 }
 
 /// Writes a number in decimal, with its sign where it is negative.
-fn push_signed(out: &mut Vec<u8>, number: i128) -> Result<(), AllocError>
+pub fn push_signed(out: &mut Vec<u8>, number: i128) -> Result<(), AllocError>
     ensures { OnOk result (out.new.items ≡ out.old.items ++ signed_decimal number) }
 {
     let text = format!(in *out.allocator(); "{number}")?;

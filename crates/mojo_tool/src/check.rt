@@ -65,7 +65,7 @@ fn fetch_onto<'a, F: Files>(
 }
 
 /// The files of these names, in their order.
-fn fetch_all<'a, F: Files>(
+pub fn fetch_all<'a, F: Files>(
     alloc: Global,
     names: &[&'a str],
     files: &mut F,
@@ -87,7 +87,7 @@ fn fetch_all<'a, F: Files>(
 }
 
 /// The refusal of the file that is refused, by its name.
-fn refused<'a>(names: &[&'a str], error: SchemaError) -> Stop<'a>
+pub fn refused<'a>(names: &[&'a str], error: SchemaError) -> Stop<'a>
     requires { IsNumbered (length names.now) error }
     ensures { NotTabled (map (λ name. name.now) names.now) error result }
 {

@@ -12,6 +12,7 @@ ghost use Rattle.mojo_tool.specs.steps.Made.{EndedWith, StoppedAfter, StoppedFro
 ghost use Rattle.mojo_tool.specs.steps.Stops.{Stops, IsOf, HasBytes, NotFetched, NotCompiled};
 
 use crate::check::decide_check;
+use crate::compat::decide_compat;
 use crate::decode::decide_decode;
 use crate::encode::decide_encode;
 use crate::refusal::ToolRefusal;
@@ -149,5 +150,6 @@ pub fn decide<'a, F: Files>(
             names.as_slice(),
             files,
         ),
+        Command::Compat { old, new } => decide_compat(alloc, old, new, files),
     }
 }

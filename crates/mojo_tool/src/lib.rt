@@ -1,8 +1,10 @@
 //! The program: words and files to a text and a status.
 #![tactic(auto)]
 
+mod at_once;
 mod cause_text;
 mod check;
+mod compat;
 mod decide;
 mod decode;
 mod encode;

@@ -1,11 +1,13 @@
 //! Why files, a value or a message are refused.
 
 ghost use Rattle.std.specs.Prelude.{◌≡◌, ◌++◌, codes, decimal, OnOk};
+ghost use Rattle.std.specs.Fmt.{signed_decimal};
 ghost use Rattle.history_text.specs.Words.{fault_word};
-ghost use Rattle.mojo_tool.specs.Lines.{refusal_text, line_refusal_name, unfit_text, path_text, steps_text};
+ghost use Rattle.mojo_tool.specs.Lines.{refusal_text, line_refusal_name, unfit_text, path_text, steps_text, number_text, reason_text};
 
-use crate::cause_text::{push_cause, push_named};
+use crate::cause_text::{push_cause, push_named, push_signed};
 use call_script::LineRefusal;
+use compat_model::{Change, Reason};
 use history_text::fault_word;
 use mj_base::Fault;
 use mojom_compile::FileRefusal;
@@ -39,6 +41,8 @@ pub enum ToolRefusal<'a> {
     BadHex,
     /// The message stands for nothing.
     Faulty(Fault),
+    /// The newer file doesn't read what the stable definitions of the older one write.
+    Incompatible(Reason),
 }
 
 /// Writes the name of a file and a place there.
@@ -121,6 +125,50 @@ fn push_fault(out: &mut Vec<u8>, fault: &Fault) -> Result<(), AllocError>
     push_number(out, fault.at)
 }
 
+/// Writes a blank and a number.
+fn push_behind(out: &mut Vec<u8>, number: u32) -> Result<(), AllocError>
+    ensures { OnOk result (out.new.items ≡ out.old.items ++ (codes " " ++ decimal number)) }
+{
+    push_text(out, " ")?;
+    push_number(out, number as u64)
+}
+
+/// Writes a blank and a number, with its sign where it is negative.
+fn push_signed_behind(out: &mut Vec<u8>, number: i32) -> Result<(), AllocError>
+    ensures { OnOk result (out.new.items ≡ out.old.items ++ (codes " " ++ signed_decimal number)) }
+{
+    push_text(out, " ")?;
+    push_signed(out, i128::from(number))
+}
+
+/// Writes the number behind a change, with a blank before it.
+fn push_change(out: &mut Vec<u8>, change: Change) -> Result<(), AllocError>
+    ensures { OnOk result (out.new.items ≡ out.old.items ++ number_text change) }
+{
+    match change {
+        Change::Missing => Ok(()),
+        Change::NotStable => Ok(()),
+        Change::ExtensibleGone => Ok(()),
+        Change::MemberGone(number) => push_signed_behind(out, number),
+        Change::TagGone(tag) => push_behind(out, tag),
+        Change::MethodGone(ordinal) => push_behind(out, ordinal),
+        Change::ResponseChanged(ordinal) => push_behind(out, ordinal),
+        Change::FieldGone(ordinal) => push_behind(out, ordinal),
+        Change::KindChanged(ordinal) => push_behind(out, ordinal),
+        Change::VersionChanged(ordinal) => push_behind(out, ordinal),
+        Change::EarlyField(ordinal) => push_behind(out, ordinal),
+    }
+}
+
+/// Writes why a newer file doesn't read an older one's messages.
+fn push_reason(out: &mut Vec<u8>, reason: &Reason) -> Result<(), AllocError>
+    ensures { OnOk result (out.new.items ≡ out.old.items ++ reason_text reason.now) }
+{
+    push_named(out, reason.change.word(), " ")?;
+    reason.name.push_to(out)?;
+    push_change(out, reason.change)
+}
+
 /// Writes why files, a value or a message are refused.
 pub fn push_refusal(out: &mut Vec<u8>, refusal: &ToolRefusal<'_>) -> Result<(), AllocError>
     ensures { OnOk result (out.new.items ≡ out.old.items ++ refusal_text refusal.now) }
@@ -146,5 +194,9 @@ pub fn push_refusal(out: &mut Vec<u8>, refusal: &ToolRefusal<'_>) -> Result<(), 
         ToolRefusal::Unfit(why) => push_unfit(out, why),
         ToolRefusal::BadHex => push_text(out, "BadHex"),
         ToolRefusal::Faulty(fault) => push_fault(out, fault),
+        ToolRefusal::Incompatible(reason) => {
+            push_text(out, "Incompatible ")?;
+            push_reason(out, reason)
+        }
     }
 }

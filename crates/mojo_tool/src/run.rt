@@ -24,12 +24,13 @@ use mj_base::Items;
 use mj_base::limits::MAX_FILE_BYTES;
 use mj_io::Files;
 use mj_schema::Schema;
+use script_run::run_alone;
 use std::alloc::Global;
 use std::sync::Arc;
 use wire_encoder::laws::passed_is_encodable;
 
 /// The script that the bytes are.
-fn read_script<'a>(alloc: Global, schema: &Schema, bytes: &[u8]) -> Result<Script, Stop<'a>>
+pub fn read_script<'a>(alloc: Global, schema: &Schema, bytes: &[u8]) -> Result<Script, Stop<'a>>
     ensures script { IfOk result (IsScriptOf schema.now bytes.now) }
     ensures sound { IfOk result (IsScript schema.now) }
     ensures counted { IfOk result (λ script. script.bytes ≡ length bytes.now) }
@@ -57,7 +58,7 @@ fn run<'a>(
     requires short { script.now.bytes ≤ MAX_FILE_BYTES }
     requires read { (bytes : List ℕ) × IsScriptOf schema bytes script.now }
     requires compiled { (sources : List source) × IsSchemaOfFiles sources schema }
-    ensures text { IfOk result (IsTextOf schema script.now order) }
+    ensures text { IfOk result (IsTextOf schema script.now (Some order)) }
     ensures memory { IfErr result (λ stop. stop ≡ Stop.NoMemory) }
 {
     // A law, on which those of texts and replies rest: it does nothing.
@@ -68,7 +69,7 @@ fn run<'a>(
     let Ok(shared) = Arc::try_clone(&schema) else {
         return Err(Stop::NoMemory);
     };
-    let Ok(ran) = script_run::run_alone(alloc, shared, script, order) else {
+    let Ok(ran) = run_alone(alloc, shared, script, order) else {
         return Err(Stop::NoMemory);
     };
     let (notes, left) = (ran.notes.as_slice(), ran.left.as_slice());
@@ -88,13 +89,13 @@ fn decide_script<'a, F: Files>(
 ) -> Result<Items<u8>, Stop<'a>>
     requires compiled { (sources : List source) × IsSchemaOfFiles sources schema }
     ensures on { FilesGoOn (F.state files.old) (F.state files.new) }
-    ensures text { IfOk result (IsScriptText schema order name.now (F.state files.old).read (F.state files.new).read (F.state files.old).held
-        (λ files work. Scripting files name.now order schema work)) }
-    ensures stop { IfErr result (Stops (F.state files.old) (F.state files.new) (λ files work. Scripting files name.now order schema work)) }
+    ensures text { IfOk result (IsScriptText schema (Some order) name.now (F.state files.old).read (F.state files.new).read (F.state files.old).held
+        (λ files work. Scripting files name.now (Some order) schema work)) }
+    ensures stop { IfErr result (Stops (F.state files.old) (F.state files.new) (λ files work. Scripting files name.now (Some order) schema work)) }
     ensures named { IfErr result (IsOf (λ named. named ≡ name.now)) }
     ensures whole { OnOk result (FetchedAll (name.now ∷ []) (F.state files.old).fetches (F.state files.new).fetches) }
     ensures stopped { IfErr result (StoppedLate name.now (F.state files.old).fetches (F.state files.new).fetches) }
-    ensures refused { IfErr result (StoppedFrom (FileAsks name.now (Reading schema order) (F.state files.old).read (F.state files.new).read)) }
+    ensures refused { IfErr result (StoppedFrom (FileAsks name.now (Reading schema (Some order)) (F.state files.old).read (F.state files.new).read)) }
 {
     match fetch(alloc, files, name) {
         Err(stop) => Err(stop),
@@ -114,16 +115,17 @@ pub fn decide_run<'a, F: Files>(
     files: &mut F,
 ) -> Result<Items<u8>, Stop<'a>>
     ensures on { FilesGoOn (F.state files.old) (F.state files.new) }
-    ensures text { IfOk result (IsRunText (run_words script.now order (map (λ name. name.now) names.now))
+    ensures text { IfOk result (IsRunText (run_words script.now (Some order) (map (λ name. name.now) names.now))
         (F.state files.old).read (F.state files.new).read (F.state files.old).held
-        (λ files work. Running files (run_words script.now order (map (λ name. name.now) names.now)) work)) }
+        (λ files work. Running files (run_words script.now (Some order) (map (λ name. name.now) names.now)) work)) }
     ensures stop { IfErr result (Stops (F.state files.old) (F.state files.new)
-        (λ files work. Running files (run_words script.now order (map (λ name. name.now) names.now)) work)) }
-    ensures reached { IfErr result (IsOf (ComesTo (Some (Run (run_words script.now order (map (λ name. name.now) names.now)))) (F.state files.old).held)) }
+        (λ files work. Running files (run_words script.now (Some order) (map (λ name. name.now) names.now)) work)) }
+    ensures reached { IfErr result (IsOf (ComesTo (Some (Run (run_words script.now (Some order) (map (λ name. name.now) names.now))))
+        (F.state files.old).held)) }
     ensures whole { OnOk result (FetchedAll (map (λ name. name.now) names.now ++ script.now ∷ []) (F.state files.old).fetches (F.state files.new).fetches) }
     ensures stopped { IfErr result (StoppedAfter (map (λ name. name.now) names.now) (script.now ∷ [])
         (F.state files.old).fetches (F.state files.new).fetches) }
-    ensures refused { IfErr result (StoppedFrom (RefusedFrom (Some (Run (run_words script.now order (map (λ name. name.now) names.now))))
+    ensures refused { IfErr result (StoppedFrom (RefusedFrom (Some (Run (run_words script.now (Some order) (map (λ name. name.now) names.now))))
         (F.state files.old).read (F.state files.new).read)) }
 {
     match fetch_schema(alloc, names, files) {

@@ -8,7 +8,7 @@ ghost use Rattle.mojo_tool.specs.Answers.{code_of};
 pub enum Status {
     /// All was done and the whole text written.
     Done,
-    /// A file is refused; a line on standard error says which and why.
+    /// A file is refused, or a newer one doesn't read an older one; a line on standard error says which and why.
     Refused,
     /// The words are no command, or ask for help.
     WrongUse,

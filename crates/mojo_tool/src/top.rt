@@ -1,7 +1,7 @@
 //! The top call.
 
-ghost use Rattle.std.specs.Prelude.{◌≡◌, ◌⊎◌, ℕ, List, map, string_bytes, Some, None, IfOk};
-ghost use Rattle.command_line.specs.Asked.{command_of};
+ghost use Rattle.std.specs.Prelude.{◌≡◌, ◌⊎◌, ℕ, List, map, string_bytes, Some, None, IfErr, IfNone, IfOk, IfSome};
+ghost use Rattle.command_line.specs.Asked.{AsksThreads, asked_of, at_once_of, command_of};
 ghost use Rattle.line_parts.specs.Schemas.{IsPrintableSchema};
 ghost use Rattle.mj_io.specs.Outside.{Named, SinkState};
 ghost use Rattle.mj_schema.specs.declared.schema.Schema.{Schema};
@@ -17,10 +17,11 @@ ghost use Rattle.mojo_tool.specs.Lines.{refusal_text, error_line, read_text};
 ghost use Rattle.mojo_tool.specs.Work.{Work, IsWork};
 ghost use Rattle.mojo_tool.specs.declared.status.Status.{Status};
 
+use crate::at_once::decide_at_once;
 use crate::decide::{Stop, decide};
 use crate::refusal::{ToolRefusal, push_refusal};
 use crate::status::Status;
-use command_line::{WordsError, read_words};
+use command_line::{Command, RunAtOnce, Words, WordsError, read_words};
 use mj_io::{Files, Sink, write_all};
 use mojom_print::push_text;
 use script_laws::some_answer;
@@ -28,7 +29,7 @@ use sealed_laws::sealed_is_read;
 use std::alloc::{AllocError, Global};
 use std::sync::Wait;
 use std::thread::Threads;
-use step_gate::Gate;
+use step_gate::{Gate, Gates};
 
 /// Writes a text to standard error. A fault of it changes nothing.
 fn complain<E: Sink>(err: &mut E, text: &[u8])
@@ -90,18 +91,16 @@ fn report<E: Sink>(alloc: Global, err: &mut E, stop: Stop) -> Status
     }
 }
 
-/// All but runs with threads.
-#[tactic(auto, using(crate::proofs::Reporting::short_at_once))]
-fn alone<F: Files, O: Sink, E: Sink>(
+/// What is done on one thread.
+fn on_one_thread<F: Files, O: Sink, E: Sink>(
     alloc: Global,
-    words: &[String],
+    command: Command<'_>,
     files: &mut F,
     out: &mut O,
     err: &mut E,
 ) -> Status
-    ensures wrong_use { command_of (map string_bytes words.now) ≡ None → (result ≡ Status.WrongUse) ⊎ (result ≡ Status.NoMemory) }
-    ensures answers { Answers (record {
-      words = map string_bytes words.now;
+    ensures { (words : List (List ℕ)) → Some (asked_of command.entry) ≡ command_of words → Answers (record {
+      words = words;
       files_before = F.state files.old;
       files = F.state files.new;
       out_before = O.state out.old;
@@ -110,21 +109,85 @@ fn alone<F: Files, O: Sink, E: Sink>(
       err = E.state err.new;
     }) result }
 {
-    match read_words(alloc, words) {
-        Ok(command) => match decide(alloc, command, files) {
-            Ok(text) => print(out, text.as_slice()),
-            Err(stop) => report(alloc, err, stop),
-        },
-        Err(WordsError::WrongUse(text)) => {
-            complain(err, text.as_bytes());
-            Status::WrongUse
-        }
-        Err(WordsError::Memory) => Status::NoMemory,
+    match decide(alloc, command, files) {
+        Ok(text) => print(out, text.as_slice()),
+        Err(stop) => report(alloc, err, stop),
     }
 }
 
-/// The program for all words but a run with threads, for which it answers none and does nothing.
-/// No words are read as one.
+/// A run with a thread for each sequence.
+fn on_threads<
+    R: Wait + Threads + Sync,
+    F: Files,
+    O: Sink,
+    E: Sink,
+    G: Gate + Send + Drop,
+    K: Gates<G>,
+>(
+    rt: &R,
+    alloc: Global,
+    run: RunAtOnce<'_>,
+    files: &mut F,
+    out: &mut O,
+    err: &mut E,
+    gates: &K,
+) -> Status
+    ensures { (words : List (List ℕ)) → Some (at_once_of run.entry) ≡ command_of words → Answers (record {
+      words = words;
+      files_before = F.state files.old;
+      files = F.state files.new;
+      out_before = O.state out.old;
+      out = O.state out.new;
+      err_before = E.state err.old;
+      err = E.state err.new;
+    }) result }
+{
+    match decide_at_once(rt, alloc, run.script, run.files.as_slice(), files, gates) {
+        Ok(text) => print(out, text.as_slice()),
+        Err(stop) => report(alloc, err, stop),
+    }
+}
+
+/// All but a run with threads, which comes back where the words ask for one: then nothing was fetched or written.
+#[tactic(auto, using(crate::proofs::Reporting::short_at_once))]
+fn alone<'a, F: Files, O: Sink, E: Sink>(
+    alloc: Global,
+    words: &'a [String],
+    files: &mut F,
+    out: &mut O,
+    err: &mut E,
+) -> Result<Status, RunAtOnce<'a>>
+    ensures wrong_use { IfOk result (λ status. command_of (map string_bytes words.now) ≡ None
+        → (status ≡ Status.WrongUse) ⊎ (status ≡ Status.NoMemory)) }
+    ensures threads { IfOk result (λ status. AsksThreads (command_of (map string_bytes words.now)) → status ≡ Status.NoMemory) }
+    ensures answers { IfOk result (Answers (record {
+      words = map string_bytes words.now;
+      files_before = F.state files.old;
+      files = F.state files.new;
+      out_before = O.state out.old;
+      out = O.state out.new;
+      err_before = E.state err.old;
+      err = E.state err.new;
+    })) }
+    ensures at_once { IfErr result (λ run. Some (at_once_of run) ≡ command_of (map string_bytes words.now)) }
+    ensures same { IfErr result (λ run. (F.state files.new ≡ F.state files.old) × (O.state out.new ≡ O.state out.old)
+        × (E.state err.new ≡ E.state err.old)) }
+{
+    match read_words(alloc, words) {
+        Ok(read) => match read {
+            Words::AtOnce(run) => Err(run),
+            Words::Alone(command) => Ok(on_one_thread(alloc, command, files, out, err)),
+        },
+        Err(WordsError::WrongUse(text)) => {
+            complain(err, text.as_bytes());
+            Ok(Status::WrongUse)
+        }
+        Err(WordsError::Memory) => Ok(Status::NoMemory),
+    }
+}
+
+/// The program for all words but those of a run with threads: for them it answers none, and nothing
+/// was fetched or written.
 ///
 /// The words begin with the program's name. The status is 0 where all was done, and else: 1 the
 /// first refusal that the files give, with its line on `err`; 2 the words are no command, or ask for
@@ -141,7 +204,7 @@ pub fn mojo_alone<F: Files, O: Sink, E: Sink>(
     err: &mut E,
 ) -> Option<u8>
     ensures wrong_use { command_of (map string_bytes words.now) ≡ None → (result ≡ Some 2) ⊎ (result ≡ Some 5) }
-    ensures answers { (status : Status) × (result ≡ Some (code_of status)) × Answers (record {
+    ensures answers { IfSome result (λ code. (status : Status) × (code ≡ code_of status) × Answers (record {
       words = map string_bytes words.now;
       files_before = F.state files.old;
       files = F.state files.new;
@@ -149,24 +212,30 @@ pub fn mojo_alone<F: Files, O: Sink, E: Sink>(
       out = O.state out.new;
       err_before = E.state err.old;
       err = E.state err.new;
-    }) status }
+    }) status) }
+    ensures threads { AsksThreads (command_of (map string_bytes words.now)) → (result ≡ None) ⊎ (result ≡ Some 5) }
+    ensures none { IfNone result (AsksThreads (command_of (map string_bytes words.now)) × (F.state files.new ≡ F.state files.old)
+        × (O.state out.new ≡ O.state out.old) × (E.state err.new ≡ E.state err.old)) }
 {
-    Some(alone(alloc, words, files, out, err).code())
+    match alone(alloc, words, files, out, err) {
+        Ok(status) => Some(status.code()),
+        Err(_run) => None,
+    }
 }
 
-/// The whole program: what `mojo_alone` does, and runs with threads.
+/// The whole program: what `mojo_alone` does, and runs with threads, which may wait. If it returns,
+/// a run with threads keeps the same laws; its sequences may have had their turns in whatever order.
 ///
-/// `words` begin with the program's name. `gate` stands round the steps of workers, which no words
-/// ask for.
-pub fn mojo_main<R: Wait + Threads + Sync, F: Files, O: Sink, E: Sink, G: Gate + Sync>(
-    _rt: &R,
-    alloc: Global,
-    words: &[String],
-    files: &mut F,
-    out: &mut O,
-    err: &mut E,
-    _gate: &G,
-) -> u8
+/// `words` begin with the program's name. `gates` makes for each sequence of a run with threads the
+/// gate that stands round its steps.
+pub fn mojo_main<
+    R: Wait + Threads + Sync,
+    F: Files,
+    O: Sink,
+    E: Sink,
+    G: Gate + Send + Drop,
+    K: Gates<G>,
+>(rt: &R, alloc: Global, words: &[String], files: &mut F, out: &mut O, err: &mut E, gates: &K) -> u8
     ensures wrong_use { command_of (map string_bytes words.now) ≡ None → (result ≡ 2) ⊎ (result ≡ 5) }
     ensures answers { (status : Status) × (result ≡ code_of status) × Answers (record {
       words = map string_bytes words.now;
@@ -178,10 +247,9 @@ pub fn mojo_main<R: Wait + Threads + Sync, F: Files, O: Sink, E: Sink, G: Gate +
       err = E.state err.new;
     }) status }
 {
-    match mojo_alone(alloc, words, files, out, err) {
-        Some(code) => code,
-        // No words are read as a run with threads.
-        None => unreachable!(),
+    match alone(alloc, words, files, out, err) {
+        Ok(status) => status.code(),
+        Err(run) => on_threads(rt, alloc, run, files, out, err, gates).code(),
     }
 }
 

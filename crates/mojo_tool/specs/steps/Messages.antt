@@ -34,7 +34,7 @@ pub record IsFileText (name : List ℕ) (next : List ℕ → Work → Type 0) (b
   pub text_of : IsTextFor work text
 
 -- the text is that of a run of the script that the bytes of a file are
-pub record IsScriptText (schema : Schema) (order : ℕ) (name : List ℕ) (before now : List Named) (held : Option (List Named))
+pub record IsScriptText (schema : Schema) (order : Option ℕ) (name : List ℕ) (before now : List Named) (held : Option (List Named))
     (ask : List Named → Work → Type 0) (text : List ℕ) : Type 0 where
   pub bytes : List ℕ
   pub script : Script

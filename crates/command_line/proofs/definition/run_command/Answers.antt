@@ -1,27 +1,21 @@
-use Rattle.std.proofs.Common.{rules, ap, ap₂, Bool, false, codes, ◌≡◌, ◌∙◌, ◌||◌}
+use Rattle.std.proofs.Common.{ap₂, Bool, false, codes, ◌≡◌, ◌∙◌, ◌||◌}
 use Rattle.std.proofs.lemmas.Result.{IfOk-weaker}
-use Rattle.clap.specs.Simple.{App, app_of, app_of_fields, new_app, with_rule}
+use Rattle.clap.specs.Simple.{app_of, with_rule}
 use Rattle.clap.specs.declared.builder.command.Command.TheViews.{out-Command}
-use Rattle.command_line.specs.Definition.{free_option, option}
+use Rattle.command_line.specs.Definition.{flag, run_start}
 use Rattle.command_line.proofs.definition.run_command.Goals as goal
 
 abbrev either : Bool → Bool → Bool
 either a b = a || b
 
-abbrev first : App
-first = with_rule (new_app (codes "run")) (option (codes "script"))
-
 pub returns-clause-app : goal.returns-clause-app
 returns-clause-app c =
-    let start : app_of c.about.result ≡ new_app (codes "run") = ap app_of_fields c.about.ensures ∙ c.new.ensures.app in
-    let one : app_of c.in_ok-arg.field-0 ≡ first = c.in_ok-arg.ensures.shape c.option_arg.ensures.local ∙ ap₂ with_rule start c.option_arg.ensures.rule in
-    let two : app_of c.in_ok-arg-2.field-0 ≡ with_rule first (free_option (codes "order")) =
-    c.in_ok-arg-2.ensures.shape c.free_option_arg.ensures.local ∙ ap₂ with_rule one c.free_option_arg.ensures.rule in
-    IfOk-weaker c.arg-3.result _ _ (λ r h. h.shape c.files_arg.ensures.local ∙ ap₂ with_rule two c.files_arg.ensures.rule) c.arg-3.ensures
+    let one : app_of c.in_ok-arg.field-0 ≡ with_rule run_start (flag (codes "threads")) =
+    c.in_ok-arg.ensures.shape c.flag_arg.ensures.local ∙ ap₂ with_rule c.in_ok-run_start_command.ensures.app c.flag_arg.ensures.rule in
+    IfOk-weaker c.arg-2.result _ _ (λ r h. h.shape c.files_arg.ensures.local ∙ ap₂ with_rule one c.files_arg.ensures.rule) c.arg-2.ensures
 
 pub returns-clause-local : goal.returns-clause-local
 returns-clause-local c =
-    let start : (out-Command c.about.result).has_globals ≡ false = search rules in
-    let one : (out-Command c.in_ok-arg.field-0).has_globals ≡ false = c.in_ok-arg.ensures.globals ∙ ap₂ either start c.option_arg.ensures.local in
-    let two : (out-Command c.in_ok-arg-2.field-0).has_globals ≡ false = c.in_ok-arg-2.ensures.globals ∙ ap₂ either one c.free_option_arg.ensures.local in
-    IfOk-weaker c.arg-3.result _ _ (λ r h. h.globals ∙ ap₂ either two c.files_arg.ensures.local) c.arg-3.ensures
+    let one : (out-Command c.in_ok-arg.field-0).has_globals ≡ false =
+    c.in_ok-arg.ensures.globals ∙ ap₂ either c.in_ok-run_start_command.ensures.local c.flag_arg.ensures.local in
+    IfOk-weaker c.arg-2.result _ _ (λ r h. h.globals ∙ ap₂ either one c.files_arg.ensures.local) c.arg-2.ensures

@@ -82,9 +82,12 @@ numbered word words fine = (
         (
           λ t none. inr (refl, no_number (decode_with (rows_at decoding words).1) (handles_in (rows_at decoding words).1) none),
           (
-            λ t none. let same : codes "help" ≡ word = (bytes_eq-Decides (codes "help") word).0 (either_false _ t) in
-                absurd (true≢false (sym ((bytes_eq-Decides word (codes "help")).1 (sym same)) ∙ fine)),
-            tt,
+            λ t none. absurd (none-some _ (sym none)),
+            (
+              λ t none. let same : codes "help" ≡ word = (bytes_eq-Decides (codes "help") word).0 (either_false _ t) in
+                  absurd (true≢false (sym ((bytes_eq-Decides word (codes "help")).1 (sym same)) ∙ fine)),
+              tt,
+            ),
           ),
         ),
       ),

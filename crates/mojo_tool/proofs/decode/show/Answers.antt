@@ -8,5 +8,5 @@ pub returns-in-Ok-shown_line-clause-text : goal.returns-in-Ok-shown_line-clause-
 returns-in-Ok-shown_line-clause-text c =
     shown_value c.args.checked.now c.args.name.now c.in-Some.method.now c.parameters_kind-kind.result (tree_of c.root-view.result)
     c.in-Ok.text.items c.in-Ok-shown_line.line
-    (ap option_copied (sym c.in-Some.is) ∙ c.method-found.ensures) c.root-view.ensures c.parameters_kind-kind.ensures c.in-Ok.ensures
+    (ap option_copied (sym c.in-Some.is) ∙ c.method-found.ensures) c.root-view.ensures.value c.parameters_kind-kind.ensures c.in-Ok.ensures
     (rw (c.as_str.ensures, c.as_slice.ensures.value) at c.in-Ok-shown_line.ensures)

@@ -1,4 +1,4 @@
-use Rattle.std.proofs.Common.{◌≤◌, ℕ, sym, subst}
+use Rattle.std.proofs.Common.{◌≤◌, ℕ, sym, subst, Some}
 use Rattle.mj_base.specs.declared.limits.TheConstants.{MAX_FILE_BYTES}
 use Rattle.mojo_tool.proofs.Asking.{ok_goes, err_goes}
 use Rattle.mojo_tool.proofs.Messages.{of_none}
@@ -11,7 +11,8 @@ use Rattle.mojo_tool.proofs.run.decide_script.Goals as goal
 
 pub returns-in-Err-read_script-clause-stop : goal.returns-in-Err-read_script-clause-stop
 returns-in-Err-read_script-clause-stop g c =
-    no_script _ _ c.args.name.now c.args.order c.args.schema c.in-Ok.bytes.items c.in-Err-read_script.stop c.in-Ok.ensures.bytes c.in-Ok.ensures.short
+    no_script _ _ c.args.name.now (Some c.args.order) c.args.schema c.in-Ok.bytes.items c.in-Err-read_script.stop c.in-Ok.ensures.bytes
+    c.in-Ok.ensures.short
     (rw c.as_slice.ensures.value at c.in-Err-read_script.ensures.stop)
 
 pub returns-in-Err-read_script-clause-named : goal.returns-in-Err-read_script-clause-named
@@ -27,7 +28,7 @@ run-requires-clause-read g c = (c.in-Ok.bytes.items, rw c.as_slice.ensures.value
 pub returns-clause-text : goal.returns-clause-text
 returns-clause-text g c =
     ok_goes _ _ _
-    (λ text is. script_text _ _ _ c.args.name.now c.in-Ok.bytes.items text c.args.order c.args.schema c.in-Ok-read_script.script
+    (λ text is. script_text _ _ _ c.args.name.now c.in-Ok.bytes.items text (Some c.args.order) c.args.schema c.in-Ok-read_script.script
     c.in-Ok.ensures.bytes c.in-Ok.ensures.short c.in-Ok.ensures.came (rw c.as_slice.ensures.value at c.in-Ok-read_script.ensures.script) is) c.run.ensures.text
 
 pub returns-in-Err-clause-stopped : goal.returns-in-Err-clause-stopped
@@ -35,8 +36,8 @@ returns-in-Err-clause-stopped g c = one_late c.args.name.now c.in-Err.stop _ _ c
 
 pub returns-in-Err-read_script-clause-stopped : goal.returns-in-Err-read_script-clause-stopped
 returns-in-Err-read_script-clause-stopped g c =
-    asked_late _ c.args.name.now c.in-Err-read_script.stop _ _ (reading_late c.args.schema c.args.order c.in-Ok.bytes.items)
-    (script_refused c.args.schema c.args.order c.in-Ok.bytes.items c.in-Err-read_script.stop
+    asked_late _ c.args.name.now c.in-Err-read_script.stop _ _ (reading_late c.args.schema (Some c.args.order) c.in-Ok.bytes.items)
+    (script_refused c.args.schema (Some c.args.order) c.in-Ok.bytes.items c.in-Err-read_script.stop
     (rw c.as_slice.ensures.value at c.in-Err-read_script.ensures.stop)) c.in-Ok.ensures.whole
 
 pub returns-clause-whole : goal.returns-clause-whole
@@ -47,13 +48,13 @@ returns-clause-stopped g c = err_goes _ _ _ (λ why none. short_late c.args.name
 
 pub returns-in-Err-clause-refused : goal.returns-in-Err-clause-refused
 returns-in-Err-clause-refused g c =
-    fetch_from c.args.name.now (Reading c.args.schema c.args.order) _ _ c.in-Err.stop _ _ c.in-Err.ensures.ended
+    fetch_from c.args.name.now (Reading c.args.schema (Some c.args.order)) _ _ c.in-Err.stop _ _ c.in-Err.ensures.ended
 
 pub returns-in-Err-read_script-clause-refused : goal.returns-in-Err-read_script-clause-refused
 returns-in-Err-read_script-clause-refused g c =
-    file_from c.args.name.now c.in-Ok.bytes.items (Reading c.args.schema c.args.order) _ _ c.in-Err-read_script.stop c.in-Ok.ensures.came
-    (script_refused c.args.schema c.args.order c.in-Ok.bytes.items c.in-Err-read_script.stop
+    file_from c.args.name.now c.in-Ok.bytes.items (Reading c.args.schema (Some c.args.order)) _ _ c.in-Err-read_script.stop c.in-Ok.ensures.came
+    (script_refused c.args.schema (Some c.args.order) c.in-Ok.bytes.items c.in-Err-read_script.stop
     (rw c.as_slice.ensures.value at c.in-Err-read_script.ensures.stop))
 
 pub returns-clause-refused : goal.returns-clause-refused
-returns-clause-refused g c = memory_from c.run.result c.args.name.now (Reading c.args.schema c.args.order) _ _ c.run.ensures.memory
+returns-clause-refused g c = memory_from c.run.result c.args.name.now (Reading c.args.schema (Some c.args.order)) _ _ c.run.ensures.memory

@@ -1,13 +1,23 @@
-use Rattle.command_line.specs.Asked.{asked_of}
-use Rattle.mojo_tool.proofs.Reporting.{printed, reported}
+use Rattle.std.proofs.Common.{refl}
+use Rattle.std.specs.Prelude.{map, string_bytes}
+use Rattle.mojo_tool.proofs.Reporting.{never_threads, none_wrong, short_at_once}
 use Rattle.mojo_tool.proofs.top.alone.Goals as goal
 
-pub returns-in-Ok-decide-clause-answers : goal.returns-in-Ok-decide-clause-answers
-returns-in-Ok-decide-clause-answers g c =
-    printed _ (asked_of c.in-Ok.command) c.in-Ok.ensures.ok _ _ _ _ _ _ c.print.result c.in-Ok-decide.ensures.text c.in-Ok-decide.ensures.whole
-    (rw c.as_slice.ensures at c.print.ensures)
+pub returns-in-AtOnce-clause-at_once : goal.returns-in-AtOnce-clause-at_once
+returns-in-AtOnce-clause-at_once g c = rw c.in-AtOnce.is at c.in-Ok.ensures.ok
 
-pub returns-in-Err-clause-answers : goal.returns-in-Err-clause-answers
-returns-in-Err-clause-answers g c =
-    reported _ (asked_of c.in-Ok.command) c.in-Ok.ensures.ok _ _ _ _ _ c.in-Err.stop c.report.result
-    c.in-Err.ensures.stop c.in-Err.ensures.reached c.in-Err.ensures.stopped c.in-Err.ensures.refused c.report.ensures
+pub returns-in-AtOnce-clause-same : goal.returns-in-AtOnce-clause-same
+returns-in-AtOnce-clause-same g c = (refl, refl, refl)
+
+pub returns-in-Alone-clause-wrong_use : goal.returns-in-Alone-clause-wrong_use
+returns-in-Alone-clause-wrong_use g c none = absurd (none_wrong _ _ c.in-Ok.ensures.ok none)
+
+pub returns-in-Alone-clause-threads : goal.returns-in-Alone-clause-threads
+returns-in-Alone-clause-threads g c asks =
+    absurd (never_threads (map string_bytes c.args.words.now) c.in-Alone.command (rw c.in-Alone.is at c.in-Ok.ensures.ok) asks)
+
+pub returns-in-Alone-clause-answers : goal.returns-in-Alone-clause-answers
+returns-in-Alone-clause-answers g c = c.on_one_thread.ensures (map string_bytes c.args.words.now) (rw c.in-Alone.is at c.in-Ok.ensures.ok)
+
+pub returns-in-Err-Memory-clause-answers : goal.returns-in-Err-Memory-clause-answers
+returns-in-Err-Memory-clause-answers g c = short_at_once (map string_bytes c.args.words.now) _ _ _
