@@ -10,6 +10,8 @@ MAX_FILE_BYTES, MOST_MEMBERS = 1_048_576, 4_096
 IMPORT_BYTES = 262_144
 # How many fields an old struct lacks.
 LACKED_FIELDS = 100
+# The most bytes that a data pipe holds, and how many of them are moved at once.
+MAX_DATA_BYTES, PIECE_BYTES = 65_536, 16
 
 
 @dataclass
@@ -48,6 +50,16 @@ def checked(texts):
 def compiled(texts):
     """A run of a script without lines: the files are judged whole, and nothing of them is printed."""
     return call(['run', '--script', 's.script'], texts, [('s.script', 'seqs 1\n')])
+
+
+def compared(old, new):
+    """A comparison of two files of which the newer one reads what the older one writes."""
+    return call(['compat'], {'old.mojom': old, 'new.mojom': new})
+
+
+def ran(lines):
+    """A run of a script of one sequence, over a file without definitions."""
+    return call(['run', '--script', 's.script'], {'a.mojom': 'module a;\n'}, [('s.script', '\n'.join(['seqs 1', *lines, '']))])
 
 
 def decoded(text, message):
@@ -214,6 +226,62 @@ def unknown_tag_texts(count, tags):
     return encoded(union_of(range(tags)[::-1], '[Extensible] '), f'<{tags}>', count, 'error: Misfit 0.0')
 
 
+def stable_structs(structs):
+    """Stable structs of as many fields as there may be, twice the same."""
+    text = ''.join(block(f'[Stable] struct S{number}', (f'int8 f{field};' for field in range(MOST_MEMBERS))) for number in range(structs))
+    return compared(text, text)
+
+
+def stable_unions(unions):
+    """Stable unions of as many tags as there may be, which rise in the older file and fall in the newer one."""
+    def text(step):
+        tags = range(MOST_MEMBERS)[::step]
+        return ''.join(block(f'[Stable] union U{number}', (f'int8 f{tag}@{tag};' for tag in tags)) for number in range(unions))
+    return compared(text(1), text(-1))
+
+
+def stable_enums(enums):
+    """Stable enums of as many members as there may be, whose numbers don't rise, and stand the other way round in the newer file."""
+    def text(step):
+        members = [f'A{place}={number},' for place, number in enumerate(mixed(MOST_MEMBERS))][::step]
+        return ''.join(block(f'[Stable] enum E{number}', members) for number in range(enums))
+    return compared(text(1), text(-1))
+
+
+def chained(structs):
+    """A stable struct that has a second one, which has a third, and so on, twice the same: each pair follows from the one before."""
+    links = (block(f'struct S{number}', [f'S{number + 1}? f;']) for number in range(structs - 1))
+    text = f'[Stable] {"".join(links)}struct S{structs - 1} {{}};\n'
+    return compared(text, text)
+
+
+def circle(structs, fields):
+    """Structs in a circle, each with fields of so many that follow it; the first is stable."""
+    return '[Stable] ' + ''.join(
+        block(f'struct S{number}', (f'S{(number + field + 1) % structs}? f{field};' for field in range(fields))) for number in range(structs))
+
+
+def opposite(structs, fields):
+    """Circles of which the newer one lacks a struct, so that each struct comes to stand opposite each."""
+    return compared(circle(structs, fields), circle(structs - 1, fields))
+
+
+def small_moves(count):
+    """A byte that is put in, and got out, again and again."""
+    return ran([f'0: data {MAX_DATA_BYTES} x y', *['0: put x 5a', '0: get y 1'] * count])
+
+
+def by_pieces(pieces):
+    """A data pipe that is filled piece by piece, and drained so."""
+    put, get = f'0: put-all x {"5a" * PIECE_BYTES}', f'0: get-all y {PIECE_BYTES}'
+    return ran([f'0: data {MAX_DATA_BYTES} x y', *[put] * pieces, *[get] * pieces])
+
+
+def views(length, count):
+    """A data pipe all of whose bytes are shown again and again, and of which none is got."""
+    return ran([f'0: data {MAX_DATA_BYTES} x y', f'0: put-all x {"5a" * length}', *['0: begin-get y', '0: end-get y 0'] * count])
+
+
 INPUTS = (
     Input('a module name of {} bytes and an enum of {} members', long_module, (250_000, 4_096)),
     Input('a module name of {} bytes and {} enums of 4,096 members', long_module_of_enums, (500_000, 12)),
@@ -239,4 +307,13 @@ INPUTS = (
     Input('{} times a union of the last of {} tags, which rise', functools.partial(tag_texts, 1), (64_000, 4_096)),
     Input('{} times a union of the last of {} tags, which fall', functools.partial(tag_texts, -1), (64_000, 4_096)),
     Input('{} times a union of a tag that {} falling tags lack, not sent', unknown_tag_texts, (100_000, 4_096)),
+    Input('two files of {} stable structs of 4,096 fields', stable_structs, (20,)),
+    Input('two files of {} stable unions of 4,096 tags, which rise in one and fall in the other', stable_unions, (15,)),
+    Input('two files of {} stable enums of 4,096 members, whose numbers don\'t rise', stable_enums, (20,)),
+    Input('two files of {} structs each of which has the next, the first of them stable', chained, (30_000,)),
+    Input('a circle of {} structs beside one of one less: as many pairs as the product', functools.partial(opposite, fields=1), (1_000,)),
+    Input('a circle of {} structs with 50 fields each beside one of one less: as many pairs', functools.partial(opposite, fields=50), (500,)),
+    Input('{} times a byte that is put into a data pipe and got out', small_moves, (32_000,)),
+    Input('a data pipe that is filled with {} pieces of 16 bytes, and drained by as many', by_pieces, (4_096,)),
+    Input('{} bytes in a data pipe that are shown {} times', views, (65_536, 500)),
 )

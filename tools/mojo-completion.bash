@@ -4,17 +4,17 @@ _mojo() {
   local word=${COMP_WORDS[COMP_CWORD]} before=${COMP_WORDS[COMP_CWORD - 1]} at=1 options=
   [[ ${COMP_WORDS[1]} == --explain ]] && at=2
   if ((COMP_CWORD == at)); then
-    options='run print check encode decode help --help'
+    options='run print check encode decode compat help --help'
     ((at == 1)) && options+=' --version --build --explain'
     COMPREPLY=($(compgen -W "$options" -- "$word"))
     return
   fi
   case ${COMP_WORDS[at]} in
-    run) options='--script --order --help' ;;
+    run) options='--script --order --threads --help' ;;
     encode) options='--method --response --value --help' ;;
     decode) options='--interface --response --handles --message --help' ;;
-    print | check) options='--help' ;;
-    help) COMPREPLY=($(compgen -W 'run print check encode decode' -- "$word")); return ;;
+    print | check | compat) options='--help' ;;
+    help) COMPREPLY=($(compgen -W 'run print check encode decode compat' -- "$word")); return ;;
   esac
   case $before in
     --script | --value | --message) COMPREPLY=($(compgen -f -- "$word")) ;;

@@ -26,6 +26,15 @@ FORMS = {
     'flush': ('name',),
     'pause': ('name', 'name', 'flush'),
     'raw': ('name', 'bytes', 'name*'),
+    'data': ('size', 'new', 'new'),
+    'put': ('name', 'bytes'),
+    'put-all': ('name', 'bytes'),
+    'get': ('name', 'count'),
+    'get-all': ('name', 'count'),
+    'begin-put': ('name',),
+    'end-put': ('name', 'bytes'),
+    'begin-get': ('name',),
+    'end-get': ('name', 'count'),
     'close': ('name or target',),
 }
 # The commands that give a response.
@@ -44,6 +53,8 @@ SORTS = {
     'moment': ('0|-?[1-9][0-9]*', 'here stands a moment, a number of 64 bits, with `-` where it is below 0, without leading zeros'),
     'version': (NUMBER, 'here stands a version, a number without leading zeros, below 4294967296'),
     'flush': (NUMBER, 'here stands the number of a flush, without leading zeros, below 4294967296'),
+    'size': (NUMBER, 'here stands how many bytes the data pipe holds at most, a number without leading zeros, below 4294967296'),
+    'count': (NUMBER, 'here stands how many bytes, a number without leading zeros, below 4294967296'),
     'side': ('remote|receiver', 'here stands `remote` or `receiver`'),
     'sort': ('shared_buffer|platform', 'here stands `shared_buffer` or `platform`'),
     'bytes': ('-|([0-9a-f]{2})+', 'bytes are pairs of hexadecimal digits in lower case, and `-` where there are none'),
@@ -53,14 +64,15 @@ SORTS = {
 }
 
 # The numbers that a word of a sort may be, where not all are.
-RANGES = {'moment': range(-2 ** 63, 2 ** 63), 'version': range(2 ** 32), 'flush': range(2 ** 32)}
+RANGES = {'moment': range(-2 ** 63, 2 ** 63), **{sort: range(2 ** 32) for sort in ('version', 'flush', 'size', 'count')}}
 
 # What is lacking where a line ends too early.
 LACKING = {'new': 'a name', 'name': 'a name', 'target': 'an endpoint, as `x#0`', 'name or target': 'a name, or an endpoint as `x#0`',
            'value': 'a value, as `(7)`, or `()` for no parameters', 'bytes': 'bytes in hexadecimal, or `-` for none',
            'method': 'the full name of a method', 'interface': 'the full name of an interface', 'side': '`remote` or `receiver`',
            'sort': '`shared_buffer` or `platform`', 'sequence': 'the number of a sequence',
-           'moment': 'a moment, as `-5`', 'version': 'a version, as `2`', 'flush': 'the number of a flush, as `1`'}
+           'moment': 'a moment, as `-5`', 'version': 'a version, as `2`', 'flush': 'the number of a flush, as `1`',
+           'size': 'how many bytes it holds at most, as `4096`', 'count': 'how many bytes, as `16`'}
 
 
 def words_of(line):
