@@ -21,8 +21,8 @@ like_part schema k l None same h = tt
 like_part schema k l (Some v) same h = like schema k l v same h
 
 -- a part of the kind that is there
-pub there : (schema : Schema) (of : Option KindTree) (k : KindTree) (o : Option View) → of ≡ Some k → IfSome o (IsOf schema (Some k)) → IfSome o (IsOf schema of)
-there schema of k o is h = subst (λ (l : Option KindTree). IfSome o (IsOf schema l)) (sym is) h
+pub there : (schema : Schema) (l : Option KindTree) (k : KindTree) (o : Option View) → l ≡ Some k → IfSome o (IsOf schema (Some k)) → IfSome o (IsOf schema l)
+there schema l k o is h = subst (λ (m : Option KindTree). IfSome o (IsOf schema m)) (sym is) h
 
 -- what is no object is of no kind
 pub no_object : (schema : Schema) (of : Option KindTree) (o : Option View) → o ≡ None → IfSome o (IsOf schema of)

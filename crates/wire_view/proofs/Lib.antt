@@ -1,3 +1,4 @@
+pub mod AbsentFacts
 pub mod Bytes
 pub mod Counts
 pub mod Defaults

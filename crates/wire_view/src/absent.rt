@@ -7,6 +7,7 @@ ghost use Rattle.mj_schema.specs.KindTrees.{kind_view};
 ghost use Rattle.mj_schema.specs.Sound.{is_text};
 ghost use Rattle.wire_model.specs.Absent.{literal_value, has_zero, first_number, enum_number, absent_kind, absent_field};
 ghost use Rattle.wire_view.specs.PartValues.{tree_in, object_in};
+ghost use Rattle.wire_view.specs.Parts.{number_of};
 
 use crate::parts::Part;
 use crate::texts::Utf8;
@@ -98,4 +99,14 @@ pub fn absent_field<'a>(schema: &Schema, field: &'a FieldRow) -> Part<'a>
         Some(literal) => literal_value(literal),
         None => absent_kind(schema, field.kind.node()),
     }
+}
+
+/// The number that a field reads as; none where it reads as something else. It stands by itself, so that a
+/// getter that meets no such field has no room to make for a part.
+#[inline(never)]
+pub fn absent_number(schema: &Schema, field: &FieldRow) -> Option<i128>
+    requires { IsTrue (option_map_or is_text field.now.default true) }
+    ensures { result ≡ number_of (absent_field schema.now field.now.default field.now.kind) }
+{
+    absent_field(schema, field).as_number()
 }

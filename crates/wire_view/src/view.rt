@@ -11,7 +11,7 @@ ghost use Rattle.wire_view.specs.Parts.{is_object};
 ghost use Rattle.wire_view.specs.Readable.{are_readable};
 ghost use Rattle.wire_view.specs.steps.Proper.{fields-prop};
 
-use crate::absent::absent_field;
+use crate::absent::{absent_field, absent_number};
 use crate::cells::{cell_at, slot_at};
 use crate::objects::list_at;
 use crate::on::On;
@@ -291,9 +291,19 @@ impl<'a> View<'a> {
     pub fn number(&self, i: u32) -> Option<i128>
         ensures { result ≡ option_and_then number_of (part (tree_of self.now) i) }
     {
-        match self.part(i) {
-            Some(part) => part.as_number(),
-            None => None,
+        match self.place(i) {
+            Place::Slot { at, bit, kind } => {
+                slot_at(self.schema, self.bytes, at, bit, kind, self.left).as_number()
+            }
+            Place::Member { at, kind } => {
+                cell_at(self.schema, self.bytes, at, 0, kind, self.left).as_number()
+            }
+            Place::List { at, of } => {
+                Part::Object(list_at(self.schema, self.bytes, at, of, self.left)).as_number()
+            }
+            Place::Absent(field) => absent_number(self.schema, field),
+            Place::Null => None,
+            Place::Nothing => None,
         }
     }
 
@@ -343,9 +353,17 @@ impl<'a> View<'a> {
         ensures value { option_map tree_of result ≡ option_and_then held (part (tree_of self.now) i) }
         ensures kind { IfSome result (IsOf (schema_of self.now) (kind_at (schema_of self.now) (kind_of self.now) i)) }
     {
-        match self.part(i) {
-            Some(part) => part.as_object(),
-            None => None,
+        match self.place(i) {
+            Place::Slot { at, bit, kind } => {
+                slot_at(self.schema, self.bytes, at, bit, kind, self.left).as_object()
+            }
+            Place::Member { at, kind } => {
+                cell_at(self.schema, self.bytes, at, 0, kind, self.left).as_object()
+            }
+            Place::List { at, of } => { Some(list_at(self.schema, self.bytes, at, of, self.left)) }
+            Place::Absent(_) => None,
+            Place::Null => None,
+            Place::Nothing => None,
         }
     }
 
