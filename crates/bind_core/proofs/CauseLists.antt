@@ -13,7 +13,7 @@ use Rattle.bind_model.proofs.NameOrder.{both_equal, found_by, tied, updated_by}
 use Rattle.bind_core.specs.EndSets.{has_end}
 use Rattle.bind_core.specs.contracts.waiting.CauseOrd.TheImpl as cause_order
 use Rattle.bind_core.specs.declared.waiting.Cause.{Cause}
-use Rattle.bind_core.specs.steps.Waiting.{Grows, Lists, ends_for, ends_in, has_list, list_of, same_cause}
+use Rattle.bind_core.specs.Causes.{Grows, Lists, ends_for, ends_in, has_list, list_of, same_cause}
 use Rattle.bind_core.proofs.EndOrder.{at_is, end_cmp}
 
 -- ## Causes in order

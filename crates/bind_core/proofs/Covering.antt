@@ -30,7 +30,7 @@ use Rattle.bind_core.specs.Covers.{AllListed, Covers, Stands}
 use Rattle.bind_core.specs.steps.Watching.{HasNear, IsWithin, KeepsTaken, end_named, is_near}
 use Rattle.bind_core.specs.EndSets.{has_end}
 use Rattle.bind_core.specs.steps.FirstTaken.{Ascends, first_taken, least_among}
-use Rattle.bind_core.specs.steps.Waiting.{Grows, IsNoted, Lists, Spares, causes_in, newest, woken}
+use Rattle.bind_core.specs.Causes.{Grows, IsNoted, Lists, Spares, causes_in, newest, woken}
 use Rattle.bind_core.specs.steps.Watched.{CoversReady, IsWatched}
 use Rattle.bind_model.specs.Plain.{asked_of}
 use Rattle.core_state.specs.Agreement.{Holds, end_with, past_of, schema_of, wire_in, with_notices}

@@ -30,8 +30,8 @@ use Rattle.bind_model.proofs.Outcomes.{left_false, right_false}
 use Rattle.bind_core.specs.Covers.{AllListed, AreListed}
 use Rattle.bind_core.specs.EndSets.{has_end}
 use Rattle.bind_core.specs.declared.waiting.Cause.{Cause}
-use Rattle.bind_core.specs.steps.Waiting.{Grows, HasCauses, IsNoted, Lists, Spares, all_for, causes_in, causes_of, causes_or, ends_for, flush_cause}
-use Rattle.bind_core.specs.steps.Waiting.{gone_cause, gone_causes, has_cause, newest, same_cause, woken}
+use Rattle.bind_core.specs.Causes.{Grows, HasCauses, IsNoted, Lists, Spares, all_for, causes_in, causes_of, causes_or, ends_for, flush_cause}
+use Rattle.bind_core.specs.Causes.{gone_cause, gone_causes, has_cause, newest, same_cause, woken}
 use Rattle.bind_core.specs.steps.Watching.{IsWithin}
 use Rattle.bind_core.proofs.CauseLists.{has_more, same_cause-true}
 

@@ -5,7 +5,7 @@ use Rattle.bind_model.specs.declared.event.Event.{Event}
 use Rattle.bind_model.specs.Notices.{Wait, is_met, waits}
 use Rattle.bind_model.specs.Ready.{is_ready}
 use Rattle.bind_core.specs.EndSets.{has_end}
-use Rattle.bind_core.specs.steps.Waiting.{HasCauses, Lists, newest, woken}
+use Rattle.bind_core.specs.Causes.{HasCauses, Lists, newest, woken}
 use Rattle.core_state.specs.Agreement.{Holds, past_of, wire_in}
 use Rattle.core_state.specs.declared.state.State.{State}
 

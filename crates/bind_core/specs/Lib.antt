@@ -1,3 +1,4 @@
+pub mod Causes
 pub mod Covers
 pub mod EndSets
 pub mod Play

@@ -2,6 +2,5 @@
 pub mod FirstTaken
 pub mod Numbering
 pub mod Takers
-pub mod Waiting
 pub mod Watched
 pub mod Watching

@@ -3,7 +3,7 @@
 ghost use Rattle.std.specs.Prelude.{◌≡◌, ◌+◌, ◌++◌, [], ◌∷◌, true, false, if◌then◌else◌, IsTrue, OnOk, OnErr};
 ghost use Rattle.std.specs.Option.{option_copied};
 ghost use Rattle.bind_core.specs.EndSets.{has_end};
-ghost use Rattle.bind_core.specs.steps.Waiting.{Grows, ends_for, flush_cause, gone_cause, has_list, list_of, same_cause};
+ghost use Rattle.bind_core.specs.Causes.{Grows, ends_for, flush_cause, gone_cause, has_list, list_of, same_cause};
 ghost use Rattle.bind_core.specs.declared.waiting.Cause.{Cause as cause_name};
 
 use mj_base::EndId;

@@ -10,7 +10,7 @@ ghost use Rattle.core_state.specs.Forgets.{StaysTrue};
 ghost use Rattle.bind_core.specs.EndSets.{has_end};
 ghost use Rattle.bind_core.specs.steps.FirstTaken.{least_among, lesser_of};
 ghost use Rattle.bind_core.specs.steps.Takers.{ready_taker};
-ghost use Rattle.bind_core.specs.steps.Waiting.{Grows, HasCauses, IsNoted, Spares, all_for, causes_in, causes_of, causes_or, ends_for, gone_causes, newest, woken};
+ghost use Rattle.bind_core.specs.Causes.{Grows, HasCauses, IsNoted, Spares, all_for, causes_in, causes_of, causes_or, ends_for, gone_causes, newest, woken};
 ghost use Rattle.bind_core.specs.steps.Watching.{IsWithin};
 
 use crate::end_set::EndSet;

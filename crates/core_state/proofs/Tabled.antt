@@ -6,7 +6,7 @@ use Rattle.bind_model.specs.declared.asked.Asked.{Asked}
 use Rattle.bind_model.specs.declared.event.Event.{Event}
 use Rattle.bind_model.specs.declared.told.Told.{Told}
 use Rattle.data_pipe.specs.Agreement.{DataAgrees}
-use Rattle.data_pipe.specs.MovesData.{moves_data}
+use Rattle.data_pipe.specs.steps.MovesData.{moves_data}
 use Rattle.data_pipe.specs.Table.{Lines}
 use Rattle.data_pipe.proofs.Agreeing.{data_quiet}
 use Rattle.end_notices.specs.Agreement.{AllAgree as NoticesAgree}

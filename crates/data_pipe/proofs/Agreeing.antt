@@ -22,7 +22,7 @@ use Rattle.data_pipe.specs.declared.side.DataToken.{DataToken}
 use Rattle.data_pipe.specs.declared.side.Side.TheVariants.{Producer, Consumer}
 use Rattle.data_pipe.specs.Agreement.{DataAgrees, if_producer, produced}
 use Rattle.data_pipe.specs.History.{pipe_in, side_of}
-use Rattle.data_pipe.specs.MovesData.{moves_data}
+use Rattle.data_pipe.specs.steps.MovesData.{moves_data}
 use Rattle.data_pipe.specs.Moving.{after, told}
 use Rattle.data_pipe.specs.Pipe.{Pipe, empty_pipe}
 use Rattle.data_pipe.specs.Table.{Lines, behind, has_line, in_front, line_of, side_in, AllStay, Becomes}

@@ -5,4 +5,4 @@ pub mod Calls
 pub mod History
 pub mod Table
 pub mod Agreement
-pub mod MovesData
+pub mod steps

@@ -9,7 +9,8 @@ use Rattle.std.proofs.lemmas.List.{length-map, get_or-map}
 use Rattle.import_order.specs.Numbers.{number_of}
 use Rattle.mj_base.specs.Names.{within}
 use Rattle.module_resolver.specs.declared.target.Target.{Target}
-use Rattle.module_resolver.specs.steps.Owners.{file_of, where_seen, owner, Notes}
+use Rattle.module_resolver.specs.Seats.{file_of, owner}
+use Rattle.module_resolver.specs.steps.Owners.{where_seen, Notes}
 use Rattle.module_resolver.proofs.Owned.{number_noted}
 
 -- one list more

@@ -3,7 +3,7 @@ use Rattle.std.proofs.Common.{◌≡◌, ℕ, zero, suc, ◌<◌, ◌≤◌, Lis
 use Rattle.std.specs.Prelude.{reverse}
 use Rattle.std.proofs.lemmas.List.{get_or-map, get_or_default, length-map, reverse-append}
 use Rattle.module_resolver.specs.steps.Cuts.{cut_at, Falls}
-use Rattle.module_resolver.specs.steps.Dots.{dots_in}
+use Rattle.module_resolver.specs.NameDots.{dots_in}
 
 -- none of these is above a number
 abbrev pub AreUpTo : ℕ → List ℕ → Type 0

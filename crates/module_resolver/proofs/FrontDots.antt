@@ -7,7 +7,7 @@ use Rattle.mojom_ast.specs.declared.names.Identifier.{Identifier}
 use Rattle.mj_base.specs.Names.{within}
 use Rattle.module_resolver.specs.NamesOf.{texts_from, fronts_of}
 use Rattle.module_resolver.specs.steps.Cuts.{Falls}
-use Rattle.module_resolver.specs.steps.Dots.{dots_in}
+use Rattle.module_resolver.specs.NameDots.{dots_in}
 use Rattle.module_resolver.proofs.OneMore.{take_item, map_reverse}
 use Rattle.module_resolver.proofs.DotCounts.{dots_within}
 use Rattle.module_resolver.proofs.Held.{first_text, next_text}

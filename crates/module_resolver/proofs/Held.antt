@@ -18,10 +18,11 @@ use Rattle.name_tree.proofs.Owners.{walk_within, value_kept}
 use Rattle.module_resolver.specs.declared.target.Target.{Target}
 use Rattle.module_resolver.specs.declared.name_index.NameIndex.{NameIndex}
 use Rattle.module_resolver.specs.declared.entry.Entry.{Entry}
-use Rattle.module_resolver.specs.steps.Dots.{dots_in}
+use Rattle.module_resolver.specs.NameDots.{dots_in}
+use Rattle.module_resolver.specs.Seats.{file_of, first_seen, owner, node_of, held}
 use Rattle.module_resolver.specs.NamesOf.{texts_from, fronts_of}
-use Rattle.module_resolver.specs.steps.Owners.{file_of, first_seen, where_seen, owner, Notes}
-use Rattle.module_resolver.specs.steps.Held.{Adds, node_of, held, owner_below, IsSound, IsEntry, IsMeasured, Entered, NotedAt, KeepsNodes}
+use Rattle.module_resolver.specs.steps.Owners.{where_seen, Notes}
+use Rattle.module_resolver.specs.steps.Held.{Adds, owner_below, IsSound, IsEntry, IsMeasured, Entered, NotedAt, KeepsNodes}
 use Rattle.module_resolver.proofs.Owned.{written}
 use Rattle.module_resolver.proofs.MarkedLengths.{no_both}
 use Rattle.module_resolver.proofs.DotCounts.{dots_within}

@@ -8,9 +8,10 @@ use Rattle.std.proofs.lemmas.Bool.{ltb-true, ltb-false}
 use Rattle.std.proofs.lemmas.List.{get_or_past, get_or_default, get_or_push, get_or_append_left, drop_all}
 use Rattle.mj_base.specs.Names.{within}
 use Rattle.mojom_files.specs.Refusals.{first_of}
-use Rattle.module_resolver.specs.steps.Dots.{dots_in}
-use Rattle.module_resolver.specs.steps.Lengths.{IsLesser, IsBetween, reached}
-use Rattle.module_resolver.specs.steps.Owners.{owner, HaveDotMarks, HaveDots}
+use Rattle.module_resolver.specs.NameDots.{dots_in, IsBetween, reached}
+use Rattle.module_resolver.specs.Seats.{owner, HaveDots}
+use Rattle.module_resolver.specs.steps.Lengths.{IsLesser}
+use Rattle.module_resolver.specs.steps.Owners.{HaveDotMarks}
 use Rattle.module_resolver.specs.declared.target.Target.{Target}
 use Rattle.module_resolver.proofs.DotCounts.{dots_within}
 use Rattle.module_resolver.proofs.OneMore.{drop_item}

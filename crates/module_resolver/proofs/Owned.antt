@@ -20,7 +20,8 @@ use Rattle.import_order.specs.Imports.{has}
 use Rattle.import_order.specs.Numbers.{number_of}
 use Rattle.module_resolver.specs.LookUp.{candidates, look_up}
 use Rattle.module_resolver.specs.NamesOf.{sees_number, names_in}
-use Rattle.module_resolver.specs.steps.Owners.{AreOwners, file_of, first_seen, where_seen, owner, Notes, SeeInOrder}
+use Rattle.module_resolver.specs.Seats.{AreOwners, file_of, first_seen, owner}
+use Rattle.module_resolver.specs.steps.Owners.{where_seen, Notes, SeeInOrder}
 use Rattle.import_order.proofs.Positions.{same_order, number_more}
 
 -- nothing more than what there is

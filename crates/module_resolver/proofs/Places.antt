@@ -10,9 +10,8 @@ use Rattle.module_resolver.specs.declared.target.Target.{Target}
 use Rattle.module_resolver.specs.declared.file_names.FileNames.{FileNames}
 use Rattle.module_resolver.specs.declared.name_index.NameIndex.{NameIndex}
 use Rattle.module_resolver.specs.declared.seat.Seat.{Seat}
-use Rattle.module_resolver.specs.steps.Owners.{owner}
-use Rattle.module_resolver.specs.steps.Held.{node_of, held, owner_below}
-use Rattle.module_resolver.specs.steps.Places.{IsSeat, IsSeated}
+use Rattle.module_resolver.specs.Seats.{owner, node_of, held, IsSeat, IsSeated}
+use Rattle.module_resolver.specs.steps.Held.{owner_below}
 use Rattle.module_resolver.proofs.Held.{below_is, nothing_within}
 use Rattle.module_resolver.proofs.Owned.{found_is}
 

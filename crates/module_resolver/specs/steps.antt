@@ -4,5 +4,3 @@ pub mod Owners
 pub mod Seen
 pub mod Lengths
 pub mod Held
-pub mod Dots
-pub mod Places

@@ -3,7 +3,7 @@
 ghost use Rattle.std.specs.Prelude.{◌≡◌, reverse, map, IfOk};
 ghost use Rattle.module_resolver.specs.NamesOf.{texts_from, fronts_of};
 ghost use Rattle.module_resolver.specs.steps.Cuts.{Falls};
-ghost use Rattle.module_resolver.specs.steps.Dots.{dots_in};
+ghost use Rattle.module_resolver.specs.NameDots.{dots_in};
 
 use crate::dots::{count_within, dots_in};
 use crate::fronts::reversed;

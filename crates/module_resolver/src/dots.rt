@@ -1,7 +1,7 @@
 //! How many dots names have.
 
 ghost use Rattle.std.specs.Prelude.{◌≡◌, ◌+◌, ◌<◌, ◌≤◌, ◌==◌, length, get_or, IfOk, if◌then◌else◌};
-ghost use Rattle.module_resolver.specs.steps.Dots.{dots_in};
+ghost use Rattle.module_resolver.specs.NameDots.{dots_in};
 
 use std::alloc::AllocError;
 

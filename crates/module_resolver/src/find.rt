@@ -5,10 +5,9 @@ ghost use Rattle.std.specs.Option.{option_or, unwrap_or};
 ghost use Rattle.mojom_files.specs.Refusals.{first_of};
 ghost use Rattle.import_order.specs.Imports.{has};
 ghost use Rattle.module_resolver.specs.LookUp.{candidates};
-ghost use Rattle.module_resolver.specs.steps.Owners.{owner, HaveDots};
-ghost use Rattle.module_resolver.specs.steps.Dots.{dots_in};
-ghost use Rattle.module_resolver.specs.steps.Held.{node_of, held, owner_below, AreNodes};
-ghost use Rattle.module_resolver.specs.steps.Lengths.{IsBetween};
+ghost use Rattle.module_resolver.specs.NameDots.{dots_in, IsBetween};
+ghost use Rattle.module_resolver.specs.Seats.{owner, HaveDots, node_of, held, AreNodes};
+ghost use Rattle.module_resolver.specs.steps.Held.{owner_below};
 
 use crate::dots::dots_in;
 use crate::file_names::FileNames;

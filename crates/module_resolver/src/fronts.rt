@@ -38,7 +38,7 @@ impl Model for Fronts {
 impl Fronts {
     ghost use Rattle.std.specs.Prelude.{◌≡◌, ◌<◌, ◌≤◌, ℕ, [], length, get_or, IfOk};
     ghost use Rattle.module_resolver.specs.NamesOf.{fronts_of};
-    ghost use Rattle.module_resolver.specs.steps.Dots.{dots_in};
+    ghost use Rattle.module_resolver.specs.NameDots.{dots_in};
 
     /// No fronts. Takes no memory.
     pub(crate) fn none(alloc: Global) -> Fronts

@@ -6,9 +6,10 @@ ghost use Rattle.std.specs.Str.{bytes_eq};
 ghost use Rattle.mojom_files.specs.Refusals.{first_of};
 ghost use Rattle.import_order.specs.Numbers.{number_of};
 ghost use Rattle.module_resolver.specs.LookUp.{defined_in, enumerated_in, meant_by};
-ghost use Rattle.module_resolver.specs.steps.Owners.{file_of, where_seen, owner, Notes};
+ghost use Rattle.module_resolver.specs.Seats.{file_of, owner, held};
+ghost use Rattle.module_resolver.specs.steps.Owners.{where_seen, Notes};
 ghost use Rattle.module_resolver.specs.Enums.{names_in_enum};
-ghost use Rattle.module_resolver.specs.steps.Held.{held, IsSound, IsEntry, Entered, KeepsNodes};
+ghost use Rattle.module_resolver.specs.steps.Held.{IsSound, IsEntry, Entered, KeepsNodes};
 ghost use Rattle.name_tree.specs.Trees.{count};
 ghost use Rattle.mj_base.specs.Names.{within, named_in, full_name};
 

@@ -38,7 +38,7 @@ impl Model for IndexedFiles {
 impl IndexedFiles {
     ghost use Rattle.std.specs.Prelude.{◌≡◌, IfOk, IfSome, is_some, map, slice_get};
     ghost use Rattle.module_resolver.specs.NamesOf.{names_in};
-    ghost use Rattle.module_resolver.specs.steps.Places.{IsSeat};
+    ghost use Rattle.module_resolver.specs.Seats.{IsSeat};
 
     /// The names of these files, where this is their resolved order.
     pub(crate) fn new(

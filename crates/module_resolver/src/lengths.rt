@@ -1,7 +1,8 @@
 //! Which numbers of dots full names have.
 
 ghost use Rattle.std.specs.Prelude.{◌≡◌, ◌+◌, ℕ, ◌||◌, ◌==◌, Bool, false, get_or, if◌then◌else◌, IfOk, OnOk};
-ghost use Rattle.module_resolver.specs.steps.Lengths.{IsLesser, reached, limit_of};
+ghost use Rattle.module_resolver.specs.NameDots.{reached};
+ghost use Rattle.module_resolver.specs.steps.Lengths.{IsLesser, limit_of};
 
 use std::alloc::{AllocError, Global};
 

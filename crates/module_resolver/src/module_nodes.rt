@@ -2,7 +2,8 @@
 
 ghost use Rattle.std.specs.Prelude.{◌≡◌, IfOk, OnOk, map, Some};
 ghost use Rattle.module_resolver.specs.NamesOf.{texts_from, fronts_of, module_fronts};
-ghost use Rattle.module_resolver.specs.steps.Held.{node_of, IsSound, Entered, AreNodes};
+ghost use Rattle.module_resolver.specs.Seats.{node_of, AreNodes};
+ghost use Rattle.module_resolver.specs.steps.Held.{IsSound, Entered};
 
 use crate::fronts::reversed;
 use crate::name_index::NameIndex;

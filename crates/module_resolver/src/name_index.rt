@@ -42,8 +42,8 @@ impl NameIndex {
     ghost use Rattle.std.specs.Prelude.{◌≡◌, ◌<◌, ℕ, List, Some, None, IfOk, OnOk};
     ghost use Rattle.import_order.specs.Imports.{has};
     ghost use Rattle.name_tree.specs.Trees.{count};
-    ghost use Rattle.module_resolver.specs.steps.Owners.{HaveDots};
-    ghost use Rattle.module_resolver.specs.steps.Held.{node_of, held, owner_below, IsSound, IsMeasured, Entered, NotedAt};
+    ghost use Rattle.module_resolver.specs.Seats.{HaveDots, node_of, held};
+    ghost use Rattle.module_resolver.specs.steps.Held.{owner_below, IsSound, IsMeasured, Entered, NotedAt};
 
     /// An index of no names.
     pub(crate) fn new(alloc: Global) -> NameIndex

@@ -1,7 +1,7 @@
 //! What has one full name.
 
 ghost use Rattle.std.specs.Prelude.{◌≡◌};
-ghost use Rattle.module_resolver.specs.steps.Owners.{file_of};
+ghost use Rattle.module_resolver.specs.Seats.{file_of};
 
 use crate::seen::Seen;
 use crate::target::Target;
@@ -38,7 +38,8 @@ impl Owners {
     ghost use Rattle.std.specs.List.{list_any};
     ghost use Rattle.std.specs.Option.{option_or};
     ghost use Rattle.import_order.specs.Imports.{has};
-    ghost use Rattle.module_resolver.specs.steps.Owners.{file_of, first_seen, where_seen};
+    ghost use Rattle.module_resolver.specs.Seats.{file_of, first_seen};
+    ghost use Rattle.module_resolver.specs.steps.Owners.{where_seen};
 
     /// This alone. Takes no memory.
     pub(crate) fn new(alloc: Global, first: Target) -> Owners

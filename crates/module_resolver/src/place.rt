@@ -23,7 +23,7 @@ impl<'a> Model for Place<'a> {
 
     ghost Value = { Spot };
 
-    ghost use Rattle.module_resolver.specs.steps.Places.{IsSeated};
+    ghost use Rattle.module_resolver.specs.Seats.{IsSeated};
 
     ghost view = { λ p. record { files = p.names.now.files; file = p.file; enclosing = p.enclosing.now } };
 

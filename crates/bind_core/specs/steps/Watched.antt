@@ -4,7 +4,7 @@ use Rattle.mj_base.specs.declared.ids.EndId.{EndId}
 use Rattle.bind_model.specs.Ready.{is_ready}
 use Rattle.bind_model.specs.declared.commands.Command.{Command}
 use Rattle.bind_core.specs.EndSets.{has_end}
-use Rattle.bind_core.specs.steps.Waiting.{IsNoted, Lists}
+use Rattle.bind_core.specs.Causes.{IsNoted, Lists}
 use Rattle.bind_core.specs.steps.Watching.{HasNear, end_named}
 use Rattle.core_state.specs.Agreement.{past_of, wire_in}
 use Rattle.core_state.specs.declared.state.State.{State}

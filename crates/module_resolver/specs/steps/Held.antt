@@ -3,28 +3,21 @@ use Rattle.std.specs.Prelude.{ℕ, ◌≡◌, ◌==◌, ◌<◌, ◌≤◌, nat_
 use Rattle.std.specs.Option.{option_or, unwrap_or}
 use Rattle.std.specs.Str.{bytes_eq}
 use Rattle.indexmap.specs.IndexMap.{get}
-use Rattle.name_tree.specs.Walks.{walk, Grows}
+use Rattle.name_tree.specs.Walks.{Grows}
 use Rattle.name_tree.specs.Trees.{child, count, IsNameTree}
 use Rattle.module_resolver.specs.declared.target.Target.{Target}
 use Rattle.module_resolver.specs.declared.file_names.FileNames.{FileNames}
 use Rattle.module_resolver.specs.declared.name_index.NameIndex.{NameIndex}
 use Rattle.module_resolver.specs.declared.entry.Entry.{Entry}
-use Rattle.module_resolver.specs.steps.Dots.{dots_in}
-use Rattle.module_resolver.specs.steps.Owners.{file_of, first_seen, where_seen, Notes, AreOwners, HaveDotMarks, HaveDots}
+use Rattle.module_resolver.specs.NameDots.{dots_in}
+use Rattle.module_resolver.specs.Seats.{file_of, first_seen, node_of, held, AreOwners, HaveDots}
+use Rattle.module_resolver.specs.steps.Owners.{where_seen, Notes, HaveDotMarks}
 
 -- a target is added to what a node has, behind all that it has already
 pub record Adds (old new : ℕ → Option (List Target)) (node : ℕ) (target : Target) : Type 0 where
   pub list : List Target
   pub adds : (p : ℕ → Bool) → first_seen p list ≡ option_or (first_seen p (unwrap_or (old node) [])) (where_seen p (file_of target) (Some target))
   pub writes : (n : ℕ) → new n ≡ (if node == n then Some list else old n)
-
--- the node of a name below a node
-abbrev pub node_of : NameIndex → ℕ → List ℕ → Option ℕ
-node_of index node name = walk (child index.tree) node [] name
-
--- what has this full name
-abbrev pub held : NameIndex → List ℕ → Option (List Target)
-held index name = option_and_then (get nat_eq index.owners) (node_of index 0 name)
 
 -- the first that has a name below a node in a file that is seen
 abbrev pub owner_below : NameIndex → (ℕ → Bool) → ℕ → List ℕ → Option Target
@@ -62,10 +55,6 @@ pub record NotedAt (old new : NameIndex) (node : ℕ) (target : Target) : Type 0
 -- the nodes of names stay theirs
 abbrev pub KeepsNodes : NameIndex → NameIndex → Type 0
 KeepsNodes old new = (name : List ℕ) (node : ℕ) → node_of old 0 name ≡ Some node → node_of new 0 name ≡ Some node
-
--- these are the nodes of the names
-abbrev pub AreNodes : NameIndex → List (List ℕ) → List ℕ → Type 0
-AreNodes index names nodes = map (node_of index 0) names ≡ map (λ (n : ℕ). Some n) nodes
 
 -- these are the nodes of the fronts of each file's module
 abbrev pub HaveNodes : NameIndex → List FileNames → List (List ℕ) → Type 0

@@ -1,6 +1,6 @@
 use Rattle.std.proofs.Common.{[], ap, ◌∙◌}
 use Rattle.std.specs.Prelude.{Bool, if◌then◌else◌}
-use Rattle.bind_core.specs.steps.Waiting.{ends_for}
+use Rattle.bind_core.specs.Causes.{ends_for}
 use Rattle.bind_core.proofs.Waking.{spared_one}
 use Rattle.bind_core.proofs.woken.clear_event.Goals as goal
 

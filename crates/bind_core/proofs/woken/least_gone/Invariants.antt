@@ -1,7 +1,7 @@
 use Rattle.std.proofs.Common.{◌≡◌, drop}
 use Rattle.bind_core.specs.steps.FirstTaken.{least_among}
 use Rattle.bind_core.specs.steps.Takers.{ready_taker}
-use Rattle.bind_core.specs.steps.Waiting.{all_for, gone_causes}
+use Rattle.bind_core.specs.Causes.{all_for, gone_causes}
 use Rattle.bind_core.proofs.woken.least_gone.Given as goal
 
 -- the least with what is left is the least of all

@@ -2,7 +2,7 @@ use Rattle.std.proofs.Common.{◌≡◌, true, subst}
 use Rattle.end_notices.proofs.Lines.{on_ok}
 use Rattle.bind_core.specs.EndSets.{has_end}
 use Rattle.bind_core.specs.declared.waiting.Cause.{Cause}
-use Rattle.bind_core.specs.steps.Waiting.{ends_for, flush_cause}
+use Rattle.bind_core.specs.Causes.{ends_for, flush_cause}
 use Rattle.bind_core.proofs.woken.note.Goals as goal
 
 pub returns-clause-more : goal.returns-clause-more

@@ -1,7 +1,7 @@
 use Rattle.std.proofs.Common.{subst, sym}
 use Rattle.std.specs.Prelude.{OnOk}
 use Rattle.bind_model.specs.declared.commands.Command.{Command}
-use Rattle.bind_core.specs.steps.Waiting.{IsNoted}
+use Rattle.bind_core.specs.Causes.{IsNoted}
 use Rattle.bind_core.proofs.woken.note_wait.Goals as goal
 
 pub returns-in-Pause-clause-noted : goal.returns-in-Pause-clause-noted

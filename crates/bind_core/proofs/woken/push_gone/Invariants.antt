@@ -1,5 +1,5 @@
 use Rattle.std.proofs.Common.{◌≡◌, ◌++◌, drop}
-use Rattle.bind_core.specs.steps.Waiting.{all_for, gone_causes}
+use Rattle.bind_core.specs.Causes.{all_for, gone_causes}
 use Rattle.bind_core.proofs.woken.push_gone.Given as goal
 
 -- those so far, and those of what is left

@@ -2,7 +2,7 @@ use Rattle.std.proofs.Common.{List, ◌++◌, ap, sym, ◌∙◌}
 use Rattle.mj_base.specs.declared.ids.EndId.{EndId}
 use Rattle.end_notices.proofs.Lines.{on_ok}
 use Rattle.handle_table.specs.declared.thing.Thing.{Thing}
-use Rattle.bind_core.specs.steps.Waiting.{all_for, gone_causes}
+use Rattle.bind_core.specs.Causes.{all_for, gone_causes}
 use Rattle.bind_core.proofs.Waking.{no_flush, one_cause}
 use Rattle.bind_core.proofs.woken.push_woken.Goals as goal
 

@@ -3,7 +3,7 @@ use Rattle.std.specs.Prelude.{reverse}
 use Rattle.std.proofs.lemmas.List.{take_all}
 use Rattle.module_resolver.specs.NamesOf.{texts_from}
 use Rattle.module_resolver.specs.steps.Cuts.{Falls}
-use Rattle.module_resolver.specs.steps.Dots.{dots_in}
+use Rattle.module_resolver.specs.NameDots.{dots_in}
 use Rattle.module_resolver.proofs.Held.{texts_long}
 use Rattle.module_resolver.proofs.Falls.{falls_more, turned}
 use Rattle.module_resolver.proofs.FrontDots.{begun, one_front, next_front, fall_on}

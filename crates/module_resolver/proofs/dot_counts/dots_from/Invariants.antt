@@ -2,7 +2,7 @@ use Rattle.std.proofs.Common.{◌≡◌, [], take, map, get_or}
 use Rattle.std.specs.Prelude.{reverse}
 use Rattle.module_resolver.specs.NamesOf.{texts_from}
 use Rattle.module_resolver.specs.steps.Cuts.{Falls}
-use Rattle.module_resolver.specs.steps.Dots.{dots_in}
+use Rattle.module_resolver.specs.NameDots.{dots_in}
 use Rattle.module_resolver.proofs.Falls.{AreUpTo}
 use Rattle.module_resolver.proofs.dot_counts.dots_from.Given as goal
 

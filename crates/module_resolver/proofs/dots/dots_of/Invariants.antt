@@ -1,5 +1,5 @@
 use Rattle.std.proofs.Common.{◌≡◌, ◌≤◌, take}
-use Rattle.module_resolver.specs.steps.Dots.{dots_in}
+use Rattle.module_resolver.specs.NameDots.{dots_in}
 use Rattle.module_resolver.proofs.dots.dots_of.Given as goal
 
 abbrev pub invariant-loop-place : goal.invariant-loop-place

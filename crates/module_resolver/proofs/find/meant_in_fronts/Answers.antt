@@ -1,8 +1,7 @@
 use Rattle.std.proofs.Common.{arith, refl, ℕ, List, [], ◌∷◌, get_or, sym, ◌∙◌}
 use Rattle.mj_base.specs.Names.{within}
 use Rattle.import_order.specs.Imports.{has}
-use Rattle.module_resolver.specs.steps.Owners.{owner}
-use Rattle.module_resolver.specs.steps.Held.{held}
+use Rattle.module_resolver.specs.Seats.{owner, held}
 use Rattle.module_resolver.proofs.LesserLengths.{undotted, found_at, not_at, alone}
 use Rattle.module_resolver.proofs.Held.{below_is, node_at}
 use Rattle.module_resolver.proofs.find.meant_in_fronts.Goals as goal

@@ -4,8 +4,7 @@ use Rattle.mj_base.specs.Names.{within}
 use Rattle.mojom_files.specs.Refusals.{first_of}
 use Rattle.import_order.specs.Imports.{has}
 use Rattle.module_resolver.specs.LookUp.{candidates}
-use Rattle.module_resolver.specs.steps.Owners.{owner}
-use Rattle.module_resolver.specs.steps.Held.{held}
+use Rattle.module_resolver.specs.Seats.{owner, held}
 use Rattle.module_resolver.proofs.find.meant_in_fronts.Given as goal
 
 abbrev pub invariant-loop-next : goal.invariant-loop-next

@@ -1,7 +1,7 @@
 use Rattle.std.proofs.Common.{sym, ◌∙◌, ap}
 use Rattle.name_tree.specs.Trees.{child}
 use Rattle.name_tree.proofs.Owners.{walk_within}
-use Rattle.module_resolver.specs.steps.Held.{node_of}
+use Rattle.module_resolver.specs.Seats.{node_of}
 use Rattle.module_resolver.proofs.find.node_from.Goals as goal
 
 pub returns-in-Some : goal.returns-in-Some

@@ -1,5 +1,5 @@
 use Rattle.std.proofs.Common.{rules, ◌<◌, length, ◌∙◌, ap}
-use Rattle.module_resolver.specs.steps.Held.{node_of}
+use Rattle.module_resolver.specs.Seats.{node_of}
 use Rattle.module_resolver.proofs.Held.{node_at}
 use Rattle.module_resolver.proofs.find.node_in.Goals as goal
 

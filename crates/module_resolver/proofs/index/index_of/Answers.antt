@@ -4,7 +4,7 @@ use Rattle.std.specs.Option.{option_or, unwrap_or}
 use Rattle.mojom_files.specs.Refusals.{first_of}
 use Rattle.module_resolver.specs.LookUp.{defined_in, enumerated_in}
 use Rattle.module_resolver.specs.declared.target.Target.{Target}
-use Rattle.module_resolver.specs.steps.Owners.{first_seen}
+use Rattle.module_resolver.specs.Seats.{first_seen}
 use Rattle.module_resolver.proofs.index.index_of.Goals as goal
 
 pub returns-clause-is : goal.returns-clause-is

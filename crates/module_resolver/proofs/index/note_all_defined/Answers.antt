@@ -1,5 +1,5 @@
 use Rattle.std.proofs.Common.{ℕ, List}
-use Rattle.module_resolver.specs.steps.Held.{held}
+use Rattle.module_resolver.specs.Seats.{held}
 use Rattle.module_resolver.specs.LookUp.{defined_in}
 use Rattle.module_resolver.proofs.Owned.{file_noted}
 use Rattle.module_resolver.proofs.index.note_all_defined.Goals as goal

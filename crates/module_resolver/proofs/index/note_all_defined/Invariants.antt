@@ -3,7 +3,8 @@ use Rattle.std.specs.Prelude.{filter}
 use Rattle.mojom_files.specs.Refusals.{first_of}
 use Rattle.module_resolver.specs.LookUp.{defined_in}
 use Rattle.module_resolver.specs.steps.Owners.{Notes}
-use Rattle.module_resolver.specs.steps.Held.{held, IsSound}
+use Rattle.module_resolver.specs.Seats.{held}
+use Rattle.module_resolver.specs.steps.Held.{IsSound}
 use Rattle.module_resolver.proofs.index.note_all_defined.Given as goal
 
 abbrev pub invariant-loop-file : goal.invariant-loop-file

@@ -3,7 +3,7 @@ use Rattle.std.specs.Prelude.{Bool, Some, None, if◌then◌else◌}
 use Rattle.std.specs.Str.{bytes_eq}
 use Rattle.module_resolver.specs.declared.target.Target.TheVariants.{Definition}
 use Rattle.module_resolver.specs.steps.Owners.{where_seen, Notes}
-use Rattle.module_resolver.specs.steps.Held.{held}
+use Rattle.module_resolver.specs.Seats.{held}
 use Rattle.module_resolver.proofs.Owned.{none_noted, number_noted}
 use Rattle.module_resolver.proofs.Held.{owner_kept, entry_kept}
 use Rattle.module_resolver.proofs.index.note_definitions.Goals as goal

@@ -3,7 +3,8 @@ use Rattle.std.specs.Option.{option_map}
 use Rattle.import_order.specs.Numbers.{number_of}
 use Rattle.module_resolver.specs.declared.target.Target.TheVariants.{Definition}
 use Rattle.module_resolver.specs.steps.Owners.{where_seen, Notes}
-use Rattle.module_resolver.specs.steps.Held.{held, IsSound, IsEntry}
+use Rattle.module_resolver.specs.Seats.{held}
+use Rattle.module_resolver.specs.steps.Held.{IsSound, IsEntry}
 use Rattle.module_resolver.proofs.index.note_definitions.Given as goal
 
 abbrev pub invariant-loop-number : goal.invariant-loop-number

@@ -1,6 +1,6 @@
 use Rattle.std.proofs.Common.{◌+◌, ℕ, refl, ◌∙◌, ap}
 use Rattle.module_resolver.specs.declared.target.Target.TheVariants.{Enumerator}
-use Rattle.module_resolver.specs.steps.Held.{held}
+use Rattle.module_resolver.specs.Seats.{held}
 use Rattle.module_resolver.proofs.Held.{owner_kept, keeps_nodes, entry_kept}
 use Rattle.module_resolver.proofs.Owned.{none_noted}
 use Rattle.module_resolver.proofs.Enums.{within_noted}

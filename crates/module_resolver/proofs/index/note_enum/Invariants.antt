@@ -4,7 +4,8 @@ use Rattle.import_order.specs.Numbers.{number_of}
 use Rattle.mj_base.specs.Names.{within}
 use Rattle.module_resolver.specs.declared.target.Target.TheVariants.{Enumerator}
 use Rattle.module_resolver.specs.steps.Owners.{where_seen, Notes}
-use Rattle.module_resolver.specs.steps.Held.{held, IsSound, IsEntry, KeepsNodes}
+use Rattle.module_resolver.specs.Seats.{held}
+use Rattle.module_resolver.specs.steps.Held.{IsSound, IsEntry, KeepsNodes}
 use Rattle.module_resolver.proofs.index.note_enum.Given as goal
 
 abbrev pub invariant-loop-place : goal.invariant-loop-place

@@ -8,7 +8,7 @@ use Rattle.mj_base.specs.Names.{within}
 use Rattle.module_resolver.specs.declared.target.Target.TheVariants.{Enumerator}
 use Rattle.module_resolver.specs.Enums.{names_in_enum}
 use Rattle.module_resolver.specs.steps.Owners.{where_seen, Notes}
-use Rattle.module_resolver.specs.steps.Held.{held}
+use Rattle.module_resolver.specs.Seats.{held}
 use Rattle.module_resolver.proofs.OneMore.{take_item}
 use Rattle.module_resolver.proofs.Owned.{none_noted}
 use Rattle.module_resolver.proofs.Held.{owner_kept, entry_kept}

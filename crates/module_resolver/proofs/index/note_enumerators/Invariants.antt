@@ -5,7 +5,8 @@ use Rattle.import_order.specs.Numbers.{number_of}
 use Rattle.module_resolver.specs.declared.target.Target.TheVariants.{Enumerator}
 use Rattle.module_resolver.specs.Enums.{names_in_enum}
 use Rattle.module_resolver.specs.steps.Owners.{where_seen, Notes}
-use Rattle.module_resolver.specs.steps.Held.{held, IsSound, IsEntry}
+use Rattle.module_resolver.specs.Seats.{held}
+use Rattle.module_resolver.specs.steps.Held.{IsSound, IsEntry}
 use Rattle.module_resolver.proofs.index.note_enumerators.Given as goal
 
 abbrev pub invariant-loop-one : goal.invariant-loop-one

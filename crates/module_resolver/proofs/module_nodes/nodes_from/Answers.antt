@@ -2,7 +2,7 @@ use Rattle.std.proofs.Common.{rules, arith, ◌+◌, ◌<◌, ◌≤◌, ℕ, []
 use Rattle.std.specs.Prelude.{Some}
 use Rattle.std.proofs.lemmas.List.{get_or_default, take_all}
 use Rattle.module_resolver.specs.NamesOf.{texts_from}
-use Rattle.module_resolver.specs.steps.Held.{node_of}
+use Rattle.module_resolver.specs.Seats.{node_of}
 use Rattle.module_resolver.proofs.Held.{entered_twice, node_there, texts_long, first_text, pushed_more, part_entered}
 use Rattle.module_resolver.proofs.module_nodes.nodes_from.Goals as goal
 

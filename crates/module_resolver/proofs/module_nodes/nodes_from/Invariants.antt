@@ -1,7 +1,8 @@
 use Rattle.std.proofs.Common.{◌≡◌, ℕ, [], take, map, get_or}
 use Rattle.std.specs.Prelude.{Some}
 use Rattle.module_resolver.specs.NamesOf.{texts_from}
-use Rattle.module_resolver.specs.steps.Held.{node_of, Entered}
+use Rattle.module_resolver.specs.Seats.{node_of}
+use Rattle.module_resolver.specs.steps.Held.{Entered}
 use Rattle.module_resolver.proofs.module_nodes.nodes_from.Given as goal
 
 abbrev pub invariant-loop-part : goal.invariant-loop-part

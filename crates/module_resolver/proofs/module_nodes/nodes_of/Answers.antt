@@ -2,7 +2,7 @@ use Rattle.std.proofs.Common.{rules, ℕ, List, take, map}
 use Rattle.std.specs.Prelude.{Some}
 use Rattle.mojom_files.specs.declared.named_file.NamedFile.{NamedFile}
 use Rattle.module_resolver.specs.NamesOf.{module_fronts}
-use Rattle.module_resolver.specs.steps.Held.{node_of}
+use Rattle.module_resolver.specs.Seats.{node_of}
 use Rattle.module_resolver.proofs.Held.{entered_none, entered_twice, all_kept, pushed_more}
 use Rattle.module_resolver.proofs.module_nodes.nodes_of.Goals as goal
 

@@ -1,7 +1,8 @@
 use Rattle.std.proofs.Common.{◌≡◌, ℕ, List, take, map}
 use Rattle.std.specs.Prelude.{Some}
 use Rattle.module_resolver.specs.NamesOf.{module_fronts}
-use Rattle.module_resolver.specs.steps.Held.{node_of, Entered}
+use Rattle.module_resolver.specs.Seats.{node_of}
+use Rattle.module_resolver.specs.steps.Held.{Entered}
 use Rattle.module_resolver.proofs.module_nodes.nodes_of.Given as goal
 
 abbrev pub invariant-loop-file : goal.invariant-loop-file

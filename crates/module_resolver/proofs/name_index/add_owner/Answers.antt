@@ -3,7 +3,8 @@ use Rattle.std.specs.Prelude.{Bool, Option, Some, None, nat_eq, ◌==◌, if◌t
 use Rattle.std.specs.Option.{option_or, unwrap_or}
 use Rattle.std.specs.HashMap.{get}
 use Rattle.module_resolver.specs.declared.target.Target.{Target}
-use Rattle.module_resolver.specs.steps.Owners.{file_of, first_seen, where_seen}
+use Rattle.module_resolver.specs.Seats.{file_of, first_seen}
+use Rattle.module_resolver.specs.steps.Owners.{where_seen}
 use Rattle.module_resolver.proofs.Owned.{on_ok_then}
 use Rattle.module_resolver.proofs.name_index.add_owner.Goals as goal
 

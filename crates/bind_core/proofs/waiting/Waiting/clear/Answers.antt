@@ -1,6 +1,6 @@
 use Rattle.std.proofs.Common.{[], ap, ◌∙◌}
 use Rattle.std.specs.Prelude.{if◌then◌else◌}
-use Rattle.bind_core.specs.steps.Waiting.{Lists, ends_for, same_cause}
+use Rattle.bind_core.specs.Causes.{Lists, ends_for, same_cause}
 use Rattle.bind_core.proofs.CauseLists.{cleared}
 use Rattle.bind_core.proofs.waiting.Waiting.clear.Goals as goal
 

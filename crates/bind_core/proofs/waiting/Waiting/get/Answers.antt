@@ -1,5 +1,5 @@
 use Rattle.std.proofs.Common.{ap, sym, ◌∙◌}
-use Rattle.bind_core.specs.steps.Waiting.{Lists, list_of}
+use Rattle.bind_core.specs.Causes.{Lists, list_of}
 use Rattle.bind_core.proofs.CauseLists.{found}
 use Rattle.bind_core.proofs.waiting.Waiting.get.Goals as goal
 

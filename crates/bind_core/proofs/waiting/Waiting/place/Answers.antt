@@ -1,5 +1,5 @@
 use Rattle.std.proofs.Common.{◌≡◌, ap, false, sym, ◌∙◌}
-use Rattle.bind_core.specs.steps.Waiting.{Lists, ends_for, has_list}
+use Rattle.bind_core.specs.Causes.{Lists, ends_for, has_list}
 use Rattle.bind_core.proofs.CauseLists.{placed, placed_same}
 use Rattle.bind_core.proofs.waiting.Waiting.place.Goals as goal
 

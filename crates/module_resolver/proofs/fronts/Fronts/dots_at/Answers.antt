@@ -1,5 +1,5 @@
 use Rattle.std.proofs.Common.{◌∙◌, sym, ap, map}
-use Rattle.module_resolver.specs.steps.Dots.{dots_in}
+use Rattle.module_resolver.specs.NameDots.{dots_in}
 use Rattle.module_resolver.proofs.Falls.{falls_fronts}
 use Rattle.module_resolver.proofs.fronts.Fronts.dots_at.Goals as goal
 

@@ -2,7 +2,7 @@ use Rattle.std.proofs.Common.{◌≡◌, ℕ, ◌-◌, List, [], ◌∷◌, ◌+
 use Rattle.std.specs.Prelude.{codes, reverse, string_bytes}
 use Rattle.mj_base.specs.Names.{within}
 use Rattle.module_resolver.specs.NamesOf.{fronts_of}
-use Rattle.module_resolver.specs.steps.Dots.{dots_in}
+use Rattle.module_resolver.specs.NameDots.{dots_in}
 use Rattle.module_resolver.specs.steps.Cuts.{cut_at, AreCuts}
 use Rattle.module_resolver.proofs.Cuts.{part_added, parts_ended, cuts_whole}
 use Rattle.module_resolver.proofs.Falls.{many_of}

@@ -5,7 +5,7 @@ use Rattle.module_resolver.specs.declared.file_names.FileNames.{FileNames}
 use Rattle.module_resolver.specs.LookUp.{meant_by}
 use Rattle.module_resolver.specs.NamesOf.{names_in}
 use Rattle.module_resolver.specs.steps.Owners.{SeeInOrder}
-use Rattle.module_resolver.specs.steps.Held.{node_of}
+use Rattle.module_resolver.specs.Seats.{node_of}
 use Rattle.module_resolver.proofs.Owned.{in_order}
 use Rattle.module_resolver.proofs.Held.{owner_kept, one_behind}
 use Rattle.module_resolver.proofs.indexed_files.IndexedFiles.new.Goals as goal

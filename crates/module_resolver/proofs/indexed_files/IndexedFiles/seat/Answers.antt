@@ -2,8 +2,7 @@ use Rattle.std.proofs.Common.{◌≡◌, List, ℕ, map, length, refl, sym, ◌�
 use Rattle.std.specs.Prelude.{Option, Some, None, is_some, slice_get}
 use Rattle.std.proofs.lemmas.Option.{slice_get_read, slice_get_past}
 use Rattle.module_resolver.specs.declared.file_names.FileNames.{FileNames}
-use Rattle.module_resolver.specs.steps.Owners.{AreOwners, HaveDots}
-use Rattle.module_resolver.specs.steps.Held.{node_of, held}
+use Rattle.module_resolver.specs.Seats.{AreOwners, HaveDots, node_of, held}
 use Rattle.module_resolver.proofs.Held.{same_at, both_have}
 use Rattle.module_resolver.proofs.indexed_files.IndexedFiles.seat.Goals as goal
 

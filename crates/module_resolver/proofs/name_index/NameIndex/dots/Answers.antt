@@ -1,6 +1,5 @@
 use Rattle.module_resolver.specs.steps.Lengths.{IsLesser}
-use Rattle.module_resolver.specs.steps.Owners.{HaveDots}
-use Rattle.module_resolver.specs.steps.Held.{held}
+use Rattle.module_resolver.specs.Seats.{HaveDots, held}
 use Rattle.module_resolver.proofs.LesserLengths.{have_dots}
 use Rattle.module_resolver.proofs.Owned.{if_ok_then}
 use Rattle.module_resolver.proofs.name_index.NameIndex.dots.Goals as goal

@@ -1,6 +1,6 @@
 use Rattle.std.proofs.Common.{◌≡◌, ◌∷◌, Some, ◌∙◌, ap}
 use Rattle.module_resolver.proofs.Owned.{again, behind}
-use Rattle.module_resolver.specs.steps.Owners.{file_of}
+use Rattle.module_resolver.specs.Seats.{file_of}
 use Rattle.module_resolver.proofs.owners.Owners.add.Goals as goal
 
 pub returns-then-last_file-file_of : goal.returns-then-last_file-file_of

@@ -1,6 +1,6 @@
 use Rattle.std.proofs.Common.{◌≡◌, drop}
 use Rattle.import_order.specs.Imports.{has}
-use Rattle.module_resolver.specs.steps.Owners.{first_seen}
+use Rattle.module_resolver.specs.Seats.{first_seen}
 use Rattle.module_resolver.proofs.owners.Owners.first_seen.Given as goal
 
 abbrev pub invariant-loop-target : goal.invariant-loop-target
