@@ -60,13 +60,13 @@ module _ (number : ℕ) (v w : View Event Basis) (x z : Kept) (command : Command
           others = record { between = rest; none_own = none; none = λ e. absurd (true≢false (sym e)); all = split };
           event = new;
           room = does.room;
-          legal = λ _. legal;
+          legal = λ _. legal.0;
           told = does.told;
           back = does.back;
           responders = does.responders;
           pendings = subst (λ (es : List Event). HandsPendings (wire_of x.core.schema) (reverse es) command reply) (sym whole) does.pendings;
         };
-        legal = legal;
+        legal = legal.0;
         mine = sym mine ∙ (ap (own_of me) new
             ∙ (own_last number x.core.events (event_at x.core me command) refl ∙ ap (λ es. es ++ event_at x.core me command ∷ []) suits.mine_are));
       }
@@ -83,11 +83,12 @@ module _ (number : ℕ) (v w : View Event Basis) (x z : Kept) (command : Command
       let same : w.seen ≡ x.core.events = whole ∙ declines.events in record {
         waited = record {
           others = record { between = rest; none_own = none; none = λ e. absurd (true≢false (sym e)); all = same ∙ split };
-          legal = λ _. legal;
+          legal = λ _. legal.0;
           back = declines.back;
           spent = subst (λ (es : List Event). IsSpentAt (length es) refused) (sym same) declines.spent;
         };
-        legal = legal;
+        legal = legal.0;
+        few = legal.1;
         mine = sym mine ∙ (ap (own_of me) same ∙ suits.mine_are);
       }
 

@@ -1,5 +1,5 @@
 -- A core as a turn sees it, and what one command does to it.
-use Rattle.std.specs.Prelude.{ℕ, ◌≡◌, ◌<◌, ◌++◌, List, [], ◌∷◌, length, reverse, Result, Ok, Err}
+use Rattle.std.specs.Prelude.{ℕ, ◌≡◌, ◌<◌, ◌≤◌, ◌++◌, List, [], ◌∷◌, length, reverse, Result, Ok, Err}
 use Rattle.mj_base.specs.declared.ids.SeqId.{SeqId}
 use Rattle.mj_base.specs.declared.limits.TheConstants.{MAX_EVENTS}
 use Rattle.mj_schema.specs.declared.schema.Schema.{Schema}
@@ -20,9 +20,9 @@ number_of event = event.seq.0
 abbrev pub Basis : Type 0
 Basis = Schema × ℕ
 
--- the events that a core may have: each reply is the one that the events before it give
+-- the events that a core may have: each reply is the one that the events before it give, and there are 16,777,216 at most
 abbrev pub is_lawful : Basis → List Event → Type 0
-is_lawful basis events = Legal (wire_of basis.0) basis.1 events
+is_lawful basis events = Legal (wire_of basis.0) basis.1 events × (length events ≤ MAX_EVENTS)
 
 -- the event that a command is behind a core's events
 abbrev pub event_at : Play → SeqId → Command → Event

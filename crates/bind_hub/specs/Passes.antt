@@ -1,7 +1,8 @@
 -- What contracts say of the passes of a hub.
-use Rattle.std.specs.Prelude.{ℕ, ◌≡◌, ◌<◌, ◌++◌, false, List, [], ◌∷◌, Some}
+use Rattle.std.specs.Prelude.{ℕ, ◌≡◌, ◌<◌, ◌≤◌, ◌++◌, false, List, [], ◌∷◌, length, Some}
 use Rattle.atomic_table.specs.Seated.{TableId}
 use Rattle.mj_base.specs.declared.ids.SeqId.{SeqId}
+use Rattle.mj_base.specs.declared.limits.TheConstants.{MAX_EVENTS}
 use Rattle.mj_schema.specs.declared.schema.Schema.{Schema}
 use Rattle.bind_model.specs.declared.event.Event.{Event}
 use Rattle.bind_model.specs.declared.commands.Command.{Command}
@@ -42,10 +43,11 @@ pub record Steps (schema : Schema) (seqs number : ℕ) (v w : View Event Basis) 
   pub mine : mine_of w.parts ≡ mine_of v.parts
       ++ record { seq = seq_at number; asked = asked_of command; told = told_behind schema seqs (seq_at number) saw.before command } ∷ []
 
--- no event of one's own, though others may have been seen
+-- no event of one's own, though others may have been seen. A history has 16,777,216 events at most, so a command is spent at just so many
 pub record Rests (schema : Schema) (seqs number : ℕ) (v w : View Event Basis) (command : Command) (refused : Refused) : Type 0 where
   pub waited : Waited schema seqs false (seq_at number) v.seen w.seen command refused
   pub legal : Legal (wire_of schema) seqs w.seen
+  pub few : length w.seen ≤ MAX_EVENTS
   pub mine : mine_of w.parts ≡ mine_of v.parts
 
 -- two passes met: this one has seen then what both had

@@ -13,7 +13,7 @@ use turn_lock::Entries;
 
 /// The core of a hub, on which one of its passes at a time has a turn.
 pub struct Kept {
-    pub core: Core,
+    pub(crate) core: Core,
 }
 
 impl Kept {

@@ -10,7 +10,7 @@ pub type Pass = turn_lock::Pass<Kept>;
 
 /// A core that the passes of its sequences share, of which one at a time has its turn. It must be closed. Threads may share it.
 pub struct Hub {
-    pub turn: Turn<Kept>,
+    pub(crate) turn: Turn<Kept>,
     pub ghost some: { 0 < turn.board.shared.key.1 },
     pub ghost seats: { turn.board.shared.key.1 ≡ turn.board.shared.key.0.value.core.seqs },
     pub ghost few: { turn.board.shared.key.0.value.core.seqs < 2 ^ 32 },

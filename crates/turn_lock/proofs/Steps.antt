@@ -6,14 +6,14 @@ use mathlib.Core.Logic.{dite}
 use native.Mathlib.Decide.{ℕ_discrete}
 use lib.ListN.{get_elem?}
 use prog.Atomic.{either}
-use Rattle.atomic_table.specs.Table.{State, Me, step, keeps, takes, gives, put_back, stepped, Allows}
+use Rattle.atomic_table.specs.Table.{State, Step, Me, step, keeps, takes, gives, put_back, stepped, Allows}
 use Rattle.atomic_table.proofs.Lists.{set_here}
 use Rattle.turn_lock.specs.declared.view.View.{View}
 use Rattle.turn_lock.specs.declared.view.Part.{Part}
 use Rattle.turn_lock.specs.Lists.{Begins, Each, own}
-use Rattle.turn_lock.specs.steps.Turning.{Owns, Fits, Turning, Knows, seeing, holding, releasing, grown, took, noted, gave, looked}
+use Rattle.turn_lock.specs.steps.Turning.{Owns, Fits, Free, Turning, Knows, seeing, holding, releasing, grown, took, noted, gave, looked}
 use Rattle.turn_lock.proofs.Lists.{off, begins_itself, begins_more, each_map, inside, each_mapped, not_true, own_else}
-use Rattle.turn_lock.proofs.Keeping.{fits_set, knows, rested}
+use Rattle.turn_lock.proofs.Keeping.{fits_set, knows, rested, same_slot}
 
 module _ {T E B : Type 0} (entries : T → List E) (number : E → ℕ) (basis : T → B) (lawful : B → List E → Type 0) where
   abbrev V : Type 0
@@ -25,6 +25,92 @@ module _ {T E B : Type 0} (entries : T → List E) (number : E → ℕ) (basis :
   abbrev Fit : B → List E → (ℕ → ℕ) → ℕ → ℕ → ℕ → V → Type 0
   Fit = Fits entries number basis lawful
 
+  -- the turn was free, and is the seat's: its word is k then
+  won : (seats id k : ℕ) → 0 < k → (me : Me T V) (p : Part E) → me.0.parts ≡ p ∷ [] → (s : State T V) (r : Rule seats s) → get_elem? s.views id ≡ some me.0
+      → (f : Free entries number basis lawful r.base r.log r.turn s.homes s.views)
+      → Rule seats (stepped s 1 k id me.1 (holding entries number basis lawful me.0 (entries f.value)) (takes 0 f.value))
+  won seats id k above me p has s r at f =
+      let fit = r.each_seat id me.0 at in
+      let w : V = holding entries number basis lawful me.0 (entries f.value) in record {
+        base = r.base;
+        log = r.log;
+        turn = k;
+        owner = r.owner;
+        made = r.made;
+        dealer = r.dealer;
+        words = ap (λ ws. set ws 1 k) r.words;
+        legal = r.legal;
+        slot = inr record {
+          holder = id;
+          view = w;
+          is_taken = above;
+          out = ap (λ h. set h 0 none) f.home;
+          there = set_here s.views id w (inside s.views id me.0 at);
+          holds = refl;
+          alone = fits_set entries number basis lawful (λ j u. u.holds ≡ true → j ≡ id) s.views id w (λ _. refl)
+              (λ j u _ e h. off (sym (f.nobody j u e) ∙ h));
+        };
+        each_seat = fits_set entries number basis lawful (Fit r.base r.log r.owner r.made r.dealer) s.views id w record {
+          based = fit.based;
+          seen_in = subst (λ l. Begins l r.log) (sym f.listed) (begins_itself r.log);
+          old_in = fit.old_in;
+          whole = λ _. f.listed;
+          passes = λ _. (p, has);
+          dealt = fit.dealt;
+          parts_are = fit.parts_are;
+        } (λ j u _ e. r.each_seat j u e);
+        unmade = r.unmade;
+        within = r.within;
+      }
+
+  -- what that tells the seat
+  told_won : (seats id n : ℕ) (st : Step T) (me : Me T V) (s : State T V) (r : Rule seats s) → get_elem? s.views id ≡ some me.0 → n ≡ 0
+      → (f : Free entries number basis lawful r.base r.log r.turn s.homes s.views)
+      → took entries number basis lawful st me n (holding entries number basis lawful me.0 (entries f.value), (0, f.value) ∷ me.1)
+  told_won seats id n st me s r at hit f =
+      let fit = r.each_seat id me.0 at in (
+        (λ _. (
+          f.value,
+          refl,
+          subst (Knows entries number basis lawful me.0) (sym f.listed)
+              (knows entries number basis lawful r.base r.log r.owner r.made r.dealer id me.0 r.legal fit),
+          λ b e. fit.based b e ∙ sym f.based,
+        )),
+        λ not. absurd
+            (not hit),
+      )
+
+  -- the turn isn't free, and its word says that a seat waits for it
+  waited : (seats id : ℕ) (me : Me T V) (s : State T V) (r : Rule seats s) → get_elem? s.views id ≡ some me.0 → (get_or s.words 1 0 ≡ 0 → ⊥)
+      → Rule seats (stepped s 1 2 id me.1 me.0 keeps)
+  waited seats id me s r at miss =
+      let turn_is : get_or s.words 1 0 ≡ r.turn = ap (λ ws. get_or ws 1 0) r.words in record {
+        base = r.base;
+        log = r.log;
+        turn = 2;
+        owner = r.owner;
+        made = r.made;
+        dealer = r.dealer;
+        words = ap (λ ws. set ws 1 2) r.words;
+        legal = r.legal;
+        slot = same_slot entries number basis lawful r.base r.log 2 s.homes s.views id me.0 me.0 at refl
+            (⊎_elim (λ f. absurd (miss (turn_is ∙ f.is_free)))
+            (λ t. inr record {
+              holder = t.holder;
+              view = t.view;
+              is_taken = omega arith;
+              out = t.out;
+              there = t.there;
+              holds = t.holds;
+              alone = t.alone;
+            })
+            r.slot);
+        each_seat = fits_set entries number basis lawful (Fit r.base r.log r.owner r.made r.dealer) s.views id me.0 (r.each_seat id me.0 at)
+            (λ j u _ e. r.each_seat j u e);
+        unmade = r.unmade;
+        within = r.within;
+      }
+
   pub takes_turn : (seats slots id : ℕ) (me : Me T V) (p : Part E) → me.0.parts ≡ p ∷ []
       → Allows (Rule seats) slots id me 1 (λ n. either (eqb n 0) 1 n) (took entries number basis lawful (step slots 1 0 1 none) me)
   takes_turn seats slots id me p has s r deep at small =
@@ -34,54 +120,15 @@ module _ {T E B : Type 0} (entries : T → List E) (number : E → ℕ) (basis :
       let still : set s.words 1 n ≡ s.words = ap (λ ws. set ws 1 (get_or ws 1 0)) r.words ∙ sym r.words in
       dite (ℕ_discrete n 0)
       (λ hit. ⊎_elim
-      (λ f. let w : V = holding entries number basis lawful me.0 (entries f.value) in (
-        w,
+      (λ f. (
+        holding entries number basis lawful me.0 (entries f.value),
         takes 0 f.value,
         ap (λ h. get_elem? h 0) f.home,
-        subst (λ b. Rule seats (stepped s 1 (either b 1 n) id me.1 w (takes 0 f.value))) (sym (eq-eqb n 0 hit)) record {
-          base = r.base;
-          log = r.log;
-          turn = 1;
-          owner = r.owner;
-          made = r.made;
-          dealer = r.dealer;
-          words = ap (λ ws. set ws 1 1) r.words;
-          legal = r.legal;
-          slot = inr record {
-            holder = id;
-            view = w;
-            is_taken = refl;
-            out = ap (λ h. set h 0 none) f.home;
-            there = set_here s.views id w (inside s.views id me.0 at);
-            holds = refl;
-            alone = fits_set entries number basis lawful (λ j u. u.holds ≡ true → j ≡ id) s.views id w (λ _. refl)
-                (λ j u _ e h. off (sym (f.nobody j u e) ∙ h));
-          };
-          each_seat = fits_set entries number basis lawful (Fit r.base r.log r.owner r.made r.dealer) s.views id w record {
-            based = fit.based;
-            seen_in = subst (λ l. Begins l r.log) (sym f.listed) (begins_itself r.log);
-            old_in = fit.old_in;
-            whole = λ _. f.listed;
-            passes = λ _. (p, has);
-            dealt = fit.dealt;
-            parts_are = fit.parts_are;
-          } (λ j u _ e. r.each_seat j u e);
-          unmade = r.unmade;
-          within = r.within;
-        },
-        (
-          (λ _. (
-            f.value,
-            refl,
-            subst (Knows entries number basis lawful me.0) (sym f.listed)
-                (knows entries number basis lawful r.base r.log r.owner r.made r.dealer id me.0 r.legal fit),
-            λ b e. fit.based b e ∙ sym f.based,
-          )),
-          λ not. absurd
-              (not hit),
-        ),
+        subst (λ b. Rule seats (stepped s 1 (either b 1 n) id me.1 (holding entries number basis lawful me.0 (entries f.value)) (takes 0 f.value)))
+            (sym (eq-eqb n 0 hit)) (won seats id 1 (omega arith) me p has s r at f),
+        told_won seats id n (step slots 1 0 1 none) me s r at hit f,
       ))
-      (λ t. let one = t.is_taken in absurd (omega arith))
+      (λ t. let taken = t.is_taken in absurd (omega arith))
       r.slot)
       (λ miss. (
         me.0,
@@ -92,6 +139,24 @@ module _ {T E B : Type 0} (entries : T → List E) (number : E → ℕ) (basis :
             at),
         ((λ hit. absurd (miss hit)), λ _. refl),
       ))
+
+  pub waits_for_turn : (seats slots id : ℕ) (me : Me T V) (p : Part E) → me.0.parts ≡ p ∷ []
+      → Allows (Rule seats) slots id me 1 (λ _. 2) (took entries number basis lawful (step slots 1 2 0 none) me)
+  waits_for_turn seats slots id me p has s r deep at small =
+      let n : ℕ = get_or s.words 1 0 in
+      let turn_is : n ≡ r.turn = ap (λ ws. get_or ws 1 0) r.words in
+      dite (ℕ_discrete n 0)
+      (λ hit. ⊎_elim
+      (λ f. (
+        holding entries number basis lawful me.0 (entries f.value),
+        takes 0 f.value,
+        ap (λ h. get_elem? h 0) f.home,
+        won seats id 2 (omega arith) me p has s r at f,
+        told_won seats id n (step slots 1 2 0 none) me s r at hit f,
+      ))
+      (λ t. let taken = t.is_taken in absurd (omega arith))
+      r.slot)
+      (λ miss. (me.0, keeps, tt, waited seats id me s r at miss, ((λ hit. absurd (miss hit)), λ _. refl)))
 
   pub looks : (seats slots id : ℕ) (me : Me T V) → Allows (Rule seats) slots id me 0 (λ n. n) (looked entries number basis lawful (step slots 0 0 0 none) me)
   looks seats slots id me s r deep at small =
@@ -192,7 +257,7 @@ module _ {T E B : Type 0} (entries : T → List E) (number : E → ℕ) (basis :
 
   pub gives_turn : (seats slots id : ℕ) (me : Me T V) (y : T) → me.0.holds ≡ true → me.1 ≡ (0, y) ∷ [] → entries y ≡ me.0.seen → (b : B)
       → me.0.basis ≡ Some b → basis y ≡ b
-      → Allows (Rule seats) slots id me 1 (λ _. 0) (λ _. gave entries number basis lawful (step slots 1 0 0 none) me 0)
+      → Allows (Rule seats) slots id me 1 (λ _. 0) (gave entries number basis lawful (step slots 1 0 0 none) me)
   gives_turn seats slots id me y holds carried listed base₀ is_base₀ based s r deep at low =
       let fit = r.each_seat id me.0 at in
       let seen_is : me.0.seen ≡ r.log = fit.whole holds in

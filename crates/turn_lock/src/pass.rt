@@ -25,12 +25,12 @@ pub type Board<T> = Table<
 /// A pass of a turn, which must be spent. Contracts see its number, what it has seen of the list, and the entries that name it.
 pub struct Pass<T: Entries> {
     pub number: u64,
-    pub place: Seat<T, View<T::Entry, T::Basis>>,
+    pub(crate) place: Seat<T, View<T::Entry, T::Basis>>,
     pub ghost idle: { IsPass place.me number (mine_of place.me.0.parts) },
 }
 
 /// A value that passes work on, one at a time. It must be closed. Threads may share it.
 pub struct Turn<T: Entries> {
-    pub board: Table<T, View<T::Entry, T::Basis>, (Snapshot<T>, u64), OneTurn<T>, Global>,
+    pub(crate) board: Table<T, View<T::Entry, T::Basis>, (Snapshot<T>, u64), OneTurn<T>, Global>,
     pub ghost wide: { (board.shared.table_id.words ≡ 2) × (board.shared.table_id.slots ≡ 1) },
 }

@@ -43,8 +43,8 @@ fn lay<T: Entries>(alloc: Global, value: T, seats: u64) -> Result<(Board<T>, Pla
     }
 }
 
-/// Waits until the turn is free, and takes it with the value.
-fn take<T: Entries, W: Wait>(rt: &W, board: &Board<T>, seat: &mut Place<T>)
+/// Waits until the turn is free, and takes it with the value. The turn's word is 2 then, since others may wait too.
+fn wait_for<T: Entries, W: Wait>(rt: &W, board: &Board<T>, seat: &mut Place<T>)
     requires table { (seat.old.table_id ≡ board.now.shared.table_id) × (board.now.shared.table_id.words ≡ 2) }
     requires pass { (n : ℕ) × (mine : List T.Entry) × IsPass seat.old.me n mine }
     ensures table { (seat.new.table_id ≡ seat.old.table_id) }
@@ -53,12 +53,26 @@ fn take<T: Entries, W: Wait>(rt: &W, board: &Board<T>, seat: &mut Place<T>)
         × ((b : T.Basis) → seat.old.me.0.basis ≡ Some b → b ≡ T.basis y)) }
 {
     for _ in rt.forever() {
-        if board.shared.compare_exchange::<Takes>(seat, 1, 0, 1) == 0 {
+        if board.shared.swap::<Takes>(seat, 1, 2) == 0 {
             return;
         }
-        board.shared.park(rt, 1, 1);
+        board.shared.park(rt, 1, 2);
     }
     unreachable!()
+}
+
+/// Takes the turn with the value, where it is free at once with a word of 1; where it isn't, waits for it.
+fn take<T: Entries, W: Wait>(rt: &W, board: &Board<T>, seat: &mut Place<T>)
+    requires table { (seat.old.table_id ≡ board.now.shared.table_id) × (board.now.shared.table_id.words ≡ 2) }
+    requires pass { (n : ℕ) × (mine : List T.Entry) × IsPass seat.old.me n mine }
+    ensures table { (seat.new.table_id ≡ seat.old.table_id) }
+    ensures took { HasValue seat.new.me (λ y. (seat.new.me.0 ≡ holding T.entries T.number T.basis T.lawful seat.old.me.0 (T.entries y))
+        × Knows T.entries T.number T.basis T.lawful seat.old.me.0 (T.entries y)
+        × ((b : T.Basis) → seat.old.me.0.basis ≡ Some b → b ≡ T.basis y)) }
+{
+    if board.shared.compare_exchange::<Takes>(seat, 1, 0, 1) != 0 {
+        wait_for(rt, board, seat);
+    }
 }
 
 /// Runs the operation on the value that is out with the seat, and says whether the number of entries changed.
@@ -93,15 +107,16 @@ fn note<T: Entries>(board: &Board<T>, seat: &mut Place<T>)
     board.shared.fetch_add::<Notes>(seat, 0, 1);
 }
 
-/// Gives the turn and the value back.
+/// Gives the turn and the value back, and wakes one that waits, where one may.
 fn give<T: Entries>(board: &Board<T>, seat: &mut Place<T>)
     requires table { (seat.old.table_id ≡ board.now.shared.table_id) × (board.now.shared.table_id.words ≡ 2) }
     requires value { HasValue seat.old.me (λ y. Matches T.entries T.number T.basis T.lawful seat.old.me.0 y) }
     ensures table { seat.new.table_id ≡ seat.old.table_id }
     ensures value { seat.new.me ≡ (releasing T.entries T.number T.basis T.lawful seat.old.me.0, []) }
 {
-    board.shared.store::<Gives>(seat, 1, 0);
-    board.shared.wake_one(1);
+    if board.shared.swap::<Gives>(seat, 1, 0) == 2 {
+        board.shared.wake_one(1);
+    }
 }
 
 /// The other seat sees all that this one has seen.

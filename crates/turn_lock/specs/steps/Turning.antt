@@ -1,5 +1,5 @@
 -- The rule of a table with one turn, and what each step tells.
--- Word 0 is the number of entries, word 1 is 1 while a seat has the turn, slot 0 is the value.
+-- Word 0 is the number of entries. Word 1 is 0 while the turn is free, and else 1, or 2 where a seat may wait for it. Slot 0 is the value.
 use Rattle.std.specs.Prelude.{◌≡◌, ◌⊎◌, ℕ, ◌+◌, ◌<◌, ◌≤◌, ◌++◌, true, false, List, [], ◌∷◌, length, map, Some, None}
 use mathlib.Core.Option.{some, none}
 use lib.ListN.{get_elem?}
@@ -45,7 +45,7 @@ module _ {T E B : Type 0} (entries : T → List E) (number : E → ℕ) (basis :
   pub record Taken (turn : ℕ) (homes : List (mathlib.Core.Option.Option T)) (views : List V) : Type 0 where
     pub holder : ℕ
     pub view : V
-    pub is_taken : turn ≡ 1
+    pub is_taken : 0 < turn
     pub out : homes ≡ none ∷ []
     pub there : get_elem? views holder ≡ some view
     pub holds : view.holds ≡ true

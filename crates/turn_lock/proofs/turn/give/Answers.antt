@@ -2,8 +2,8 @@ use Rattle.std.proofs.Common.{rules}
 use Rattle.turn_lock.proofs.Steps.{gives_turn}
 use Rattle.turn_lock.proofs.turn.give.Goals as goal
 
-pub store-requires : goal.store-requires
-store-requires g c =
+pub swap-requires : goal.swap-requires
+swap-requires g c =
     let v = c.requires.value in
     let m = v.2 in (
       c.requires.table.0,
