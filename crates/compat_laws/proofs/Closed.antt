@@ -46,7 +46,7 @@ unnamed : (older newer : List ℕ) (o : Option Change) → option_map (named old
 unnamed older newer None e = refl
 unnamed older newer (Some change) e = absurd cc
 
-laid_out : (schema : Schema) (i : ℕ) (row : StructRow) → slice_get schema.structs i ≡ Some row → IsLaidOut row
+pub laid_out : (schema : Schema) (i : ℕ) (row : StructRow) → slice_get schema.structs i ≡ Some row → IsLaidOut row
 laid_out schema i row e =
     subst IsLaidOut (get_or_from_slice_get schema.structs i row row e)
     (All-get_or IsLaidOut schema.structs i row (slice_get_within schema.structs i row e) (All-from_recursion IsLaidOut schema.structs schema.laid_out))

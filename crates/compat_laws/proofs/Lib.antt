@@ -5,6 +5,14 @@ pub mod Members
 pub mod Rows
 pub mod There
 pub mod Closed
+pub mod Kept
+pub mod Requests
 pub mod Messages
+pub mod Partners
 pub mod Stable
 pub mod OneVerdict
+pub mod OwnNames
+pub mod SameKinds
+pub mod SameRows
+pub mod Same
+pub mod Examples

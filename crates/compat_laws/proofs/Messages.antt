@@ -11,9 +11,9 @@ use Rattle.wire_model.specs.Bytes.{number32}
 use Rattle.wire_model.specs.Expected.{message_marks, method_marks, parameter_marks, struct_of, flags_of}
 use Rattle.wire_model.specs.HeaderMarks.{header_marks}
 use Rattle.wire_model.specs.Marks.{Mark, Test, Object, Handle, Id}
-use Rattle.wire_model.specs.Message.{Head, payload_start, payload_end, ids_read, request_read}
+use Rattle.wire_model.specs.Message.{Head, is_plain, payload_start, payload_end, ids_read, request_read, written_request}
 use Rattle.wire_model.specs.Stands.{IsFine, IsSettled}
-use Rattle.wire_model.specs.Tight.{MessageStandsFor, marks_of, value_of, tight_message}
+use Rattle.wire_model.specs.Tight.{MAX_DEPTH, MessageStandsFor, marks_of, payload_of, value_of, tight_message}
 use Rattle.wire_model.specs.Trees.{Trees, Fields}
 use Rattle.wire_model.specs.declared.target.MessageSide.{MessageSide}
 use Rattle.wire_model.specs.declared.target.MessageSide.TheVariants.{Request, Response}
@@ -30,6 +30,8 @@ use Rattle.compat_laws.specs.Read.{IsWritten, IsRead}
 use Rattle.compat_laws.specs.steps.Reached.{carried, Reached}
 use Rattle.compat_laws.proofs.There.{there}
 use Rattle.compat_laws.proofs.Closed.{closed, methods}
+use Rattle.compat_laws.proofs.Kept.{parameters_kept}
+use Rattle.compat_laws.proofs.Requests.{said_request}
 
 -- tests that hold may stand before marks that are settled
 after_tests : (ms ns : List Mark) (start end h i : ℕ) → AreTests ms → IsFine ms → IsSettled ns start end h i → IsSettled (ms ++ ns) start end h i
@@ -112,6 +114,8 @@ module _ (old new : Schema) (ok : IsCompatible old new) where
       (record { fine = (low, payload.fine); orderly = payload.orderly; handles_rise = payload.handles_rise; ids_rise = payload.ids_rise }) in
       let value : value_of new bytes (payload_start bytes) j ≡ Fields (grown_parameters new j ts) =
       ap (λ (x : ℕ). value_of new bytes x j) heads.starts ∙ carried_.stands.means in
+      let request : request_read bytes ≡ written_request (is_plain head.flags) head.request =
+      said_request head (payload_of old number ts) heads.request in
       record {
         method = n;
         named = counterpart.1;
@@ -122,5 +126,9 @@ module _ (old new : Schema) (ok : IsCompatible old new) where
               subst (λ (ms : List Mark). IsSettled (header_marks bytes ++ ms) (payload_start bytes) (payload_end bytes) handle_count (length (ids_read bytes)))
               (sym marks) all;
         };
-        means = λ i. record { method = heads.name i; request = request_read bytes; moment = heads.moment i; value = value i };
+        ids = heads.ids;
+        means = λ i. record { method = heads.name i; request = request i; moment = heads.moment i; value = value i };
+        kept =
+            parameters_kept old new (carried (Reached old new)) (closed old new ok (there old new ok)) number j MAX_DEPTH ts reached_structs
+            written.encodable.fits;
       }

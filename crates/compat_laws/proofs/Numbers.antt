@@ -1,4 +1,4 @@
--- Numbers as they rise, each once: all are there.
+-- Numbers as they rise, each once: all are there, and no others.
 use Rattle.std.proofs.Common.{◌≡◌, ◌⊎◌, ℕ, inl, inr, List, [], ◌∷◌, refl, sym, subst}
 use Rattle.std.specs.Prelude.{ℤ}
 use Rattle.std.specs.BTreeSet.{insert_key}
@@ -44,6 +44,43 @@ module _ {K : Type 0} (cmp : K → K → Ordering) (one : (a b : K) → cmp a b 
       all_in (insert_key cmp start k) ks z (inl (subst (λ (x : K). IsAmong (insert_key cmp start k) x) e (put_in start k)))
   all_in start (k ∷ ks) z (inr (inr h)) = all_in (insert_key cmp start k) ks z (inr h)
 
+module _ {K : Type 0} (cmp : K → K → Ordering) where
+  from_place : (k x z : K) (xs : List K) (o : Ordering) → (IsAmong (insert_key cmp xs k) z → (k ≡ z) ⊎ IsAmong xs z)
+      → IsAmong (match_ordering o (k ∷ x ∷ xs) (x ∷ xs) (x ∷ insert_key cmp xs k)) z → (k ≡ z) ⊎ IsAmong (x ∷ xs) z
+  from_place k x z xs Less go h = h
+  from_place k x z xs Equal go h = inr h
+  from_place k x z xs Greater go (inl e) = inr (inl e)
+  from_place k x z xs Greater go (inr h) = later (go h)
+    where
+      later : (k ≡ z) ⊎ IsAmong xs z → (k ≡ z) ⊎ IsAmong (x ∷ xs) z
+      later (inl e) = inl e
+      later (inr g) = inr (inr g)
+
+  -- what is there was put in, or was there
+  put_from : (xs : List K) (k z : K) → IsAmong (insert_key cmp xs k) z → (k ≡ z) ⊎ IsAmong xs z
+  put_from [] k z h = h
+  put_from (x ∷ xs) k z h = from_place k x z xs (cmp k x) (put_from xs k z) h
+
+  one_from : (start ks : List K) (k z : K) → (k ≡ z) ⊎ IsAmong start z → IsAmong start z ⊎ IsAmong (k ∷ ks) z
+  one_from start ks k z (inl e) = inr (inl e)
+  one_from start ks k z (inr h) = inl h
+
+  -- so each was there at the start or is one of the keys
+  all_from : (start ks : List K) (z : K) → IsAmong (fold (insert_key cmp) start ks) z → IsAmong start z ⊎ IsAmong ks z
+  all_from start [] z h = inl h
+  all_from start (k ∷ ks) z h = earlier (all_from (insert_key cmp start k) ks z h)
+    where
+      earlier : IsAmong (insert_key cmp start k) z ⊎ IsAmong ks z → IsAmong start z ⊎ IsAmong (k ∷ ks) z
+      earlier (inl g) = one_from start ks k z (put_from start k z g)
+      earlier (inr g) = inr (inr g)
+
+  keys_from : (ks : List K) (z : K) → IsAmong (fold (insert_key cmp) [] ks) z → IsAmong ks z
+  keys_from ks z h = only (all_from [] ks z h)
+    where
+      only : IsAmong {A = K} [] z ⊎ IsAmong ks z → IsAmong ks z
+      only (inl never) = absurd never
+      only (inr g) = g
+
 one_number : (a b : ℕ) → nat_cmp a b ≡ Equal → a ≡ b
 one_number a b e = ranked a b Equal (sym e)
 
@@ -55,3 +92,9 @@ rising_has ns n h = all_in nat_cmp one_number [] ns n (inr h)
 
 pub rising_signed_has : (ns : List ℤ) (n : ℤ) → IsAmong ns n → IsAmong (rising_signed ns) n
 rising_signed_has ns n h = all_in int_cmp one_signed [] ns n (inr h)
+
+pub rising_from : (ns : List ℕ) (n : ℕ) → IsAmong (rising ns) n → IsAmong ns n
+rising_from ns n h = keys_from nat_cmp ns n h
+
+pub rising_signed_from : (ns : List ℤ) (n : ℤ) → IsAmong (rising_signed ns) n → IsAmong ns n
+rising_signed_from ns n h = keys_from int_cmp ns n h

@@ -15,8 +15,9 @@ use Rattle.mj_schema.specs.declared.schema.Schema.{Schema}
 use Rattle.compat_model.specs.steps.Among.{IsAmong}
 use Rattle.compat_model.specs.Verdicts.{is_stable, name_of, partner_of, partner_reason, root_of, root_reason, roots, IsCompatible}
 use Rattle.compat_model.proofs.Lists.{by_test, of_flat, into_map, into_filter, none_found}
-use Rattle.compat_laws.specs.Read.{ReadsAll}
+use Rattle.compat_laws.specs.Read.{ReadsAll, ReadsStable}
 use Rattle.compat_laws.proofs.Messages.{read}
+use Rattle.compat_laws.proofs.Partners.{by_name}
 
 -- ## The order of definitions
 
@@ -83,7 +84,7 @@ module _ (old new : Schema) (ok : IsCompatible old new) (interface : ℕ) (row :
   by_partner None e among none = absurd cc
   by_partner (Some j) e among none = record {
     partner = j;
-    named = ap (partner_of new sorts.Interface) (sym named_so) ∙ e;
+    named = sym (by_name new row.name) ∙ ap (partner_of new sorts.Interface) (sym named_so) ∙ e;
     reads = λ side head number ts handle_count written. read old new ok interface j number handle_count row side head ts among found written;
   }
 
@@ -92,3 +93,7 @@ module _ (old new : Schema) (ok : IsCompatible old new) (interface : ℕ) (row :
       let among = rooted stable in
       by_partner (partner_of new sorts.Interface (name_of old sorts.Interface interface)) refl among
       (none_found (root_reason old new) (roots old new) (root_of old new definition) (ok zero) among)
+
+-- so each of them is read
+pub reads_stable : (old new : Schema) → IsCompatible old new → ReadsStable old new
+reads_stable old new ok interface row found stable = reads_all old new ok interface row found stable

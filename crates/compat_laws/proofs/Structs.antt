@@ -20,7 +20,7 @@ use Rattle.compat_laws.proofs.FittingKinds.{AllPairs, kinds_view}
 
 -- ## Where fields stand
 
-at_back : {A : Type 0} (front : List A) (x : A) (back : List A) → slice_get (front ++ (x ∷ back)) (length front) ≡ Some x
+pub at_back : {A : Type 0} (front : List A) (x : A) (back : List A) → slice_get (front ++ (x ∷ back)) (length front) ≡ Some x
 at_back [] x back = refl
 at_back (y ∷ front) x back = at_back front x back
 
@@ -28,7 +28,7 @@ past_back : {A : Type 0} (front : List A) → slice_get (front ++ []) (length fr
 past_back [] = refl
 past_back (y ∷ front) = past_back front
 
-longer : {A : Type 0} (front : List A) (x : A) (k : ℕ) → k ≡ length front → k + 1 ≡ length (front ++ (x ∷ []))
+pub longer : {A : Type 0} (front : List A) (x : A) (k : ℕ) → k ≡ length front → k + 1 ≡ length (front ++ (x ∷ []))
 longer front x k e = omega (arith, e, length-append front (x ∷ []))
 
 -- ## Fields that fit

@@ -33,7 +33,7 @@ pub both_is : {A B : Type 0} (other : B) (f : A → A → B) (o n : Option A) (a
 both_is other f o n a b e g = ap (λ x. of_both other f x n) e ∙ ap (λ x. of_both other f (Some a) x) g
 
 -- a kind of a list of fields is one of their kinds
-kind_within : {A : Type 0} (p : KindTree → Bool) (kind : A → KindTree) (xs : List A) (x : A) → list_all p (map kind xs) ≡ true → IsAmong xs x
+pub kind_within : {A : Type 0} (p : KindTree → Bool) (kind : A → KindTree) (xs : List A) (x : A) → list_all p (map kind xs) ≡ true → IsAmong xs x
     → p (kind x) ≡ true
 kind_within p kind [] x h g = absurd g
 kind_within p kind (y ∷ ys) x h (inl e) = ap (λ z. p (kind z)) (sym e) ∙ (and_parts (p (kind y)) (list_all p (map kind ys)) h).0
@@ -81,7 +81,7 @@ module _ (old new : Schema) where
 
   -- ## Unions
 
-  tag_there : (p : KindTree → Bool) (gs : List UnionFieldRow) (tag : ℕ) (k : KindTree) → list_all p (map (λ (g : UnionFieldRow). g.kind) gs) ≡ true
+  pub tag_there : (p : KindTree → Bool) (gs : List UnionFieldRow) (tag : ℕ) (k : KindTree) → list_all p (map (λ (g : UnionFieldRow). g.kind) gs) ≡ true
       → kind_of_tag gs tag ≡ Some k → p k ≡ true
   tag_there p [] tag k h e = absurd cc
   tag_there p (f ∷ fs) tag k h e =

@@ -40,6 +40,7 @@ abbrev pub field_early : ℕ → List FieldRow → FieldRow → Option Change
 field_early newest older field =
     if is_some (slice_get older field.ordinal) then None else unless (nat_lt newest field.min_version) (changes.EarlyField field.ordinal)
 
+-- what breaks two structs: a field that is gone, then one whose kind doesn't fit, then one of another version, then one that comes too early
 abbrev pub struct_change : List (Option ℕ) → StructRow → StructRow → Option Change
 struct_change namesakes a b =
     option_or (option_or (option_or (first_found (field_gone b.fields) a.fields) (first_found (field_changed namesakes b.fields) a.fields))
@@ -60,6 +61,7 @@ held_changed namesakes tag _ _ = None
 abbrev pub tag_changed : List (Option ℕ) → List UnionFieldRow → List UnionFieldRow → ℕ → Option Change
 tag_changed namesakes older newer tag = held_changed namesakes tag (kind_of_tag older tag) (kind_of_tag newer tag)
 
+-- what breaks two unions: that the newer isn't extensible any more, then a tag that is gone, then one whose kind doesn't fit
 abbrev pub union_change : List (Option ℕ) → UnionRow → UnionRow → Option Change
 union_change namesakes a b =
     option_or (option_or (unless (is_kept a.extensible b.extensible) changes.ExtensibleGone) (first_found (tag_gone b.fields) (tags_of a.fields)))
@@ -71,6 +73,7 @@ union_change namesakes a b =
 abbrev pub member_gone : EnumRow → ℤ → Option Change
 member_gone newer number = unless (is_known (Some newer) number) (changes.MemberGone number)
 
+-- what breaks two enums: that the newer isn't extensible any more, then a number that is gone
 abbrev pub enum_change : EnumRow → EnumRow → Option Change
 enum_change a b = option_or (unless (is_kept a.extensible b.extensible) changes.ExtensibleGone) (first_found (member_gone b) (numbers_of a.members))
 
@@ -89,6 +92,7 @@ reply_changed ordinal _ _ = None
 abbrev pub response_changed : List MethodRow → List MethodRow → ℕ → Option Change
 response_changed older newer ordinal = reply_changed ordinal (method_at older ordinal) (method_at newer ordinal)
 
+-- what breaks two interfaces: a method that is gone, then a response that came or went
 abbrev pub interface_change : InterfaceRow → InterfaceRow → Option Change
 interface_change a b =
     option_or (first_found (method_gone b.methods) (ordinals_of a.methods)) (first_found (response_changed a.methods b.methods) (ordinals_of a.methods))

@@ -32,6 +32,7 @@ sort_number handles.DataPipeProducer = 3
 sort_number handles.SharedBuffer = 4
 sort_number handles.Platform = 5
 
+-- whether a number is there, and is this one
 abbrev pub is_number : Option ℕ → ℕ → Bool
 is_number None j = false
 is_number (Some k) j = k == j

@@ -36,15 +36,19 @@ name_for older newer _ = older
 abbrev pub named : List ℕ → List ℕ → Change → Reason
 named older newer change = record { change = change; name = name_for older newer change }
 
+-- why two structs are broken, where they are
 abbrev pub struct_reason : List (Option ℕ) → StructRow → StructRow → Option Reason
 struct_reason namesakes a b = option_map (named a.name b.name) (struct_change namesakes a b)
 
+-- why two unions are broken, where they are
 abbrev pub union_reason : List (Option ℕ) → UnionRow → UnionRow → Option Reason
 union_reason namesakes a b = option_map (named a.name b.name) (union_change namesakes a b)
 
+-- why two enums are broken, where they are
 abbrev pub enum_reason : EnumRow → EnumRow → Option Reason
 enum_reason a b = option_map (named a.name b.name) (enum_change a b)
 
+-- why two interfaces are broken, where they are
 abbrev pub interface_reason : InterfaceRow → InterfaceRow → Option Reason
 interface_reason a b = option_map (named a.name b.name) (interface_change a b)
 
@@ -61,6 +65,7 @@ pair_reason old new namesakes (Interfaces i j) = of_both None interface_reason (
 abbrev pub field_pairs : List FieldRow → FieldRow → List Pair
 field_pairs newer field = of_both [] named_in (Some field.kind) (option_map (λ (other : FieldRow). other.kind) (slice_get newer field.ordinal))
 
+-- those of the fields of two structs, in the order of the older one
 abbrev pub struct_pairs : StructRow → StructRow → List Pair
 struct_pairs a b = flat_map (field_pairs b.fields) a.fields
 
@@ -68,6 +73,7 @@ struct_pairs a b = flat_map (field_pairs b.fields) a.fields
 abbrev pub tag_pairs : List UnionFieldRow → List UnionFieldRow → ℕ → List Pair
 tag_pairs older newer tag = of_both [] named_in (kind_of_tag older tag) (kind_of_tag newer tag)
 
+-- those of what two unions hold, in the order of the tags
 abbrev pub union_pairs : UnionRow → UnionRow → List Pair
 union_pairs a b = flat_map (tag_pairs a.fields b.fields) (tags_of a.fields)
 
@@ -83,6 +89,7 @@ message_pairs m n = Structs m.request n.request ∷ of_both [] response_pair m.r
 abbrev pub method_pairs : List MethodRow → List MethodRow → ℕ → List Pair
 method_pairs older newer ordinal = of_both [] message_pairs (method_at older ordinal) (method_at newer ordinal)
 
+-- those of the methods of two interfaces, in the order of the ordinals
 abbrev pub interface_pairs : InterfaceRow → InterfaceRow → List Pair
 interface_pairs a b = flat_map (method_pairs a.methods b.methods) (ordinals_of a.methods)
 

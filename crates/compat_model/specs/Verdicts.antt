@@ -26,6 +26,7 @@ use Rattle.compat_model.specs.Pairs.{pair_reason, follows}
 
 -- ## Definitions
 
+-- whether the definition of this sort and number is stable
 abbrev pub is_stable : Schema → RowSort → ℕ → Bool
 is_stable schema sorts.Struct number = option_map_or (λ (row : StructRow). row.stable) (slice_get schema.structs number) false
 is_stable schema sorts.Union number = option_map_or (λ (row : UnionRow). row.stable) (slice_get schema.unions number) false
@@ -84,6 +85,7 @@ paired sorts.Enum i j = Enums i j ∷ []
 paired sorts.Interface i j = Interfaces i j ∷ []
 paired sorts.Const i j = []
 
+-- the pair of a root, where it has a partner
 abbrev pub root_pairs : Root → List Pair
 root_pairs root = option_map_or (paired root.definition.sort root.definition.number) root.partner []
 
@@ -95,6 +97,7 @@ partner_reason old new d (Some j) =
     then first_found (pair_reason old new (namesakes old new)) (paired d.sort d.number j)
     else Some (record { change = changes.NotStable; name = name_of old d.sort d.number })
 
+-- why a root is broken, where it is
 abbrev pub root_reason : Schema → Schema → Root → Option Reason
 root_reason old new root = partner_reason old new root.definition root.partner
 

@@ -3,6 +3,7 @@ use Rattle.std.specs.Prelude.{ℕ, List, codes}
 use Rattle.compat_model.specs.declared.reason.Change.{Change}
 use Rattle.compat_model.specs.declared.reason.Change.TheVariants as changes
 
+-- the word that stands for a change
 abbrev pub word_of : Change → List ℕ
 word_of changes.Missing = codes "Missing"
 word_of changes.NotStable = codes "NotStable"

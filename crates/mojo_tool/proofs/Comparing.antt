@@ -2,7 +2,9 @@
 use Rattle.std.proofs.Common.{◌≡◌, ◌≤◌, ℕ, List, [], ◌∷◌, ◌++◌, length, map, take, drop, refl, sym, subst, ap, ◌∙◌, inl, inr, Some, None, arith}
 use Rattle.std.specs.Prelude.{◌⊎◌, Option}
 use Rattle.compat_model.specs.declared.reason.Verdict.{Verdict}
+use Rattle.compat_model.specs.declared.reason.Verdict.TheVariants.{Compatible}
 use Rattle.compat_model.specs.Verdicts.{Judges}
+use Rattle.compat_laws.proofs.Stable.{reads_stable}
 use Rattle.mj_io.specs.Outside.{Named, FilesState, Fetch}
 use Rattle.mj_schema.specs.declared.schema.Schema.{Schema}
 use Rattle.mojom_compile.specs.Schemas.{IsSchemaOfFiles, IsRefusalOf, IsWhy}
@@ -29,7 +31,8 @@ use Rattle.mojo_tool.proofs.Messages.{of_stops, stops_at}
 pub said_text : (old new : Schema) (verdict : Verdict) (text : List ℕ) → Judges old new verdict → SaysText verdict text
     → IsReadsText (Comparing old new) text
 said_text old new verdict text judged says =
-    (says.0, inl (says.0, subst (λ (v : Verdict). Judges old new v) says.1 judged, refl), says.2)
+    let all : Judges old new (Compatible says.0) = subst (λ (v : Verdict). Judges old new v) says.1 judged in
+    (says.0, inl (says.0, all, refl, reads_stable old new all.0), says.2)
 
 pub said_stop : (old new : Schema) (verdict : Verdict) (stop : Stop) → Judges old new verdict → SaysBroken verdict stop → StopsAt (Comparing old new) stop
 said_stop old new verdict (Refused refusal) judged says = inr (says.0, subst (λ (v : Verdict). Judges old new v) says.1 judged, says.2)

@@ -41,6 +41,7 @@ use Rattle.compat_model.specs.declared.reason.Verdict.{Verdict}
 use Rattle.compat_model.specs.declared.reason.Verdict.TheVariants.{Compatible, Broken}
 use Rattle.compat_model.specs.Verdicts.{Judges as judges}
 use Rattle.compat_check.proofs.SomeVerdict.{some_verdict}
+use Rattle.compat_laws.proofs.Stable.{reads_stable}
 use Rattle.byte_rules.specs.Lang.{Lang}
 use Rattle.byte_rules.specs.steps.Reading.{Judges}
 use Rattle.byte_rules.specs.steps.Reading as reading
@@ -240,7 +241,7 @@ comparing_some : (Else : Type 0) (old new : Schema) → Some_or Else (Comparing 
 comparing_some Else old new = go (some_verdict old new).0 (some_verdict old new).1
   where
     go : (verdict : Verdict) → judges old new verdict → Some_or Else (Comparing old new)
-    go (Compatible stable) is = inl (Reads stable, inl (stable, is, refl))
+    go (Compatible stable) is = inl (Reads stable, inl (stable, is, refl, reads_stable old new is.0))
     go (Broken reason) is = inl (Breaks reason, inr (reason, is, refl))
 
 pairing_some : (files : List Named) (old new : List ℕ) (sources : List Source) → AreFetched files (old ∷ new ∷ []) sources

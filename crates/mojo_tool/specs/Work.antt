@@ -47,6 +47,7 @@ use Rattle.byte_rules.specs.Judged.{Spells, IsBad}
 use Rattle.compat_model.specs.declared.reason.Reason.{Reason}
 use Rattle.compat_model.specs.declared.reason.Verdict.TheVariants.{Compatible, Broken}
 use Rattle.compat_model.specs.Verdicts.{Judges}
+use Rattle.compat_laws.specs.Read.{ReadsStable}
 use Rattle.value_text.specs.Brackets.{MAX_BRACKETS}
 use Rattle.value_text.specs.Rules.{value}
 use Rattle.value_text.specs.Spelling.{spell}
@@ -337,10 +338,10 @@ Decoding files words schema work =
     (λ interface w. Fetching files words.message (Showing schema (expected_of interface (side_of words.side)) words.interface words.handles) w)
     (interface_named schema.interfaces words.interface) work
 
--- the newer schema reads what the stable definitions of the older one write, or doesn't
+-- the newer schema reads what the stable definitions of the older one write, so each message of its stable interfaces, or doesn't
 abbrev pub Comparing : Schema → Schema → Work → Type 0
 Comparing old new work =
-    ((stable : ℕ) × Judges old new (Compatible stable) × (work ≡ Reads stable))
+    ((stable : ℕ) × Judges old new (Compatible stable) × (work ≡ Reads stable) × ReadsStable old new)
     ⊎ ((reason : Reason) × Judges old new (Broken reason) × (work ≡ Breaks reason))
 
 -- two files have a schema each, by themselves, or are refused, the older one first
