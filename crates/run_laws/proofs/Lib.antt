@@ -1,0 +1,3 @@
+pub mod OneWay
+pub mod KnownTurns
+pub mod OneHistory
