@@ -4,10 +4,9 @@ ghost use Rattle.std.specs.Prelude.{◌≤◌, IfSome};
 ghost use Rattle.std.specs.Arc.{arc_value};
 ghost use Rattle.call_script.specs.Sound.{IsScript};
 
-use crate::files::schema_at;
+use crate::files::schema_and_script;
 use crate::timing::{ROUNDS, least, nanoseconds_each, now};
 use call_script::{Script, read_script};
-use check_files::bytes_of;
 use history_text::render;
 use mj_base::limits::MAX_FILE_BYTES;
 use mj_schema::Schema;
@@ -18,11 +17,11 @@ use std::io::Print;
 use std::sync::Arc;
 use std::time::{CpuClock, Duration};
 
-/// The order of the runs: each script has one sequence, so it changes nothing.
+/// The order of the runs, which changes nothing where a script has one sequence.
 const ORDER: u64 = 0;
 
 /// The script of a text; none where a line is refused, or where no file has room for it.
-fn script_of(alloc: Global, schema: &Schema, text: &[u8]) -> Option<Script>
+pub fn script_of(alloc: Global, schema: &Schema, text: &[u8]) -> Option<Script>
     ensures script { IfSome result (IsScript schema.now) }
     ensures short { IfSome result (λ script. script.bytes ≤ MAX_FILE_BYTES) }
 {
@@ -33,7 +32,7 @@ fn script_of(alloc: Global, schema: &Schema, text: &[u8]) -> Option<Script>
 }
 
 /// What the run of a script leaves; none without memory.
-fn ran_of(alloc: Global, schema: &Arc<Schema>, script: &Script) -> Option<Ran>
+pub fn ran_of(alloc: Global, schema: &Arc<Schema>, script: &Script) -> Option<Ran>
     requires script { IsScript (arc_value schema.now) script.now }
     requires short { script.now.bytes ≤ MAX_FILE_BYTES }
 {
@@ -148,12 +147,8 @@ pub fn time_files<R: std::rt::Files + Print + AllocGlobal + CpuClock>(
     mojom: &str,
     script: &str,
 ) -> io::Result<()> {
-    let Some(schema) = schema_at(rt, mojom)? else {
-        return println!(rt; "{mojom}: no schema");
-    };
-    let Some(text) = bytes_of(rt, script, MAX_FILE_BYTES) else {
-        return println!(rt; "{script}: it can't be read");
-    };
-    let schema = Arc::new(rt.alloc(), schema)?;
-    time(rt, &schema, &text)
+    match schema_and_script(rt, mojom, script)? {
+        Some((schema, text)) => time(rt, &schema, &text),
+        None => Ok(()),
+    }
 }

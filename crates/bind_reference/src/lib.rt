@@ -8,6 +8,7 @@ mod answering;
 mod call;
 mod close;
 mod endpoints;
+mod interleaved;
 mod names;
 mod needs;
 mod notify;
@@ -20,6 +21,7 @@ mod sending;
 mod take;
 mod turns;
 
+pub use interleaved::events_by;
 pub use remaining::left;
 pub use replies::answer;
 pub use script::events_of;

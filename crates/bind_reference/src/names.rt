@@ -92,11 +92,15 @@ fn handed_to_line(
     Ok(all)
 }
 
-/// Whether an event of a past is an automatic reply: the one before it has one.
+/// Whether an event of a past is an automatic reply: the one of its sequence before it has one.
 fn is_automatic(autos: &[AutoReply], past: &[Event], place: usize) -> bool {
-    match place.checked_sub(1).map(|before| past.get(before)) {
-        Some(Some(event)) => reply_to(autos, event).is_some(),
-        Some(None) | None => false,
+    let Some(event) = past.get(place) else {
+        return false;
+    };
+    let before = past.get(..place).unwrap_or(past);
+    match before.iter().rev().find(|other| other.seq == event.seq) {
+        Some(other) => reply_to(autos, other).is_some(),
+        None => false,
     }
 }
 
@@ -107,6 +111,30 @@ fn lines_before(script: &Script, past: &[Event], joins: usize, place: usize, seq
     before
         .filter(|(at, event)| event.seq == seq && !is_automatic(autos, past, *at))
         .count()
+}
+
+/// The line of a sequence whose event may stand at a place of a past, behind so many joins: of its own the first that
+/// isn't done there.
+fn own_line<'s>(
+    script: &'s Script,
+    past: &[Event],
+    joins: usize,
+    place: usize,
+    seq: SeqId,
+) -> Option<&'s Line> {
+    let done = lines_before(script, past, joins, place, seq);
+    let lines = script.lines.as_slice();
+    lines
+        .iter()
+        .filter(|line| line.seq == seq && !is_join(*line))
+        .nth(done)
+}
+
+/// The line that a sequence does next behind these events, which begin with all joins; none where it has done all.
+pub fn next_line<'s>(script: &'s Script, past: &[Event], seq: SeqId) -> Option<&'s Line> {
+    let lines = script.lines.as_slice();
+    let joins = lines.iter().filter(|line| is_join(*line)).count();
+    own_line(script, past, joins, past.len(), seq)
 }
 
 /// The line whose event stands at a place of a past: the joins in order, then of each sequence its own lines
@@ -121,11 +149,7 @@ fn line_of<'s>(script: &'s Script, past: &[Event], place: usize) -> Option<&'s L
         return None;
     }
     let seq = past.get(place)?.seq;
-    let done = lines_before(script, past, joins, place, seq);
-    lines
-        .iter()
-        .filter(|line| line.seq == seq && !is_join(*line))
-        .nth(done)
+    own_line(script, past, joins, place, seq)
 }
 
 /// Whose is what an event handed out at a place of its list: the second end of a join is the other

@@ -16,7 +16,7 @@ use past_reference::responders::handed;
 use std::alloc::{AllocError, Global};
 
 /// What a line asks behind these events: to skip its number where something that it needs isn't there.
-fn line_asks(
+pub fn line_asks(
     alloc: Global,
     schema: &Schema,
     script: &Script,
@@ -31,7 +31,7 @@ fn line_asks(
 }
 
 /// Adds the event of a command, which is told what the events before give.
-fn ask(
+pub fn ask(
     alloc: Global,
     schema: &Schema,
     script: &Script,
@@ -44,6 +44,28 @@ fn ask(
     Ok(())
 }
 
+/// The automatic reply to what an event got, where it has one.
+pub fn auto_reply(
+    alloc: Global,
+    schema: &Schema,
+    script: &Script,
+    event: &Event,
+) -> Result<Option<Asked>, AllocError> {
+    let responder = handed(schema, event);
+    let (Some(reply), Some(responder)) = (reply_to(script.autos.as_slice(), event), responder)
+    else {
+        return Ok(None);
+    };
+    let sent = outgoing(
+        alloc,
+        &reply.prepared,
+        Vec::new(alloc),
+        Vec::new(alloc),
+        None,
+    )?;
+    Ok(Some(Asked::Answer(responder, sent)))
+}
+
 /// Adds the event of the automatic reply to what the newest event got, where it has one.
 fn reply_on(
     alloc: Global,
@@ -54,26 +76,11 @@ fn reply_on(
     let Some(event) = events.as_slice().last() else {
         return Ok(());
     };
-    let (seq, responder) = (event.seq, handed(schema, event));
-    let (Some(reply), Some(responder)) = (reply_to(script.autos.as_slice(), event), responder)
-    else {
-        return Ok(());
-    };
-    let sent = outgoing(
-        alloc,
-        &reply.prepared,
-        Vec::new(alloc),
-        Vec::new(alloc),
-        None,
-    )?;
-    ask(
-        alloc,
-        schema,
-        script,
-        events,
-        seq,
-        Asked::Answer(responder, sent),
-    )
+    let seq = event.seq;
+    match auto_reply(alloc, schema, script, event)? {
+        Some(asked) => ask(alloc, schema, script, events, seq, asked),
+        None => Ok(()),
+    }
 }
 
 /// Adds the event of a command, and that of an automatic reply to what it got.
@@ -165,7 +172,7 @@ fn do_lines(
 }
 
 /// Adds takes until no end is ready; there are never more events than a history has.
-fn drain(
+pub fn drain(
     alloc: Global,
     schema: &Schema,
     script: &Script,
@@ -180,6 +187,17 @@ fn drain(
     Ok(())
 }
 
+/// The events of the joins, in order.
+pub fn joined(alloc: Global, schema: &Schema, script: &Script) -> Result<Vec<Event>, AllocError> {
+    let mut events = Vec::new(alloc);
+    for line in script.lines.as_slice() {
+        if is_join(line) {
+            do_line(alloc, schema, script, &mut events, line)?;
+        }
+    }
+    Ok(events)
+}
+
 /// All events of a script, in order, where its sequences do their lines in turns by this order.
 pub fn events_of(
     alloc: Global,
@@ -187,12 +205,7 @@ pub fn events_of(
     script: &Script,
     order: u64,
 ) -> Result<Vec<Event>, AllocError> {
-    let mut events = Vec::new(alloc);
-    for line in script.lines.as_slice() {
-        if is_join(line) {
-            do_line(alloc, schema, script, &mut events, line)?;
-        }
-    }
+    let mut events = joined(alloc, schema, script)?;
     do_lines(alloc, schema, script, order, &mut events)?;
     drain(alloc, schema, script, &mut events)?;
     Ok(events)

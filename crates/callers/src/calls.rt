@@ -1,4 +1,4 @@
-//! Calls with jobs, over a core of one sequence that has both ends of a pipe.
+//! Calls with jobs, by a sequence that has both ends of a pipe: over a core of its own, or whatever else does commands.
 
 ghost use Rattle.std.specs.Prelude.{◌≡◌, ◌<◌, true};
 ghost use Rattle.std.specs.Arc.{arc_value};
@@ -7,6 +7,7 @@ ghost use Rattle.wire_encoder.specs.Prepared.{IsPrepared};
 
 use crate::held::{Held, Stopped};
 use crate::messages::{bill, order, whole_in};
+use crate::traded::{Traded, settle};
 use anyhow::{Result, anyhow};
 use bind_core::{Alone, Core};
 use bind_model::{Command, PendingList, Reply, Stepper, ToClose};
@@ -30,6 +31,7 @@ fn bind<P: Stepper>(
     requires seq { (P.me desk.old.stepper).0 < P.seqs desk.old.stepper }
     ensures same { (P.schema desk.new.stepper ≡ P.schema desk.old.stepper) × (P.seqs desk.new.stepper ≡ P.seqs desk.old.stepper)
         × (P.me desk.new.stepper ≡ P.me desk.old.stepper) }
+    ensures home { P.home desk.new.stepper ≡ P.home desk.old.stepper }
 {
     let Some(handle) = held.ends.pop() else {
         return Err(Stopped::Error(anyhow!("both ends are bound")));
@@ -41,7 +43,7 @@ fn bind<P: Stepper>(
 }
 
 /// The cents that a response says; 0 where it says none.
-fn cents_of(got: &Answered) -> u64 {
+pub fn cents_of(got: &Answered) -> u64 {
     let cents = whole_in(got.value.value(), 0).unwrap_or(0);
     u64::try_from(cents).unwrap_or(0)
 }
@@ -59,6 +61,7 @@ fn call<P: Stepper>(
     requires responds { (wire_of (P.schema desk.old.stepper)).responds request.target.interface request.target.method ≡ true }
     ensures same { (P.schema desk.new.stepper ≡ P.schema desk.old.stepper) × (P.seqs desk.new.stepper ≡ P.seqs desk.old.stepper)
         × (P.me desk.new.stepper ≡ P.me desk.old.stepper) }
+    ensures home { P.home desk.new.stepper ≡ P.home desk.old.stepper }
 {
     let (handles, pendings) = (no_handles(alloc), PendingList::new(alloc));
     let sent = desk.call(alloc, from, 0, request, handles, pendings, Some(job), None)?;
@@ -66,7 +69,7 @@ fn call<P: Stepper>(
 }
 
 /// No handles.
-fn no_handles(alloc: Global) -> Handles {
+pub fn no_handles(alloc: Global) -> Handles {
     Handles::from_vec(Vec::new(alloc))
 }
 
@@ -80,6 +83,7 @@ fn take<P: Stepper>(
     requires seq { (P.me desk.old.stepper).0 < P.seqs desk.old.stepper }
     ensures same { (P.schema desk.new.stepper ≡ P.schema desk.old.stepper) × (P.seqs desk.new.stepper ≡ P.seqs desk.old.stepper)
         × (P.me desk.new.stepper ≡ P.me desk.old.stepper) }
+    ensures home { P.home desk.new.stepper ≡ P.home desk.old.stepper }
 {
     match desk.take(alloc, end)? {
         Reply::Got(received) => Ok(held.got.push(received)?),
@@ -99,6 +103,7 @@ fn answer<P: Stepper>(
     requires schema { P.schema desk.old.stepper ≡ schema.now }
     ensures same { (P.schema desk.new.stepper ≡ P.schema desk.old.stepper) × (P.seqs desk.new.stepper ≡ P.seqs desk.old.stepper)
         × (P.me desk.new.stepper ≡ P.me desk.old.stepper) }
+    ensures home { P.home desk.new.stepper ≡ P.home desk.old.stepper }
 {
     let Some(got) = held.got.last_mut() else {
         return Err(Stopped::Error(anyhow!("nothing was got")));
@@ -119,6 +124,7 @@ fn close<P: Stepper>(desk: &mut Desk<BoxedJob, P>, alloc: Global, end: EndId) ->
     requires seq { (P.me desk.old.stepper).0 < P.seqs desk.old.stepper }
     ensures same { (P.schema desk.new.stepper ≡ P.schema desk.old.stepper) × (P.seqs desk.new.stepper ≡ P.seqs desk.old.stepper)
         × (P.me desk.new.stepper ≡ P.me desk.old.stepper) }
+    ensures home { P.home desk.new.stepper ≡ P.home desk.old.stepper }
 {
     match desk.step(alloc, Command::Close(ToClose::Endpoint(end, 0)))? {
         Reply::Closed(_) => Ok(()),
@@ -137,6 +143,7 @@ fn trade<P: Stepper>(
 ) -> Result<(), Stopped>
     requires seq { (P.me desk.old.stepper).0 < P.seqs desk.old.stepper }
     requires schema { P.schema desk.old.stepper ≡ schema.now }
+    ensures { P.home desk.new.stepper ≡ P.home desk.old.stepper }
 {
     let (first, second) = jobs;
     let client = bind(desk, alloc, held, EndpointSide::Remote, interface)?;
@@ -153,14 +160,61 @@ fn trade<P: Stepper>(
 }
 
 /// Makes a pipe: its ends are held.
-fn pipe(core: &mut Core, alloc: Global) -> Result<Held, Stopped>
-    requires { 0 < core.old.seqs }
-    ensures { (core.new.schema ≡ core.old.schema) × (core.new.seqs ≡ core.old.seqs) }
+fn pipe<P: Stepper>(desk: &mut Desk<BoxedJob, P>, alloc: Global) -> Result<Held, Stopped>
+    requires seq { (P.me desk.old.stepper).0 < P.seqs desk.old.stepper }
+    ensures same { (P.schema desk.new.stepper ≡ P.schema desk.old.stepper) × (P.seqs desk.new.stepper ≡ P.seqs desk.old.stepper)
+        × (P.me desk.new.stepper ≡ P.me desk.old.stepper) }
+    ensures home { P.home desk.new.stepper ≡ P.home desk.old.stepper }
 {
-    match core.step(alloc, SeqId(0), Command::Pipe)? {
+    match desk.step(alloc, Command::Pipe)? {
         Reply::Made(ends) => Ok(Held::new(alloc, ends)),
         other => Err(Stopped::Told(other)),
     }
+}
+
+/// Makes a pipe and trades over it: what is held then, and how it ended.
+fn attempt<P: Stepper>(
+    desk: &mut Desk<BoxedJob, P>,
+    alloc: Global,
+    schema: &Schema,
+    interface: u32,
+    jobs: (BoxedJob, BoxedJob),
+) -> (Held, Result<(), Stopped>)
+    requires seq { (P.me desk.old.stepper).0 < P.seqs desk.old.stepper }
+    requires schema { P.schema desk.old.stepper ≡ schema.now }
+    ensures { P.home desk.new.stepper ≡ P.home desk.old.stepper }
+{
+    match pipe(desk, alloc) {
+        Ok(held) => {
+            let mut held = held;
+            let outcome = trade(desk, alloc, schema, interface, &mut held, jobs);
+            (held, outcome)
+        }
+        Err(stopped) => (Held::new(alloc, no_handles(alloc)), Err(stopped)),
+    }
+}
+
+/// Trades at a desk over a stepper, which comes back at the core where it was.
+pub fn deal<P: Stepper>(
+    stepper: P,
+    alloc: Global,
+    schema: &Schema,
+    interface: u32,
+    jobs: (BoxedJob, BoxedJob),
+) -> (P, Traded)
+    requires seq { (P.me stepper).0 < P.seqs stepper }
+    requires schema { P.schema stepper ≡ schema.now }
+    ensures { P.home result.0 ≡ P.home stepper }
+{
+    let mut desk = Desk::new(alloc, stepper);
+    let (held, outcome) = attempt(&mut desk, alloc, schema, interface, jobs);
+    let (back, notes) = desk.finish();
+    let traded = Traded {
+        notes,
+        held,
+        outcome,
+    };
+    (back, traded)
 }
 
 /// Trades over a new core: a note for each job, and how many things aren't closed. A job that ran noted the
@@ -170,25 +224,10 @@ pub fn buy(alloc: Global, schema: &Arc<Schema>, interface: u32) -> Result<(Vec<N
     let second: Callback = Box::new(alloc, |got: &Answered| cents_of(got))?;
     let jobs = (BoxedJob { run: first }, BoxedJob { run: second });
     let mut core = Core::new(alloc, Arc::try_clone(schema)?, 1);
-    let mut held = match pipe(&mut core, alloc) {
-        Ok(held) => held,
-        Err(stopped) => {
-            let (_history, over) = core.end();
-            return Err(stopped.into_error(&over));
-        }
-    };
     let alone = Alone {
         core: &mut core,
         seq: SeqId(0),
     };
-    let mut desk = Desk::new(alloc, alone);
-    let outcome = trade(&mut desk, alloc, schema, interface, &mut held, jobs);
-    let (_alone, notes) = desk.finish();
-    let left = core.left(alloc);
-    let (_history, over) = core.end();
-    held.retire(&over);
-    match outcome {
-        Ok(()) => Ok((notes, left?.len())),
-        Err(stopped) => Err(stopped.into_error(&over)),
-    }
+    let (_alone, traded) = deal(alone, alloc, schema, interface, jobs);
+    settle(alloc, core, traded)
 }

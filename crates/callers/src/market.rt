@@ -2,13 +2,15 @@
 
 use crate::calls::buy;
 use crate::messages::{order, read, sealed};
+use crate::seated::buy_seated;
 use anyhow::{Result, bail};
 use mj_base::{Items, Text};
 use mj_schema::Schema;
 use mojom_compile::{Source, compile};
+use remote_receiver::Note;
 use std::alloc::Global;
 use std::io::Print;
-use std::sync::Arc;
+use std::sync::{Arc, Wait};
 
 /// What the calls are of.
 const MARKET: &str = "module market;
@@ -53,10 +55,9 @@ fn show_message<R: Print + AllocGlobal>(
     Ok(())
 }
 
-/// Calls, and says what became of each job.
-fn show_calls<R: Print + AllocGlobal>(rt: &R, schema: &Arc<Schema>, interface: u32) -> Result<()> {
-    let (notes, left) = buy(rt.alloc(), schema, interface)?;
-    for note in &notes {
+/// Says what became of each job, and how many things aren't closed.
+fn show_notes<R: Print + AllocGlobal>(rt: &R, notes: &[Note], left: usize) -> Result<()> {
+    for note in notes {
         let request = note.key.request;
         if note.ran {
             println!(rt; "request {request}: its job got {} cents", note.note)?;
@@ -68,8 +69,21 @@ fn show_calls<R: Print + AllocGlobal>(rt: &R, schema: &Arc<Schema>, interface: u
     Ok(())
 }
 
+/// Calls over a core, and from a seat at a hub, and says what became of each job.
+fn show_calls<R: Print + AllocGlobal + Wait>(
+    rt: &R,
+    schema: &Arc<Schema>,
+    interface: u32,
+) -> Result<()> {
+    let (notes, left) = buy(rt.alloc(), schema, interface)?;
+    show_notes(rt, notes.as_slice(), left)?;
+    println!(rt; "from a seat:")?;
+    let (notes, left) = buy_seated(rt, rt.alloc(), schema, interface)?;
+    show_notes(rt, notes.as_slice(), left)
+}
+
 /// Compiles the text, shows the messages of two orders and calls; prints what came of each.
-pub fn run<R: Print + AllocGlobal>(rt: &R) -> Result<()> {
+pub fn run<R: Print + AllocGlobal + Wait>(rt: &R) -> Result<()> {
     let schema = Arc::new(rt.alloc(), compiled(rt.alloc())?)?;
     let Some(interface) = schema.find_interface("market.Stall") else {
         bail!("there is no market.Stall")

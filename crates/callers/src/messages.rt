@@ -9,7 +9,9 @@ use message_validator::{Checked, check};
 use mj_base::Fault;
 use mj_schema::{Kind, KindNode, Schema};
 use std::alloc::Global;
+use value_text::write_value;
 use view_text::write_view;
+use wire_decoder::decode;
 use wire_encoder::{Head, Prepared, prepare, seal};
 use wire_model::{Expected, MessageSide, Target, Value};
 use wire_view::root;
@@ -125,6 +127,20 @@ fn text_of(alloc: Global, checked: &Checked<'_>) -> Result<String> {
     }
 }
 
+/// The text of the value of a message that was checked. The value is a copy, which outlives the message.
+fn copy_of(alloc: Global, checked: &Checked<'_>) -> Result<String> {
+    let value = decode(alloc, checked)?;
+    let kind = Kind::new(KindNode::Struct {
+        number: checked.number,
+        nullable: false,
+    });
+    let text = write_value(alloc, checked.schema, &kind, &value)?;
+    match String::from_utf8(text) {
+        Ok(text) => Ok(text),
+        Err(_) => bail!("a value's text is UTF-8"),
+    }
+}
+
 /// The item of an order that was checked, and how many it asks for, one where it doesn't say.
 fn asked_for<'a>(checked: &Checked<'a>) -> (&'a str, i128) {
     let order = root(checked);
@@ -133,7 +149,7 @@ fn asked_for<'a>(checked: &Checked<'a>) -> (&'a str, i128) {
     (item, count)
 }
 
-/// The text of what a request says, and what it asks for, or its first fault.
+/// The text of what a request says, what it asks for, and the text of its value, or its first fault.
 pub fn read(
     alloc: Global,
     schema: &Schema,
@@ -147,8 +163,9 @@ pub fn read(
     match check(schema, expected, bytes, 0) {
         Ok(checked) => {
             let text = text_of(alloc, &checked)?;
+            let copy = copy_of(alloc, &checked)?;
             let (item, count) = asked_for(&checked);
-            Ok(Ok(format!(in alloc; "{text}: {count} of {item}")?))
+            Ok(Ok(format!(in alloc; "{text}: {count} of {item}; decoded {copy}")?))
         }
         Err(fault) => Ok(Err(fault)),
     }

@@ -1,11 +1,16 @@
 //! Compares the runs of scripts with those that they literally have: of each walk of a file, all scripts of a
-//! few lines.
+//! few lines, on one thread and with a thread for each sequence.
 #![tactic(auto)]
 
+mod at_once;
 mod callbacks;
 mod compare;
+mod gate;
+mod held;
 mod played;
 mod tally;
+mod threaded;
 mod walk;
 
 pub use compare::run;
+pub use threaded::run_threads;

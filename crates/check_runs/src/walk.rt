@@ -1,7 +1,8 @@
 //! The walks of a file. A line `walk NAME` begins one; `file TEXT` has its definitions, `first LINE` a line
 //! with which each of its scripts begins, `line LINE` one that may stand behind these at any place and any
 //! number of times, and `most N` says how many of those a script has at most. Each script is run in as many
-//! orders of its sequences' lines, from 0 on, as `orders N` says; without it in the order 0 alone.
+//! orders of its sequences' lines, from 0 on, as `orders N` says; without it in the order 0 alone. Where each
+//! sequence has a thread, it is run as often as `threads N` says.
 
 use mj_base::{Items, Text};
 use mj_schema::Schema;
@@ -17,6 +18,7 @@ pub struct Walk {
     lines: Vec<String>,
     pub most: u32,
     pub orders: u64,
+    pub threads: u64,
 }
 
 impl Walk {
@@ -29,6 +31,7 @@ impl Walk {
             lines: Vec::new(alloc),
             most: 0,
             orders: 1,
+            threads: 0,
         })
     }
 
@@ -50,6 +53,8 @@ impl Walk {
     fn take_number(&mut self, line: &str) {
         if let Some(orders) = line.strip_prefix("orders ") {
             self.orders = orders.parse::<u64>().unwrap_or(0);
+        } else if let Some(threads) = line.strip_prefix("threads ") {
+            self.threads = threads.parse::<u64>().unwrap_or(0);
         } else {
             let most = line.strip_prefix("most ").unwrap_or("");
             self.most = most.parse::<u32>().unwrap_or(0);

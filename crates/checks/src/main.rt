@@ -6,17 +6,21 @@ use anyhow::Result;
 use std::env::Env;
 use std::io::{ErrorKind, Print};
 use std::process::ExitCode;
-use std::time::CpuClock;
+use std::sync::Wait;
+use std::thread::Threads;
+use std::time::{Clock, CpuClock};
 use std::{env, io};
 
-/// A check, of the library of its name.
+/// A check, of the library of its name; the one of threads is of check_runs.
 #[derive(Clone, Copy)]
 enum Check {
     Names,
     Layouts,
     Messages,
+    Compat,
     Runs,
     Cores,
+    Threads,
     Callers,
     Benchmarks,
 }
@@ -28,8 +32,10 @@ impl Check {
             "check_names" => Some(Check::Names),
             "check_layouts" => Some(Check::Layouts),
             "check_messages" => Some(Check::Messages),
+            "check_compat" => Some(Check::Compat),
             "check_runs" => Some(Check::Runs),
             "check_cores" => Some(Check::Cores),
+            "check_threads" => Some(Check::Threads),
             "callers" => Some(Check::Callers),
             "benchmarks" => Some(Check::Benchmarks),
             _ => None,
@@ -60,7 +66,7 @@ fn own_words(behind: &[String]) -> &[String] {
 }
 
 /// Does a check with the words for it; whether all was right.
-fn do_check<R: std::rt::Files + Print + AllocGlobal + CpuClock>(
+fn do_check<R: std::rt::Files + Print + AllocGlobal + CpuClock + Clock + Wait + Threads + Sync>(
     rt: &R,
     check: Check,
     words: &[String],
@@ -69,8 +75,10 @@ fn do_check<R: std::rt::Files + Print + AllocGlobal + CpuClock>(
         Check::Names => Ok(check_names::run(rt, words)?),
         Check::Layouts => Ok(check_layouts::run(rt, words)?),
         Check::Messages => Ok(check_messages::run(rt, words)?),
+        Check::Compat => Ok(check_compat::run(rt, words)?),
         Check::Runs => Ok(check_runs::run(rt, words)?),
         Check::Cores => Ok(check_cores::run(rt)?),
+        Check::Threads => Ok(check_runs::run_threads(rt, words)?),
         Check::Callers => {
             callers::run(rt)?;
             Ok(true)
@@ -83,7 +91,7 @@ fn do_check<R: std::rt::Files + Print + AllocGlobal + CpuClock>(
 }
 
 /// Does the checks that words name, and prints the name of each before it; whether all was right.
-fn do_checks<R: std::rt::Files + Print + AllocGlobal + CpuClock>(
+fn do_checks<R: std::rt::Files + Print + AllocGlobal + CpuClock + Clock + Wait + Threads + Sync>(
     rt: &R,
     words: &[String],
 ) -> Result<bool> {
@@ -100,7 +108,7 @@ fn do_checks<R: std::rt::Files + Print + AllocGlobal + CpuClock>(
 }
 
 /// Does the checks that words name, the first of which is to be a check's; whether all was right.
-fn run<R: std::rt::Files + Print + AllocGlobal + CpuClock>(
+fn run<R: std::rt::Files + Print + AllocGlobal + CpuClock + Clock + Wait + Threads + Sync>(
     rt: &R,
     words: &[String],
 ) -> Result<bool> {

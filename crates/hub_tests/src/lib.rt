@@ -1,6 +1,9 @@
-//! Sequences over one hub, each in a thread of its own. They stand apart, since a crate with tests is proved once more with them.
+//! Sequences over one hub, each in a thread of its own, and one that takes what it wrote. They stand apart, since a crate with tests is
+//! proved once more with them.
 #![tactic(auto)]
 
+#[cfg(test)]
+mod own_write;
 mod pipes;
 mod seats;
 #[cfg(test)]
