@@ -6,6 +6,8 @@ import sys
 
 sys.dont_write_bytecode = True
 FOLDER = os.path.dirname(os.path.abspath(__file__))
+# The options of the program that have no value.
+FLAGS = ('--response', '--threads')
 
 
 def tool(name):
@@ -41,5 +43,5 @@ def mojom_files(words):
         elif word == '--':
             is_behind = True
         else:
-            is_value = '=' not in word and word != '--response'
+            is_value = '=' not in word and word not in FLAGS
     return names

@@ -1,9 +1,12 @@
-"""What documents say of the tree, beside the tree: the map of crates and definitions, sizes, limits, and how much is tried."""
+"""What documents say of the tree, beside the tree: the map of crates and definitions, sizes, limits, how much is tried, and links."""
 import glob
 import os
 import re
 import subprocess
 import sys
+
+import unproved
+from case_files import cases_of
 
 TOP = os.path.dirname(os.path.dirname(os.path.abspath(__file__)))
 # How far a size may be from the one on the page, as a part of it, and by itself.
@@ -16,6 +19,21 @@ TRIED = (('crates/conformance/stdout', r'^(\d+) passed', ('README.md', 'docs/pro
          ('crates/checks/stdout', r'^(\d+) compared, 0 differences', ('README.md', 'docs/promise.md')),
          ('crates/checks/stdout', r'^(\d+) scripts, 0 differences$', ('README.md', 'docs/promise.md')),
          ('crates/checks/stdout', r', (\d+) steps, differ 0$', ('README.md', 'docs/promise.md')))
+
+# How pages write small numbers.
+WORDS = ('none', 'one', 'two', 'three', 'four', 'five', 'six', 'seven', 'eight', 'nine', 'ten', 'eleven', 'twelve', 'thirteen', 'fourteen', 'fifteen',
+         'sixteen', 'seventeen', 'eighteen', 'nineteen', 'twenty')
+# What the program of checks prints a line for, and how the README tells how many there are.
+COUNTED = ((r'^.*: \d+ texts, \d+ scripts, \d+ events, 0 differ$', 'all that {} walks give of up to five lines'),
+           (r'^.*: \d+ lists, \d+ steps, 0 differ$', 'all that {} walks of two sequences give'))
+# The literal programs, as the page of promises has their sizes.
+LITERAL = (('bind_reference', 'past_reference', 'data_reference'), ('wire_reference',), ('names_reference',), ('kinds_reference',),
+           ('compat_reference',), ('layout_reference',))
+# What it prints of the messages that were worked by hand.
+MESSAGES = r'^.*: \d+ compared, \d+ stand, \d+ refused, 0 differ$'
+
+# A link to a file or a heading of the repository.
+LINK = re.compile(r'\[[^\]]*\]\((?!https?:)([^)\s#]*)(?:#([^)\s]*))?\)')
 
 # A name with the file where a page says that it stands.
 PLACED = re.compile(r'`(\w+)` (?:in|of) `(crates/[^`*]+\.(?:antt|rt|cases))`')
@@ -89,6 +107,62 @@ def of_sizes(text):
             yield f'{layer} has {numbers} files, definitions and lines, and not {said.get(layer)}'
 
 
+def lines_in(crates, pattern):
+    """How many lines the files of some crates have."""
+    names = (name for crate in crates for name in glob.glob(os.path.join(TOP, 'crates', crate, pattern), recursive=True))
+    return sum(text_of(name).count('\n') for name in names)
+
+
+def of_lines(text):
+    """How many lines of code and of proofs the program has, how long the literal programs are, and how many edits there are, where a page
+    says otherwise."""
+    below = unproved.crates_below('mojo')
+    counted = [lines_in(below, 'src/**/*.rt'), lines_in(below, 'proofs/**/*.antt')]
+    found = re.search(r'beside ([\d,]+) lines of code and ([\d,]+) lines of proofs', text)
+    counted += [lines_in(crates, 'src/**/*.rt') for crates in LITERAL]
+    literal = re.search(r'\(([\d,]+), ([\d,]+), ([\d,]+), ([\d,]+), ([\d,]+)\s+and ([\d,]+) lines\)', text)
+    said = [int(number.replace(',', '')) for one in (found, literal) if one for number in one.groups()]
+    if len(said) < len(counted) or not all(map(is_near, said, counted)):
+        yield f'the program has {counted[0]} lines of code and {counted[1]} of proofs, the literal programs have {counted[2:]}, and not {said}'
+    edits = round(len(edit_files()), -1)
+    if f'some {edits} one-line edits' not in text:
+        yield f'there are some {edits} one-line edits'
+
+
+def of_promise(text):
+    """What is wrong of the sizes on the page of promises."""
+    yield from of_sizes(text)
+    yield from of_lines(text)
+
+
+def of_tried(text):
+    """How much is tried, where the README says otherwise: the cases that need no fetch or write that fails, histories, walks and messages."""
+    cases = [case for name in glob.glob(os.path.join(TOP, 'crates', 'conformance', 'data', '*.cases')) for case in cases_of(name)]
+    failing = sum(bool(case['fails']) for case in cases)
+    histories = re.search(r'^(\d+) printed histories', text_of('crates/conformance/stdout'), re.M)
+    tried = text_of('crates/checks/stdout')
+    said = [f'{len(cases) - failing:,} of the {len(cases):,} cases', f'the other {WORDS[failing]} cases', f'The {histories[1]} histories',
+            f'Messages: {len(re.findall(MESSAGES, tried, re.M))} that were worked by hand',
+            f'sets of files, of which {len(re.findall(r"^answer ", text_of("crates/checks/data/names.txt"), re.M))} have']
+    said += [form.format(WORDS[len(re.findall(pattern, tried, re.M))]) for pattern, form in COUNTED]
+    plain = ' '.join(text.split())
+    yield from (f'it is: {one}' for one in said if one not in plain)
+
+
+def of_cases(text):
+    """The rows of the page of cases whose counts are not those of their files."""
+    found = re.findall(r'^\| `?([\w.]+)`? \|[^|]*\| ([\d,]*) ?\| ([\d,]*) ?\|$', text, re.M)
+    rows = {row[0]: [int(number.replace(',', '') or 0) for number in row[1:]] for row in found}
+    for name in sorted(glob.glob(os.path.join(TOP, 'crates', 'conformance', 'data', '*.cases'))):
+        name = os.path.relpath(name, TOP)
+        count = len(re.findall(r'^case ', text_of(name), re.M))
+        if sum(rows.get(os.path.basename(name), [])) != count:
+            yield f'{os.path.basename(name)} has {count} cases, and not {rows.get(os.path.basename(name))}'
+    for at, column in enumerate(zip(*(numbers for name, numbers in rows.items() if name != 'all'))):
+        if rows['all'][at] != sum(column):
+            yield f'all of a column are {sum(column)}, and not {rows["all"][at]}'
+
+
 def of_limits(text):
     """The limits that the page of limits lacks."""
     for name in re.findall(r'^pub const (\w+)', text_of('crates/mj_base/src/limits.rt'), re.M):
@@ -113,23 +187,47 @@ def of_places(page, text):
             yield f'{name} does not stand in {file}'
 
 
+def edit_files():
+    return glob.glob(os.path.join(TOP, 'crates', '*', 'must-fail', '*.edit'))
+
+
 def of_edits(text):
     """How many must-fail edits there are, in how many crates, where a page says otherwise."""
-    edits = glob.glob(os.path.join(TOP, 'crates', '*', 'must-fail', '*.edit'))
+    edits = edit_files()
     said = f'{len(edits)}, in {len({edit.split(os.sep)[-3] for edit in edits})} of the {len(crates())} crates'
     if said not in text:
         yield f'there are edits: {said}'
 
 
 # What a page says of the tree by itself.
-OWN = {'docs/architecture.md': of_map, 'docs/promise.md': of_sizes, 'docs/limits.md': of_limits, 'docs/performance.md': of_edits}
+OWN = {'docs/architecture.md': of_map, 'docs/promise.md': of_promise, 'docs/limits.md': of_limits, 'docs/performance.md': of_edits,
+       'docs/conformance.md': of_cases, 'README.md': of_tried}
+
+
+def prose(text):
+    """A page without its fenced blocks."""
+    return re.sub(r'^```.*?^```$', '', text, flags=re.M | re.S)
+
+
+def headings(name):
+    """The names by which links lead to the headings of a page."""
+    titles = re.findall(r'^#+ (.*)$', prose(text_of(name)), re.M)
+    return {re.sub(r'[^\w\- ]', '', title.lower()).replace(' ', '-') for title in titles}
+
+
+def of_links(page, text):
+    """The links of a page that lead nowhere."""
+    for name, heading in LINK.findall(prose(text)):
+        there = os.path.normpath(os.path.join(os.path.dirname(page), name)) if name else page
+        if not os.path.exists(os.path.join(TOP, there)) or heading and heading not in headings(there):
+            yield f'a link leads to {name}{"#" * bool(heading)}{heading}'
 
 
 def has_facts(page, text):
     """Whether something that a page says is compared with the tree."""
-    return page in OWN or any(page in pages for _, _, pages in TRIED) or PLACED.search(text) is not None
+    return page in OWN or any(page in pages for _, _, pages in TRIED) or bool(PLACED.search(text) or LINK.search(prose(text)))
 
 
 def complaints(page, text):
     """What a page says that the tree does not."""
-    return [*(OWN[page](text) if page in OWN else ()), *of_numbers(page, text), *of_places(page, text)]
+    return [*(OWN[page](text) if page in OWN else ()), *of_numbers(page, text), *of_places(page, text), *of_links(page, text)]

@@ -5,6 +5,10 @@ from dataclasses import dataclass, field
 WIDTHS = {'bool': 0, 'int8': 1, 'uint8': 1, 'int16': 2, 'uint16': 2, 'int32': 4, 'uint32': 4, 'int64': 8, 'uint64': 8}
 NONE = 0xffffffff
 ANY = '\0'
+# the interface id of controls, and what they are by their kind: a name, and what their numbers are of
+CONTROL_ID = 0xffffffff
+CONTROLS = {1: ('closed', 'endpoint'), 2: ('query', 'endpoint'), 3: ('version', 'endpoint', 'version'), 4: ('require', 'endpoint', 'version'),
+            5: ('flush', 'number')}
 # how many numbers of a message are read at most: pointers that meet again could lead to any number of them
 MOST_NUMBERS = 5_000_000
 
@@ -132,8 +136,10 @@ class Reader:
         self.ids, self.value, self.method, self.left = (), None, None, MOST_NUMBERS
 
     def read(self, interface, is_response):
-        """Reads the whole message."""
+        """Reads the whole message; without an interface a control."""
         payload = self.header()
+        if interface is None:
+            return self.control(payload)
         method = self.tables.interfaces.get(interface, {}).get(self.number(12, 4))
         if method is None:
             raise BadMessage(12, f'{interface} has no method of this ordinal')
@@ -143,6 +149,19 @@ class Reader:
         self.method = f'{interface}.{method}'
         self.items[0].spans[3].value += f', {method}'
         self.value = self.struct(payload, name, method)
+
+    def control(self, at):
+        """A message by which the two ends of a pipe speak of their endpoints: a struct with its kind and one number, or two."""
+        size, kind = self.number(at, 4), self.number(at + 8, 4)
+        if kind not in CONTROLS:
+            raise BadMessage(at + 8, 'no control has this kind')
+        name, *numbers = CONTROLS[kind]
+        item = Item(at, size, f'control: {name}, {size} bytes')
+        self.items.append(item)
+        self.heads(item, at, 'version')
+        item.spans.append(Span(at + 8, 4, 'kind', 'uint32', f'{kind}, {name}'))
+        item.spans += [Span(at + 12 + 4 * n, 4, word, 'uint32', str(self.number(at + 12 + 4 * n, 4))) for n, word in enumerate(numbers)]
+        self.method, self.value = 'control', ' '.join([name, *(span.value for span in item.spans[3:])])
 
     def number(self, at, size, is_signed=False):
         if at < 0 or at + size > len(self.data):
@@ -327,8 +346,13 @@ class Reader:
         return '{' + ','.join(f'{key}:{value}' for key, value in zip(*texts)) + '}'
 
 
+def is_control(data):
+    """Whether the header of a message has the interface id of controls."""
+    return int.from_bytes(data[8:12], 'little') == CONTROL_ID
+
+
 def read(tables, data, interface, is_response):
-    """A reader with all that could be read, and the fault that ended it or None."""
+    """A reader with all that could be read, of a control where no interface is given, and the fault that ended it or None."""
     reader = Reader(tables, data)
     try:
         reader.read(interface, is_response)

@@ -5,11 +5,11 @@ import os
 # The layers, from what is seen of the program down. Crates without a line of their own are sorted by their part of crates.txt.
 LAYERS = ('The program', 'The outside', 'Words', 'Language', 'Wire', 'Machine', 'Scripts', 'Texts')
 OF_CRATES = {'mojo_tool': 'The program', 'mojo': 'The program', 'command_line': 'Words', 'script_words': 'Scripts', 'script_forms': 'Scripts',
-             'call_script': 'Scripts', 'script_names': 'Scripts', 'script_run': 'Scripts', 'printed_runs': 'Scripts', 'callback_laws': 'Scripts', 'mojom_print': 'Texts',
-             'schema_text': 'Texts', 'history_text': 'Texts', 'line_parts': 'Texts', 'history_reader': 'Texts', 'printed_schemas': 'Texts',
-             'printed_histories': 'Texts'}
+             'call_script': 'Scripts', 'script_names': 'Scripts', 'script_run': 'Scripts', 'threaded_run': 'Scripts', 'printed_runs': 'Scripts',
+             'callback_laws': 'Scripts', 'mojom_print': 'Texts', 'schema_text': 'Texts', 'history_text': 'Texts', 'line_parts': 'Texts',
+             'history_reader': 'Texts', 'printed_schemas': 'Texts', 'printed_histories': 'Texts'}
 OF_PARTS = {'base': 'The outside', 'language': 'Language', 'layout': 'Language', 'names': 'Language', 'schemas': 'Language', 'wire': 'Wire',
-            'texts': 'Texts', 'machine': 'Machine', 'program': 'The program'}
+            'newer schemas': 'Language', 'texts': 'Texts', 'machine': 'Machine', 'program': 'The program'}
 
 # A definition as it is printed, and where it stands among those of its file.
 Entry = collections.namedtuple('Entry', 'file text place')
