@@ -8,7 +8,7 @@ use mj_base::{EndId, SeqId};
 use mj_schema::Schema;
 use past_reference::past::{handed, is_out};
 use past_reference::pendings::is_pending_out;
-use past_reference::responders::{handed as handed_responder, is_responder_out};
+use past_reference::responders::handed as handed_responder;
 use std::alloc::{AllocError, Global};
 
 /// What is held under a name: the handle of a thing, a pending, or a responder.
@@ -19,12 +19,20 @@ pub enum Held {
     Responder(ResponderId),
 }
 
-/// What was handed out, to whom, and the name that it came under, where its line had one for it.
+/// What was handed out, the place of the event that did, to whom, and the name that it came under, where its line had one for it.
 #[derive(Clone, Copy)]
 struct Label {
+    place: usize,
     seq: SeqId,
     held: Held,
     name: Option<NameId>,
+}
+
+/// That the responder of a name was spent by the event at a place.
+#[derive(Clone, Copy)]
+struct Spending {
+    place: usize,
+    name: NameId,
 }
 
 /// Whether a line joins.
@@ -90,6 +98,15 @@ fn handed_to_line(
         }
     }
     Ok(all)
+}
+
+/// The name whose responder an event of a line spent: that of an answer which was sent, or of a closing which was done.
+fn spent_by(line: Option<&Line>, told: &Told) -> Option<NameId> {
+    match (line.map(|line| &line.command), told) {
+        (Some(Command::Answer(name, _, _, _)), Told::Sent(_, _))
+        | (Some(Command::CloseToken(name)), Told::Closed(_)) => Some(*name),
+        _ => None,
+    }
 }
 
 /// Whether an event of a past is an automatic reply: the one of its sequence before it has one.
@@ -164,26 +181,31 @@ fn owner(line: Option<&Line>, event: &Event, place: usize) -> SeqId {
 /// What names stand for behind some events.
 #[derive(Drop)]
 pub struct Names<'a> {
-    schema: &'a Schema,
     past: &'a [Event],
     labels: Vec<Label>,
+    spendings: Vec<Spending>,
 }
 
 impl<'a> Names<'a> {
     /// The names behind these events.
     pub fn new(
         alloc: Global,
-        schema: &'a Schema,
+        schema: &Schema,
         script: &Script,
         past: &'a [Event],
     ) -> Result<Names<'a>, AllocError> {
         let mut labels = Vec::new(alloc);
+        let mut spendings = Vec::new(alloc);
         for (place, event) in past.iter().enumerate() {
             let line = line_of(script, past, place);
+            if let Some(name) = spent_by(line, &event.told) {
+                spendings.push(Spending { place, name })?;
+            }
             let names = set_by(alloc, line)?;
             let handed = handed_to_line(alloc, schema, script.autos.as_slice(), event)?;
             for (k, held) in handed.iter().enumerate() {
                 labels.push(Label {
+                    place,
                     seq: owner(line, event, k),
                     held: *held,
                     name: names.get(k).copied(),
@@ -191,20 +213,21 @@ impl<'a> Names<'a> {
             }
         }
         Ok(Names {
-            schema,
             past,
             labels,
+            spendings,
         })
+    }
+
+    /// What came last under a name.
+    fn label(&self, name: NameId) -> Option<Label> {
+        let mut labels = self.labels.iter().rev();
+        labels.find(|label| label.name == Some(name)).copied()
     }
 
     /// What a name stands for: what came under it last.
     fn meant(&self, name: NameId) -> Option<Held> {
-        let label = self
-            .labels
-            .iter()
-            .rev()
-            .find(|label| label.name == Some(name))?;
-        Some(label.held)
+        Some(self.label(name)?.held)
     }
 
     /// The end that a name stands for.
@@ -230,28 +253,24 @@ impl<'a> Names<'a> {
         }
     }
 
-    /// Whether it is with a caller.
-    fn is_out(&self, alloc: Global, held: Held) -> Result<bool, AllocError> {
-        match held {
-            Held::Thing(thing) => Ok(is_out(self.past, thing)),
-            Held::Pending(pending) => Ok(is_pending_out(self.past, pending)),
-            Held::Responder(name) => is_responder_out(alloc, self.schema, self.past, name),
-        }
+    /// Whether a responder that came under a name wasn't spent by that name since: two requests of one id give equal
+    /// responders, so only the name tells them apart.
+    fn is_unspent(&self, label: Label, name: NameId) -> bool {
+        let mut spendings = self.spendings.iter();
+        !spendings.any(|spending| spending.name == name && spending.place > label.place)
     }
 
     /// What a sequence holds under a name: what it stands for, where that is out and came last to this
     /// sequence under this name.
-    pub fn held(
-        &self,
-        alloc: Global,
-        seq: SeqId,
-        name: NameId,
-    ) -> Result<Option<Held>, AllocError> {
-        match self.meant(name) {
-            Some(held) if self.is_out(alloc, held)? && self.came_last(held, seq, name) => {
-                Ok(Some(held))
+    pub fn held(&self, seq: SeqId, name: NameId) -> Option<Held> {
+        let label = self.label(name)?;
+        let is_held = match label.held {
+            Held::Thing(thing) => is_out(self.past, thing) && self.came_last(label.held, seq, name),
+            Held::Pending(pending) => {
+                is_pending_out(self.past, pending) && self.came_last(label.held, seq, name)
             }
-            Some(_) | None => Ok(None),
-        }
+            Held::Responder(_) => label.seq == seq && self.is_unspent(label, name),
+        };
+        if is_held { Some(label.held) } else { None }
     }
 }

@@ -36,7 +36,7 @@ fn all_handles(
 ) -> Result<Option<Vec<Thing>>, AllocError> {
     let mut things = Vec::new(alloc);
     for (k, name) in list.iter().enumerate() {
-        match names.held(alloc, seq, *name)? {
+        match names.held(seq, *name) {
             Some(Held::Thing(thing)) if !list[..k].contains(name) => things.push(thing)?,
             Some(_) | None => return Ok(None),
         }
@@ -54,7 +54,7 @@ fn all_pendings(
 ) -> Result<Option<Vec<PendingId>>, AllocError> {
     let mut pendings = Vec::new(alloc);
     for (k, name) in list.iter().enumerate() {
-        match names.held(alloc, seq, *name)? {
+        match names.held(seq, *name) {
             Some(Held::Pending(pending)) if !list[..k].contains(name) => pendings.push(pending)?,
             Some(_) | None => return Ok(None),
         }
@@ -136,7 +136,7 @@ fn sending_asks(
             }
         }
         Command::Answer(name, prepared, list, moment) => {
-            let Some(Held::Responder(responder)) = names.held(alloc, seq, *name)? else {
+            let Some(Held::Responder(responder)) = names.held(seq, *name) else {
                 return Ok(None);
             };
             match sent_with(alloc, names, seq, prepared, list.as_slice(), *moment)? {
@@ -157,7 +157,7 @@ fn raw_asks(
     bytes: &Items<u8>,
     list: &[NameId],
 ) -> Result<Option<Asked>, AllocError> {
-    let Some(Held::Thing(thing)) = names.held(alloc, seq, name)? else {
+    let Some(Held::Thing(thing)) = names.held(seq, name) else {
         return Ok(None);
     };
     if list.contains(&name) {
@@ -178,7 +178,7 @@ fn flow_asks(
     name: NameId,
     flow: &Flow,
 ) -> Result<Option<Asked>, AllocError> {
-    let Some(Held::Thing(thing)) = names.held(alloc, seq, name)? else {
+    let Some(Held::Thing(thing)) = names.held(seq, name) else {
         return Ok(None);
     };
     Ok(Some(Asked::Flow(thing, flow.copy(alloc)?)))
@@ -230,7 +230,7 @@ pub fn asks(
         Command::Pipe(_, _) => Ok(Some(Asked::Pipe)),
         Command::Mint(sort, _) => Ok(Some(Asked::Mint(*sort))),
         Command::Bind(name, _, _) | Command::Attach(name, _) | Command::CloseToken(name) => {
-            Ok(spending_asks(names.held(alloc, seq, *name)?, command))
+            Ok(spending_asks(names.held(seq, *name), command))
         }
         Command::Associate(name, _, _, _)
         | Command::Take(name, _)
