@@ -326,15 +326,16 @@ def own_pipes(seqs, most):
 
 
 def shared_pipe(seqs, most):
-    """Calls on one pipe, each sequence's but the last one's from an endpoint of its own, which the last one takes. Before its calls each makes
-    tokens, so that the last one has attached all endpoints meanwhile."""
+    """Calls on one pipe, each sequence's but the last one's from an endpoint of its own, which the last one takes; one alone calls and takes.
+    Before its calls each makes tokens, so that the last one has attached all endpoints meanwhile."""
     last = seqs - 1
+    callers = range(max(last, 1))
     lines = [f'join {last} {last} x y', f'{last}: bind x remote t.P', f'{last}: bind y receiver t.P']
-    for seq in range(last):
+    for seq in callers:
         lines += [f'{last}: associate x receiver t.P p{seq}', f'{last}: call x#0 t.P.Back (^0@0) p{seq}', f'{last}: take y q{seq}',
                   f'{last}: attach q{seq} {seq}']
         lines += [f'{seq}: mint platform t{number}' for number in range(8 * seqs)]
-        lines += [f'{seq}: call y#{ASSOCIATED + seq} t.P.Ping ({number})' for number in range(most // 2 // last)]
+        lines += [f'{seq}: call y#{ASSOCIATED + seq} t.P.Ping ({number})' for number in range(most // 2 // len(callers))]
     return lines + [f'{last}: take x'] * (most // 2)
 
 
@@ -346,7 +347,6 @@ def threaded_scripts():
     """Scripts of several sequences by their names, each with the number of its sequences."""
     for seqs in (1, 2, 4, 8, 16):
         yield f'own pipes {seqs}', seqs, own_pipes(seqs, 40_000)
-    for seqs in (2, 4, 8, 16):
         yield f'one pipe {seqs}', seqs, shared_pipe(seqs, 8000)
 
 
