@@ -1,4 +1,4 @@
-"""What documents say of the tree, beside the tree: the map of crates and definitions, sizes, limits, how much is tried, and links."""
+"""What documents say of the tree, beside the tree: the map of crates and definitions, sizes, limits, how much is tried, paths and links."""
 import glob
 import os
 import re
@@ -34,6 +34,13 @@ MESSAGES = r'^.*: \d+ compared, \d+ stand, \d+ refused, 0 differ$'
 
 # A link to a file or a heading of the repository.
 LINK = re.compile(r'\[[^\]]*\]\((?!https?:)([^)\s#]*)(?:#([^)\s]*))?\)')
+
+# A file or a folder of the repository, without those that only a build makes, and a must-fail edit by its name.
+PATH = re.compile(r'`((?:crates|docs|examples|tools)/(?!X/|\w+/out|\*/out)[\w./*-]+|must-fail/\w+\.edit)`')
+
+# The size that a crate is to have: lines of code, and functions.
+MOST_LINES, MOST_FUNCTIONS = 1500, 100
+FUNCTION = re.compile(r'^\s*(?:pub(?:\(\w+\))? )?(?:const )?fn \w', re.M)
 
 # A name with the file where a page says that it stands.
 PLACED = re.compile(r'`(\w+)` (?:in|of) `(crates/[^`*]+\.(?:antt|rt|cases))`')
@@ -90,6 +97,9 @@ def of_map(text):
     length = longest_chain(below, 'mojo_tool')
     if f'the longest chain to mojo_tool is of {length} crates' not in ' '.join(text.split()):
         yield f'the longest chain to mojo_tool is of {length} crates'
+    behind = text[text.index('## Beside the program'):]
+    yield from (f'no row for tools/{name}' for name in sorted(os.listdir(os.path.join(TOP, 'tools'))) if name != '__pycache__'
+                and not re.search(rf'`(?:tools/)?{re.escape(name)}`', behind))
 
 
 def is_near(said, counted):
@@ -125,8 +135,8 @@ def of_lines(text):
     if len(said) < len(counted) or not all(map(is_near, said, counted)):
         yield f'the program has {counted[0]} lines of code and {counted[1]} of proofs, the literal programs have {counted[2:]}, and not {said}'
     edits = round(len(edit_files()), -1)
-    if f'some {edits} one-line edits' not in text:
-        yield f'there are some {edits} one-line edits'
+    if f'some {edits} edits of a line or two' not in text:
+        yield f'there are some {edits} edits of a line or two'
 
 
 def of_promise(text):
@@ -135,13 +145,22 @@ def of_promise(text):
     yield from of_lines(text)
 
 
-def of_tried(text):
-    """How much is tried, where the README says otherwise: the cases that need no fetch or write that fails, histories, walks and messages."""
+def tried_cases():
+    """What the README says of the cases: how many need no fetch or write that fails, where their answers come from, and the worked examples."""
     cases = [case for name in glob.glob(os.path.join(TOP, 'crates', 'conformance', 'data', '*.cases')) for case in cases_of(name)]
     failing = sum(bool(case['fails']) for case in cases)
+    independent, by_hand = re.search(r'^\| all \|[^|]*\| ([\d,]+) \| ([\d,]+) \|$', text_of('docs/conformance.md'), re.M).groups()
+    worked = [case['out'].decode() for case in cases_of(os.path.join(TOP, 'crates', 'conformance', 'data', 'examples.cases'))]
+    events = sum(int(re.search(r'^done (\d+)$', history, re.M)[1]) for history in worked)
+    return [f'{len(cases) - failing:,} of the {len(cases):,} cases', f'the other {WORDS[failing]} cases', f'the answers of {independent} come from',
+            f'those of {by_hand} by hand', f'{len(worked)} are worked examples on up to three sequences, {events} events']
+
+
+def of_tried(text):
+    """How much is tried, where the README says otherwise: cases, histories, walks, messages and wrong bodies."""
     histories = re.search(r'^(\d+) printed histories', text_of('crates/conformance/stdout'), re.M)
     tried = text_of('crates/checks/stdout')
-    said = [f'{len(cases) - failing:,} of the {len(cases):,} cases', f'the other {WORDS[failing]} cases', f'The {histories[1]} histories',
+    said = [*tried_cases(), f'The {histories[1]} histories', f'{len(edit_files())} edits of a line or two',
             f'Messages: {len(re.findall(MESSAGES, tried, re.M))} that were worked by hand',
             f'sets of files, of which {len(re.findall(r"^answer ", text_of("crates/checks/data/names.txt"), re.M))} have']
     said += [form.format(WORDS[len(re.findall(pattern, tried, re.M))]) for pattern, form in COUNTED]
@@ -199,9 +218,28 @@ def of_edits(text):
         yield f'there are edits: {said}'
 
 
+def of_large(text):
+    """How many crates are larger than a crate is to be, where the page of choices says otherwise."""
+    sources = {crate: [text_of(name) for name in glob.glob(os.path.join(TOP, 'crates', crate, 'src', '**', '*.rt'), recursive=True)] for crate in crates()}
+    long = sum(sum(source.count('\n') for source in own) > MOST_LINES for own in sources.values())
+    many = [crate for crate, own in sources.items() if sum(len(FUNCTION.findall(source)) for source in own) > MOST_FUNCTIONS]
+    said = [f'{WORDS[long].capitalize()} crates are larger than the {MOST_LINES:,} lines',
+            ', '.join([WORDS[len(many)], *many, f'than {MOST_FUNCTIONS} functions'])]
+    plain = ' '.join(text.split())
+    yield from (f'it is: {one}' for one in said if one not in plain)
+
+
+def of_promises(text):
+    """The crates of the program that have no row on the page of what is promised: one with their promises, and one of one line."""
+    parts = text.split('## In one line each')
+    for part, lacks in zip(parts, ('promises', 'line')):
+        named = {name for row in re.findall(r'^\| ([a-z_0-9, ]+) \|', part, re.M) for name in row.split(', ')}
+        yield from (f'no {lacks} of the crate {crate}' for crate in sorted(unproved.crates_below('mojo') - named - {'mojo'}))
+
+
 # What a page says of the tree by itself.
 OWN = {'docs/architecture.md': of_map, 'docs/promise.md': of_promise, 'docs/limits.md': of_limits, 'docs/performance.md': of_edits,
-       'docs/conformance.md': of_cases, 'README.md': of_tried}
+       'docs/conformance.md': of_cases, 'docs/DECISIONS.md': of_large, 'docs/theorems.md': of_promises, 'README.md': of_tried}
 
 
 def prose(text):
@@ -223,11 +261,21 @@ def of_links(page, text):
             yield f'a link leads to {name}{"#" * bool(heading)}{heading}'
 
 
+def of_paths(text):
+    """The files that a page names and that are not there."""
+    for name in PATH.findall(prose(text)):
+        there = os.path.join('crates', '*', name) if name.startswith('must-fail') else name
+        if not glob.glob(os.path.join(TOP, there)):
+            yield f'{name} is not there'
+
+
 def has_facts(page, text):
     """Whether something that a page says is compared with the tree."""
-    return page in OWN or any(page in pages for _, _, pages in TRIED) or bool(PLACED.search(text) or LINK.search(prose(text)))
+    plain = prose(text)
+    return page in OWN or any(page in pages for _, _, pages in TRIED) or any(form.search(plain) for form in (PLACED, LINK, PATH))
 
 
 def complaints(page, text):
     """What a page says that the tree does not."""
-    return [*(OWN[page](text) if page in OWN else ()), *of_numbers(page, text), *of_places(page, text), *of_links(page, text)]
+    own = OWN[page](text) if page in OWN else ()
+    return [*own, *of_numbers(page, text), *of_places(page, text), *of_paths(text), *of_links(page, text)]
