@@ -5,6 +5,7 @@ import re
 import subprocess
 import sys
 
+import gate_facts
 import unproved
 from case_files import cases_of
 
@@ -211,22 +212,12 @@ def edit_files():
 
 
 def of_edits(text):
-    """How many must-fail edits there are, in how many crates, where a page says otherwise."""
+    """How many must-fail edits there are, in how many crates, where a page says otherwise; and what the gate may take."""
     edits = edit_files()
     said = f'{len(edits)}, in {len({edit.split(os.sep)[-3] for edit in edits})} of the {len(crates())} crates'
     if said not in text:
         yield f'there are edits: {said}'
-
-
-def of_large(text):
-    """How many crates are larger than a crate is to be, where the page of choices says otherwise."""
-    sources = {crate: [text_of(name) for name in glob.glob(os.path.join(TOP, 'crates', crate, 'src', '**', '*.rt'), recursive=True)] for crate in crates()}
-    long = sum(sum(source.count('\n') for source in own) > MOST_LINES for own in sources.values())
-    many = [crate for crate, own in sources.items() if sum(len(FUNCTION.findall(source)) for source in own) > MOST_FUNCTIONS]
-    said = [f'{WORDS[long].capitalize()} crates are larger than the {MOST_LINES:,} lines',
-            ', '.join([WORDS[len(many)], *many, f'than {MOST_FUNCTIONS} functions'])]
-    plain = ' '.join(text.split())
-    yield from (f'it is: {one}' for one in said if one not in plain)
+    yield from gate_facts.of_budget(text)
 
 
 def of_promises(text):
@@ -239,7 +230,8 @@ def of_promises(text):
 
 # What a page says of the tree by itself.
 OWN = {'docs/architecture.md': of_map, 'docs/promise.md': of_promise, 'docs/limits.md': of_limits, 'docs/performance.md': of_edits,
-       'docs/conformance.md': of_cases, 'docs/DECISIONS.md': of_large, 'docs/theorems.md': of_promises, 'README.md': of_tried}
+       'docs/conformance.md': of_cases, 'docs/theorems.md': of_promises, 'README.md': of_tried, 'CONTRIBUTING.md': gate_facts.of_rules,
+       'docs/DECISIONS.md': gate_facts.of_great}
 
 
 def prose(text):
