@@ -40,8 +40,6 @@ LINK = re.compile(r'\[[^\]]*\]\((?!https?:)([^)\s#]*)(?:#([^)\s]*))?\)')
 PATH = re.compile(r'`((?:crates|docs|examples|tools)/(?!X/|\w+/out|\*/out)[\w./*-]+|must-fail/\w+\.edit)`')
 
 # The size that a crate is to have: lines of code, and functions.
-MOST_LINES, MOST_FUNCTIONS = 1500, 100
-FUNCTION = re.compile(r'^\s*(?:pub(?:\(\w+\))? )?(?:const )?fn \w', re.M)
 
 # A name with the file where a page says that it stands.
 PLACED = re.compile(r'`(\w+)` (?:in|of) `(crates/[^`*]+\.(?:antt|rt|cases))`')
