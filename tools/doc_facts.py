@@ -39,8 +39,6 @@ LINK = re.compile(r'\[[^\]]*\]\((?!https?:)([^)\s#]*)(?:#([^)\s]*))?\)')
 # A file or a folder of the repository, without those that only a build makes, and a must-fail edit by its name.
 PATH = re.compile(r'`((?:crates|docs|examples|tools)/(?!X/|\w+/out|\*/out)[\w./*-]+|must-fail/\w+\.edit)`')
 
-# The size that a crate is to have: lines of code, and functions.
-
 # A name with the file where a page says that it stands.
 PLACED = re.compile(r'`(\w+)` (?:in|of) `(crates/[^`*]+\.(?:antt|rt|cases))`')
 
