@@ -12,6 +12,7 @@ ghost use Rattle.bind_model.specs.Left.{left};
 ghost use Rattle.bind_model.specs.Plain.{asked_of, told_of, HandsBack, HandsPendings, HandsResponders, command_of, IsSpentAt, IsOf};
 ghost use Rattle.ending_laws.specs.Closings.{AllGotOpen};
 ghost use Rattle.ending_laws.specs.Endings.{AllInTime};
+ghost use Rattle.group_laws.specs.Apart.{GroupsApart};
 ghost use Rattle.reply_laws.specs.Once.{AllFirst};
 ghost use Rattle.reply_laws.specs.Own.{AllOwn};
 ghost use Rattle.bind_core.specs.Play.{told_at};
@@ -172,6 +173,8 @@ impl Core {
         ensures all_behind { AllBehind (wire_of self.now.schema) (reverse self.now.events) }
         // What comes out of a data pipe is the beginning of what went in, and it holds the rest.
         ensures data_in_order { DataInOrder (reverse self.now.events) }
+        // Where no command links a group of sequences with others, its events alone are a legal history.
+        ensures groups_apart { GroupsApart (wire_of self.now.schema) self.now.seqs (reverse self.now.events) }
     {
         passed_is_encodable();
         &self.state.log

@@ -1,11 +1,12 @@
 //! What a hub does: it is started, stepped through its passes, which meet, and closed.
 
-ghost use Rattle.std.specs.Prelude.{ℕ, ◌≡◌, ◌≤◌, ◌<◌, length, IfOk, IfErr, Some, slice_get};
+ghost use Rattle.std.specs.Prelude.{ℕ, ◌≡◌, ◌≤◌, ◌<◌, length, reverse, IfOk, IfErr, Some, slice_get};
 ghost use Rattle.std.specs.Arc.{arc_value};
 ghost use Rattle.mj_base.specs.declared.limits.TheConstants.{MAX_EVENTS};
 ghost use Rattle.bind_model.specs.Replies.{Legal};
 ghost use Rattle.bind_model.specs.WireOf.{wire_of};
 ghost use Rattle.bind_model.specs.Plain.{IsOf};
+ghost use Rattle.group_laws.specs.Apart.{GroupsApart};
 ghost use Rattle.bind_hub.specs.Hubs.{schema_in, seqs_in};
 ghost use Rattle.bind_hub.specs.Kept.{CoreSteps};
 ghost use Rattle.bind_hub.specs.Passes.{IsFirst, IsPassOf, Steps, Rests, Met, IsIn};
@@ -70,11 +71,13 @@ impl Hub {
         ensures core { (result.schema ≡ schema_in self) × (result.seqs ≡ seqs_in self) }
         ensures legal { Legal (wire_of result.schema) result.seqs result.events }
         ensures few { length result.events ≤ MAX_EVENTS }
+        // Where no command links a group of sequences with others, its events alone are a legal history.
+        ensures groups_apart { GroupsApart (wire_of result.schema) result.seqs (reverse result.events) }
         ensures passes { (k : ℕ) (p : _) → slice_get passes.items k ≡ Some p → IsIn p.number p.place.me.0 result.events }
     {
         let Hub { turn } = self;
         let Kept { core } = turn.close(passes);
-        // It is never longer than a history may be.
+        // It is never longer than a history may be, and groups of sequences that nothing links don't meet in it.
         let _history = core.history();
         core
     }

@@ -23,6 +23,7 @@ use Rattle.mojom_compile.specs.declared.source.Source.{Source}
 use Rattle.call_script.specs.Script.{IsScriptOf}
 use Rattle.call_script.specs.declared.script.Script.{Script}
 use Rattle.callback_laws.specs.Callbacks.{callbacks}
+use Rattle.group_laws.proofs.Law.{groups_apart}
 use Rattle.history_laws.proofs.Owners.{one_owner}
 use Rattle.reply_laws.proofs.Behind.{all_behind}
 use Rattle.reply_laws.proofs.Once.{all_first}
@@ -60,6 +61,7 @@ keeps_laws law schema seqs past is few fit = record {
   flows = data_in_order (wire_of schema) seqs past is;
   one_place = one_place (wire_of schema) seqs past is;
   one_owner = one_owner (wire_of schema) seqs past is;
+  groups = groups_apart (wire_of schema) seqs past is;
 }
 
 -- ## The schema

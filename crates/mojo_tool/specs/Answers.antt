@@ -10,6 +10,7 @@ use Rattle.bind_model.specs.Replies.{Legal}
 use Rattle.bind_model.specs.Flushes.{AllBehind, FlushesNumbered}
 use Rattle.bind_model.specs.Laws.{DataInOrder, InOrder, AllOfAskers, AllStand, AllUnpaused, OwnResponses, OnePlace}
 use Rattle.bind_model.specs.Origins.{HaveWriters}
+use Rattle.group_laws.specs.Apart.{GroupsApart}
 use Rattle.history_laws.specs.Owners.{OneOwner}
 use Rattle.reply_laws.specs.Once.{AllFirst}
 use Rattle.reply_laws.specs.Own.{AllOwn}
@@ -90,6 +91,8 @@ pub record KeepsLaws (schema : Schema) (seqs : ℕ) (past : List Event) : Type 0
   pub one_place : OnePlace (wire_of schema) past
   -- each is left at the end or has gone, once, and nothing is made twice
   pub one_owner : OneOwner seqs past
+  -- where no command links a group of sequences with others, its events alone are a legal history
+  pub groups : GroupsApart (wire_of schema) seqs past
 
 -- the text is that of one history, which is legal for the schema, is of the script's events in turns by this order, or in whatever turns where
 -- there is none, and keeps the laws, of what became of each callback, and of what is left

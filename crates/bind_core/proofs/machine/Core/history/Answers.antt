@@ -10,6 +10,7 @@ use Rattle.bind_model.proofs.FlushLemmas.{flushes_numbered}
 use Rattle.bind_model.proofs.DataLemmas.{data_in_order}
 use Rattle.ending_laws.proofs.GotOpen.{all_got_open}
 use Rattle.ending_laws.proofs.InTime.{all_in_time}
+use Rattle.group_laws.proofs.Law.{groups_apart}
 use Rattle.reply_laws.proofs.Behind.{all_behind}
 use Rattle.reply_laws.proofs.Once.{all_first}
 use Rattle.reply_laws.proofs.Own.{all_own}
@@ -78,4 +79,8 @@ returns-clause-all_behind c = rw (← c.self.view_is) (all_behind (schema_of c.s
 
 pub returns-clause-data_in_order : goal.returns-clause-data_in_order
 returns-clause-data_in_order c = rw (← c.self.view_is) (data_in_order (wire_in c.self.inside.state) c.self.inside.state.seqs
+    (past_of c.self.inside.state) c.self.invariant.holds.legal)
+
+pub returns-clause-groups_apart : goal.returns-clause-groups_apart
+returns-clause-groups_apart c = rw (← c.self.view_is) (groups_apart (wire_in c.self.inside.state) c.self.inside.state.seqs
     (past_of c.self.inside.state) c.self.invariant.holds.legal)
