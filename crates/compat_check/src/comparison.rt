@@ -1,9 +1,11 @@
 //! The comparison of two schemas.
 
-ghost use Rattle.std.specs.Prelude.{◌≡◌, [], None, zero, IfOk};
+ghost use Rattle.std.specs.Prelude.{ℕ, ◌≡◌, [], None, zero, IfOk};
 ghost use Rattle.std.specs.List.{flat_map};
 ghost use Rattle.compat_model.specs.declared.pair.Pair.{Pair as pair_name};
 ghost use Rattle.compat_model.specs.Verdicts.{namesakes as namesakes_of, roots as roots_of, root_pairs, reason_at, Judges};
+ghost use Rattle.compat_model.specs.declared.reason.Verdict.TheVariants.{Compatible};
+ghost use Rattle.compat_laws.specs.Read.{ReadsStable};
 ghost use Rattle.compat_check.specs.steps.PairSets.{IsSetOf};
 ghost use Rattle.compat_check.specs.steps.Rounds.{Decides, verdict_by};
 ghost use Rattle.compat_check.specs.steps.Skims.{Skims, with_seen};
@@ -89,7 +91,9 @@ fn verdict(reason: Option<Reason>, stable: usize) -> Result<Verdict, AllocError>
 /// Whether a newer schema reads what the stable definitions of an older one write, and else the first
 /// reason why it doesn't.
 pub fn compatible(alloc: Global, old: &Schema, new: &Schema) -> Result<Verdict, AllocError>
-    ensures { IfOk result (λ verdict. Judges old.now new.now verdict) }
+    ensures verdict { IfOk result (λ verdict. Judges old.now new.now verdict) }
+    // Each message that the older schema writes for a stable interface is read by the newer one, as the same value with what it lacks.
+    ensures reads { IfOk result (λ verdict. (stable : ℕ) → verdict ≡ Compatible stable → ReadsStable old.now new.now) }
 {
     let named = NamedSchema::new(alloc, new)?;
     let names = namesakes(alloc, old, &named)?;
