@@ -17,22 +17,23 @@ use past_reference::same::are_same_told;
 use std::alloc::{AllocError, Global};
 use std::sync::Arc;
 
-/// How many sequences a core has.
+/// How many sequences a core of a walk has.
 const SEQUENCES: u32 = 2;
 
-/// Does a turn; it isn't done where something that it takes isn't held.
-fn play(
+/// Does a turn on a core of so many sequences; it isn't done where something that it takes isn't held.
+pub fn play(
     core: &mut Core,
     held: &mut Held<'_>,
     alloc: Global,
     schema: &Schema,
+    seqs: u32,
     turn: Turn,
 ) -> Result<bool, AllocError>
-    requires core { (core.old.schema ≡ schema.now) × (core.old.seqs ≡ SEQUENCES) }
+    requires core { (core.old.schema ≡ schema.now) × (core.old.seqs ≡ seqs) }
     ensures same { (core.new.schema ≡ core.old.schema) × (core.new.seqs ≡ core.old.seqs) }
 {
     let Turn(seq, step) = turn;
-    if seq >= SEQUENCES {
+    if seq >= seqs {
         return Ok(false);
     }
     let Some(command) = command_of(held, alloc, schema, step)? else {
@@ -90,7 +91,7 @@ fn do_turns(
     requires core { (core.old.schema ≡ schema.now) × (core.old.seqs ≡ SEQUENCES) }
 {
     for (place, turn) in turns.iter().enumerate() {
-        if !play(core, held, alloc, schema, *turn)? {
+        if !play(core, held, alloc, schema, SEQUENCES, *turn)? {
             return Ok(());
         }
         if place >= from {
@@ -100,12 +101,12 @@ fn do_turns(
     Ok(())
 }
 
-/// A core that shares a schema.
-fn core_of(alloc: Global, schema: &Arc<Schema>) -> Result<Core, AllocError>
-    ensures { IfOk result (λ core. (core.schema ≡ arc_value schema.now) × (core.seqs ≡ SEQUENCES)) }
+/// A core of so many sequences that shares a schema.
+pub fn core_of(alloc: Global, schema: &Arc<Schema>, seqs: u32) -> Result<Core, AllocError>
+    ensures { IfOk result (λ core. (core.schema ≡ arc_value schema.now) × (core.seqs ≡ seqs)) }
 {
     match Arc::try_clone(schema) {
-        Ok(shared) => Ok(Core::new(alloc, shared, SEQUENCES)),
+        Ok(shared) => Ok(Core::new(alloc, shared, seqs)),
         Err(_) => Err(AllocError),
     }
 }
@@ -119,7 +120,7 @@ fn compare_list(
     from: usize,
     tally: &mut Tally,
 ) -> Result<(), AllocError> {
-    let mut core = core_of(alloc, schema)?;
+    let mut core = core_of(alloc, schema, SEQUENCES)?;
     let mut held = Held::new(alloc, spare);
     tally.lists = tally.lists.saturating_add(1);
     let done = do_turns(&mut core, &mut held, alloc, schema, turns, from, tally);
@@ -153,7 +154,7 @@ fn turns_of(alloc: Global, walk: &Walk, number: usize) -> Result<(Vec<Turn>, usi
 /// Compares all lists of turns of a walk.
 pub fn compare_walk(alloc: Global, schema: &Arc<Schema>, walk: &Walk) -> Result<Tally, AllocError> {
     let mut tally = Tally::new(alloc);
-    let (_history, spare) = core_of(alloc, schema)?.end();
+    let (_history, spare) = core_of(alloc, schema, SEQUENCES)?.end();
     for number in 0..walk.count() {
         let (turns, from) = turns_of(alloc, walk, number)?;
         compare_list(alloc, schema, &spare, &turns, from, &mut tally)?;

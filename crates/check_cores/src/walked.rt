@@ -1,7 +1,9 @@
-//! All walks, each compared.
+//! All walks and the runs of two groups, each compared.
 
 use crate::compare::compare_walk;
+use crate::groups::compare_groups;
 use crate::tally::Tally;
+use crate::two_groups::GROUP_DEFINITIONS;
 use crate::walks::{DEFINITIONS, WALKS};
 use mj_base::{Items, Text};
 use mj_schema::Schema;
@@ -11,11 +13,11 @@ use std::io;
 use std::io::Print;
 use std::sync::Arc;
 
-/// The schema of the definitions; none where they are refused.
-fn schema_of(alloc: Global) -> Result<Option<Schema>, AllocError> {
+/// The schema of definitions; none where they are refused.
+fn schema_of(alloc: Global, definitions: &str) -> Result<Option<Schema>, AllocError> {
     let source = Source {
         name: Text::from_str(alloc, "t.mojom")?,
-        bytes: Items::from_vec(Vec::from_slice(alloc, DEFINITIONS.as_bytes())?),
+        bytes: Items::from_vec(Vec::from_slice(alloc, definitions.as_bytes())?),
     };
     Ok(compile(alloc, &[source]).ok())
 }
@@ -51,9 +53,24 @@ fn compare_walks<R: Print + AllocGlobal>(rt: &R, schema: Schema) -> io::Result<T
     Ok(total)
 }
 
-/// Compares all walks, and prints what came of each; whether nothing differs.
+/// Compares the runs of two groups, and prints what came of them; whether nothing differs.
+fn run_groups<R: Print + AllocGlobal>(rt: &R) -> io::Result<bool> {
+    let Some(schema) = schema_of(rt.alloc(), GROUP_DEFINITIONS)? else {
+        println!(rt; "the definitions of two groups are refused")?;
+        return Ok(false);
+    };
+    let schema = Arc::new(rt.alloc(), schema)?;
+    let sums = compare_groups(rt.alloc(), &schema)?;
+    println!(rt;
+        "of two groups: {} runs, {} changed messages, {} replies to the other group, {} differ",
+        sums.runs, sums.edits, sums.replies, sums.differ
+    )?;
+    Ok(sums.differ == 0)
+}
+
+/// Compares all walks and the runs of two groups, and prints what came of each; whether nothing differs.
 pub fn run<R: Print + AllocGlobal>(rt: &R) -> io::Result<bool> {
-    let Some(schema) = schema_of(rt.alloc())? else {
+    let Some(schema) = schema_of(rt.alloc(), DEFINITIONS)? else {
         println!(rt; "the definitions are refused")?;
         return Ok(false);
     };
@@ -62,5 +79,5 @@ pub fn run<R: Print + AllocGlobal>(rt: &R) -> io::Result<bool> {
         "{} lists, {} steps, differ {}",
         total.lists, total.steps, total.differ
     )?;
-    Ok(total.differ == 0)
+    Ok(run_groups(rt)? && total.differ == 0)
 }
