@@ -12,9 +12,6 @@ use step_gate::OpenGates;
 /// The status that says that the words are faulty. What is said of them is free where none is wanted.
 const WRONG_USE: u8 = 2;
 
-/// The most bytes that a sink takes at once, so that a long text goes in several writes.
-const MOST_AT_ONCE: usize = 1000;
-
 /// The status and the texts that a call ends with.
 #[derive(Drop)]
 pub struct Answer {
@@ -23,7 +20,7 @@ pub struct Answer {
     pub err: Vec<u8>,
 }
 
-/// Runs the product over files and sinks in memory, of which some calls fail.
+/// Runs the product over files and sinks in memory, of which some calls fail, or take few bytes.
 pub fn run<R: Wait + Threads + Sync>(
     rt: &R,
     alloc: Global,
@@ -32,8 +29,8 @@ pub fn run<R: Wait + Threads + Sync>(
     failing: Failing,
 ) -> Result<Answer, AllocError> {
     let mut files = MemoryFiles::new(files, failing.fetches);
-    let mut out = MemorySink::new(alloc, MOST_AT_ONCE, failing.out);
-    let mut err = MemorySink::new(alloc, MOST_AT_ONCE, failing.err);
+    let mut out = MemorySink::new(alloc, failing.most_out, failing.out);
+    let mut err = MemorySink::new(alloc, failing.most_err, failing.err);
     let status = mojo_tool::mojo_main(rt, alloc, words, &mut files, &mut out, &mut err, &OpenGates);
     Ok(Answer {
         status,

@@ -17,13 +17,18 @@ pub struct Case {
     pub wanted: Answer,
 }
 
+/// The most bytes that a sink takes at once where a case says nothing else, so that a long text goes in several writes.
+const MOST_AT_ONCE: usize = 1000;
+
 /// The numbers, from 0, of the calls that are to fail: fetches, and writes to standard output and to
-/// standard error.
+/// standard error; and how many bytes a write to either takes at most.
 #[derive(Drop)]
 pub struct Failing {
     pub fetches: Vec<u64>,
     pub out: Vec<u64>,
     pub err: Vec<u64>,
+    pub most_out: usize,
+    pub most_err: usize,
 }
 
 impl Case {
@@ -37,6 +42,8 @@ impl Case {
                 fetches: Vec::new(alloc),
                 out: Vec::new(alloc),
                 err: Vec::new(alloc),
+                most_out: MOST_AT_ONCE,
+                most_err: MOST_AT_ONCE,
             },
             wanted: Answer {
                 status: 0,

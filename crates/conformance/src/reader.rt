@@ -92,6 +92,10 @@ fn read_keyword(
             read_failing(rest, &mut case.failing)?;
             Ok(Place::Nowhere)
         }
+        "takes" => {
+            read_most(rest, &mut case.failing)?;
+            Ok(Place::Nowhere)
+        }
         "file" => {
             case.files.push(NamedFile {
                 name: String::from_str(alloc, rest)?,
@@ -121,6 +125,18 @@ fn read_failing(line: &str, failing: &mut Failing) -> Result<(), LineError> {
         "fetch" => failing.fetches.push(number)?,
         "out" => failing.out.push(number)?,
         "err" => failing.err.push(number)?,
+        _ => return Err(LineError::BadForm),
+    }
+    Ok(())
+}
+
+/// Takes how many bytes a write takes at most, behind the word that says to which stream.
+fn read_most(line: &str, failing: &mut Failing) -> Result<(), LineError> {
+    let (which, number) = line.split_once(' ').ok_or(LineError::BadForm)?;
+    let most = number.parse::<u32>().ok().ok_or(LineError::BadForm)?;
+    match which {
+        "out" => failing.most_out = most as usize,
+        "err" => failing.most_err = most as usize,
         _ => return Err(LineError::BadForm),
     }
     Ok(())

@@ -9,10 +9,10 @@ ghost use Rattle.remote_receiver.specs.Calls.{IsOther};
 
 use bind_core::{Alone, Core};
 use bind_model::{Command, PendingList, Received, Reply, Stepper, ToClose, Why};
-use handle_table::Handles;
+use handle_table::{Handles, Thing, TokenId, TokenSort};
 use mj_base::{EndId, FullName, Items, SeqId, Text};
 use mj_schema::{DefinitionRow, InterfaceRow, MethodRow, RowSort, Schema, StructRow, VersionRow};
-use remote_receiver::{Answered, BoxedJob, Callback, Desk, Job, Note, Promise};
+use remote_receiver::{Answered, BoxedJob, CallRefused, Callback, Desk, Job, Note, Promise};
 use response_map::Key;
 use std::alloc::{AllocError, Global};
 use std::process::Abort;
@@ -242,6 +242,58 @@ pub(crate) fn called<C: Promise, P: Stepper>(
     }
 }
 
+/// The value and the handles of a call that carries no pending.
+fn sent_with(rt: &impl Abort, command: Command) -> (Prepared, Handles) {
+    match command {
+        Command::Call(_, _, value, handles, pendings, _) => {
+            let items = pendings.into_vec();
+            if !items.is_empty() {
+                panic!(rt; "pendings came out");
+            }
+            items.destroy_empty();
+            (value, handles)
+        }
+        _other => panic!(rt; "not a call"),
+    }
+}
+
+/// Calls with a job and a token that the method doesn't take: what comes back, of the value, the token and the job.
+fn handed_back<C: Promise, P: Stepper>(
+    rt: &impl Abort,
+    desk: &mut Desk<C, P>,
+    alloc: Global,
+    from: EndId,
+    call: Prepared,
+    token: Handles,
+    job: C,
+) -> (Prepared, Handles, C)
+    requires seq { (P.me desk.old.stepper).0 < P.seqs desk.old.stepper }
+    requires prepared { IsPrepared (P.schema desk.old.stepper) call }
+    requires responds { (wire_of (P.schema desk.old.stepper)).responds call.target.interface call.target.method ≡ true }
+    ensures same { (P.schema desk.new.stepper ≡ P.schema desk.old.stepper) × (P.seqs desk.new.stepper ≡ P.seqs desk.old.stepper)
+        × (P.me desk.new.stepper ≡ P.me desk.old.stepper) }
+{
+    match desk.call(
+        alloc,
+        from,
+        0,
+        call,
+        token,
+        PendingList::new(alloc),
+        Some(job),
+        None,
+    ) {
+        Err(CallRefused::No(Why::WrongTokens, command, job)) => match job {
+            Some(job) => {
+                let (value, handles) = sent_with(rt, command);
+                (value, handles, job)
+            }
+            None => panic!(rt; "no job came back"),
+        },
+        _other => panic!(rt; "not refused so"),
+    }
+}
+
 /// What a take got.
 pub(crate) fn taken<C: Job<P>, P: Stepper>(
     rt: &impl Abort,
@@ -401,6 +453,49 @@ fn a_job_is_dropped_where_its_endpoint_is_closed(rt: HostRuntime) -> Result<(), 
     let (_stepper, notes) = desk.finish();
     let (_history, _over) = core.end();
     let want = [note(from, 1, false, 0)];
+    assert_eq!(rt; notes.as_slice(), want.as_slice());
+    Ok(())
+}
+
+#[test]
+fn a_refused_call_hands_back_its_job_its_value_and_its_token(rt: HostRuntime) -> Result<(), Fail> {
+    let alloc = rt.alloc();
+    let schema = Arc::new(alloc, schema_of(alloc, 0)?)?;
+    let first = message(&rt, alloc, &schema, MessageSide::Request);
+    let second = message(&rt, alloc, &schema, MessageSide::Request);
+    let response = message(&rt, alloc, &schema, MessageSide::Response);
+    let mut core = Core::new(alloc, schema, 1);
+    let stepper = Alone {
+        core: &mut core,
+        seq: SeqId(0),
+    };
+    let mut desk: Desk<Adds, Alone> = Desk::new(alloc, stepper);
+    let (from, to) = bound(&rt, &mut desk, alloc);
+    let token = match done(&rt, &mut desk, alloc, Command::Mint(TokenSort::Platform)) {
+        Reply::Made(handles) => handles,
+        _other => panic!(&rt; "no token"),
+    };
+    let job = Adds { more: 7 };
+    let (value, token, job) = handed_back(&rt, &mut desk, alloc, from, first, token, job);
+    // The job that came back goes with another call: no number was drawn for the refused one, and no job waits for it.
+    let request = called(&rt, &mut desk, alloc, from, second, job);
+    answered(&rt, &mut desk, alloc, to, response);
+    let got = taken(&rt, &mut desk, alloc, from);
+    let (_stepper, notes) = desk.finish();
+    let (_history, over) = core.end();
+    got.retire(&over);
+    let is_token = match token.as_slice() {
+        [handle] => handle.thing() == Thing::Token(TokenId { seq: 0, serial: 0 }),
+        _ => false,
+    };
+    token.retire(&over);
+    assert!(rt; is_token);
+    assert_eq!(rt;
+        value.payload.as_slice(),
+        [8u8, 0, 0, 0, 0, 0, 0, 0].as_slice()
+    );
+    assert_eq!(rt; request, 1);
+    let want = [note(from, 1, true, 107)];
     assert_eq!(rt; notes.as_slice(), want.as_slice());
     Ok(())
 }

@@ -4,7 +4,7 @@
 
 ghost use Rattle.std.specs.Prelude.{◌≡◌, ◌≢◌, ◌+◌, ◌≤◌, [], length, IfOk, IfErr, OnOk, OnErr};
 ghost use Rattle.std.specs.Io.{StartsWith};
-ghost use Rattle.mj_io.specs.Outside.{Rose, FilesState, SinkState, FetchedFrom, FailedFrom, FilesGoOn, Noted, Wrote, WroteSome, taken_by};
+ghost use Rattle.mj_io.specs.Outside.{Rose, FilesState, SinkState, FetchedFrom, FailedFrom, FilesGoOn, CountedFor, Noted, Wrote, WroteSome, after_fault, taken_by};
 
 mod fetches;
 mod memory;
@@ -63,6 +63,10 @@ pub trait Files {
         ensures fetched { IfOk result (λ fetched. FetchedFrom (state self.old).held fetched name.now limit into.old.items into.new.items) }
         ensures failed { IfErr result (λ error. FailedFrom error name.now (state self.old) (state self.new)) }
 
+        // A fetch that failed is counted once, and no other is.
+        ensures counted { IfErr result (λ error. CountedFor error (state self.old).faults (state self.new).faults) }
+        ensures uncounted { OnOk result ((state self.new).faults ≡ (state self.old).faults) }
+
         // Whatever the answer, `into` begins with what it held, and has at most `limit` bytes more.
         ensures kept { StartsWith into.new.items into.old.items }
         ensures short { length into.new.items ≤ length into.old.items + limit }
@@ -86,7 +90,12 @@ pub trait Sink {
         ensures wrote { Wrote (state self.old) (state self.new) (taken_by result piece.now) }
         // Nothing is taken of a piece that isn't empty only where a fault is counted.
         ensures stuck { IfOk result (λ n. n ≡ 0 → piece.now ≢ [] → Rose (state self.old).faults (state self.new).faults) }
-        ensures failed { OnErr result (Rose (state self.old).faults (state self.new).faults) };
+        ensures failed { OnErr result (Rose (state self.old).faults (state self.new).faults) }
+
+        // A write that failed is counted once, as is one that takes nothing, and none that takes something.
+        ensures counted { OnErr result ((state self.new).faults ≡ after_fault (state self.old).faults) }
+        ensures stuck_once { IfOk result (λ n. n ≡ 0 → piece.now ≢ [] → (state self.new).faults ≡ after_fault (state self.old).faults) }
+        ensures uncounted { IfOk result (λ n. n ≢ 0 → (state self.new).faults ≡ (state self.old).faults) };
 }
 
 /// Writes the whole text, in as many pieces as the sink wants.
@@ -99,6 +108,10 @@ pub fn write_all<S: Sink>(sink: &mut S, text: &[u8]) -> Result<(), SinkError>
     ensures whole { OnOk result (Wrote (S.state sink.old) (S.state sink.new) text.now) }
     ensures part { OnErr result (WroteSome (S.state sink.old) (S.state sink.new) text.now) }
     ensures failed { OnErr result (Rose (S.state sink.old).faults (S.state sink.new).faults) }
+
+    // Nothing is written behind a write that failed: one fault is counted then, and else none.
+    ensures counted { OnErr result ((S.state sink.new).faults ≡ after_fault (S.state sink.old).faults) }
+    ensures uncounted { OnOk result ((S.state sink.new).faults ≡ (S.state sink.old).faults) }
 {
     let mut done = 0;
     while done < text.len() {

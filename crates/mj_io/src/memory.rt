@@ -1,9 +1,9 @@
 //! Files in memory, with a list of calls that are to fail.
 
-ghost use Rattle.std.specs.Prelude.{◌≡◌, ◌≤◌, ◌+◌, ◌⊎◌, ◌↔◌, map, length, IfOk, IfErr, Some, Err};
+ghost use Rattle.std.specs.Prelude.{◌≡◌, ◌≤◌, ◌+◌, ◌⊎◌, ◌↔◌, map, length, IfOk, IfErr, OnOk, Some, Err};
 ghost use Rattle.std.specs.Io.{StartsWith};
 ghost use Rattle.std.specs.Option.{option_map};
-ghost use Rattle.mj_io.specs.Outside.{find_file, FetchedOf, FetchedFrom, FailedFrom, FilesGoOn, Noted};
+ghost use Rattle.mj_io.specs.Outside.{find_file, FetchedOf, FetchedFrom, FailedFrom, FilesGoOn, CountedFor, Noted};
 ghost use Rattle.mj_io.specs.InMemory.{named, unfetched, after_call, IsToFail, IsAbsent};
 
 use crate::fetches::{FetchMade, Trace, noted};
@@ -62,6 +62,8 @@ impl Files for MemoryFiles {
         ensures on { FilesGoOn (memory_state self.old) (memory_state self.new) }
         ensures fetched { IfOk result (λ fetched. FetchedFrom (memory_state self.old).held fetched name.now limit into.old.items into.new.items) }
         ensures failed { IfErr result (λ error. FailedFrom error name.now (memory_state self.old) (memory_state self.new)) }
+        ensures counted { IfErr result (λ error. CountedFor error (memory_state self.old).faults (memory_state self.new).faults) }
+        ensures uncounted { OnOk result ((memory_state self.new).faults ≡ (memory_state self.old).faults) }
         ensures kept { StartsWith into.new.items into.old.items }
         ensures short { length into.new.items ≤ length into.old.items + limit }
         ensures noted { Noted (memory_state self.old) (memory_state self.new) name.now result into.old.items into.new.items }

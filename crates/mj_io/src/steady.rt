@@ -1,8 +1,8 @@
 //! Files in memory that never fail but for a missing name.
 
-ghost use Rattle.std.specs.Prelude.{◌≡◌, ◌≤◌, ◌+◌, ◌↔◌, map, length, IfOk, IfErr, Err};
+ghost use Rattle.std.specs.Prelude.{◌≡◌, ◌≤◌, ◌+◌, ◌↔◌, map, length, IfOk, IfErr, OnOk, Err};
 ghost use Rattle.std.specs.Io.{StartsWith};
-ghost use Rattle.mj_io.specs.Outside.{FetchedFrom, FailedFrom, FilesGoOn, Noted};
+ghost use Rattle.mj_io.specs.Outside.{FetchedFrom, FailedFrom, FilesGoOn, CountedFor, Noted};
 ghost use Rattle.mj_io.specs.InMemory.{named, unfetched, IsAbsent};
 
 use crate::fetches::{FetchMade, Trace, noted};
@@ -49,6 +49,8 @@ impl Files for SteadyFiles {
         ensures on { FilesGoOn (steady_state self.old) (steady_state self.new) }
         ensures fetched { IfOk result (λ fetched. FetchedFrom (steady_state self.old).held fetched name.now limit into.old.items into.new.items) }
         ensures failed { IfErr result (λ error. FailedFrom error name.now (steady_state self.old) (steady_state self.new)) }
+        ensures counted { IfErr result (λ error. CountedFor error (steady_state self.old).faults (steady_state self.new).faults) }
+        ensures uncounted { OnOk result ((steady_state self.new).faults ≡ (steady_state self.old).faults) }
         ensures kept { StartsWith into.new.items into.old.items }
         ensures short { length into.new.items ≤ length into.old.items + limit }
         ensures noted { Noted (steady_state self.old) (steady_state self.new) name.now result into.old.items into.new.items }
