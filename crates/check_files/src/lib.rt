@@ -1,6 +1,9 @@
-//! Files that programs which compare read whole.
+//! What programs that compare share: files that they read whole, and numbers that seem to be drawn.
 #![tactic(auto)]
 
+mod draws;
+
+pub use draws::Draws;
 use mj_io::{Fetched, Files, RealFiles};
 
 /// The bytes that a file of cases has at most.

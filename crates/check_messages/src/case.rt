@@ -79,7 +79,7 @@ impl Case {
 }
 
 /// Adds the bytes that digits spell; what is no digit parts nothing.
-fn push_hexadecimal(line: &str, bytes: &mut Vec<u8>) -> Result<(), AllocError> {
+pub fn push_hexadecimal(line: &str, bytes: &mut Vec<u8>) -> Result<(), AllocError> {
     let mut half = None;
     for letter in line.chars() {
         if let Some(digit) = letter.to_digit(16) {

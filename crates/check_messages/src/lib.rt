@@ -3,9 +3,10 @@
 #![tactic(auto)]
 
 mod case;
-mod compare;
+pub mod compare;
 mod edits;
 mod files;
 mod getters;
 
+pub use case::push_hexadecimal;
 pub use files::run;

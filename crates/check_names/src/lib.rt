@@ -7,7 +7,7 @@
 mod answer;
 mod asked;
 mod case;
-mod compare;
+pub mod compare;
 mod literal;
 mod made;
 mod rows;

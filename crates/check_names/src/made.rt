@@ -1,36 +1,12 @@
 //! Sets of files that are made by number: each from rules by drawing one of several forms again and again.
 
 use crate::case::add_source;
+use check_files::Draws;
 use mojom_compile::Source;
 use std::alloc::{AllocError, Global};
 
 /// How many forms are drawn for one set at most.
 const MOST_DRAWS: usize = 4_000;
-
-/// Numbers that seem to be drawn.
-#[derive(Drop)]
-struct Draws {
-    state: u64,
-}
-
-impl Draws {
-    /// The draws of this number.
-    fn new(number: u64) -> Draws {
-        Draws {
-            state: number.wrapping_mul(11_400_714_819_323_198_485),
-        }
-    }
-
-    /// The next number below this one, or 0.
-    fn below(&mut self, count: usize) -> usize {
-        self.state = self
-            .state
-            .wrapping_mul(6_364_136_223_846_793_005)
-            .wrapping_add(1_442_695_040_888_963_407);
-        let drawn = usize::try_from(self.state >> 33).unwrap_or(0);
-        drawn.checked_rem(count).unwrap_or(0)
-    }
-}
 
 /// The forms of sets: of files, names, values, kinds, and ordinals and versions.
 fn set_forms(letter: char) -> &'static str {

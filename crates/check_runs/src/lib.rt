@@ -13,4 +13,5 @@ mod threaded;
 mod walk;
 
 pub use compare::run;
+pub use played::Played;
 pub use threaded::run_threads;

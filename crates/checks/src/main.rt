@@ -20,6 +20,7 @@ enum Check {
     Compat,
     Runs,
     Cores,
+    Hostile,
     Threads,
     Callers,
     Benchmarks,
@@ -35,6 +36,7 @@ impl Check {
             "check_compat" => Some(Check::Compat),
             "check_runs" => Some(Check::Runs),
             "check_cores" => Some(Check::Cores),
+            "check_hostile" => Some(Check::Hostile),
             "check_threads" => Some(Check::Threads),
             "callers" => Some(Check::Callers),
             "benchmarks" => Some(Check::Benchmarks),
@@ -78,6 +80,7 @@ fn do_check<R: std::rt::Files + Print + AllocGlobal + CpuClock + Clock + Wait + 
         Check::Compat => Ok(check_compat::run(rt, words)?),
         Check::Runs => Ok(check_runs::run(rt, words)?),
         Check::Cores => Ok(check_cores::run(rt)?),
+        Check::Hostile => Ok(check_hostile::run(rt, words)?),
         Check::Threads => Ok(check_runs::run_threads(rt, words)?),
         Check::Callers => {
             callers::run(rt)?;
