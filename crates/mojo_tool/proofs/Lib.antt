@@ -2,6 +2,7 @@ pub mod Asking
 pub mod Messages
 pub mod Sealed
 pub mod Shown
+pub mod Alike
 pub mod Fetching
 pub mod Made
 pub mod Late

@@ -35,7 +35,7 @@ none_where_runs c ms d ran None e = refl
 none_where_runs c ms d ran (Some fault) e = let failed : run c ms ≡ Err fault = ended c ms fault e in absurd cc
 
 -- a message that stands has no first fault
-no_fault : (schema : Schema) (expected : Expected) (bytes : List ℕ) (handles : ℕ) → Stands schema expected bytes handles
+pub no_fault : (schema : Schema) (expected : Expected) (bytes : List ℕ) (handles : ℕ) → Stands schema expected bytes handles
     → first_fault (before_payload bytes handles) (message_marks schema expected bytes) ≡ None
 no_fault schema expected bytes handles stands =
     let ran = runs_where_settled (message_marks schema expected bytes) (payload_start bytes) (payload_end bytes) handles (length (ids_read bytes))

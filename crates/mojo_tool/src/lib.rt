@@ -18,6 +18,6 @@ mod top;
 pub use refusal::ToolRefusal;
 pub use status::Status;
 pub use top::{
-    complete, mojo_alone, mojo_main, one_work, prints_again, schemas_of_files_can_be_printed,
-    some_work,
+    complete, mojo_alone, mojo_main, one_work, prints_again, same_bytes_are_shown,
+    schemas_of_files_can_be_printed, some_work,
 };

@@ -9,12 +9,15 @@ ghost use Rattle.mojom_ast.specs.declared.file.File.{File};
 ghost use Rattle.mojom_compile.specs.Compiled.{IsParsed};
 ghost use Rattle.mojom_compile.specs.Schemas.{IsSchemaOfFiles};
 ghost use Rattle.mojom_compile.specs.declared.source.Source.{Source};
+ghost use Rattle.same_messages.specs.Agree.{AgreesWhereRead};
+ghost use Rattle.wire_model.specs.Expected.{Stands};
+ghost use Rattle.wire_model.specs.declared.target.Expected.{Expected};
 ghost use Rattle.mojo_tool.specs.Again.{PrintsAgain};
 ghost use Rattle.mojo_tool.specs.Answers.{Answers, Seen, code_of, WroteOrFailed};
 ghost use Rattle.mojo_tool.specs.Complete.{IsComplete, HaveTooManyRows};
 ghost use Rattle.mojo_tool.specs.steps.Reports.{Printed, Reported};
 ghost use Rattle.mojo_tool.specs.Lines.{refusal_text, error_line, read_text};
-ghost use Rattle.mojo_tool.specs.Work.{Work, IsWork};
+ghost use Rattle.mojo_tool.specs.Work.{Work, IsWork, Judging};
 ghost use Rattle.mojo_tool.specs.declared.status.Status.{Status};
 
 use crate::at_once::decide_at_once;
@@ -288,4 +291,12 @@ pub fn prints_again()
 /// such a schema holds of those over it.
 pub fn schemas_of_files_can_be_printed()
     ensures { (sources : List Source) (schema : Schema) → IsSchemaOfFiles sources schema → IsPrintableSchema schema }
+{}
+
+/// A law of messages: what `decode` shows of a message that stands it shows of any other with the same bytes wherever that one is
+/// read, though it be longer.
+pub fn same_bytes_are_shown()
+    ensures { (schema : Schema) (expected : Expected) (name : List ℕ) (handles : ℕ) (bytes other : List ℕ) (work : Work)
+        → Stands schema expected bytes handles → AgreesWhereRead schema expected bytes other
+        → Judging schema expected name handles bytes work → Judging schema expected name handles other work }
 {}
