@@ -28,8 +28,8 @@ use Rattle.remote_receiver.specs.declared.rest.Rest.{Rest}
 use Rattle.script_run.specs.declared.joins.Joint.{Joint}
 use Rattle.script_run.specs.declared.plain.Plain.{Plain}
 use Rattle.script_names.specs.declared.rooms.Rooms.{Rooms}
-use Rattle.script_run.specs.AtDesk.{Seen}
-use Rattle.script_run.specs.steps.Desks.{SawAt, Went}
+use Rattle.script_run.specs.AtDesk.{SawAt, Seen}
+use Rattle.script_run.specs.steps.Desks.{Went}
 use Rattle.script_run.specs.Draining.{HaveRested}
 use Rattle.script_run.specs.steps.Going.{IsPutBack, IsWoken}
 use Rattle.script_run.specs.steps.Joints.{Gave, Joined, Knows, KnowsIf, Spared}

@@ -15,10 +15,10 @@ use Rattle.bind_model.specs.declared.event.Event.{Event}
 use Rattle.bind_model.specs.declared.told.Told.{Told}
 use Rattle.call_script.specs.declared.script.AutoReply.{AutoReply}
 use Rattle.remote_receiver.specs.Notes.{Kept}
-use Rattle.script_run.specs.AtDesk.{Adds, Begins, IsLater, Seen}
+use Rattle.script_run.specs.AtDesk.{Adds, Begins, IsLater, SawAt, Seen, Served}
 use Rattle.script_run.specs.declared.cut.Cut.{Cut}
 use Rattle.script_run.specs.declared.plain.Plain.{Plain}
-use Rattle.script_run.specs.steps.Desks.{AtMost, CameTo, SawAt, Served, Went, asked_it, stood}
+use Rattle.script_run.specs.steps.Desks.{AtMost, CameTo, Went, asked_it, stood}
 
 -- ## Later
 

@@ -3,15 +3,17 @@ mod Coming
 mod Ending
 pub mod JoinDone
 mod Later
+mod Traces
 mod Gates
 pub mod Joining
 mod LineDone
 mod LineTurns
+mod OneEvent
 mod OrderLists
 mod OrderSteps
 pub mod RunParts
 mod Sequences
-mod Serving
+pub mod Serving
 mod TakeTurns
 mod TurnLemmas
 pub mod Waking
@@ -23,3 +25,4 @@ mod LineSends
 mod ReadyEnd
 mod NeverFull
 mod CutTurns
+pub mod Same

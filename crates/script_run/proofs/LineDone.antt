@@ -45,8 +45,8 @@ use Rattle.script_names.specs.declared.names.Names.{Names}
 use Rattle.script_run.specs.declared.plain.Plain.{Plain}
 use Rattle.script_names.specs.declared.rooms.Rooms.{Rooms}
 use Rattle.script_names.specs.declared.stands.Stands.{Stands}
-use Rattle.script_run.specs.AtDesk.{Adds, SameDesk, Seen}
-use Rattle.script_run.specs.steps.Desks.{AtMost, CameTo, CutIn, DidCommand, DidLine, DidTake, IfSpent, IsFull, IsFullBehind, Replied, SawAt, Served}
+use Rattle.script_run.specs.AtDesk.{Adds, SameDesk, SawAt, Seen, Served}
+use Rattle.script_run.specs.steps.Desks.{AtMost, CameTo, CutIn, DidCommand, DidLine, DidTake, IfSpent, IsFull, IsFullBehind, Replied}
 use Rattle.script_run.specs.steps.Desks.{answered_it, asked_it}
 use Rattle.script_run.specs.steps.Desks.{TookAt, Went, due_by, reply_of}
 use Rattle.script_names.specs.Needs.{AreNames}
@@ -147,7 +147,7 @@ found_in {A} P p (y ∷ xs) x all e = go (p y) e (λ f. found_in P p xs x all.1 
     go false f rest = rest f
 
 -- what is due is one of the replies
-due_from : (P : AutoReply → Type 0) (autos : List AutoReply) (me : SeqId) (rs : List ResponderId) (d : Due) → AllByRecursion P autos
+pub due_from : (P : AutoReply → Type 0) (autos : List AutoReply) (me : SeqId) (rs : List ResponderId) (d : Due) → AllByRecursion P autos
     → due_for autos me rs ≡ Some d → P d.1
 due_from P autos me [] d all e = absurd cc
 due_from P autos me (r ∷ rs) d all e = go (find (replies_to me r) autos) refl e
@@ -180,7 +180,7 @@ some_due : (o : Option Due) → is_some (reply_of o) ≡ is_some o
 some_due None = refl
 some_due (Some d) = refl
 
-due_none : (o : Option Due) → None ≡ reply_of o → o ≡ None
+pub due_none : (o : Option Due) → None ≡ reply_of o → o ≡ None
 due_none None e = refl
 due_none (Some d) e = absurd cc
 
@@ -188,7 +188,7 @@ due_none (Some d) e = absurd cc
 abbrev due_with : ResponderId → AutoReply → Option Due
 due_with r reply = Some (r, reply)
 
-due_some : (o : Option Due) (reply : AutoReply) → Some reply ≡ reply_of o → (r : ResponderId) × (o ≡ Some (r, reply))
+pub due_some : (o : Option Due) (reply : AutoReply) → Some reply ≡ reply_of o → (r : ResponderId) × (o ≡ Some (r, reply))
 due_some None reply e = absurd cc
 due_some (Some (r, other)) reply e = let same : other ≡ reply = cc in (r, ap (due_with r) same)
 

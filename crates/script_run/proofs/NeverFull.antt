@@ -52,7 +52,7 @@ record CutAt (asked : Asked) (before after : Seen) : Type 0 where
       ⊎ ((told : Told) × (reverse after.events ≡ record { seq = before.me; asked = asked; told = told } ∷ reverse before.events))
 
 -- where no event came
-full_same : (b a : Seen) → b.alone ≡ true → IsFull b a → a.events ≡ b.events
+pub full_same : (b a : Seen) → b.alone ≡ true → IsFull b a → a.events ≡ b.events
 full_same b a alone full =
     full.stays.0.all ∙ (ap (λ (es : List Event). b.events ++ es) (full.stays.0.none alone) ∙ append-nil b.events)
 

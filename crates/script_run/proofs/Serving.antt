@@ -24,8 +24,8 @@ use Rattle.remote_receiver.specs.declared.call.CallRefused.TheVariants.{No, Memo
 use Rattle.remote_receiver.specs.declared.call.Sent.{Sent}
 use Rattle.remote_receiver.proofs.Following.{follows_same}
 use Rattle.script_run.specs.declared.plain.Plain.{Plain}
-use Rattle.script_run.specs.AtDesk.{AnswersZero, SameDesk, Seen, job_of, job_of_method, plain}
-use Rattle.script_run.specs.steps.Desks.{IsSpentOnly, Served, answered_as}
+use Rattle.script_run.specs.AtDesk.{AnswersZero, IsSpentOnly, SameDesk, Seen, Served, job_of, job_of_method, plain}
+use Rattle.script_run.specs.steps.Desks.{answered_as}
 
 -- ## The callback that comes with a command
 

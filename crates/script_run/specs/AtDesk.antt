@@ -1,14 +1,22 @@
 -- What the desk of a sequence stands on, and what becomes of the callbacks of its calls.
-use Rattle.std.specs.Prelude.{ℕ, Bool, true, ◌≡◌, ◌++◌, List, map, Option, Some, None, if◌then◌else◌}
+use Rattle.std.specs.Prelude.{ℕ, Bool, true, ◌≡◌, ◌≤◌, ◌++◌, List, length, map, Option, Some, None, Result, IfOk, IfErr, OnErr, if◌then◌else◌}
 use Rattle.mj_base.specs.declared.ids.SeqId.{SeqId}
+use Rattle.mj_base.specs.declared.limits.TheConstants.{MAX_EVENTS}
 use Rattle.mj_schema.specs.declared.schema.Schema.{Schema}
 use Rattle.wire_model.specs.declared.target.Target.{Target}
 use Rattle.bind_model.specs.declared.asked.Asked.{Asked}
 use Rattle.bind_model.specs.declared.asked.Asked.TheVariants.{Call}
+use Rattle.bind_model.specs.declared.commands.Command.{Command}
+use Rattle.bind_model.specs.declared.commands.Refused.{Refused}
+use Rattle.bind_model.specs.declared.commands.Refused.TheVariants as refusals
+use Rattle.bind_model.specs.declared.commands.Reply.{Reply}
 use Rattle.bind_model.specs.declared.event.Event.{Event}
-use Rattle.bind_model.specs.Seen.{KeepsLegal, own_of}
+use Rattle.bind_model.specs.Plain.{asked_of, command_of, told_of}
+use Rattle.bind_model.specs.Seen.{KeepsLegal, Saw, own_of}
 use Rattle.bind_model.specs.Wire.{Wire}
 use Rattle.bind_model.specs.WireOf.{wire_of}
+use Rattle.remote_receiver.specs.Calls.{Stays}
+use Rattle.remote_receiver.specs.Notes.{Follows, Kept}
 use Rattle.remote_receiver.specs.Stepped.{Step}
 use Rattle.remote_receiver.specs.declared.job.Answered.{Answered}
 use Rattle.script_run.specs.declared.plain.Plain.{Plain}
@@ -75,3 +83,30 @@ pub record IsLater (before after : Seen) : Type 0 where
 pub record Adds (before after : Seen) (events : List Event) : Type 0 where
   pub own : own_of before.me after.events ≡ own_of before.me before.events ++ events
   pub sole : before.alone ≡ true → after.events ≡ before.events ++ events
+
+-- ## One command
+
+-- a desk saw this command and its reply between these two
+abbrev pub SawAt : Seen → Seen → Command → Reply → Type 0
+SawAt before after command reply =
+    Saw before.schema before.seqs before.alone before.me before.events after.events command reply
+
+-- a command comes back as spent only where there are 16,777,216 events
+abbrev pub IsSpentOnly : ℕ → Refused → Type 0
+IsSpentOnly events (refusals.Memory command) = Unit {0}
+IsSpentOnly events (refusals.Spent command) = MAX_EVENTS ≤ events
+
+-- there is no event of the sequence, and the command comes back
+abbrev pub NotServed : Seen → Seen → Command → Refused → Type 0
+NotServed before after command refused =
+    Stays before.schema before.seqs before.alone before.me before.events after.events
+    × (command_of refused ≡ command) × IsSpentOnly (length after.events) refused
+
+-- what a desk did with a command, and what its callbacks are then
+pub record Served (before after : Seen) (command : Command) (old new : Kept Plain) (result : Result Reply Refused) : Type 0 where
+  pub same : SameDesk before after
+  pub event : IfOk result (SawAt before after command)
+  pub kept : IfOk result (λ reply. Follows AnswersZero old
+      (step_by (wire_of before.schema) (record { seq = before.me; asked = asked_of command; told = told_of reply })) new)
+  pub refused : IfErr result (NotServed before after command)
+  pub unmoved : OnErr result (new ≡ old)

@@ -4,4 +4,5 @@ pub mod AtDesk
 pub mod Working
 pub mod Draining
 pub mod Rooms
+pub mod Followed
 pub mod steps

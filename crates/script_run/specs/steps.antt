@@ -7,3 +7,5 @@ pub mod Orders
 pub mod Running
 pub mod Working
 pub mod Cutting
+pub mod Following
+pub mod Traced

@@ -2,8 +2,10 @@
 //! wherever a message is ready, with automatic replies.
 #![tactic(auto)]
 
+mod agenda;
 mod autos;
 mod callbacks;
+mod commands;
 mod cut;
 mod desks;
 mod draining;
@@ -15,9 +17,11 @@ mod run;
 mod runner;
 mod seat;
 mod sequence;
-mod serve;
+mod single;
+mod tracing;
 mod worker;
 
+pub use commands::serve;
 pub use cut::Cut;
 pub use desks::at_rest;
 pub use draining::{Drained, cut_off, drain};
@@ -25,4 +29,6 @@ pub use joins::{Joint, settle};
 pub use plain::Plain;
 pub use run::open_rooms;
 pub use runner::{Ran, end, run_alone};
+pub use seat::Seat;
 pub use sequence::{Worked, work, work_on};
+pub use tracing::{Followed, follow};

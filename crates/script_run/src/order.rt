@@ -59,7 +59,7 @@ impl<'s> Queue<'s> {
 }
 
 /// The lines of one sequence, the joins left out.
-fn lines_of(alloc: Global, all: &[Line], seq: u32) -> Result<Vec<&Line>, AllocError>
+pub fn lines_of(alloc: Global, all: &[Line], seq: u32) -> Result<Vec<&Line>, AllocError>
     ensures { IfOk result (λ lines. map (λ line. line.now) lines.items ≡ filter (is_own (numbered seq)) all.now) }
 {
     let mut lines = Vec::new(alloc);

@@ -11,16 +11,16 @@ ghost use Rattle.remote_receiver.specs.Held.{kept_of};
 ghost use Rattle.script_names.specs.Autos.{due_for};
 ghost use Rattle.script_run.specs.OfScript.{replied};
 ghost use Rattle.script_names.specs.Asking.{asked_by};
-ghost use Rattle.script_run.specs.AtDesk.{Adds, IsLater, seen_by};
-ghost use Rattle.script_run.specs.steps.Desks.{AtMost, CameTo, CutIn, DidCommand, DidLine, DidTake, IfSpent, IsFull, Replied, SawAt, TookAt, Went, reply_of};
+ghost use Rattle.script_run.specs.AtDesk.{Adds, IsLater, SawAt, seen_by};
+ghost use Rattle.script_run.specs.steps.Desks.{AtMost, CameTo, CutIn, DidCommand, DidLine, DidTake, IfSpent, IsFull, Replied, TookAt, Went, reply_of};
 ghost use Rattle.script_names.specs.Held.{HaveNames, names_in};
 ghost use Rattle.script_names.specs.Rooms.{HasPlaces, HasRoomBehind, SameHeld};
 ghost use Rattle.script_names.specs.Settling.{EndsWith, LeavesLast, Settles};
 
 use crate::autos::due_after;
+use crate::commands::serve;
 use crate::cut::Cut;
 use crate::plain::Plain;
-use crate::serve::serve;
 use bind_model::{Command, PendingList, Refused, Reply, Stepper};
 use call_script::{AutoReply, Line};
 use handle_table::Handles;
@@ -99,7 +99,7 @@ fn settle<'s, P: Stepper>(
 }
 
 /// Answers with the last responder without a name, where a reply is due.
-fn answer<P: Stepper>(
+pub fn answer<P: Stepper>(
     desk: &mut Desk<Plain, P>,
     rooms: &mut Rooms,
     alloc: Global,
@@ -145,7 +145,7 @@ fn answer<P: Stepper>(
 }
 
 /// Does what a line asks: the automatic reply that is due then.
-fn do_command<'s, P: Stepper>(
+pub fn do_command<'s, P: Stepper>(
     desk: &mut Desk<Plain, P>,
     rooms: &mut Rooms,
     alloc: Global,

@@ -1,7 +1,7 @@
 -- What a desk does for its sequence.
 use Rattle.script_run.specs.AtDesk.{Adds, AnswersZero, SameDesk, Seen, step_by}
-use Rattle.std.specs.Prelude.{ℕ, true, ◌≡◌, ◌≤◌, ◌⊎◌, ◌++◌, List, [], ◌∷◌, length}
-use Rattle.std.specs.Prelude.{Option, Some, None, Result, Ok, Err, IfOk, IfErr, OnErr}
+use Rattle.std.specs.Prelude.{true, ◌≡◌, ◌≤◌, ◌⊎◌, ◌++◌, List, [], ◌∷◌, length}
+use Rattle.std.specs.Prelude.{Option, Some, None, Result, Ok, Err}
 use Rattle.std.specs.Option.{option_map}
 use Rattle.mj_base.specs.declared.ids.EndId.{EndId}
 use Rattle.mj_base.specs.declared.ids.SeqId.{SeqId}
@@ -11,11 +11,9 @@ use Rattle.bind_model.specs.declared.asked.Asked.{Asked}
 use Rattle.bind_model.specs.declared.asked.Asked.TheVariants.{Take}
 use Rattle.bind_model.specs.declared.endpoint.ResponderId.{ResponderId}
 use Rattle.bind_model.specs.declared.told.Told.{Told}
-use Rattle.bind_model.specs.Plain.{asked_of, told_of, command_of}
 use Rattle.bind_model.specs.Replies.{responders_handed}
-use Rattle.bind_model.specs.Seen.{Saw, own_of}
+use Rattle.bind_model.specs.Seen.{own_of}
 use Rattle.bind_model.specs.WireOf.{wire_of}
-use Rattle.bind_model.specs.declared.commands.Command.{Command}
 use Rattle.bind_model.specs.declared.commands.Refused.{Refused}
 use Rattle.bind_model.specs.declared.commands.Refused.TheVariants as refusals
 use Rattle.bind_model.specs.declared.commands.Reply.{Reply}
@@ -37,31 +35,6 @@ use Rattle.script_run.specs.declared.cut.Cut.TheVariants as cuts
 use Rattle.script_run.specs.declared.plain.Plain.{Plain}
 
 -- ## One command
-
--- a desk saw this command and its reply between these two
-abbrev pub SawAt : Seen → Seen → Command → Reply → Type 0
-SawAt before after command reply =
-    Saw before.schema before.seqs before.alone before.me before.events after.events command reply
-
--- a command comes back as spent only where there are 16,777,216 events
-abbrev pub IsSpentOnly : ℕ → Refused → Type 0
-IsSpentOnly events (refusals.Memory command) = Unit {0}
-IsSpentOnly events (refusals.Spent command) = MAX_EVENTS ≤ events
-
--- there is no event of the sequence, and the command comes back
-abbrev pub NotServed : Seen → Seen → Command → Refused → Type 0
-NotServed before after command refused =
-    Stays before.schema before.seqs before.alone before.me before.events after.events
-    × (command_of refused ≡ command) × IsSpentOnly (length after.events) refused
-
--- what a desk did with a command, and what its callbacks are then
-pub record Served (before after : Seen) (command : Command) (old new : Kept Plain) (result : Result Reply Refused) : Type 0 where
-  pub same : SameDesk before after
-  pub event : IfOk result (SawAt before after command)
-  pub kept : IfOk result (λ reply. Follows AnswersZero old
-      (step_by (wire_of before.schema) (record { seq = before.me; asked = asked_of command; told = told_of reply })) new)
-  pub refused : IfErr result (NotServed before after command)
-  pub unmoved : OnErr result (new ≡ old)
 
 -- what a call answers, as a reply; a callback that comes back is let go
 abbrev pub answered_as : Result Sent (CallRefused Plain) → Result Reply Refused

@@ -3,8 +3,8 @@
 ghost use Rattle.std.specs.Prelude.{◌≡◌, ◌<◌};
 ghost use Rattle.bind_model.specs.Plain.{IsOf};
 ghost use Rattle.remote_receiver.specs.Held.{kept_of};
-ghost use Rattle.script_run.specs.AtDesk.{seen_by};
-ghost use Rattle.script_run.specs.steps.Desks.{Served, answered_as};
+ghost use Rattle.script_run.specs.AtDesk.{Served, seen_by};
+ghost use Rattle.script_run.specs.steps.Desks.{answered_as};
 
 use crate::plain::{Plain, job_for};
 use bind_model::{Command, Refused, Reply, Stepper};

@@ -4,7 +4,7 @@ use Rattle.bind_model.specs.WireOf.{wire_of}
 use Rattle.remote_receiver.specs.Held.{kept_of}
 use Rattle.script_run.specs.AtDesk.{job_of_method, seen_by}
 use Rattle.script_run.proofs.Serving.{call_served, is_other, other_served}
-use Rattle.script_run.proofs.serve.serve.Goals as goal
+use Rattle.script_run.proofs.commands.serve.Goals as goal
 
 pub returns-in-Call-clause-served : goal.returns-in-Call-clause-served
 returns-in-Call-clause-served g c =
