@@ -1,0 +1,2 @@
+pub mod LoadFile
+pub mod LoadLine

@@ -1,0 +1,10 @@
+mod Events
+mod Noting
+mod Replies
+mod PreparedGoes
+mod Pairing
+mod OneMessage
+mod Starting
+mod Loading
+mod Sums
+mod OneLoad

@@ -1,0 +1,4 @@
+pub mod Messages
+pub mod Commands
+pub mod Counts
+pub mod steps
