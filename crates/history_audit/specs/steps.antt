@@ -1,0 +1,4 @@
+-- Definitions that serve proofs alone: no public clause cites them.
+pub mod Begun
+pub mod Judging
+pub mod Said
