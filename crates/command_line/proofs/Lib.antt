@@ -1,2 +1,3 @@
 pub mod NoHelp
 pub mod Orders
+pub mod Messages

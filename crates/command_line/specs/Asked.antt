@@ -11,6 +11,7 @@ use Rattle.clap.specs.Words.{Kinds, Row, Text, all_of, fault_of, first_of, subco
 use Rattle.command_line.specs.Definition.{tool}
 use Rattle.command_line.specs.declared.asked.Command.{Command as Read}
 use Rattle.command_line.specs.declared.asked.Command.TheVariants as read
+use Rattle.command_line.specs.declared.asked.MessageCount.{MessageCount}
 use Rattle.command_line.specs.declared.asked.RunAtOnce.{RunAtOnce}
 use Rattle.command_line.specs.declared.asked.Side.{Side}
 use Rattle.command_line.specs.declared.asked.Side.TheVariants.{Request, Response}
@@ -55,14 +56,35 @@ abbrev pub decode_words : List ℕ → Side → ℕ → List ℕ → List (List 
 decode_words interface side handles message files =
     record { interface = interface; side = side; handles = handles; message = message; files = files }
 
+-- the number that others are drawn behind, and how many messages there are, in `load --seed SEED --messages MESSAGES`
+pub record LoadWords : Type 0 where
+  pub seed : ℕ
+  pub messages : ℕ
+
+-- these words of `load`
+abbrev pub load_words : ℕ → ℕ → LoadWords
+load_words seed messages = record { seed = seed; messages = messages }
+
+-- the names in `audit --script SCRIPT --history HISTORY FILE..`
+pub record AuditWords : Type 0 where
+  pub script : List ℕ
+  pub history : List ℕ
+  pub files : List (List ℕ)
+
+-- these words of `audit`
+abbrev pub audit_words : List ℕ → List ℕ → List (List ℕ) → AuditWords
+audit_words script history files = record { script = script; history = history; files = files }
+
 -- what the words ask for: a run, the text of a file, `print FILE`, the tables of files, `check FILE..`, the message of a
--- value, the value of a message, or whether one file reads what another writes, `compat OLD NEW`
+-- value, the value of a message, a load, what is said of a history's text, or whether one file reads what another writes, `compat OLD NEW`
 pub data Command : Type 0 where
   Run : RunWords → Command
   Print : (file : List ℕ) → Command
   Check : (files : List (List ℕ)) → Command
   Encode : EncodeWords → Command
   Decode : DecodeWords → Command
+  Load : LoadWords → Command
+  Audit : AuditWords → Command
   Compat : (old new : List ℕ) → Command
 
 -- the value under a name; each that is asked for below is there, so the empty text stands for none
@@ -124,15 +146,50 @@ decode_with rows handles =
 abbrev pub decode_in : List Row → Option Command
 decode_in rows = option_map (decode_with rows) (handles_in rows)
 
--- the command of this name with these values; there are six, and `run` and `decode` alone can be none, by their numbers
+-- a number from 1 to 1,000,000
+abbrev pub in_load : ℕ → Option ℕ
+in_load n = if nat_le 1 n && nat_le n 1000000 then Some n else None
+
+-- such a number whose decimal digits, with no sign and no leading zero, are the text
+abbrev pub messages_of : Text → Option ℕ
+messages_of text = option_and_then in_load (order_of text)
+
+-- how many messages that is, where it is one
+abbrev pub counted : Option MessageCount → Option ℕ
+counted = option_map (λ (messages : MessageCount). messages.count)
+
+-- the seed among these values, where it is a number of 64 bits
+abbrev pub seed_in : List Row → Option ℕ
+seed_in rows = order_of (text_at (codes "seed") rows)
+
+-- the number of messages among them, where it is one
+abbrev pub messages_in : List Row → Option ℕ
+messages_in rows = messages_of (text_at (codes "messages") rows)
+
+-- `load` with this seed and so many messages
+abbrev pub load_with : ℕ → ℕ → Command
+load_with seed messages = Load (load_words seed messages)
+
+-- `load` with these values, where both numbers are such
+abbrev pub load_in : List Row → Option Command
+load_in rows = option_and_then (λ (seed : ℕ). option_map (load_with seed) (messages_in rows)) (seed_in rows)
+
+-- `audit` with these values
+abbrev pub audit_in : List Row → Command
+audit_in rows =
+    Audit (audit_words (text_at (codes "script") rows) (text_at (codes "history") rows) (texts_at (codes "FILE") rows))
+
+-- the command of this name with these values; there are eight, and `run`, `decode` and `load` alone can be none, by their numbers
 abbrev pub command_in : Text × List Row → Option Command
 command_in (name, rows) =
     if bytes_eq name (codes "run") then run_in rows
     else if bytes_eq name (codes "print") then Some (Print (text_at (codes "FILE") rows))
     else if bytes_eq name (codes "check") then Some (Check (texts_at (codes "FILE") rows))
     else if bytes_eq name (codes "encode") then Some (encode_in rows)
+    else if bytes_eq name (codes "decode") then decode_in rows
+    else if bytes_eq name (codes "audit") then Some (audit_in rows)
     else if bytes_eq name (codes "compat") then Some (Compat (text_at (codes "OLD") rows) (text_at (codes "NEW") rows))
-    else decode_in rows
+    else load_in rows
 
 -- where `clap` finds a fault in the words, or a call for help, they ask for nothing
 abbrev pub unless_fault : Kinds → Option Command → Option Command
@@ -151,13 +208,18 @@ AsksThreads (Some (Print file)) = ⊥
 AsksThreads (Some (Check files)) = ⊥
 AsksThreads (Some (Encode words)) = ⊥
 AsksThreads (Some (Decode words)) = ⊥
+AsksThreads (Some (Load words)) = ⊥
+AsksThreads (Some (Audit words)) = ⊥
 AsksThreads (Some (Compat old new)) = ⊥
 
--- the words are `run` with an order that is no number of 64 bits, or `decode` with a number of handles that is no number from 0 to 64
+-- the words are `run` with an order that is no number of 64 bits, `decode` with a number of handles that is no number from 0 to 64, or `load`
+-- with a seed that is no number of 64 bits or a number of messages that is none from 1 to 1,000,000
 abbrev pub HasWrongNumber : Option (Text × List Row) → Type 0
 HasWrongNumber None = ⊥
 HasWrongNumber (Some (name, rows)) =
-    ((name ≡ codes "run") × (order_in rows ≡ None)) ⊎ ((name ≡ codes "decode") × (handles_in rows ≡ None))
+    ((name ≡ codes "run") × (order_in rows ≡ None))
+    ⊎ (((name ≡ codes "decode") × (handles_in rows ≡ None))
+    ⊎ ((name ≡ codes "load") × ((seed_in rows ≡ None) ⊎ (messages_in rows ≡ None))))
 
 -- what these borrowed texts say
 abbrev pub texts : List (Bor Text) → List Text
@@ -171,6 +233,8 @@ asked_of (read.Check files) = Check (texts files.items)
 asked_of (read.Encode method side value files) = Encode (encode_words method.now side value.now (texts files.items))
 asked_of (read.Decode interface side handles message files) =
     Decode (decode_words interface.now side handles message.now (texts files.items))
+asked_of (read.Load seed messages) = Load (load_words seed messages.count)
+asked_of (read.Audit script history files) = Audit (audit_words script.now history.now (texts files.items))
 asked_of (read.Compat old new) = Compat old.now new.now
 
 -- what a run with threads that was read asks for

@@ -67,6 +67,18 @@ decode_middle = with_rule (with_rule decode_start (option (codes "handles"))) (o
 abbrev pub decode : App
 decode = with_rule decode_middle files
 
+-- `load --seed SEED --messages MESSAGES`
+abbrev pub load : App
+load = with_rule (with_rule (new_app (codes "load")) (option (codes "seed"))) (option (codes "messages"))
+
+-- `audit` with its script and its history
+abbrev pub audit_start : App
+audit_start = with_rule (with_rule (new_app (codes "audit")) (option (codes "script"))) (option (codes "history"))
+
+-- `audit --script SCRIPT --history HISTORY FILE..`
+abbrev pub audit : App
+audit = with_rule audit_start files
+
 -- `compat OLD NEW`
 abbrev pub compat : App
 compat = with_rule (with_rule (new_app (codes "compat")) (one_word (codes "OLD"))) (one_word (codes "NEW"))
@@ -85,5 +97,11 @@ four_commands = with_subcommand (with_subcommand two_commands check.top) encode.
 abbrev pub five_commands : App
 five_commands = with_subcommand four_commands decode.top
 
+abbrev pub six_commands : App
+six_commands = with_subcommand five_commands load.top
+
+abbrev pub seven_commands : App
+seven_commands = with_subcommand six_commands audit.top
+
 abbrev pub tool : App
-tool = with_subcommand five_commands compat.top
+tool = with_subcommand seven_commands compat.top

@@ -1,6 +1,6 @@
 //! What the words ask for, and why they ask for nothing.
 
-ghost use Rattle.std.specs.Prelude.{◌≡◌};
+ghost use Rattle.std.specs.Prelude.{◌≡◌, ◌≤◌};
 ghost use Rattle.command_line.specs.declared.asked.WordsError.TheVariants.{Memory};
 
 use std::alloc::AllocError;
@@ -26,6 +26,13 @@ pub enum Words<'a> {
 pub struct RunAtOnce<'a> {
     pub script: &'a str,
     pub files: Vec<&'a str>,
+}
+
+/// How many messages a load has: 1,000,000 at most.
+#[derive(Clone, Copy)]
+pub struct MessageCount {
+    pub count: u64,
+    pub ghost few: { count ≤ 1000000 },
 }
 
 /// What is done on one thread.
@@ -59,6 +66,17 @@ pub enum Command<'a> {
         side: Side,
         handles: u32,
         message: &'a str,
+        files: Vec<&'a str>,
+    },
+    /// A run of so many messages, by numbers that are drawn behind this one.
+    Load {
+        seed: u64,
+        messages: MessageCount,
+    },
+    /// What is said of a history's text by a script over Mojom files.
+    Audit {
+        script: &'a str,
+        history: &'a str,
         files: Vec<&'a str>,
     },
     /// Whether the file `new` reads what the stable definitions of the file `old` write.

@@ -4,8 +4,8 @@ ghost use Rattle.std.specs.Prelude.{◌≡◌, IfOk, false};
 ghost use Rattle.clap.specs.Words.{app_of, rule_of};
 ghost use Rattle.clap.specs.declared.builder.command.Command.TheViews.{out-Command};
 ghost use Rattle.command_line.specs.Definition.{long, option, free_option, flag, one_word, one_file, files, run, print, check, encode, decode};
-ghost use Rattle.command_line.specs.Definition.{run_start, encode_start, decode_start, decode_middle, compat, tool};
-ghost use Rattle.command_line.specs.Definition.{two_commands, four_commands, five_commands};
+ghost use Rattle.command_line.specs.Definition.{run_start, encode_start, decode_start, decode_middle, load, audit_start, audit, compat, tool};
+ghost use Rattle.command_line.specs.Definition.{two_commands, four_commands, five_commands, six_commands, seven_commands};
 
 use clap::{Arg, ArgAction, Command};
 use std::alloc::{AllocError, Global};
@@ -196,6 +196,43 @@ fn decode_command<'a>(alloc: Global) -> Result<Command<'a>, AllocError>
     ))
 }
 
+/// `load --seed SEED --messages MESSAGES`.
+fn load_command<'a>(alloc: Global) -> Result<Command<'a>, AllocError>
+    ensures app { IfOk result (λ command. app_of command ≡ load) }
+    ensures local { IfOk result (λ command. (out-Command command).has_globals ≡ false) }
+{
+    Command::new(alloc, "load")
+        .about("Runs calls and answers by numbers that are drawn, and counts what they did")
+        .arg(option_arg(alloc, "seed", "The number that the others are drawn behind"))?
+        .arg(option_arg(
+            alloc,
+            "messages",
+            "How many messages are called, from 1 to 1000000",
+        ))
+}
+
+/// `audit` with its script and its history.
+fn audit_start_command<'a>(alloc: Global) -> Result<Command<'a>, AllocError>
+    ensures app { IfOk result (λ command. app_of command ≡ audit_start) }
+    ensures local { IfOk result (λ command. (out-Command command).has_globals ≡ false) }
+{
+    Command::new(alloc, "audit")
+        .about("Audits the printed history of a run, and prints how many events it has")
+        .arg(option_arg(alloc, "script", "The script"))?
+        .arg(option_arg(alloc, "history", "The file of the history's text"))
+}
+
+/// `audit --script SCRIPT --history HISTORY FILE..`.
+fn audit_command<'a>(alloc: Global) -> Result<Command<'a>, AllocError>
+    ensures app { IfOk result (λ command. app_of command ≡ audit) }
+    ensures local { IfOk result (λ command. (out-Command command).has_globals ≡ false) }
+{
+    audit_start_command(alloc)?.arg(files_arg(
+        alloc,
+        "The Mojom files, with the script's interfaces",
+    ))
+}
+
 /// `compat OLD NEW`.
 fn compat_command<'a>(alloc: Global) -> Result<Command<'a>, AllocError>
     ensures app { IfOk result (λ command. app_of command ≡ compat) }
@@ -235,9 +272,23 @@ fn five_command<'a>(alloc: Global) -> Result<Command<'a>, AllocError>
     four_command(alloc)?.subcommand(decode_command(alloc)?)
 }
 
+/// The program with its first six commands.
+fn six_command<'a>(alloc: Global) -> Result<Command<'a>, AllocError>
+    ensures app { IfOk result (λ command. app_of command ≡ six_commands) }
+{
+    five_command(alloc)?.subcommand(load_command(alloc)?)
+}
+
+/// The program with its first seven commands.
+fn seven_command<'a>(alloc: Global) -> Result<Command<'a>, AllocError>
+    ensures app { IfOk result (λ command. app_of command ≡ seven_commands) }
+{
+    six_command(alloc)?.subcommand(audit_command(alloc)?)
+}
+
 /// The whole command line.
 pub fn tool_command<'a>(alloc: Global) -> Result<Command<'a>, AllocError>
     ensures app { IfOk result (λ command. app_of command ≡ tool) }
 {
-    five_command(alloc)?.subcommand(compat_command(alloc)?)
+    seven_command(alloc)?.subcommand(compat_command(alloc)?)
 }

@@ -2,10 +2,11 @@
 
 ghost use Rattle.std.specs.Prelude.{◌≡◌, IfErr, IfOk, None, Some, map, option_and_then, string_bytes};
 ghost use Rattle.clap.specs.Words.{found_of, kind_of, rows_of, subcommand_rows_of};
-ghost use Rattle.command_line.specs.Asked.{OnWrongUse, asked_by, asked_of, command_in, command_of, decode_in, encode_in, run_in};
+ghost use Rattle.command_line.specs.Asked.{OnWrongUse, asked_by, asked_of, audit_in, command_in, command_of, decode_in, encode_in, run_in};
 ghost use Rattle.command_line.specs.Asked.{handles_of, is_at_once, order_in, order_of, side_in, text_at, texts, texts_at};
+ghost use Rattle.command_line.specs.Asked.{counted, in_load, load_in, messages_in, messages_of, seed_in};
 
-use crate::asked::{Command, RunAtOnce, Side, Words, WordsError};
+use crate::asked::{Command, MessageCount, RunAtOnce, Side, Words, WordsError};
 use crate::definition::tool_command;
 use clap::error::ErrorKind;
 use clap::{ArgMatches, Error};
@@ -73,15 +74,38 @@ fn read_handles(alloc: Global, text: &str) -> Result<Option<u32>, AllocError>
     }
 }
 
-/// The refusal of the number behind an option, which is 0 or more and at most another one.
+/// The number from 1 to 1,000,000 that a number is.
+fn in_load(number: u64) -> Option<MessageCount>
+    ensures { counted result ≡ in_load number }
+{
+    if 1 <= number && number <= 1_000_000 {
+        Some(MessageCount { count: number })
+    } else {
+        None
+    }
+}
+
+/// The number from 1 to 1,000,000 that the text is, in decimal digits without a sign or a leading zero.
+fn read_messages(alloc: Global, text: &str) -> Result<Option<MessageCount>, AllocError>
+    ensures { IfOk result (λ messages. counted messages ≡ messages_of text.now) }
+{
+    let number = read_order(alloc, text)?;
+    match number {
+        Some(number) => Ok(in_load(number)),
+        None => Ok(None),
+    }
+}
+
+/// The refusal of the number behind an option, which is at least one number and at most another.
 fn wrong_number(
     alloc: Global,
     text: &str,
     option: &str,
+    least: u64,
     most: u64,
 ) -> Result<WordsError, AllocError> {
     let line = format!(in alloc;
-        "error: invalid value '{text}' for '--{option} <{option}>': a number from 0 to {most}
+        "error: invalid value '{text}' for '--{option} <{option}>': a number from {least} to {most}
 
 For more information, try '--help'.
 "
@@ -99,7 +123,7 @@ fn found_order(alloc: Global, found: &ArgMatches<'_>) -> Result<u64, WordsError>
     };
     match read_order(alloc, text)? {
         Some(order) => Ok(order),
-        None => Err(wrong_number(alloc, text, "order", u64::MAX)?),
+        None => Err(wrong_number(alloc, text, "order", 0, u64::MAX)?),
     }
 }
 
@@ -147,7 +171,7 @@ fn found_decode<'a>(alloc: Global, found: &ArgMatches<'a>) -> Result<Words<'a>, 
 {
     let text = text_of(found, "handles");
     let Some(handles) = read_handles(alloc, text)? else {
-        return Err(wrong_number(alloc, text, "handles", 64)?);
+        return Err(wrong_number(alloc, text, "handles", 0, 64)?);
     };
     Ok(Words::Alone(Command::Decode {
         interface: text_of(found, "interface"),
@@ -156,6 +180,51 @@ fn found_decode<'a>(alloc: Global, found: &ArgMatches<'a>) -> Result<Words<'a>, 
         message: text_of(found, "message"),
         files: texts_of(alloc, found, "FILE")?,
     }))
+}
+
+/// The seed that is given.
+fn found_seed(alloc: Global, found: &ArgMatches<'_>) -> Result<u64, WordsError>
+    ensures ok { IfOk result (λ seed. Some seed ≡ seed_in (rows_of (found_of found.now))) }
+    ensures wrong_use { IfErr result (OnWrongUse (seed_in (rows_of (found_of found.now)) ≡ None)) }
+{
+    let text = text_of(found, "seed");
+    let Some(seed) = read_order(alloc, text)? else {
+        return Err(wrong_number(alloc, text, "seed", 0, u64::MAX)?);
+    };
+    Ok(seed)
+}
+
+/// The number of messages that is given.
+fn found_messages(alloc: Global, found: &ArgMatches<'_>) -> Result<MessageCount, WordsError>
+    ensures ok { IfOk result (λ messages. Some messages.count ≡ messages_in (rows_of (found_of found.now))) }
+    ensures wrong_use { IfErr result (OnWrongUse (messages_in (rows_of (found_of found.now)) ≡ None)) }
+{
+    let text = text_of(found, "messages");
+    let Some(messages) = read_messages(alloc, text)? else {
+        return Err(wrong_number(alloc, text, "messages", 1, 1_000_000)?);
+    };
+    Ok(messages)
+}
+
+/// `load` with the values that `clap` found.
+fn found_load<'a>(alloc: Global, found: &ArgMatches<'a>) -> Result<Words<'a>, WordsError>
+    ensures ok { IfOk result (λ words. Some (asked_by words) ≡ load_in (rows_of (found_of found.now))) }
+    ensures wrong_use { IfErr result (OnWrongUse (load_in (rows_of (found_of found.now)) ≡ None)) }
+{
+    let seed = found_seed(alloc, found)?;
+    let messages = found_messages(alloc, found)?;
+    Ok(Words::Alone(Command::Load { seed, messages }))
+}
+
+/// `audit` with the values that `clap` found.
+fn found_audit<'a>(alloc: Global, found: &ArgMatches<'a>) -> Result<Command<'a>, AllocError>
+    ensures { IfOk result (λ command. asked_of command ≡ audit_in (rows_of (found_of found.now))) }
+{
+    Ok(Command::Audit {
+        script: text_of(found, "script"),
+        history: text_of(found, "history"),
+        files: texts_of(alloc, found, "FILE")?,
+    })
 }
 
 /// The command that `clap` found.
@@ -183,13 +252,19 @@ fn found_command<'a>(alloc: Global, matches: &ArgMatches<'a>) -> Result<Words<'a
     if name == "encode" {
         return Ok(Words::Alone(found_encode(alloc, found)?));
     }
+    if name == "decode" {
+        return found_decode(alloc, found);
+    }
+    if name == "audit" {
+        return Ok(Words::Alone(found_audit(alloc, found)?));
+    }
     if name == "compat" {
         return Ok(Words::Alone(Command::Compat {
             old: text_of(found, "OLD"),
             new: text_of(found, "NEW"),
         }));
     }
-    found_decode(alloc, found)
+    found_load(alloc, found)
 }
 
 /// What stands for an error of `clap`: its text, or want of memory.
@@ -207,9 +282,10 @@ fn refusal(alloc: Global, error: Error) -> WordsError
 
 /// The command in the words, which begin with the program's name: `run --script SCRIPT [--order ORDER] [--threads] FILE..`,
 /// `print FILE`, `check FILE..`, `encode --method METHOD [--response] --value VALUE FILE..`,
-/// `decode --interface INTERFACE [--response] --handles HANDLES --message MESSAGE FILE..` or `compat OLD NEW`, in each
-/// spelling that `clap` takes, where ORDER is a number of 64 bits, and HANDLES one from 0 to 64, without a sign
-/// or a leading zero. With `--threads` the order is read, but it is for nothing.
+/// `decode --interface INTERFACE [--response] --handles HANDLES --message MESSAGE FILE..`,
+/// `load --seed SEED --messages MESSAGES`, `audit --script SCRIPT --history HISTORY FILE..` or `compat OLD NEW`, in
+/// each spelling that `clap` takes, where ORDER and SEED are numbers of 64 bits, HANDLES is one from 0 to 64, and MESSAGES one
+/// from 1 to 1,000,000, without a sign or a leading zero. With `--threads` the order is read, but it is for nothing.
 ///
 /// Words that are no command, or ask for help, are a wrong use, with the text for it, `clap`'s own but
 /// for a wrong number, which only tests look at. The other error is want of memory.

@@ -4,6 +4,7 @@
 
 mod again;
 mod answer;
+mod audited;
 mod case;
 mod lines;
 mod read_back;
@@ -32,6 +33,8 @@ struct Tally {
     again: u64,
     /// How many printed histories were read back.
     read_back: u64,
+    /// How many were audited.
+    audited: u64,
 }
 
 /// The cases of a file.
@@ -113,6 +116,10 @@ fn run_cases<R: Print + AllocGlobal + Wait + Threads + Sync>(
             tally.again = tally.again.saturating_add(1);
             passed = run_case(rt, again)? && passed;
         }
+        if let Some(audit) = audited::audited(alloc, &case)? {
+            tally.audited = tally.audited.saturating_add(1);
+            passed = run_case(rt, audit)? && passed;
+        }
         if run_case(rt, case)? && passed {
             tally.passed = tally.passed.saturating_add(1);
         } else {
@@ -146,6 +153,7 @@ fn main(rt: HostRuntime) -> io::Result<ExitCode> {
     let tally = run_files(&rt)?;
     println!(rt; "{} printed texts printed again", tally.again)?;
     println!(rt; "{} printed histories read back", tally.read_back)?;
+    println!(rt; "{} printed histories audited", tally.audited)?;
     println!(rt; "{} passed, {} failed", tally.passed, tally.failed)?;
     if tally.failed > 0 {
         return Ok(ExitCode::FAILURE);

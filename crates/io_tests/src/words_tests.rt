@@ -14,6 +14,8 @@ Commands:
   check   Checks Mojom files, and prints their tables
   encode  Encodes the text of a value, and prints the message in hexadecimal
   decode  Decodes a message in hexadecimal, and prints its method, request id and value
+  load    Runs calls and answers by numbers that are drawn, and counts what they did
+  audit   Audits the printed history of a run, and prints how many events it has
   compat  Tells whether a newer Mojom file reads what an older one writes
   help    Print this message or the help of the given subcommand(s)
 
@@ -114,6 +116,18 @@ fn command_text(alloc: Global, command: Command<'_>) -> Result<String, AllocErro
             )?;
             with_files(line, files.as_slice())
         }
+        Command::Load { seed, messages } => {
+            let count = messages.count;
+            format!(in alloc; "load {count} by {seed}")
+        }
+        Command::Audit {
+            script,
+            history,
+            files,
+        } => with_files(
+            format!(in alloc; "audit {history} by {script}")?,
+            files.as_slice(),
+        ),
         Command::Compat { old, new } => format!(in alloc; "compat {old} then {new}"),
     }
 }
@@ -235,6 +249,39 @@ fn each_spelling_of_decode_is_taken(rt: HostRuntime) -> Result<(), Fail> {
 }
 
 #[test]
+fn each_spelling_of_load_is_taken(rt: HostRuntime) -> Result<(), Fail> {
+    for line in [
+        "mojo load --seed 18446744073709551615 --messages 1000000",
+        "mojo load --messages=1000000 --seed=18446744073709551615",
+    ] {
+        assert_eq!(rt;
+            answer(rt.alloc(), line)?.as_str(),
+            "load 1000000 by 18446744073709551615"
+        );
+    }
+    assert_eq!(rt;
+        answer(rt.alloc(), "mojo load --seed 0 --messages 1")?.as_str(),
+        "load 1 by 0"
+    );
+    Ok(())
+}
+
+#[test]
+fn each_spelling_of_audit_is_taken(rt: HostRuntime) -> Result<(), Fail> {
+    for line in [
+        "mojo audit --script s --history h f g",
+        "mojo audit f --history=h --script=s g",
+        "mojo audit --history h --script s -- f g",
+    ] {
+        assert_eq!(rt;
+            answer(rt.alloc(), line)?.as_str(),
+            "audit h by s then f then g"
+        );
+    }
+    Ok(())
+}
+
+#[test]
 fn other_words_are_refused(rt: HostRuntime) -> Result<(), Fail> {
     for line in [
         "mojo",
@@ -278,6 +325,25 @@ fn other_words_are_refused(rt: HostRuntime) -> Result<(), Fail> {
         "mojo decode --interface t.A --message m f --handles=-1",
         "mojo decode --interface t.A --message m f --handles 257",
         "mojo decode --interface t.A --message m f --handles x",
+        "mojo load",
+        "mojo load --seed 0",
+        "mojo load --messages 1",
+        "mojo load --seed 0 --messages 1 f",
+        "mojo load --seed 0 --messages 1 --seed 0",
+        "mojo load --seed 0 --messages 0",
+        "mojo load --seed 0 --messages 1000001",
+        "mojo load --seed 0 --messages 01",
+        "mojo load --seed 0 --messages +1",
+        "mojo load --seed 0 --messages x",
+        "mojo load --seed 0 --messages=",
+        "mojo load --seed 00 --messages 1",
+        "mojo load --seed -1 --messages 1",
+        "mojo load --seed 18446744073709551616 --messages 1",
+        "mojo audit --script s f",
+        "mojo audit --history h f",
+        "mojo audit --script s --history h",
+        "mojo audit --script s --history h --history h f",
+        "mojo audit --script s --history h --order 1 f",
         "mojo compat f",
         "mojo compat f g h",
         "mojo compat f --new g",

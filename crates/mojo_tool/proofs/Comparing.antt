@@ -160,7 +160,7 @@ pairing_found (old ∷ (new ∷ (more ∷ sources))) work a = absurd a
 found_for : (names : List (List ℕ)) (work : Work) (before now : List Fetch) → IsOfMojoms work ⊎ IsOfAll work → FetchedAll names before now
     → FetchedFor names [] work before now
 found_for names work before now (inl early) a = mojoms_for names [] work before now early a
-found_for names work before now (inr late) a = all_for names [] work before now late (all_alone names before now a)
+found_for names work before now (inr late) a = all_for names [] work before now refl late (all_alone names before now a)
 
 module _ (names : List (List ℕ)) (sources : List Source) where
   pub both_stopped : (before now : List Fetch) (stop : Stop) → StopsAt (Pairing sources) stop → FetchedAll names before now

@@ -204,6 +204,7 @@ too_long_name (refusals.BadText place) name e = absurd cc
 too_long_name (refusals.Unfit why) name e = absurd cc
 too_long_name refusals.BadHex name e = absurd cc
 too_long_name (refusals.Faulty fault) name e = absurd cc
+too_long_name (refusals.Unsound answer) name e = absurd cc
 too_long_name (refusals.Incompatible reason) name e = absurd cc
 
 pub refuses_name : (refusal : ToolRefusal) (name : List ℕ) (is : FileRefusal) → refused_work refusal ≡ Refuses name is → refused_name refusal ≡ Some name
@@ -216,6 +217,7 @@ refuses_name (refusals.BadText place) name is e = absurd cc
 refuses_name (refusals.Unfit why) name is e = absurd cc
 refuses_name refusals.BadHex name is e = absurd cc
 refuses_name (refusals.Faulty fault) name is e = absurd cc
+refuses_name (refusals.Unsound answer) name is e = absurd cc
 refuses_name (refusals.Incompatible reason) name is e = absurd cc
 
 rejects_name : (refusal : ToolRefusal) (name : List ℕ) (at : ℕ) (is : Cause) → refused_work refusal ≡ Rejects name at is → refused_name refusal ≡ Some name
@@ -228,6 +230,7 @@ rejects_name (refusals.BadText place) name at is e = absurd cc
 rejects_name (refusals.Unfit why) name at is e = absurd cc
 rejects_name refusals.BadHex name at is e = absurd cc
 rejects_name (refusals.Faulty fault) name at is e = absurd cc
+rejects_name (refusals.Unsound answer) name at is e = absurd cc
 rejects_name (refusals.Incompatible reason) name at is e = absurd cc
 
 -- states of files

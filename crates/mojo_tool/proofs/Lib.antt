@@ -18,3 +18,6 @@ pub mod Reporting
 pub mod Running
 pub mod Ran
 pub mod Reprinted
+pub mod Loads
+pub mod Seconds
+pub mod Histories

@@ -1,7 +1,7 @@
 -- What was fetched, a file at a time.
 use Rattle.std.proofs.Common.{◌≡◌, ℕ, List, [], ◌∷◌, ◌++◌, map, refl, sym, subst, ap, ◌∙◌, inl, inr}
 use Rattle.std.proofs.Common.{append_assoc, append-nil, Ok, Err}
-use Rattle.std.specs.Prelude.{Result, IfErr, OnOk}
+use Rattle.std.specs.Prelude.{Result, IfErr, OnOk, take}
 use Rattle.std.proofs.lemmas.List.{map-append}
 use Rattle.mj_io.specs.Outside.{Fetch, fetch_of}
 use Rattle.mj_io.specs.declared.Fetched.{Fetched}
@@ -12,7 +12,7 @@ use Rattle.mojom_compile.specs.declared.error.FileRefusal.{FileRefusal}
 use Rattle.mojom_compile.specs.declared.schema_error.SchemaError.{SchemaError}
 use Rattle.mojom_compile.specs.declared.schema_error.SchemaError.TheVariants as errors
 use Rattle.mojo_tool.specs.Work.{Work, WrongWords, Missing, TooLong, Refuses, Rejects, RefusesLine, UnknownName, BadText, Unfit, BadHex, Faulty, Breaks}
-use Rattle.mojo_tool.specs.Work.{Checks, Prints, Runs, Encodes, Decodes, Reads}
+use Rattle.mojo_tool.specs.Work.{Checks, Prints, Runs, Encodes, Decodes, Loads, Sounds, Unsounds, Reads}
 use Rattle.mojo_tool.specs.Answers.{refused_work}
 use Rattle.mojo_tool.specs.Fetched.{whole, FetchedAll, EndedAt, FetchedFront, FetchedFor}
 use Rattle.mojo_tool.specs.steps.Stops.{NotCompiled, StopsAt}
@@ -40,7 +40,7 @@ all_more first second before mid now a b =
     ∙ ap (λ (xs : List Fetch). before ++ xs) (sym (map-append whole first second))
 
 -- a name behind names that were fetched
-ended_more : (first rest : List (List ℕ)) (name : List ℕ) (answer : Result Fetched FilesError) (before mid now : List Fetch) → FetchedAll first before mid
+pub ended_more : (first rest : List (List ℕ)) (name : List ℕ) (answer : Result Fetched FilesError) (before mid now : List Fetch) → FetchedAll first before mid
     → EndedAt rest name answer mid now → EndedAt (first ++ rest) name answer before now
 ended_more first rest name answer before mid now a e = record {
   first = first ++ e.first;
@@ -51,8 +51,8 @@ ended_more first rest name answer before mid now a e = record {
 }
 
 -- with names behind it that were not
-ended_wider : (names more : List (List ℕ)) (name : List ℕ) (answer : Result Fetched FilesError) (before now : List Fetch) → EndedAt names name answer before now
-    → EndedAt (names ++ more) name answer before now
+pub ended_wider : (names more : List (List ℕ)) (name : List ℕ) (answer : Result Fetched FilesError) (before now : List Fetch)
+    → EndedAt names name answer before now → EndedAt (names ++ more) name answer before now
 ended_wider names more name answer before now e = record {
   first = e.first;
   left = e.left ++ more;
@@ -61,7 +61,7 @@ ended_wider names more name answer before now e = record {
 }
 
 -- a name alone
-ended_one : (name : List ℕ) (answer : Result Fetched FilesError) (before now : List Fetch) → now ≡ before ++ fetch_of name answer ∷ []
+pub ended_one : (name : List ℕ) (answer : Result Fetched FilesError) (before now : List Fetch) → now ≡ before ++ fetch_of name answer ∷ []
     → EndedAt (name ∷ []) name answer before now
 ended_one name answer before now e = record { first = []; left = []; all = refl; made = e }
 
@@ -73,7 +73,7 @@ front_none names before now e = inl (record { first = []; left = names; all = re
 pub front_all : (names : List (List ℕ)) (before now : List Fetch) → FetchedAll names before now → FetchedFront names before now
 front_all names before now a = inl (record { first = names; left = []; all = sym (append-nil names); made = a })
 
-front_wider : (names more : List (List ℕ)) (before now : List Fetch) → FetchedFront names before now → FetchedFront (names ++ more) before now
+pub front_wider : (names more : List (List ℕ)) (before now : List Fetch) → FetchedFront names before now → FetchedFront (names ++ more) before now
 front_wider names more before now (inl some) = inl (record {
   first = some.first;
   left = some.left ++ more;
@@ -82,7 +82,7 @@ front_wider names more before now (inl some) = inl (record {
 })
 front_wider names more before now (inr ended) = inr (ended.0, ended.1, ended_wider names more ended.0 ended.1 before now ended.2)
 
-front_more : (first rest : List (List ℕ)) (before mid now : List Fetch) → FetchedAll first before mid → FetchedFront rest mid now
+pub front_more : (first rest : List (List ℕ)) (before mid now : List Fetch) → FetchedAll first before mid → FetchedFront rest mid now
     → FetchedFront (first ++ rest) before now
 front_more first rest before mid now a (inl some) = inl (record {
   first = first ++ some.first;
@@ -94,17 +94,17 @@ front_more first rest before mid now a (inr ended) = inr (ended.0, ended.1, ende
 
 -- works
 
-unfetched_more : (first rest : List (List ℕ)) (work : Work) (before mid now : List Fetch) → FetchedAll first before mid → Unfetched rest work mid now
+pub unfetched_more : (first rest : List (List ℕ)) (work : Work) (before mid now : List Fetch) → FetchedAll first before mid → Unfetched rest work mid now
     → Unfetched (first ++ rest) work before now
 unfetched_more first rest work before mid now a (inl e) = inl (e.0, e.1, ended_more first rest e.0 (Err Failed) before mid now a e.2)
 unfetched_more first rest work before mid now a (inr e) = inr (e.0, e.1, ended_more first rest e.0 (Ok Longer) before mid now a e.2)
 
-unfetched_wider : (names more : List (List ℕ)) (work : Work) (before now : List Fetch) → Unfetched names work before now
+pub unfetched_wider : (names more : List (List ℕ)) (work : Work) (before now : List Fetch) → Unfetched names work before now
     → Unfetched (names ++ more) work before now
 unfetched_wider names more work before now (inl e) = inl (e.0, e.1, ended_wider names more e.0 (Err Failed) before now e.2)
 unfetched_wider names more work before now (inr e) = inr (e.0, e.1, ended_wider names more e.0 (Ok Longer) before now e.2)
 
-unfetched_for : (mojoms last : List (List ℕ)) (work : Work) (before now : List Fetch) → Unfetched (mojoms ++ last) work before now
+pub unfetched_for : (mojoms last : List (List ℕ)) (work : Work) (before now : List Fetch) → Unfetched (mojoms ++ last) work before now
     → FetchedFor mojoms last work before now
 unfetched_for mojoms last work before now (inl e) = subst (λ (w : Work). FetchedFor mojoms last w before now) (sym e.1) e.2
 unfetched_for mojoms last work before now (inr e) = subst (λ (w : Work). FetchedFor mojoms last w before now) (sym e.1) e.2
@@ -128,28 +128,36 @@ mojoms_for mojoms last (Prints tree) before now is a = absurd is
 mojoms_for mojoms last (Runs schema script order) before now is a = absurd is
 mojoms_for mojoms last (Encodes message) before now is a = absurd is
 mojoms_for mojoms last (Decodes interface method request value) before now is a = absurd is
+mojoms_for mojoms last (Loads schema seed messages) before now is a = absurd is
+mojoms_for mojoms last (Sounds events) before now is a = absurd is
+mojoms_for mojoms last (Unsounds answer) before now is a = absurd is
 mojoms_for mojoms last (Reads stable) before now is a = absurd is
 
-pub all_for : (mojoms last : List (List ℕ)) (work : Work) (before now : List Fetch) → IsOfAll work → FetchedAll (mojoms ++ last) before now
-    → FetchedFor mojoms last work before now
-all_for mojoms last WrongWords before now is a = absurd is
-all_for mojoms last (Missing name) before now is a = absurd is
-all_for mojoms last (TooLong name) before now is a = absurd is
-all_for mojoms last (Refuses name refusal) before now is a = absurd is
-all_for mojoms last (Rejects name at cause) before now is a = absurd is
-all_for mojoms last (RefusesLine line why) before now is a = a
-all_for mojoms last (UnknownName name) before now is a = absurd is
-all_for mojoms last (BadText at) before now is a = a
-all_for mojoms last (Unfit why) before now is a = a
-all_for mojoms last BadHex before now is a = a
-all_for mojoms last (Faulty fault) before now is a = a
-all_for mojoms last (Breaks reason) before now is a = a
-all_for mojoms last (Checks schema) before now is a = a
-all_for mojoms last (Prints tree) before now is a = a
-all_for mojoms last (Runs schema script order) before now is a = a
-all_for mojoms last (Encodes message) before now is a = a
-all_for mojoms last (Decodes interface method request value) before now is a = a
-all_for mojoms last (Reads stable) before now is a = a
+-- found out of all files, of which one at most comes behind the Mojom files
+pub all_for : (mojoms last : List (List ℕ)) (work : Work) (before now : List Fetch) → take 1 last ≡ last → IsOfAll work
+    → FetchedAll (mojoms ++ last) before now → FetchedFor mojoms last work before now
+all_for mojoms last WrongWords before now one is a = absurd is
+all_for mojoms last (Missing name) before now one is a = absurd is
+all_for mojoms last (TooLong name) before now one is a = absurd is
+all_for mojoms last (Refuses name refusal) before now one is a = absurd is
+all_for mojoms last (Rejects name at cause) before now one is a = absurd is
+all_for mojoms last (RefusesLine line why) before now one is a =
+    subst (λ (names : List (List ℕ)). FetchedAll (mojoms ++ names) before now) (sym one) a
+all_for mojoms last (UnknownName name) before now one is a = absurd is
+all_for mojoms last (BadText at) before now one is a = a
+all_for mojoms last (Unfit why) before now one is a = a
+all_for mojoms last BadHex before now one is a = a
+all_for mojoms last (Faulty fault) before now one is a = a
+all_for mojoms last (Breaks reason) before now one is a = a
+all_for mojoms last (Checks schema) before now one is a = a
+all_for mojoms last (Prints tree) before now one is a = a
+all_for mojoms last (Runs schema script order) before now one is a = a
+all_for mojoms last (Encodes message) before now one is a = a
+all_for mojoms last (Decodes interface method request value) before now one is a = a
+all_for mojoms last (Loads schema seed messages) before now one is a = a
+all_for mojoms last (Sounds events) before now one is a = a
+all_for mojoms last (Unsounds answer) before now one is a = a
+all_for mojoms last (Reads stable) before now one is a = a
 
 early_for : (mojoms last : List (List ℕ)) (before now : List Fetch) (work : Work) → EarlyFor mojoms before now work → FetchedFor mojoms last work before now
 early_for mojoms last before now work (inl e) = unfetched_for mojoms last work before now (unfetched_wider mojoms last work before now e)
@@ -160,7 +168,17 @@ late_for : (mojoms : List (List ℕ)) (name : List ℕ) (before mid now : List F
 late_for mojoms name before mid now work a (inl e) =
     unfetched_for mojoms (name ∷ []) work before now (unfetched_more mojoms (name ∷ []) work before mid now a e)
 late_for mojoms name before mid now work a (inr e) =
-    all_for mojoms (name ∷ []) work before now e.0 (all_more mojoms (name ∷ []) before mid now a e.1)
+    all_for mojoms (name ∷ []) work before now refl e.0 (all_more mojoms (name ∷ []) before mid now a e.1)
+
+-- the Mojom files and the first behind them
+front_first : (mojoms last : List (List ℕ)) (before now : List Fetch) → FetchedAll (mojoms ++ take 1 last) before now → FetchedFront (mojoms ++ last) before now
+front_first mojoms [] before now a = front_all (mojoms ++ []) before now a
+front_first mojoms (name ∷ left) before now a = inl (record {
+  first = mojoms ++ name ∷ [];
+  left = left;
+  all = sym (append_assoc mojoms (name ∷ []) left);
+  made = a;
+})
 
 -- what was fetched where a work was found out is a front
 pub front_for : (mojoms last : List (List ℕ)) (work : Work) (before now : List Fetch) → FetchedFor mojoms last work before now
@@ -170,7 +188,7 @@ front_for mojoms last (Missing name) before now e = inr (name, Err Failed, e)
 front_for mojoms last (TooLong name) before now e = inr (name, Ok Longer, e)
 front_for mojoms last (Refuses name refusal) before now a = front_wider mojoms last before now (front_all mojoms before now a)
 front_for mojoms last (Rejects name at cause) before now a = front_wider mojoms last before now (front_all mojoms before now a)
-front_for mojoms last (RefusesLine line why) before now a = front_all (mojoms ++ last) before now a
+front_for mojoms last (RefusesLine line why) before now a = front_first mojoms last before now a
 front_for mojoms last (UnknownName name) before now a = front_wider mojoms last before now (front_all mojoms before now a)
 front_for mojoms last (BadText at) before now a = front_all (mojoms ++ last) before now a
 front_for mojoms last (Unfit why) before now a = front_all (mojoms ++ last) before now a
@@ -182,11 +200,14 @@ front_for mojoms last (Prints tree) before now a = front_all (mojoms ++ last) be
 front_for mojoms last (Runs schema script order) before now a = front_all (mojoms ++ last) before now a
 front_for mojoms last (Encodes message) before now a = front_all (mojoms ++ last) before now a
 front_for mojoms last (Decodes interface method request value) before now a = front_all (mojoms ++ last) before now a
+front_for mojoms last (Loads schema seed messages) before now a = front_all (mojoms ++ last) before now a
+front_for mojoms last (Sounds events) before now a = front_all (mojoms ++ last) before now a
+front_for mojoms last (Unsounds answer) before now a = front_all (mojoms ++ last) before now a
 front_for mojoms last (Reads stable) before now a = front_all (mojoms ++ last) before now a
 
 -- stops
 
-stopped_goes : (P Q : Work → Type 0) (S T : Type 0) (stop : Stop) → ((w : Work) → P w → Q w) → (S → T) → StoppedSo P S stop → StoppedSo Q T stop
+pub stopped_goes : (P Q : Work → Type 0) (S T : Type 0) (stop : Stop) → ((w : Work) → P w → Q w) → (S → T) → StoppedSo P S stop → StoppedSo Q T stop
 stopped_goes P Q S T (Refused refusal) goes short stopped = goes (refused_work refusal) stopped
 stopped_goes P Q S T (ReadFault name) goes short stopped = goes (Missing name.now) stopped
 stopped_goes P Q S T NoMemory goes short stopped = short stopped

@@ -120,6 +120,8 @@ never_threads words command is asks = go command (subst AsksThreads (sym is) ask
     go (read.Check files) e = e
     go (read.Encode method side value files) e = e
     go (read.Decode interface side handles message files) e = e
+    go (read.Load seed messages) e = e
+    go (read.Audit script history files) e = e
     go (read.Compat old new) e = e
 
 -- and one that was read is

@@ -10,7 +10,7 @@ use Rattle.mj_io.specs.Outside.{Named, find_file}
 use Rattle.mj_schema.specs.Lookups.{interface_named}
 use Rattle.mj_schema.specs.declared.rows.MethodRow.{MethodRow}
 use Rattle.mj_schema.specs.declared.schema.Schema.{Schema}
-use Rattle.command_line.specs.Asked.{Command, Run, Print, Check, Encode, Decode, Compat}
+use Rattle.command_line.specs.Asked.{Command, LoadWords, Run, Print, Check, Encode, Decode, Load, Audit, Compat}
 use Rattle.mojom_ast.specs.declared.file.File.{File}
 use Rattle.mojom_compile.specs.Compiled.{IsParsed, IsUnread}
 use Rattle.mojom_compile.specs.declared.error.FileRefusal.{FileRefusal}
@@ -51,16 +51,24 @@ use Rattle.value_text.specs.Brackets.{MAX_BRACKETS}
 use Rattle.value_text.specs.Rules.{value}
 use Rattle.value_text.specs.Spelling.{spell}
 use Rattle.call_script.specs.Targets.{message_named}
+use Rattle.call_script.specs.declared.script.Script.{Script}
+use Rattle.line_parts.specs.Schemas.{IsPrintableSchema}
+use Rattle.history_audit.specs.Audited.{Audits}
+use Rattle.history_audit.specs.declared.auditing.AuditFinding.{AuditFinding as Said}
+use Rattle.history_audit.specs.declared.auditing.AuditError.TheVariants as unsaid
+use Rattle.history_audit.proofs.Printed.{AnyOrder}
 use Rattle.mojo_tool.specs.Targets.{side_of, expected_of}
 use Rattle.mojo_tool.specs.Work.{Work, WrongWords, Missing, TooLong, Refuses, UnknownName, BadText, Unfit, BadHex, Faulty, Checks, Prints, Runs, RefusesLine, Encodes, Decodes, Breaks, Reads}
 use Rattle.mojo_tool.specs.Work.{AreFetched, HaveSchema, Leads, Parsing, Reading, Tabling, FetchingAll, Gathering, Scripting, Listing, Sealing}
-use Rattle.mojo_tool.specs.Work.{Preparing, Writing}
+use Rattle.load_command.specs.LoadFile.{load_sources}
+use Rattle.mojo_tool.specs.Work.{Preparing, Writing, Loading, Loads}
 use Rattle.mojo_tool.specs.Work.{Finding, Encoding, Unhexing, IsShown, Judged, Judging, Showing, Decoding, Comparing, Pairing, IsWork, unchecked, flaw_at, printed_message}
-use Rattle.mojo_tool.specs.Work.{parameters_kind, without_line_end}
+use Rattle.mojo_tool.specs.Work.{parameters_kind, without_line_end, audited, Auditing, Scripted, Historying, AuditingAll}
 use Rattle.script_laws.specs.Answer.{HasAnswer}
 use Rattle.mojo_tool.specs.Complete.{AreTooMany, HaveTooManyRows}
 use Rattle.printed_histories.proofs.ValueSent.{has_struct}
 use Rattle.printed_runs.proofs.SentWords.{named_parameters}
+use Rattle.history_audit.proofs.Counted.{some_answer}
 use Rattle.mojo_tool.proofs.Ran.{printable_of_files}
 use Rattle.mojo_tool.proofs.Sealed.{is_sealed}
 use Rattle.mojo_tool.proofs.Shown.{struct_by, text_read}
@@ -235,6 +243,36 @@ showing_some Else schema expected name handles bytes = go (decode_of (without_li
     go (Ok digits) = judging_some Else schema expected name handles digits
     go (Err error) = inl (BadHex, refl)
 
+-- the file of a load
+loading_some : (words : LoadWords)
+    → ((schema : Schema) × IsSchemaOfFiles load_sources schema)
+    ⊎ (((error : SchemaError) × IsRefusalOf load_sources error) ⊎ HasTooManyRows load_sources)
+    → Some_or (HasTooManyRows load_sources) (Loading words)
+loading_some words (inl some) = inl (Loads some.0 words.seed words.messages, inl (some.0, some.1, refl))
+loading_some words (inr (inl refused)) = inl (unchecked load_sources refused.0, inr (refused.0, refused.1, refl))
+loading_some words (inr (inr many)) = inr many
+
+-- histories
+
+-- the bytes of a script are one, whose history an audit says something of, or have a line that is refused
+scripted_some : AnyOrder → Scripts → (Else : Type 0) (schema : Schema) → IsPrintableSchema schema → (files : List Named) (history source : List ℕ)
+    → length source ≤ MAX_FILE_BYTES → Some_or Else (Scripted schema (λ script w. Historying files history schema script w) source)
+scripted_some any scripts Else schema words files history source short = go (scripts schema source (omega (arith, short)))
+  where
+    said : (script : Script) (bytes : List ℕ)
+        → ((answer : Said) × Audits schema script bytes (Ok answer)) ⊎ ((at : ℕ) × Audits schema script bytes (Err (unsaid.BadText at)))
+        → Some_or Else (Auditing schema script bytes)
+    said script bytes (inl some) = inl (audited some.0, inl (some.0, some.1, refl))
+    said script bytes (inr bad) = inl (BadText bad.0, inr (bad.0, bad.1, refl))
+
+    go : HasAnswer schema source → Some_or Else (Scripted schema (λ script w. Historying files history schema script w) source)
+    go (inl some) =
+        also Else (Historying files history schema some.0) (Scripted schema (λ script w. Historying files history schema script w) source)
+        (λ w asked. inl (some.0, some.1, asked))
+        (leads_some Else history (Auditing schema some.0) (find_file files history)
+        (λ bytes found fits. said some.0 bytes (some_answer any schema words source short some.0 bytes some.1)))
+    go (inr some) = inl (RefusesLine some.0 some.1, inr (some.0, some.1, some.2, refl))
+
 -- two files
 
 comparing_some : (Else : Type 0) (old new : Schema) → Some_or Else (Comparing old new)
@@ -256,18 +294,18 @@ pairing_some files old new (a ∷ (b ∷ (c ∷ sources))) are = absurd are.3.3
 
 -- all commands
 
-pub some_work : Scripts → PassedIsRead → FewAreMet → (command : Option Command) (files : List Named)
+pub some_work : AnyOrder → Scripts → PassedIsRead → FewAreMet → (command : Option Command) (files : List Named)
     → Some_or (HaveTooManyRows files command) (IsWork command files)
-some_work scripts law few None files = inl (WrongWords, refl)
-some_work scripts law few (Some (Run words)) files =
+some_work any scripts law few None files = inl (WrongWords, refl)
+some_work any scripts law few (Some (Run words)) files =
     gathering_some (AreTooMany files words.files) files words.files (Scripting files words.script words.order) (λ many. many)
     (λ schema have. leads_some _ words.script (Reading schema words.order) (find_file files words.script)
     (λ bytes found short. reading_some scripts _ schema words.order bytes short))
-some_work scripts law few (Some (Print file)) files =
+some_work any scripts law few (Some (Print file)) files =
     leads_some _ file (Parsing file) (find_file files file) (λ bytes found short. parsing_some _ file bytes)
-some_work scripts law few (Some (Check names)) files =
+some_work any scripts law few (Some (Check names)) files =
     gathering_some (AreTooMany files names) files names Listing (λ many. many) (λ schema have. inl (Checks schema, refl))
-some_work scripts law few (Some (Encode words)) files =
+some_work any scripts law few (Some (Encode words)) files =
     gathering_some (AreTooMany files words.files) files words.files (Encoding files words) (λ many. many)
     (λ schema have. finding_some _ words.method (λ found w. Leads words.value (Writing schema found) (find_file files words.value) w)
     (message_named schema (side_of words.side) words.method)
@@ -275,7 +313,7 @@ some_work scripts law few (Some (Encode words)) files =
     (λ bytes at short.
     let fits = target_fits have.sources schema (side_of words.side) words.method found have.schema_of e in
     writing_some law few _ schema found bytes fits.0 fits.1)))
-some_work scripts law few (Some (Decode words)) files =
+some_work any scripts law few (Some (Decode words)) files =
     gathering_some (AreTooMany files words.files) files words.files (Decoding files words) (λ many. many)
     (λ schema have. finding_some _ words.interface
     (λ interface w. Leads words.message (Showing schema (expected_of interface (side_of words.side)) words.interface words.handles)
@@ -284,5 +322,10 @@ some_work scripts law few (Some (Decode words)) files =
     (λ interface e. leads_some _ words.message (Showing schema (expected_of interface (side_of words.side)) words.interface words.handles)
     (find_file files words.message)
     (λ bytes at short. showing_some _ schema (expected_of interface (side_of words.side)) words.interface words.handles bytes)))
-some_work scripts law few (Some (Compat old new)) files =
+some_work any scripts law few (Some (Load words)) files = loading_some words (one_schema load_sources).some
+some_work any scripts law few (Some (Audit words)) files =
+    gathering_some (AreTooMany files words.files) files words.files (AuditingAll files words.script words.history) (λ many. many)
+    (λ schema have. leads_some _ words.script (Scripted schema (λ script w. Historying files words.history schema script w)) (find_file files words.script)
+    (λ source found short. scripted_some any scripts _ schema (printable_of_files have.sources schema have.schema_of) files words.history source short))
+some_work any scripts law few (Some (Compat old new)) files =
     all_some _ files (old ∷ new ∷ []) [] Pairing (λ sources are. pairing_some files old new sources are)

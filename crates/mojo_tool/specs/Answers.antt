@@ -1,7 +1,8 @@
 -- What each status says of the words, the files and the sinks, before the call and after it.
 use Rattle.std.specs.Prelude.{ℕ, ◌≡◌, List, [], ◌∷◌, ◌++◌, map, reverse, Option, Some, None, Ok, IfSome, ◌⊎◌}
 use Rattle.mj_io.specs.Outside.{Named, FilesState, SinkState, Rose, Wrote, WroteSome}
-use Rattle.command_line.specs.Asked.{Command, RunWords, EncodeWords, DecodeWords, Run, Print, Check, Encode, Decode, Compat, command_of}
+use Rattle.command_line.specs.Asked.{Command, RunWords, EncodeWords, DecodeWords, LoadWords, AuditWords, Run, Print, Check, Encode, Decode, Load, Audit}
+use Rattle.command_line.specs.Asked.{Compat, command_of}
 use Rattle.mj_schema.specs.Lookups.{interface_named}
 use Rattle.mj_schema.specs.declared.schema.Schema.{Schema}
 use Rattle.bind_model.specs.declared.event.Event.{Event}
@@ -25,16 +26,24 @@ use Rattle.schema_text.specs.Listing.{listing}
 use Rattle.call_script.specs.declared.script.Script.{Script}
 use Rattle.call_script.specs.Script.{IsScriptOf}
 use Rattle.call_script.specs.Targets.{message_named}
+use Rattle.call_script.specs.Script.{IsFirstRefusal}
+use Rattle.call_script.specs.declared.script_error.LineRefusal.{LineRefusal}
 use Rattle.script_run.specs.OfScript.{OfScript}
+use Rattle.history_audit.specs.Audited.{IsSound}
 use Rattle.history_reader.specs.Texts.{Tells}
 use Rattle.history_reader.specs.Whole as texts
 use Rattle.printed_histories.specs.Runs.{run_said, run_text}
 use Rattle.printed_runs.specs.Fitting.{AllFit}
+use Rattle.load_run.specs.Counts.{AreLoadCounts}
+use Rattle.load_command.specs.LoadFile.{load_sources}
+use Rattle.load_command.specs.LoadLine.{counts_line}
+use Rattle.load_run.specs.declared.counts.Counts.{Counts}
 use Rattle.mojo_tool.specs.Work.{Work, Missing, TooLong, Refuses, Rejects, RefusesLine, UnknownName, BadText, Unfit, BadHex, Faulty, Breaks}
-use Rattle.mojo_tool.specs.Work.{Runs, Prints, Checks, Encodes, Decodes, Reads, ComesTo, Parsing, Reading, Writing, Showing, Pairing, IsWork, AskedFor, unchecked}
+use Rattle.mojo_tool.specs.Work.{Runs, Prints, Checks, Encodes, Decodes, Loads, Sounds, Unsounds, Reads, Auditing, ComesTo, Parsing, Reading, Writing, Showing}
+use Rattle.mojo_tool.specs.Work.{Pairing, IsWork, AskedFor, unchecked}
 use Rattle.mojo_tool.specs.Targets.{side_of, expected_of}
 use Rattle.mojo_tool.specs.Fetched.{AllFetched, FetchedUpTo, PartFetched}
-use Rattle.mojo_tool.specs.Lines.{refusal_text, error_line, read_text, hex_line, shown_line, compatible_line}
+use Rattle.mojo_tool.specs.Lines.{refusal_text, error_line, read_text, hex_line, shown_line, sound_line, compatible_line}
 use Rattle.mojo_tool.specs.declared.refusal.ToolRefusal.{ToolRefusal}
 use Rattle.mojo_tool.specs.declared.refusal.ToolRefusal.TheVariants as refusals
 use Rattle.mojo_tool.specs.declared.status.Status.{Status}
@@ -152,10 +161,11 @@ pub record IsCheckText (names : List (List ℕ)) (before now : List Named) (held
   pub from : IsSchemaRead names before now schema
   pub text_of : text ≡ listing schema
 
--- the text is that of a message or of its value
+-- the text is that of a message or of its value, or says how many events a history has that is sound
 abbrev pub IsTextFor : Work → List ℕ → Type 0
 IsTextFor (Encodes message) text = text ≡ hex_line message
 IsTextFor (Decodes interface method request value) text = text ≡ shown_line interface method request value
+IsTextFor (Sounds events) text = text ≡ sound_line events
 IsTextFor _ text = ⊥
 
 -- what the bytes of a value ask for, by the schema
@@ -180,6 +190,38 @@ pub record IsMessageText (names : List (List ℕ)) (last : List ℕ) (From : Sch
   pub made : From schema bytes work
   pub text_of : IsTextFor work text
 
+-- the text has the numbers of a load that is asked for, over the schema of its own file; no file came
+pub record IsLoadText (words : LoadWords) (before now : List Named) (held : Option (List Named)) (ask : List Named → Work → Type 0)
+    (text : List ℕ) : Type 0 where
+  pub schema : Schema
+  pub counts : Counts
+  pub asked : AskedFor held ask (Loads schema words.seed words.messages)
+  pub none : now ≡ before
+  pub schema_of : IsSchemaOfFiles load_sources schema
+  pub counted : AreLoadCounts schema words.seed words.messages counts
+  pub text_of : text ≡ counts_line counts
+
+-- the script and the history came, of files of these names, behind Mojom files that have this schema
+pub record AreReadBehind (words : AuditWords) (before now : List Named) (schema : Schema) (source bytes : List ℕ) : Type 0 where
+  pub mid : List Named
+  pub first : IsSchemaRead words.files before mid schema
+  pub came : now ≡ mid ++ record { name = words.script; bytes = source } ∷ record { name = words.history; bytes = bytes } ∷ []
+
+-- the text says how many events a history has, whose text is sound by the script that the bytes before it are, over the schema of the
+-- Mojom files; all came from the files that the words name
+pub record IsSoundText (words : AuditWords) (before now : List Named) (held : Option (List Named)) (ask : List Named → Work → Type 0)
+    (text : List ℕ) : Type 0 where
+  pub schema : Schema
+  pub source : List ℕ
+  pub script : Script
+  pub bytes : List ℕ
+  pub events : ℕ
+  pub asked : AskedFor held ask (Sounds events)
+  pub from : AreReadBehind words before now schema source bytes
+  pub read : IsScriptOf schema source script
+  pub sound : IsSound schema script bytes events
+  pub text_of : text ≡ sound_line events
+
 -- two files of these names came, one behind the other, and no other, which ask for this
 pub record AreCompared (names : List (List ℕ)) (before now : List Named) (work : Work) : Type 0 where
   pub sources : List Source
@@ -203,6 +245,8 @@ IsRightText (Some (Print file)) before now held ask text = IsPrintText file befo
 IsRightText (Some (Check names)) before now held ask text = IsCheckText names before now held ask text
 IsRightText (Some (Encode words)) before now held ask text = IsMessageText words.files words.value (EncodesFrom words) before now held ask text
 IsRightText (Some (Decode words)) before now held ask text = IsMessageText words.files words.message (DecodesFrom words) before now held ask text
+IsRightText (Some (Load words)) before now held ask text = IsLoadText words before now held ask text
+IsRightText (Some (Audit words)) before now held ask text = IsSoundText words before now held ask text
 IsRightText (Some (Compat old new)) before now held ask text = IsCompatText (old ∷ new ∷ []) before now held ask text
 
 -- Mojom files of these names came, and no other, and are refused
@@ -232,6 +276,27 @@ pub record LastAsks (names : List (List ℕ)) (last : List ℕ) (From : Schema �
   pub from : IsReadBehind names last before now schema bytes
   pub made : From schema bytes work
 
+-- no file came, and that of a load is refused so
+pub record IsLoadRefused (before now : List Named) (work : Work) : Type 0 where
+  pub none : now ≡ before
+  pub error : SchemaError
+  pub refused : IsRefusalOf load_sources error
+  pub whole : work ≡ unchecked load_sources error
+
+-- a line of a script is the first that is refused
+abbrev pub HasRefusedLine : Schema → List ℕ → Work → Type 0
+HasRefusedLine schema bytes work = (line : ℕ) × (why : LineRefusal) × IsFirstRefusal schema bytes line why × (work ≡ RefusesLine line why)
+
+-- they have a schema, a script came behind them and a history behind that, of which an audit says this
+pub record HistoryAsks (words : AuditWords) (before now : List Named) (work : Work) : Type 0 where
+  pub schema : Schema
+  pub source : List ℕ
+  pub script : Script
+  pub bytes : List ℕ
+  pub from : AreReadBehind words before now schema source bytes
+  pub read : IsScriptOf schema source script
+  pub made : Auditing schema script bytes work
+
 -- the files that came between these two moments are refused so
 abbrev pub RefusedFrom : Option Command → List Named → List Named → Work → Type 0
 RefusedFrom None before now work = ⊥
@@ -247,6 +312,10 @@ RefusedFrom (Some (Decode words)) before now work =
     AreRefused words.files before now work
     ⊎ (IsUnknown words.files words.interface (λ (schema : Schema). interface_named schema.interfaces words.interface ≡ None) before now work
     ⊎ LastAsks words.files words.message (DecodesFrom words) before now work)
+RefusedFrom (Some (Load words)) before now work = IsLoadRefused before now work
+RefusedFrom (Some (Audit words)) before now work =
+    AreRefused words.files before now work
+    ⊎ (LastAsks words.files words.script HasRefusedLine before now work ⊎ HistoryAsks words before now work)
 RefusedFrom (Some (Compat old new)) before now work = AreCompared (old ∷ new ∷ []) before now work
 
 -- the work is that of a file that is too long
@@ -264,6 +333,7 @@ refused_work (refusals.BadText at) = BadText at
 refused_work (refusals.Unfit why) = Unfit why
 refused_work refusals.BadHex = BadHex
 refused_work (refusals.Faulty fault) = Faulty fault
+refused_work (refusals.Unsound answer) = Unsounds answer
 refused_work (refusals.Incompatible reason) = Breaks reason
 
 -- the file that its line names, where it names one
@@ -277,6 +347,7 @@ refused_name (refusals.BadText at) = None
 refused_name (refusals.Unfit why) = None
 refused_name refusals.BadHex = None
 refused_name (refusals.Faulty fault) = None
+refused_name (refusals.Unsound answer) = None
 refused_name (refusals.Incompatible reason) = None
 
 -- the whole text was taken, or a front of it where a fault was counted

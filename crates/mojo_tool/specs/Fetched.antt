@@ -1,12 +1,12 @@
 -- Which files a call fetches: those that the words name, in the order of the words, once for each word, and none behind one that it can't go on with.
-use Rattle.std.specs.Prelude.{ℕ, ◌≡◌, ◌⊎◌, List, [], ◌∷◌, ◌++◌, map, Option, Some, None, Result, Ok, Err}
+use Rattle.std.specs.Prelude.{ℕ, ◌≡◌, ◌⊎◌, List, [], ◌∷◌, ◌++◌, map, take, Option, Some, None, Result, Ok, Err}
 use Rattle.mj_io.specs.Outside.{Fetch, fetch_of}
 use Rattle.mj_io.specs.declared.Fetched.{Fetched}
 use Rattle.mj_io.specs.declared.Fetched.TheVariants.{Whole, Longer}
 use Rattle.mj_io.specs.declared.FilesError.{FilesError}
 use Rattle.mj_io.specs.declared.FilesError.TheVariants.{Failed}
-use Rattle.command_line.specs.Asked.{Command, Run, Print, Check, Encode, Decode, Compat}
-use Rattle.mojo_tool.specs.Work.{Work, WrongWords, Missing, TooLong, Refuses, Rejects, UnknownName}
+use Rattle.command_line.specs.Asked.{Command, Run, Print, Check, Encode, Decode, Load, Audit, Compat}
+use Rattle.mojo_tool.specs.Work.{Work, WrongWords, Missing, TooLong, Refuses, Rejects, RefusesLine, UnknownName}
 
 -- the Mojom files that a command names, in the order of the words
 abbrev pub mojoms_of : Command → List (List ℕ)
@@ -15,15 +15,19 @@ mojoms_of (Print file) = file ∷ []
 mojoms_of (Check files) = files
 mojoms_of (Encode words) = words.files
 mojoms_of (Decode words) = words.files
+mojoms_of (Load words) = []
+mojoms_of (Audit words) = words.files
 mojoms_of (Compat old new) = old ∷ new ∷ []
 
--- the file that comes behind them: a script, a value or a message
+-- the files that come behind them: a script, a value or a message, or a script and a history
 abbrev pub last_of : Command → List (List ℕ)
 last_of (Run words) = words.script ∷ []
 last_of (Print file) = []
 last_of (Check files) = []
 last_of (Encode words) = words.value ∷ []
 last_of (Decode words) = words.message ∷ []
+last_of (Load words) = []
+last_of (Audit words) = words.script ∷ words.history ∷ []
 last_of (Compat old new) = []
 
 -- a fetch of this name that got the whole file
@@ -53,16 +57,18 @@ abbrev pub FetchedFront : List (List ℕ) → List Fetch → List Fetch → Type
 FetchedFront names before now =
     FetchedSome names before now ⊎ ((name : List ℕ) × (answer : Result Fetched FilesError) × EndedAt names name answer before now)
 
--- what was fetched where this work was found out, of these Mojom files and this file behind them
+-- what was fetched where this work was found out, of these Mojom files and these files behind them
 abbrev pub FetchedFor : List (List ℕ) → List (List ℕ) → Work → List Fetch → List Fetch → Type 0
 FetchedFor mojoms last WrongWords before now = now ≡ before
 -- a file that isn't there, or that failed, is the last one, and so is one that is too long
 FetchedFor mojoms last (Missing name) before now = EndedAt (mojoms ++ last) name (Err Failed) before now
 FetchedFor mojoms last (TooLong name) before now = EndedAt (mojoms ++ last) name (Ok Longer) before now
--- what is found out of all Mojom files is found out before the file behind them is fetched
+-- what is found out of all Mojom files is found out before the files behind them are fetched
 FetchedFor mojoms last (Refuses name refusal) before now = FetchedAll mojoms before now
 FetchedFor mojoms last (Rejects name at cause) before now = FetchedAll mojoms before now
 FetchedFor mojoms last (UnknownName name) before now = FetchedAll mojoms before now
+-- a line of a script is found out before the file behind it is fetched
+FetchedFor mojoms last (RefusesLine line why) before now = FetchedAll (mojoms ++ take 1 last) before now
 -- all else is found out of all files
 FetchedFor mojoms last _ before now = FetchedAll (mojoms ++ last) before now
 

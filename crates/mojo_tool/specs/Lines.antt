@@ -1,4 +1,4 @@
--- The lines on standard error, and those of a message, of its value and of two files that are compatible.
+-- The lines on standard error, and those of a message, of its value, of a history that is sound and of two files that are compatible.
 use Rattle.std.specs.Prelude.{ℕ, decimal, ◌++◌, List, [], ◌∷◌, codes}
 use Rattle.std.specs.List.{flat_map}
 use Rattle.std.specs.Fmt.{signed_decimal}
@@ -12,9 +12,12 @@ use Rattle.wire_encoder.specs.declared.refusal.PrepareError.TheVariants as unfit
 use Rattle.history_text.specs.Words.{fault_word}
 use Rattle.call_script.specs.declared.script_error.LineRefusal.{LineRefusal}
 use Rattle.call_script.specs.declared.script_error.LineRefusal.TheVariants as lines
+use Rattle.history_audit.specs.declared.auditing.AuditFinding.{AuditFinding}
+use Rattle.history_audit.specs.declared.auditing.AuditFinding.TheVariants as said
 use Rattle.mojom_compile.specs.Causes.{cause_text}
 use Rattle.mojo_tool.specs.declared.refusal.ToolRefusal.{ToolRefusal}
-use Rattle.mojo_tool.specs.declared.refusal.ToolRefusal.TheVariants.{RefusedLine, FileTooLong, Refused, Rejected, UnknownName, BadText, Unfit, BadHex, Faulty, Incompatible}
+use Rattle.mojo_tool.specs.declared.refusal.ToolRefusal.TheVariants.{RefusedLine, FileTooLong, Refused, Rejected, UnknownName, BadText, Unfit, BadHex, Faulty}
+use Rattle.mojo_tool.specs.declared.refusal.ToolRefusal.TheVariants.{Unsound, Incompatible}
 use Rattle.mojo_tool.specs.LanguageCauses.{language_text}
 use Rattle.mojo_tool.specs.Work.{line_feed}
 
@@ -42,6 +45,13 @@ line_refusal_name lines.DoubleName = codes "DoubleName"
 line_refusal_name lines.UnknownName = codes "UnknownName"
 line_refusal_name lines.BadValue = codes "BadValue"
 line_refusal_name lines.TooManyLines = codes "TooManyLines"
+
+-- why a history's text isn't that of a run; one that is has no line
+abbrev pub unsound_text : AuditFinding → List ℕ
+unsound_text (said.Sound events) = []
+unsound_text (said.Wrong event) = codes "Wrong " ++ decimal event
+unsound_text (said.Short events) = codes "Short " ++ decimal events
+unsound_text (said.Tail line) = codes "Tail " ++ decimal line
 
 -- the number of a member, a tag or an ordinal behind a change, with a blank before it
 abbrev pub number_text : Change → List ℕ
@@ -72,6 +82,7 @@ refusal_text (BadText at) = codes "BadText " ++ decimal at
 refusal_text (Unfit why) = unfit_text why
 refusal_text BadHex = codes "BadHex"
 refusal_text (Faulty fault) = fault_word fault.kind ++ (codes " " ++ decimal fault.at)
+refusal_text (Unsound audit) = unsound_text audit
 refusal_text (Incompatible reason) = codes "Incompatible " ++ reason_text reason
 
 -- a line on standard error
@@ -90,6 +101,10 @@ hex_line bytes = encode_lower bytes ++ line_feed ∷ []
 abbrev pub shown_line : List ℕ → List ℕ → ℕ → List ℕ → List ℕ
 shown_line interface method request value =
     interface ++ (codes "." ++ (method ++ (codes " " ++ (decimal request ++ (codes " " ++ (value ++ line_feed ∷ []))))))
+
+-- how many events a history has that is sound
+abbrev pub sound_line : ℕ → List ℕ
+sound_line events = codes "sound " ++ (decimal events ++ line_feed ∷ [])
 
 -- two files that are compatible, with how many definitions of the older one are stable
 abbrev pub compatible_line : ℕ → List ℕ

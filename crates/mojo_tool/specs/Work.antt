@@ -1,12 +1,13 @@
 -- What the command and the files ask for, in the order in which a call finds it out: the words, the Mojom files, and then the script
--- and its run, or the method, the value and its message, or the interface, the message and its value; or what two files by themselves
--- say of each other.
+-- and its run, or the method, the value and its message, or the interface, the message and its value, or the script and the history; or
+-- what two files by themselves say of each other.
 use Rattle.std.specs.Prelude.{ℕ, ◌≡◌, ◌≤◌, ◌<◌, ◌-◌, ◌==◌, ◌&&◌, Bool, false, List, [], ◌∷◌, ◌++◌, length, slice_get, slice_index, take}
 use Rattle.std.specs.Prelude.{nat_lt, Option, Some, None, IsSome, Result, Ok, Err, ◌⊎◌, if◌then◌else◌}
 use Rattle.std.specs.Option.{option_map_or}
 use Rattle.mj_base.specs.declared.limits.TheConstants.{MAX_FILE_BYTES}
 use Rattle.mj_io.specs.Outside.{Named, find_file}
-use Rattle.command_line.specs.Asked.{Command, RunWords, EncodeWords, DecodeWords, Run, Print, Check, Encode, Decode, Compat}
+use Rattle.command_line.specs.Asked.{Command, RunWords, EncodeWords, DecodeWords, LoadWords, AuditWords, Run, Print, Check, Encode, Decode, Load, Audit}
+use Rattle.command_line.specs.Asked.{Compat}
 use Rattle.mj_schema.specs.KindTrees.{KindTree, StructKind}
 use Rattle.mj_schema.specs.Lookups.{interface_named}
 use Rattle.mj_schema.specs.declared.rows.MethodRow.{MethodRow}
@@ -19,7 +20,12 @@ use Rattle.mojom_compile.specs.declared.source.Source.{Source}
 use Rattle.mojom_compile.specs.Compiled.{IsParsed, IsUnread}
 use Rattle.mojom_compile.specs.Schemas.{IsSchemaOfFiles, IsRefusalOf}
 use Rattle.mojom_files.specs.Causes.{Cause}
+use Rattle.load_command.specs.LoadFile.{load_name, load_sources}
 use Rattle.call_script.specs.declared.script.Script.{Script}
+use Rattle.history_audit.specs.Audited.{Audits}
+use Rattle.history_audit.specs.declared.auditing.AuditFinding.{AuditFinding as Said}
+use Rattle.history_audit.specs.declared.auditing.AuditFinding.TheVariants as said
+use Rattle.history_audit.specs.declared.auditing.AuditError.TheVariants as unsaid
 use Rattle.call_script.specs.declared.script_error.LineRefusal.{LineRefusal}
 use Rattle.call_script.specs.Script.{IsScriptOf, IsFirstRefusal}
 use Rattle.hex.specs.Hex.{decode_of}
@@ -92,8 +98,22 @@ HasInterfaceAt None words = Unit {0}
 HasInterfaceAt (Some files) words =
     (schema : Schema) × HaveSchema files words.files schema × IsSome (interface_named schema.interfaces words.interface)
 
+-- over files that say what they hold, those of the words have a schema, and the bytes behind them are a script of it
+pub record HasScript (files : List Named) (words : AuditWords) : Type 0 where
+  pub schema : Schema
+  pub have : HaveSchema files words.files schema
+  pub source : List ℕ
+  pub found : find_file files words.script ≡ Some source
+  pub script : Script
+  pub is : IsScriptOf schema source script
+
+abbrev pub HasScriptAt : Option (List Named) → AuditWords → Type 0
+HasScriptAt None words = Unit {0}
+HasScriptAt (Some files) words = HasScript files words
+
 -- the words name this file, and a call comes to it: to a script only where the Mojom files have a schema, to a value only where they have
--- one with the method, and to a message only where they have one with the interface
+-- one with the method, to a message only where they have one with the interface, and to a history only where there is a script. A load comes to
+-- the file that it has of itself
 abbrev pub ComesTo : Option Command → Option (List Named) → List ℕ → Type 0
 ComesTo None held name = ⊥
 ComesTo (Some (Run words)) held name = IsAmong words.files name ⊎ ((name ≡ words.script) × HasSchemaAt held words.files)
@@ -101,6 +121,10 @@ ComesTo (Some (Print file)) held name = name ≡ file
 ComesTo (Some (Check files)) held name = IsAmong files name
 ComesTo (Some (Encode words)) held name = IsAmong words.files name ⊎ ((name ≡ words.value) × HasMessageAt held words)
 ComesTo (Some (Decode words)) held name = IsAmong words.files name ⊎ ((name ≡ words.message) × HasInterfaceAt held words)
+ComesTo (Some (Load words)) held name = name ≡ load_name
+ComesTo (Some (Audit words)) held name =
+    IsAmong words.files name
+    ⊎ (((name ≡ words.script) × HasSchemaAt held words.files) ⊎ ((name ≡ words.history) × HasScriptAt held words))
 ComesTo (Some (Compat old new)) held name = IsAmong (old ∷ new ∷ []) name
 
 -- what is asked for
@@ -139,6 +163,12 @@ pub data Work : Type 0 where
   Encodes : (message : List ℕ) → Work
   -- the method, the request id and the text of the value of a message
   Decodes : (interface method : List ℕ) (request : ℕ) (value : List ℕ) → Work
+  -- a load of so many messages, by numbers that are drawn behind the seed
+  Loads : (schema : Schema) → (seed messages : ℕ) → Work
+  -- a history's text is that of a run, with so many events
+  Sounds : (events : ℕ) → Work
+  -- it isn't: what an audit says of it
+  Unsounds : (answer : Said) → Work
   -- a newer file reads what so many stable definitions of an older one write
   Reads : (stable : ℕ) → Work
 
@@ -338,6 +368,37 @@ Decoding files words schema work =
     (λ interface w. Fetching files words.message (Showing schema (expected_of interface (side_of words.side)) words.interface words.handles) w)
     (interface_named schema.interfaces words.interface) work
 
+-- the file of a load has a schema, over which it is run
+abbrev pub Loading : LoadWords → Work → Type 0
+Loading words work = Tabling (λ schema w. w ≡ Loads schema words.seed words.messages) load_sources work
+
+-- the work that an audit's answer is
+abbrev pub audited : Said → Work
+audited (said.Sound events) = Sounds events
+audited (said.Wrong event) = Unsounds (said.Wrong event)
+audited (said.Short events) = Unsounds (said.Short events)
+audited (said.Tail line) = Unsounds (said.Tail line)
+
+-- the bytes are what an audit by this script says of them, or no history's text, at a place
+abbrev pub Auditing : Schema → Script → List ℕ → Work → Type 0
+Auditing schema script bytes work =
+    ((answer : Said) × Audits schema script bytes (Ok answer) × (work ≡ audited answer))
+    ⊎ ((at : ℕ) × Audits schema script bytes (Err (unsaid.BadText at)) × (work ≡ BadText at))
+
+-- the bytes are a script, which leads on, or have a first line that is refused
+abbrev pub Scripted : Schema → (Script → Work → Type 0) → List ℕ → Work → Type 0
+Scripted schema next bytes work =
+    ((script : Script) × IsScriptOf schema bytes script × next script work)
+    ⊎ ((line : ℕ) × (why : LineRefusal) × IsFirstRefusal schema bytes line why × (work ≡ RefusesLine line why))
+
+-- the history's file comes after the script
+abbrev pub Historying : List Named → List ℕ → Schema → Script → Work → Type 0
+Historying files history schema script work = Fetching files history (Auditing schema script) work
+
+-- the script's file comes after the Mojom files
+abbrev pub AuditingAll : List Named → List ℕ → List ℕ → Schema → Work → Type 0
+AuditingAll files script history schema work = Fetching files script (Scripted schema (λ read w. Historying files history schema read w)) work
+
 -- the newer schema reads what the stable definitions of the older one write, so each message of its stable interfaces, or doesn't
 abbrev pub Comparing : Schema → Schema → Work → Type 0
 Comparing old new work =
@@ -357,6 +418,8 @@ IsWork (Some (Print file)) files work = Printing files file work
 IsWork (Some (Check names)) files work = Checking files names work
 IsWork (Some (Encode words)) files work = Gathering files words.files (Encoding files words) work
 IsWork (Some (Decode words)) files work = Gathering files words.files (Decoding files words) work
+IsWork (Some (Load words)) files work = Loading words work
+IsWork (Some (Audit words)) files work = Gathering files words.files (AuditingAll files words.script words.history) work
 IsWork (Some (Compat old new)) files work = FetchingAll files (old ∷ new ∷ []) [] Pairing work
 
 -- over files that say what they hold, this is what is asked for

@@ -4,4 +4,6 @@ pub mod Stops
 pub mod Fetches
 pub mod Messages
 pub mod Made
+pub mod Loads
+pub mod Audits
 pub mod Pairs

@@ -11,10 +11,12 @@ ghost use Rattle.mojo_tool.specs.Fetched.{FetchedAll, mojoms_of, last_of};
 ghost use Rattle.mojo_tool.specs.steps.Made.{EndedWith, StoppedAfter, StoppedFrom};
 ghost use Rattle.mojo_tool.specs.steps.Stops.{Stops, IsOf, HasBytes, NotFetched, NotCompiled};
 
+use crate::audit::decide_audit;
 use crate::check::decide_check;
 use crate::compat::decide_compat;
 use crate::decode::decide_decode;
 use crate::encode::decide_encode;
+use crate::load::decide_load;
 use crate::refusal::ToolRefusal;
 use crate::run::decide_run;
 use command_line::Command;
@@ -150,6 +152,12 @@ pub fn decide<'a, F: Files>(
             names.as_slice(),
             files,
         ),
+        Command::Load { seed, messages } => decide_load(alloc, seed, messages),
+        Command::Audit {
+            script,
+            history,
+            files: names,
+        } => decide_audit(alloc, script, history, names.as_slice(), files),
         Command::Compat { old, new } => decide_compat(alloc, old, new, files),
     }
 }

@@ -2,6 +2,7 @@
 #![tactic(auto)]
 
 mod at_once;
+mod audit;
 mod cause_text;
 mod check;
 mod compat;
@@ -9,6 +10,7 @@ mod decide;
 mod decode;
 mod encode;
 mod line_end;
+mod load;
 mod lookup;
 mod refusal;
 mod run;

@@ -1,13 +1,14 @@
-//! Why files, a value or a message are refused.
+//! Why files, a value, a message or a history are refused.
 
 ghost use Rattle.std.specs.Prelude.{◌≡◌, ◌++◌, codes, decimal, OnOk};
 ghost use Rattle.std.specs.Fmt.{signed_decimal};
 ghost use Rattle.history_text.specs.Words.{fault_word};
-ghost use Rattle.mojo_tool.specs.Lines.{refusal_text, line_refusal_name, unfit_text, path_text, steps_text, number_text, reason_text};
+ghost use Rattle.mojo_tool.specs.Lines.{refusal_text, line_refusal_name, unfit_text, unsound_text, path_text, steps_text, number_text, reason_text};
 
 use crate::cause_text::{push_cause, push_named, push_signed};
 use call_script::LineRefusal;
 use compat_model::{Change, Reason};
+use history_audit::AuditFinding;
 use history_text::fault_word;
 use mj_base::Fault;
 use mojom_compile::FileRefusal;
@@ -16,7 +17,7 @@ use mojom_print::{push_number, push_text};
 use std::alloc::AllocError;
 use wire_encoder::PrepareError;
 
-/// Why a file is refused, with its name as it was given; or why a value or a message is.
+/// Why a file is refused, with its name as it was given; or why a value, a message or a history is.
 #[derive(Drop)]
 pub enum ToolRefusal<'a> {
     /// The line of this number, from 1, is the first of the script that is refused.
@@ -33,7 +34,7 @@ pub enum ToolRefusal<'a> {
     },
     /// No interface has this name, or no method has it, or the method has no response.
     UnknownName(&'a str),
-    /// The text is no value of the method's parameters: the place of its first wrong byte, from 0.
+    /// The text is no value of the method's parameters, or no history's: the place of its first wrong byte, from 0.
     BadText(u64),
     /// The value isn't written as a message.
     Unfit(PrepareError),
@@ -41,6 +42,8 @@ pub enum ToolRefusal<'a> {
     BadHex,
     /// The message stands for nothing.
     Faulty(Fault),
+    /// The history's text isn't that of a run: what is said of it.
+    Unsound(AuditFinding),
     /// The newer file doesn't read what the stable definitions of the older one write.
     Incompatible(Reason),
 }
@@ -125,6 +128,27 @@ fn push_fault(out: &mut Vec<u8>, fault: &Fault) -> Result<(), AllocError>
     push_number(out, fault.at)
 }
 
+/// Writes why a history's text isn't that of a run.
+fn push_unsound(out: &mut Vec<u8>, answer: AuditFinding) -> Result<(), AllocError>
+    ensures { OnOk result (out.new.items ≡ out.old.items ++ unsound_text answer) }
+{
+    match answer {
+        AuditFinding::Sound(_) => Ok(()),
+        AuditFinding::Wrong(event) => {
+            push_text(out, "Wrong ")?;
+            push_number(out, event)
+        }
+        AuditFinding::Short(events) => {
+            push_text(out, "Short ")?;
+            push_number(out, events)
+        }
+        AuditFinding::Tail(line) => {
+            push_text(out, "Tail ")?;
+            push_number(out, line)
+        }
+    }
+}
+
 /// Writes a blank and a number.
 fn push_behind(out: &mut Vec<u8>, number: u32) -> Result<(), AllocError>
     ensures { OnOk result (out.new.items ≡ out.old.items ++ (codes " " ++ decimal number)) }
@@ -169,7 +193,7 @@ fn push_reason(out: &mut Vec<u8>, reason: &Reason) -> Result<(), AllocError>
     push_change(out, reason.change)
 }
 
-/// Writes why files, a value or a message are refused.
+/// Writes why files, a value, a message or a history are refused.
 pub fn push_refusal(out: &mut Vec<u8>, refusal: &ToolRefusal<'_>) -> Result<(), AllocError>
     ensures { OnOk result (out.new.items ≡ out.old.items ++ refusal_text refusal.now) }
 {
@@ -194,6 +218,7 @@ pub fn push_refusal(out: &mut Vec<u8>, refusal: &ToolRefusal<'_>) -> Result<(), 
         ToolRefusal::Unfit(why) => push_unfit(out, why),
         ToolRefusal::BadHex => push_text(out, "BadHex"),
         ToolRefusal::Faulty(fault) => push_fault(out, fault),
+        ToolRefusal::Unsound(answer) => push_unsound(out, *answer),
         ToolRefusal::Incompatible(reason) => {
             push_text(out, "Incompatible ")?;
             push_reason(out, reason)

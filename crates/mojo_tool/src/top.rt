@@ -27,6 +27,7 @@ use crate::status::Status;
 use command_line::{Command, RunAtOnce, Words, WordsError, read_words};
 use mj_io::{Files, Sink, write_all};
 use mojom_print::push_text;
+use printed_runs::runs_in_any_order_can_be_printed;
 use script_laws::some_answer;
 use sealed_laws::sealed_is_read;
 use std::alloc::{AllocError, Global};
@@ -259,16 +260,20 @@ pub fn mojo_main<
 /// A law of the answers. Where the files say what they hold and no fault was counted on a file that
 /// is there: a run or a text that is asked for is done (0), if `out` didn't fail; a refusal that is
 /// asked for is answered by its own line (1), and a name that isn't there by its own (3), whatever
-/// befell `err`. The only other status is 5, for want of memory.
+/// befell `err`. The only other status is 5, for want of memory. It calls the law that it rests on.
 pub fn complete()
     ensures { (s : Seen) (status : Status) → Answers s status → IsComplete s status }
-{}
+{
+    runs_in_any_order_can_be_printed();
+}
 
-/// A law of the words: over the same files they ask for one work at most.
+/// A law of the words: over the same files they ask for one work at most. It calls the law that it rests on.
 pub fn one_work()
     ensures { (words : List (List ℕ)) (files : List Named) (work other : Work) → IsWork (command_of words) files work
         → IsWork (command_of words) files other → work ≡ other }
-{}
+{
+    runs_in_any_order_can_be_printed();
+}
 
 /// A law of the words: over files that say what they hold there is a work that they ask for, but where
 /// the Mojom files have more rows than a schema can have. It calls the laws that it rests on.
@@ -278,6 +283,7 @@ pub fn some_work()
 {
     some_answer();
     sealed_is_read();
+    runs_in_any_order_can_be_printed();
 }
 
 /// A law of printed texts: where a file has a tree, the text that is printed of it has a tree too, and

@@ -5,7 +5,7 @@ use Rattle.mj_io.specs.Outside.{Named, Fetch, fetch_of}
 use Rattle.mj_io.specs.declared.Fetched.TheVariants.{Longer}
 use Rattle.mj_io.specs.declared.FilesError.TheVariants.{Failed, Memory}
 use Rattle.mojom_compile.specs.declared.source.Source.{Source}
-use Rattle.mojo_tool.specs.Work.{Work, WrongWords, Missing, TooLong, Refuses, Rejects, UnknownName}
+use Rattle.mojo_tool.specs.Work.{Work, WrongWords, Missing, TooLong, Refuses, Rejects, RefusesLine, UnknownName, BadText, Sounds, Unsounds}
 use Rattle.mojo_tool.specs.Answers.{refused_work, IsTooLong}
 use Rattle.mojo_tool.specs.Fetched.{FetchedAll, EndedAt, FetchedFront, FetchedFor}
 use Rattle.mojo_tool.specs.steps.Stops.{HasBytes}
@@ -57,6 +57,28 @@ EarlyFor names before now work = Unfetched names work before now ⊎ (IsOfMojoms
 abbrev pub LateFor : List ℕ → List Fetch → List Fetch → Work → Type 0
 LateFor name before now work = Unfetched (name ∷ []) work before now ⊎ (IsOfAll work × FetchedAll (name ∷ []) before now)
 
+-- a line of a script that is refused
+abbrev pub IsOfLine : Work → Type 0
+IsOfLine (RefusesLine line why) = Unit {0}
+IsOfLine _ = ⊥
+
+-- found out of a history
+abbrev pub IsOfHistory : Work → Type 0
+IsOfHistory (BadText at) = Unit {0}
+IsOfHistory (Sounds events) = Unit {0}
+IsOfHistory (Unsounds answer) = Unit {0}
+IsOfHistory _ = ⊥
+
+-- what was found out of a history behind its script
+abbrev pub HistoryFor : List ℕ → List Fetch → List Fetch → Work → Type 0
+HistoryFor name before now work = Unfetched (name ∷ []) work before now ⊎ (IsOfHistory work × FetchedAll (name ∷ []) before now)
+
+-- what was found out of a script and a history behind the Mojom files, or of the script alone
+abbrev pub BothFor : List ℕ → List ℕ → List Fetch → List Fetch → Work → Type 0
+BothFor script history before now work =
+    Unfetched (script ∷ history ∷ []) work before now
+    ⊎ ((IsOfLine work × FetchedAll (script ∷ []) before now) ⊎ (IsOfHistory work × FetchedAll (script ∷ history ∷ []) before now))
+
 -- why there is no text, by the work that was found out; or there was no memory
 abbrev pub StoppedSo : (Work → Type 0) → Type 0 → Stop → Type 0
 StoppedSo Found Short (Refused refusal) = Found (refused_work refusal)
@@ -70,6 +92,15 @@ StoppedEarly names before now stop = StoppedSo (EarlyFor names before now) (Fetc
 -- in the file behind them
 abbrev pub StoppedLate : List ℕ → List Fetch → List Fetch → Stop → Type 0
 StoppedLate name before now stop = StoppedSo (LateFor name before now) (FetchedFront (name ∷ []) before now) stop
+
+-- in a history behind its script
+abbrev pub StoppedHistory : List ℕ → List Fetch → List Fetch → Stop → Type 0
+StoppedHistory name before now stop = StoppedSo (HistoryFor name before now) (FetchedFront (name ∷ []) before now) stop
+
+-- in a script or in the history behind it
+abbrev pub StoppedBoth : List ℕ → List ℕ → List Fetch → List Fetch → Stop → Type 0
+StoppedBoth script history before now stop =
+    StoppedSo (BothFor script history before now) (FetchedFront (script ∷ history ∷ []) before now) stop
 
 -- in all of them
 abbrev pub StoppedAfter : List (List ℕ) → List (List ℕ) → List Fetch → List Fetch → Stop → Type 0

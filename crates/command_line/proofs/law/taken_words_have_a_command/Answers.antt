@@ -1,5 +1,5 @@
 use Rattle.std.proofs.Common.{Bool, true, false, List, Option, Some, None, [], ◌∷◌, ◌≡◌, ◌∙◌, ◌||◌, cond, ℕ, codes, refl, subst, sym, true≢false, inl, inr}
-use Rattle.std.specs.Prelude.{find, is_some, option_and_then, option_map, ⊤}
+use Rattle.std.specs.Prelude.{◌⊎◌, find, is_some, option_and_then, option_map, ⊤}
 use Rattle.std.specs.Str.{bytes_eq}
 use Rattle.std.proofs.lemmas.Option.{none-some}
 use Rattle.std.proofs.lemmas.Slice.Eq.{bytes_eq-Decides}
@@ -8,8 +8,9 @@ use Rattle.clap.specs.Kinds.{or_else}
 use Rattle.clap.specs.Faults.{check_fault, defaults_fault, entered_fault, level_fault, settle_fault, walk_fault}
 use Rattle.clap.specs.Simple.{argument_words, built_leaf, entered, inherited, label_of, marked_built, names_of, on_top, rows_at, with_leaf_noted}
 use Rattle.clap.specs.Walk.{Held, Names, answers_to, finished, nothing_held, settled, walk, walk_from}
-use Rattle.command_line.specs.Asked.{Command, HasWrongNumber, command_in, decode_with, handles_in, order_in, run_with, unless_fault}
-use Rattle.command_line.specs.Definition.{decode, run, tool}
+use Rattle.command_line.specs.Asked.{Command, HasWrongNumber, command_in, decode_with, handles_in, load_with, messages_in, order_in, run_with, seed_in}
+use Rattle.command_line.specs.Asked.{unless_fault}
+use Rattle.command_line.specs.Definition.{decode, load, run, tool}
 use Rattle.command_line.proofs.NoHelp.{IsNoHelp, IsNone, earlier, later, no_help}
 use Rattle.command_line.proofs.law.taken_words_have_a_command.Goals as goal
 
@@ -56,6 +57,13 @@ no_number : (with : ℕ → Command) (number : Option ℕ) → option_map with n
 no_number with None e = refl
 no_number with (Some n) e = absurd (none-some (with n) (sym e))
 
+-- nor is one that lacks one of its two numbers
+no_both : (with : ℕ → ℕ → Command) (one two : Option ℕ) → option_and_then (λ (a : ℕ). option_map (with a) two) one ≡ None
+    → (one ≡ None) ⊎ (two ≡ None)
+no_both with None two e = inl refl
+no_both with (Some a) None e = inr refl
+no_both with (Some a) (Some b) e = absurd (none-some (with a b) (sym e))
+
 -- what building makes of `run`
 abbrev running : Shape
 running = built_leaf (inherited (on_top with_leaf_noted (on_top marked_built tool)).top run.top)
@@ -64,11 +72,15 @@ running = built_leaf (inherited (on_top with_leaf_noted (on_top marked_built too
 abbrev decoding : Shape
 decoding = built_leaf (inherited (on_top with_leaf_noted (on_top marked_built tool)).top decode.top)
 
+-- what building makes of `load`
+abbrev loading : Shape
+loading = built_leaf (inherited (on_top with_leaf_noted (on_top marked_built tool)).top load.top)
+
 either_false : (b : Bool) → (b || false) ≡ true → b ≡ true
 either_false true e = e
 either_false false e = e
 
--- each command but `run` and `decode` asks for something, and `help` isn't met
+-- each command but `run`, `decode` and `load` asks for something, and `help` isn't met
 numbered : (word : Text) (words : List Text) → bytes_eq word (codes "help") ≡ false
     → AllOf (λ s. answers_to word (label_of s) ≡ true → IsNumbered words s) (built tool).subs
 numbered word words fine = (
@@ -80,13 +92,19 @@ numbered word words fine = (
       (
         λ t none. absurd (none-some _ (sym none)),
         (
-          λ t none. inr (refl, no_number (decode_with (rows_at decoding words).1) (handles_in (rows_at decoding words).1) none),
+          λ t none. inr (inl (refl, no_number (decode_with (rows_at decoding words).1) (handles_in (rows_at decoding words).1) none)),
           (
-            λ t none. absurd (none-some _ (sym none)),
+            λ t none. inr (inr (refl, no_both load_with (seed_in (rows_at loading words).1) (messages_in (rows_at loading words).1) none)),
             (
-              λ t none. let same : codes "help" ≡ word = (bytes_eq-Decides (codes "help") word).0 (either_false _ t) in
-                  absurd (true≢false (sym ((bytes_eq-Decides word (codes "help")).1 (sym same)) ∙ fine)),
-              tt,
+              λ t none. absurd (none-some _ (sym none)),
+              (
+                λ t none. absurd (none-some _ (sym none)),
+                (
+                  λ t none. let same : codes "help" ≡ word = (bytes_eq-Decides (codes "help") word).0 (either_false _ t) in
+                      absurd (true≢false (sym ((bytes_eq-Decides word (codes "help")).1 (sym same)) ∙ fine)),
+                  tt,
+                ),
+              ),
             ),
           ),
         ),

@@ -4,4 +4,5 @@ use Rattle.mojo_tool.proofs.top.some_work.Goals as goal
 
 pub returns : goal.returns
 returns c = λ words files.
-    some_work c.some_answer.ensures c.sealed_is_read.ensures.passed c.sealed_is_read.ensures.few (command_of words) files
+    some_work c.runs_in_any_order_can_be_printed.ensures c.some_answer.ensures c.sealed_is_read.ensures.passed
+    c.sealed_is_read.ensures.few (command_of words) files
