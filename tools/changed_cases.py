@@ -11,7 +11,7 @@ from case_files import cases_of, mojom_files, option
 PIECES = [piece.encode('latin-1') for piece in (*' ,()0x#"\\[]{}<>?;:@%^-=.7\n\r\t\xff\xc3', 'null', 'true', 'ff')]
 DIGITS = b'0123456789abcdef'
 # The option that names the file that is changed; where there is none, it is the first Mojom file.
-CHANGED = {'run': '--script', 'encode': '--value', 'decode': '--message'}
+CHANGED = {'run': '--script', 'encode': '--value', 'decode': '--message', 'audit': '--history'}
 # Greater files are left out, as most changes of theirs are alike.
 MOST_BYTES = 5000
 

@@ -4,7 +4,7 @@ _mojo() {
   local word=${COMP_WORDS[COMP_CWORD]} before=${COMP_WORDS[COMP_CWORD - 1]} at=1 options=
   [[ ${COMP_WORDS[1]} == --explain ]] && at=2
   if ((COMP_CWORD == at)); then
-    options='run print check encode decode compat help --help'
+    options='run print check encode decode load audit compat help --help'
     ((at == 1)) && options+=' --version --build --explain'
     COMPREPLY=($(compgen -W "$options" -- "$word"))
     return
@@ -13,12 +13,14 @@ _mojo() {
     run) options='--script --order --threads --help' ;;
     encode) options='--method --response --value --help' ;;
     decode) options='--interface --response --handles --message --help' ;;
+    load) options='--seed --messages --help' ;;
+    audit) options='--script --history --help' ;;
     print | check | compat) options='--help' ;;
-    help) COMPREPLY=($(compgen -W 'run print check encode decode compat' -- "$word")); return ;;
+    help) COMPREPLY=($(compgen -W 'run print check encode decode load audit compat' -- "$word")); return ;;
   esac
   case $before in
-    --script | --value | --message) COMPREPLY=($(compgen -f -- "$word")) ;;
-    --order | --method | --interface | --handles) COMPREPLY=() ;;
+    --script | --history | --value | --message) COMPREPLY=($(compgen -f -- "$word")) ;;
+    --order | --method | --interface | --handles | --seed | --messages) COMPREPLY=() ;;
     *)
       if [[ $word == -* ]]; then
         COMPREPLY=($(compgen -W "$options" -- "$word"))
