@@ -101,31 +101,6 @@ fn a_header_with_ids_is_written_and_read(rt: HostRuntime) -> Result<(), Fail> {
 }
 
 #[test]
-fn a_header_with_a_moment_is_written_and_read(rt: HostRuntime) -> Result<(), Fail> {
-    let alloc = rt.alloc();
-    let head = Head {
-        interface_id: 0,
-        name: 0,
-        flags: 0,
-        request_id: 9,
-        moment: Some(-1),
-        ids: &[],
-    };
-    let mut header = Vec::new(alloc);
-    write_header(&mut header, &head, 16)?;
-    let none = 0xffff_ffff;
-    let wanted = bytes_of(alloc, &[56, 3, 0, 0, 0, 0, 0, 0, 24, 0, 0, 0, none, none])?;
-    assert_eq!(rt; header.as_slice(), wanted.as_slice());
-    header.extend_from_slice(&[16, 0, 0, 0, 0, 0, 0, 0, 0, 0, 0, 0, 0, 0, 0, 0])?;
-    let read = match read_header(&header) {
-        Ok(header) => header.moment == Some(-1) && header.payload == Span { start: 56, len: 16 },
-        Err(_) => false,
-    };
-    assert!(rt; read);
-    Ok(())
-}
-
-#[test]
 fn the_first_test_that_fails_is_told(rt: HostRuntime) -> Result<(), Fail> {
     let alloc = rt.alloc();
     for (place, number, kind, at) in REFUSED {
@@ -152,39 +127,5 @@ fn a_control_is_written_and_read(rt: HostRuntime) -> Result<(), Fail> {
     let wanted = bytes_of(alloc, &[24, 0, 0xffff_ffff, 0, 0, 0, 16, 0, 1, 5])?;
     assert_eq!(rt; control.as_slice(), wanted.as_slice());
     assert!(rt; said(&control) == Ok(Some(Control::Closed(5))));
-    Ok(())
-}
-
-#[test]
-fn a_version_is_written_and_read(rt: HostRuntime) -> Result<(), Fail> {
-    let alloc = rt.alloc();
-    let control = write_control(alloc, Control::Version(0, 1))?;
-    let wanted = bytes_of(alloc, &[24, 0, 0xffff_ffff, 0, 0, 0, 24, 0, 3, 0, 1, 0])?;
-    assert_eq!(rt; control.as_slice(), wanted.as_slice());
-    assert!(rt; said(&control) == Ok(Some(Control::Version(0, 1))));
-    Ok(())
-}
-
-#[test]
-fn a_query_with_two_numbers_is_refused(rt: HostRuntime) -> Result<(), Fail> {
-    let alloc = rt.alloc();
-    let bytes = bytes_of(alloc, &[24, 0, 0xffff_ffff, 0, 0, 0, 24, 0, 2, 0, 1, 0])?;
-    let fault = Fault {
-        kind: FaultKind::MessageHeaderUnknownMethod,
-        at: 32,
-    };
-    assert!(rt; said(&bytes) == Err(fault));
-    Ok(())
-}
-
-#[test]
-fn flush_0_is_refused(rt: HostRuntime) -> Result<(), Fail> {
-    let alloc = rt.alloc();
-    let bytes = bytes_of(alloc, &[24, 0, 0xffff_ffff, 0, 0, 0, 16, 0, 5, 0])?;
-    let fault = Fault {
-        kind: FaultKind::IllegalInterfaceId,
-        at: 36,
-    };
-    assert!(rt; said(&bytes) == Err(fault));
     Ok(())
 }

@@ -2,7 +2,7 @@
 
 use field_packing::{pack, pack_fields};
 use mj_base::Text;
-use mj_schema::{DraftField, Flag, Kind, KindNode, Place, Width};
+use mj_schema::{DraftField, Kind, KindNode, Place, Width};
 use std::test::Fail;
 
 fn integer(width: Width) -> Kind {
@@ -49,52 +49,6 @@ fn a_declared_bool_has_the_first_bit(rt: HostRuntime) -> Result<(), Fail> {
         bit: 0,
         flag: None,
     }];
-    assert_eq!(rt; places.as_slice(), wanted.as_slice());
-    Ok(())
-}
-
-#[test]
-fn a_flag_comes_before_its_value(rt: HostRuntime) -> Result<(), Fail> {
-    let optional = |width| {
-        Kind::new(KindNode::Int {
-            width,
-            signed: true,
-            nullable: true,
-        })
-    };
-    let kinds = [
-        optional(Width::Bits32),
-        Kind::new(KindNode::Bool { nullable: true }),
-        Kind::new(KindNode::Int {
-            width: Width::Bits8,
-            signed: false,
-            nullable: false,
-        }),
-        optional(Width::Bits64),
-    ];
-    let places = pack(rt.alloc(), &kinds)?;
-    let wanted = [
-        Place {
-            offset: 4,
-            bit: 0,
-            flag: Some(Flag { offset: 0, bit: 0 }),
-        },
-        Place {
-            offset: 0,
-            bit: 2,
-            flag: Some(Flag { offset: 0, bit: 1 }),
-        },
-        Place {
-            offset: 1,
-            bit: 0,
-            flag: None,
-        },
-        Place {
-            offset: 8,
-            bit: 0,
-            flag: Some(Flag { offset: 0, bit: 3 }),
-        },
-    ];
     assert_eq!(rt; places.as_slice(), wanted.as_slice());
     Ok(())
 }

@@ -61,6 +61,168 @@ const NO_NUMBER: &str = "error: invalid value '65' for '--handles <handles>': a 
 For more information, try '--help'.
 ";
 
+/// Lines that are commands, and what each asks for.
+const SPELLINGS: [(&str, &str); 30] = [
+    ("mojo run --script s g f", "run s by 0 then g then f"),
+    ("mojo run --script=s g f", "run s by 0 then g then f"),
+    ("mojo run g --script s f", "run s by 0 then g then f"),
+    ("mojo run --script s g -- f", "run s by 0 then g then f"),
+    (
+        "mojo run --script s --order 18446744073709551615 g f",
+        "run s by 18446744073709551615 then g then f",
+    ),
+    (
+        "mojo run g --order=18446744073709551615 f --script=s",
+        "run s by 18446744073709551615 then g then f",
+    ),
+    (
+        "mojo run --script s --threads g f",
+        "run s at once then g then f",
+    ),
+    (
+        "mojo run g --threads f --script=s",
+        "run s at once then g then f",
+    ),
+    (
+        "mojo run --threads --order 7 --script s g -- f",
+        "run s at once then g then f",
+    ),
+    ("mojo print -- -f", "print -f"),
+    ("mojo check g f g", "check then g then f then g"),
+    ("mojo check g -- f g", "check then g then f then g"),
+    ("mojo compat g f", "compat g then f"),
+    ("mojo compat -- g f", "compat g then f"),
+    (
+        "mojo encode --method t.A.Add --value v f g",
+        "encode v as request of t.A.Add then f then g",
+    ),
+    (
+        "mojo encode --value=v f --method=t.A.Add g",
+        "encode v as request of t.A.Add then f then g",
+    ),
+    (
+        "mojo encode --method t.A.Add --value v -- f g",
+        "encode v as request of t.A.Add then f then g",
+    ),
+    (
+        "mojo encode --method t.A.Add --response --value v f",
+        "encode v as response of t.A.Add then f",
+    ),
+    (
+        "mojo encode f --value v --method t.A.Add --response",
+        "encode v as response of t.A.Add then f",
+    ),
+    (
+        "mojo decode --interface t.A --handles 64 --message m f g",
+        "decode m as request of t.A with 64 then f then g",
+    ),
+    (
+        "mojo decode f --message=m --handles=64 --interface=t.A g",
+        "decode m as request of t.A with 64 then f then g",
+    ),
+    (
+        "mojo decode --interface t.A --handles 64 --message m -- f g",
+        "decode m as request of t.A with 64 then f then g",
+    ),
+    (
+        "mojo decode --interface t.A --response --handles 0 --message m f",
+        "decode m as response of t.A with 0 then f",
+    ),
+    (
+        "mojo decode f --response --message m --handles=0 --interface t.A",
+        "decode m as response of t.A with 0 then f",
+    ),
+    (
+        "mojo load --seed 18446744073709551615 --messages 1000000",
+        "load 1000000 by 18446744073709551615",
+    ),
+    (
+        "mojo load --messages=1000000 --seed=18446744073709551615",
+        "load 1000000 by 18446744073709551615",
+    ),
+    ("mojo load --seed 0 --messages 1", "load 1 by 0"),
+    (
+        "mojo audit --script s --history h f g",
+        "audit h by s then f then g",
+    ),
+    (
+        "mojo audit f --history=h --script=s g",
+        "audit h by s then f then g",
+    ),
+    (
+        "mojo audit --history h --script s -- f g",
+        "audit h by s then f then g",
+    ),
+];
+
+/// Lines that are none.
+const OTHERS: [&str; 64] = [
+    "mojo",
+    "mojo walk f",
+    "mojo run f",
+    "mojo run --scr s f",
+    "mojo run --script -- f",
+    "mojo run --script s --script s f",
+    "mojo run --script s --order 1 --order 1 f",
+    "mojo run --script s f --order",
+    "mojo run --script s --order= f",
+    "mojo run --script s --order 07 f",
+    "mojo run --script s --order +7 f",
+    "mojo run --script s --order -1 f",
+    "mojo run --script s --order=-1 f",
+    "mojo run --script s --order 0x7 f",
+    "mojo run --script s --order 18446744073709551616 f",
+    "mojo run --script s --threads --threads f",
+    "mojo run --script s --threads=true f",
+    "mojo run --script s --threads --order 07 f",
+    "mojo run --script s --threads",
+    "mojo print f f",
+    "mojo print --threads f",
+    "mojo print --script s f",
+    "mojo check",
+    "mojo check --",
+    "mojo check --script s f",
+    "mojo encode --method t.A.Add f",
+    "mojo encode --method t.A.Add --value v",
+    "mojo encode --method t.A.Add --method t.A.Add --value v f",
+    "mojo encode --method t.A.Add --response --response --value v f",
+    "mojo encode --method t.A.Add --response=true --value v f",
+    "mojo decode --interface t.A --message m f",
+    "mojo decode --interface t.A --handles 1 --message m",
+    "mojo decode --interface t.A --message m f --handles",
+    "mojo decode --interface t.A --message m f --handles=",
+    "mojo decode --interface t.A --message m f --handles 65",
+    "mojo decode --interface t.A --message m f --handles 07",
+    "mojo decode --interface t.A --message m f --handles +7",
+    "mojo decode --interface t.A --message m f --handles -1",
+    "mojo decode --interface t.A --message m f --handles=-1",
+    "mojo decode --interface t.A --message m f --handles 257",
+    "mojo decode --interface t.A --message m f --handles x",
+    "mojo load",
+    "mojo load --seed 0",
+    "mojo load --messages 1",
+    "mojo load --seed 0 --messages 1 f",
+    "mojo load --seed 0 --messages 1 --seed 0",
+    "mojo load --seed 0 --messages 0",
+    "mojo load --seed 0 --messages 1000001",
+    "mojo load --seed 0 --messages 01",
+    "mojo load --seed 0 --messages +1",
+    "mojo load --seed 0 --messages x",
+    "mojo load --seed 0 --messages=",
+    "mojo load --seed 00 --messages 1",
+    "mojo load --seed -1 --messages 1",
+    "mojo load --seed 18446744073709551616 --messages 1",
+    "mojo audit --script s f",
+    "mojo audit --history h f",
+    "mojo audit --script s --history h",
+    "mojo audit --script s --history h --history h f",
+    "mojo audit --script s --history h --order 1 f",
+    "mojo compat f",
+    "mojo compat f g h",
+    "mojo compat f --new g",
+    "mojo --version",
+];
+
 /// The line that the names of files end.
 fn with_files(mut line: String, files: &[&str]) -> Result<String, AllocError> {
     for file in files {
@@ -154,223 +316,36 @@ fn answer(alloc: Global, line: &str) -> Result<String, AllocError> {
 
 #[test]
 fn each_spelling_is_taken(rt: HostRuntime) -> Result<(), Fail> {
-    for line in [
-        "mojo run --script s g f",
-        "mojo run --script=s g f",
-        "mojo run g --script s f",
-        "mojo run --script s g -- f",
-    ] {
-        assert_eq!(rt;
-            answer(rt.alloc(), line)?.as_str(),
-            "run s by 0 then g then f"
-        );
-    }
-    for line in [
-        "mojo run --script s --order 18446744073709551615 g f",
-        "mojo run g --order=18446744073709551615 f --script=s",
-    ] {
-        assert_eq!(rt;
-            answer(rt.alloc(), line)?.as_str(),
-            "run s by 18446744073709551615 then g then f"
-        );
-    }
-    for line in [
-        "mojo run --script s --threads g f",
-        "mojo run g --threads f --script=s",
-        "mojo run --threads --order 7 --script s g -- f",
-    ] {
-        assert_eq!(rt;
-            answer(rt.alloc(), line)?.as_str(),
-            "run s at once then g then f"
-        );
-    }
-    assert_eq!(rt;
-        answer(rt.alloc(), "mojo print -- -f")?.as_str(),
-        "print -f"
-    );
-    for line in ["mojo check g f g", "mojo check g -- f g"] {
-        assert_eq!(rt;
-            answer(rt.alloc(), line)?.as_str(),
-            "check then g then f then g"
-        );
-    }
-    for line in ["mojo compat g f", "mojo compat -- g f"] {
-        assert_eq!(rt; answer(rt.alloc(), line)?.as_str(), "compat g then f");
-    }
-    Ok(())
-}
-
-#[test]
-fn each_spelling_of_encode_is_taken(rt: HostRuntime) -> Result<(), Fail> {
-    for line in [
-        "mojo encode --method t.A.Add --value v f g",
-        "mojo encode --value=v f --method=t.A.Add g",
-        "mojo encode --method t.A.Add --value v -- f g",
-    ] {
-        assert_eq!(rt;
-            answer(rt.alloc(), line)?.as_str(),
-            "encode v as request of t.A.Add then f then g"
-        );
-    }
-    for line in [
-        "mojo encode --method t.A.Add --response --value v f",
-        "mojo encode f --value v --method t.A.Add --response",
-    ] {
-        assert_eq!(rt;
-            answer(rt.alloc(), line)?.as_str(),
-            "encode v as response of t.A.Add then f"
-        );
-    }
-    Ok(())
-}
-
-#[test]
-fn each_spelling_of_decode_is_taken(rt: HostRuntime) -> Result<(), Fail> {
-    for line in [
-        "mojo decode --interface t.A --handles 64 --message m f g",
-        "mojo decode f --message=m --handles=64 --interface=t.A g",
-        "mojo decode --interface t.A --handles 64 --message m -- f g",
-    ] {
-        assert_eq!(rt;
-            answer(rt.alloc(), line)?.as_str(),
-            "decode m as request of t.A with 64 then f then g"
-        );
-    }
-    for line in [
-        "mojo decode --interface t.A --response --handles 0 --message m f",
-        "mojo decode f --response --message m --handles=0 --interface t.A",
-    ] {
-        assert_eq!(rt;
-            answer(rt.alloc(), line)?.as_str(),
-            "decode m as response of t.A with 0 then f"
-        );
-    }
-    Ok(())
-}
-
-#[test]
-fn each_spelling_of_load_is_taken(rt: HostRuntime) -> Result<(), Fail> {
-    for line in [
-        "mojo load --seed 18446744073709551615 --messages 1000000",
-        "mojo load --messages=1000000 --seed=18446744073709551615",
-    ] {
-        assert_eq!(rt;
-            answer(rt.alloc(), line)?.as_str(),
-            "load 1000000 by 18446744073709551615"
-        );
-    }
-    assert_eq!(rt;
-        answer(rt.alloc(), "mojo load --seed 0 --messages 1")?.as_str(),
-        "load 1 by 0"
-    );
-    Ok(())
-}
-
-#[test]
-fn each_spelling_of_audit_is_taken(rt: HostRuntime) -> Result<(), Fail> {
-    for line in [
-        "mojo audit --script s --history h f g",
-        "mojo audit f --history=h --script=s g",
-        "mojo audit --history h --script s -- f g",
-    ] {
-        assert_eq!(rt;
-            answer(rt.alloc(), line)?.as_str(),
-            "audit h by s then f then g"
-        );
+    for (line, text) in SPELLINGS.as_slice() {
+        assert_eq!(rt; answer(rt.alloc(), *line)?.as_str(), *text);
     }
     Ok(())
 }
 
 #[test]
 fn other_words_are_refused(rt: HostRuntime) -> Result<(), Fail> {
-    for line in [
-        "mojo",
-        "mojo walk f",
-        "mojo run f",
-        "mojo run --scr s f",
-        "mojo run --script -- f",
-        "mojo run --script s --script s f",
-        "mojo run --script s --order 1 --order 1 f",
-        "mojo run --script s f --order",
-        "mojo run --script s --order= f",
-        "mojo run --script s --order 07 f",
-        "mojo run --script s --order +7 f",
-        "mojo run --script s --order -1 f",
-        "mojo run --script s --order=-1 f",
-        "mojo run --script s --order 0x7 f",
-        "mojo run --script s --order 18446744073709551616 f",
-        "mojo run --script s --threads --threads f",
-        "mojo run --script s --threads=true f",
-        "mojo run --script s --threads --order 07 f",
-        "mojo run --script s --threads",
-        "mojo print f f",
-        "mojo print --threads f",
-        "mojo print --script s f",
-        "mojo check",
-        "mojo check --",
-        "mojo check --script s f",
-        "mojo encode --method t.A.Add f",
-        "mojo encode --method t.A.Add --value v",
-        "mojo encode --method t.A.Add --method t.A.Add --value v f",
-        "mojo encode --method t.A.Add --response --response --value v f",
-        "mojo encode --method t.A.Add --response=true --value v f",
-        "mojo decode --interface t.A --message m f",
-        "mojo decode --interface t.A --handles 1 --message m",
-        "mojo decode --interface t.A --message m f --handles",
-        "mojo decode --interface t.A --message m f --handles=",
-        "mojo decode --interface t.A --message m f --handles 65",
-        "mojo decode --interface t.A --message m f --handles 07",
-        "mojo decode --interface t.A --message m f --handles +7",
-        "mojo decode --interface t.A --message m f --handles -1",
-        "mojo decode --interface t.A --message m f --handles=-1",
-        "mojo decode --interface t.A --message m f --handles 257",
-        "mojo decode --interface t.A --message m f --handles x",
-        "mojo load",
-        "mojo load --seed 0",
-        "mojo load --messages 1",
-        "mojo load --seed 0 --messages 1 f",
-        "mojo load --seed 0 --messages 1 --seed 0",
-        "mojo load --seed 0 --messages 0",
-        "mojo load --seed 0 --messages 1000001",
-        "mojo load --seed 0 --messages 01",
-        "mojo load --seed 0 --messages +1",
-        "mojo load --seed 0 --messages x",
-        "mojo load --seed 0 --messages=",
-        "mojo load --seed 00 --messages 1",
-        "mojo load --seed -1 --messages 1",
-        "mojo load --seed 18446744073709551616 --messages 1",
-        "mojo audit --script s f",
-        "mojo audit --history h f",
-        "mojo audit --script s --history h",
-        "mojo audit --script s --history h --history h f",
-        "mojo audit --script s --history h --order 1 f",
-        "mojo compat f",
-        "mojo compat f g h",
-        "mojo compat f --new g",
-        "mojo --version",
-    ] {
-        assert!(rt; answer(rt.alloc(), line)?.as_str().starts_with("error: "));
+    for line in OTHERS.as_slice() {
+        assert!(rt; answer(rt.alloc(), *line)?.as_str().starts_with("error: "));
     }
     Ok(())
 }
 
 #[test]
 fn the_texts_are_those_of_clap(rt: HostRuntime) -> Result<(), Fail> {
-    for line in ["mojo --help", "mojo -h", "mojo help"] {
-        assert_eq!(rt; answer(rt.alloc(), line)?.as_str(), HELP);
+    for (line, text) in [
+        ("mojo --help", HELP),
+        ("mojo -h", HELP),
+        ("mojo help", HELP),
+        ("mojo run --script s", NO_FILE),
+        ("mojo check", NO_FILES),
+        ("mojo encode --method t.A.Add f", NO_VALUE),
+        ("mojo run --script s --order 01 f", NO_ORDER),
+        (
+            "mojo decode --interface t.A --handles 65 --message m f",
+            NO_NUMBER,
+        ),
+    ] {
+        assert_eq!(rt; answer(rt.alloc(), line)?.as_str(), text);
     }
-    assert_eq!(rt;
-        answer(rt.alloc(), "mojo run --script s")?.as_str(),
-        NO_FILE
-    );
-    assert_eq!(rt; answer(rt.alloc(), "mojo check")?.as_str(), NO_FILES);
-    assert_eq!(rt;
-        answer(rt.alloc(), "mojo encode --method t.A.Add f")?.as_str(),
-        NO_VALUE
-    );
-    let line = "mojo run --script s --order 01 f";
-    assert_eq!(rt; answer(rt.alloc(), line)?.as_str(), NO_ORDER);
-    let line = "mojo decode --interface t.A --handles 65 --message m f";
-    assert_eq!(rt; answer(rt.alloc(), line)?.as_str(), NO_NUMBER);
     Ok(())
 }

@@ -20,27 +20,27 @@ fn version_of(alloc: Global, text: &str) -> Result<Option<u32>, AllocError> {
     }
 }
 
+/// Interfaces, and their versions.
+const VERSIONS: [(&str, u32); 4] = [
+    ("interface P { Ping(uint32 n); const int32 LAST = 9; };", 0),
+    (
+        "interface P { Ping(uint32 n, [MinVersion=1] string? t); };",
+        1,
+    ),
+    (
+        "interface P { Ping([MinVersion=1] string? t) => ([MinVersion=2] bool b); };",
+        2,
+    ),
+    ("interface P { [MinVersion=3] Ping(); Pong(); };", 3),
+];
+
 #[test]
 fn the_version_of_an_interface_is_the_greatest_of_its_methods_and_of_their_parameters(
     rt: HostRuntime,
 ) -> Result<(), Fail> {
     let alloc = rt.alloc();
-    let plain = version_of(
-        alloc,
-        "interface P { Ping(uint32 n); const int32 LAST = 9; };",
-    )?;
-    assert_eq!(rt; plain, Some(0));
-    let parameter = version_of(
-        alloc,
-        "interface P { Ping(uint32 n, [MinVersion=1] string? t); };",
-    )?;
-    assert_eq!(rt; parameter, Some(1));
-    let response = version_of(
-        alloc,
-        "interface P { Ping([MinVersion=1] string? t) => ([MinVersion=2] bool b); };",
-    )?;
-    assert_eq!(rt; response, Some(2));
-    let method = version_of(alloc, "interface P { [MinVersion=3] Ping(); Pong(); };")?;
-    assert_eq!(rt; method, Some(3));
+    for (text, version) in VERSIONS.as_slice() {
+        assert_eq!(rt; version_of(alloc, *text)?, Some(*version));
+    }
     Ok(())
 }

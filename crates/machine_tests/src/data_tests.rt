@@ -2,7 +2,7 @@
 
 use crate::desk_tests::{Adds, schema_of};
 use bind_core::{Alone, Core};
-use bind_model::{Command, Flow, Flowed, Refused, Reply, Why};
+use bind_model::{Flow, Flowed, Refused, Reply};
 use handle_table::Handle;
 use mj_base::{Items, SeqId};
 use remote_receiver::Desk;
@@ -33,14 +33,6 @@ fn flowed(rt: &impl Abort, outcome: Result<Reply, Refused>) -> (Handle, Flowed) 
     }
 }
 
-/// The token where nothing was moved, and why.
-fn unmoved(rt: &impl Abort, outcome: Result<Reply, Refused>) -> (Handle, Why) {
-    match outcome {
-        Ok(Reply::No(why, Command::Flow(handle, _flow))) => (handle, why),
-        _other => panic!(rt; "moved"),
-    }
-}
-
 #[test]
 fn bytes_go_through_a_data_pipe(rt: HostRuntime) -> Result<(), Fail> {
     let alloc = rt.alloc();
@@ -55,12 +47,8 @@ fn bytes_go_through_a_data_pipe(rt: HostRuntime) -> Result<(), Fail> {
     let (producer, consumer) = made(&rt, desk.data(alloc, 4));
     let (producer, told) = flowed(&rt, desk.flow(alloc, producer, Flow::Put(bytes, false)));
     assert!(rt; matches!(&told, Flowed::Put(4)));
-    let (consumer, told) = flowed(&rt, desk.flow(alloc, consumer, Flow::Get(3, true)));
-    assert!(rt; matches!(&told, Flowed::Bytes(got) if got.as_slice() == b"abc".as_slice()));
     let (consumer, told) = flowed(&rt, desk.flow(alloc, consumer, Flow::BeginGet));
-    assert!(rt; matches!(&told, Flowed::View(got) if got.as_slice() == b"d".as_slice()));
-    let (consumer, why) = unmoved(&rt, desk.flow(alloc, consumer, Flow::Get(1, false)));
-    assert!(rt; matches!(why, Why::Busy(_)));
+    assert!(rt; matches!(&told, Flowed::View(got) if got.as_slice() == b"abcd".as_slice()));
     let (_stepper, _notes) = desk.finish();
     let (_history, over) = core.end();
     producer.retire(&over);

@@ -25,7 +25,7 @@ use wire_model::{MessageSide, Target, Value};
 /// Answers the number of its request and what it was made with.
 #[derive(Drop)]
 pub(crate) struct Adds {
-    pub(crate) more: u32,
+    more: u32,
 }
 
 impl Promise for Adds {
@@ -129,12 +129,7 @@ fn target_of(schema: &Schema, side: MessageSide) -> Option<Target>
 }
 
 /// Such a message, without parameters.
-pub(crate) fn message(
-    rt: &impl Abort,
-    alloc: Global,
-    schema: &Schema,
-    side: MessageSide,
-) -> Prepared
+fn message(rt: &impl Abort, alloc: Global, schema: &Schema, side: MessageSide) -> Prepared
     ensures prepared { IsPrepared schema.now result }
     ensures responds { (wire_of schema.now).responds result.target.interface result.target.method ≡ true }
 {
@@ -148,12 +143,12 @@ pub(crate) fn message(
 }
 
 /// No handles.
-pub(crate) fn no_handles(alloc: Global) -> Handles {
+fn no_handles(alloc: Global) -> Handles {
     Handles::from_vec(Vec::new(alloc))
 }
 
 /// Does a command that is neither a call nor a take.
-pub(crate) fn done<C: Promise, P: Stepper>(
+fn done<C: Promise, P: Stepper>(
     rt: &impl Abort,
     desk: &mut Desk<C, P>,
     alloc: Global,
@@ -213,7 +208,7 @@ pub(crate) fn bound<C: Promise, P: Stepper>(
 }
 
 /// Calls with a job: the number of the request.
-pub(crate) fn called<C: Promise, P: Stepper>(
+fn called<C: Promise, P: Stepper>(
     rt: &impl Abort,
     desk: &mut Desk<C, P>,
     alloc: Global,
@@ -295,7 +290,7 @@ fn handed_back<C: Promise, P: Stepper>(
 }
 
 /// What a take got.
-pub(crate) fn taken<C: Job<P>, P: Stepper>(
+fn taken<C: Job<P>, P: Stepper>(
     rt: &impl Abort,
     desk: &mut Desk<C, P>,
     alloc: Global,
@@ -362,12 +357,7 @@ fn answered<C: Job<P>, P: Stepper>(
 }
 
 /// Closes the endpoint 0 of an end.
-pub(crate) fn closed<C: Promise, P: Stepper>(
-    rt: &impl Abort,
-    desk: &mut Desk<C, P>,
-    alloc: Global,
-    end: EndId,
-)
+fn closed<C: Promise, P: Stepper>(rt: &impl Abort, desk: &mut Desk<C, P>, alloc: Global, end: EndId)
     requires seq { (P.me desk.old.stepper).0 < P.seqs desk.old.stepper }
     ensures same { (P.schema desk.new.stepper ≡ P.schema desk.old.stepper) × (P.seqs desk.new.stepper ≡ P.seqs desk.old.stepper)
         × (P.me desk.new.stepper ≡ P.me desk.old.stepper) }
@@ -402,15 +392,11 @@ fn counting(alloc: Global, runs: &Arc<AtomicU64>) -> Result<BoxedJob, Fail> {
 }
 
 #[test]
-fn jobs_run_on_their_responses_though_their_desk_rests_between(
-    rt: HostRuntime,
-) -> Result<(), Fail> {
+fn a_job_runs_on_its_response_though_its_desk_rests_between(rt: HostRuntime) -> Result<(), Fail> {
     let alloc = rt.alloc();
     let schema = Arc::new(alloc, schema_of(alloc, 0)?)?;
-    let first = message(&rt, alloc, &schema, MessageSide::Request);
-    let second = message(&rt, alloc, &schema, MessageSide::Request);
-    let one = message(&rt, alloc, &schema, MessageSide::Response);
-    let two = message(&rt, alloc, &schema, MessageSide::Response);
+    let call = message(&rt, alloc, &schema, MessageSide::Request);
+    let response = message(&rt, alloc, &schema, MessageSide::Response);
     let mut core = Core::new(alloc, schema, 1);
     let stepper = Alone {
         core: &mut core,
@@ -418,41 +404,15 @@ fn jobs_run_on_their_responses_though_their_desk_rests_between(
     };
     let mut desk: Desk<Adds, Alone> = Desk::new(alloc, stepper);
     let (from, to) = bound(&rt, &mut desk, alloc);
-    let request = called(&rt, &mut desk, alloc, from, first, Adds { more: 7 });
-    called(&rt, &mut desk, alloc, from, second, Adds { more: 8 });
-    answered(&rt, &mut desk, alloc, to, one);
-    answered(&rt, &mut desk, alloc, to, two);
-    let got = taken(&rt, &mut desk, alloc, from);
+    called(&rt, &mut desk, alloc, from, call, Adds { more: 7 });
+    answered(&rt, &mut desk, alloc, to, response);
     let (stepper, rest) = desk.rest();
     let mut desk = rest.wake(stepper);
-    let again = taken(&rt, &mut desk, alloc, from);
+    let got = taken(&rt, &mut desk, alloc, from);
     let (_stepper, notes) = desk.finish();
     let (_history, over) = core.end();
     got.retire(&over);
-    again.retire(&over);
-    assert_eq!(rt; request, 1);
-    let want = [note(from, 1, true, 107), note(from, 2, true, 208)];
-    assert_eq!(rt; notes.as_slice(), want.as_slice());
-    Ok(())
-}
-
-#[test]
-fn a_job_is_dropped_where_its_endpoint_is_closed(rt: HostRuntime) -> Result<(), Fail> {
-    let alloc = rt.alloc();
-    let schema = Arc::new(alloc, schema_of(alloc, 0)?)?;
-    let call = message(&rt, alloc, &schema, MessageSide::Request);
-    let mut core = Core::new(alloc, schema, 1);
-    let stepper = Alone {
-        core: &mut core,
-        seq: SeqId(0),
-    };
-    let mut desk: Desk<Adds, Alone> = Desk::new(alloc, stepper);
-    let (from, _to) = bound(&rt, &mut desk, alloc);
-    called(&rt, &mut desk, alloc, from, call, Adds { more: 9 });
-    closed(&rt, &mut desk, alloc, from);
-    let (_stepper, notes) = desk.finish();
-    let (_history, _over) = core.end();
-    let want = [note(from, 1, false, 0)];
+    let want = [note(from, 1, true, 107)];
     assert_eq!(rt; notes.as_slice(), want.as_slice());
     Ok(())
 }
@@ -463,39 +423,35 @@ fn a_refused_call_hands_back_its_job_its_value_and_its_token(rt: HostRuntime) ->
     let schema = Arc::new(alloc, schema_of(alloc, 0)?)?;
     let first = message(&rt, alloc, &schema, MessageSide::Request);
     let second = message(&rt, alloc, &schema, MessageSide::Request);
-    let response = message(&rt, alloc, &schema, MessageSide::Response);
     let mut core = Core::new(alloc, schema, 1);
     let stepper = Alone {
         core: &mut core,
         seq: SeqId(0),
     };
     let mut desk: Desk<Adds, Alone> = Desk::new(alloc, stepper);
-    let (from, to) = bound(&rt, &mut desk, alloc);
+    let (from, _to) = bound(&rt, &mut desk, alloc);
     let token = match done(&rt, &mut desk, alloc, Command::Mint(TokenSort::Platform)) {
         Reply::Made(handles) => handles,
         _other => panic!(&rt; "no token"),
     };
     let job = Adds { more: 7 };
     let (value, token, job) = handed_back(&rt, &mut desk, alloc, from, first, token, job);
+    let more = job.more;
     // The job that came back goes with another call: no number was drawn for the refused one, and no job waits for it.
-    let request = called(&rt, &mut desk, alloc, from, second, job);
-    answered(&rt, &mut desk, alloc, to, response);
-    let got = taken(&rt, &mut desk, alloc, from);
+    called(&rt, &mut desk, alloc, from, second, job);
     let (_stepper, notes) = desk.finish();
     let (_history, over) = core.end();
-    got.retire(&over);
     let is_token = match token.as_slice() {
         [handle] => handle.thing() == Thing::Token(TokenId { seq: 0, serial: 0 }),
         _ => false,
     };
     token.retire(&over);
-    assert!(rt; is_token);
+    assert!(rt; is_token && more == 7);
     assert_eq!(rt;
         value.payload.as_slice(),
         [8u8, 0, 0, 0, 0, 0, 0, 0].as_slice()
     );
-    assert_eq!(rt; request, 1);
-    let want = [note(from, 1, true, 107)];
+    let want = [note(from, 1, false, 0)];
     assert_eq!(rt; notes.as_slice(), want.as_slice());
     Ok(())
 }

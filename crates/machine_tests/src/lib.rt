@@ -1,6 +1,6 @@
 //! What no script leads to: a core that is stepped through the one interface for all that step it, calls with jobs over it, what desks
-//! ask of versions, flushes, pauses and data pipes, and texts that are those of no history. They stand apart, since a crate with tests is proved
-//! once more with them.
+//! ask of versions, flushes, pauses and data pipes, a hub's pass that takes what it wrote, four threads over one hub, and texts that are those
+//! of no history. They stand apart, since a crate with tests is proved once more with them.
 #![tactic(auto)]
 
 #[cfg(test)]
@@ -10,6 +10,10 @@ mod desk_tests;
 #[cfg(test)]
 mod notice_tests;
 #[cfg(test)]
+mod own_write;
+#[cfg(test)]
 mod read_tests;
 #[cfg(test)]
 mod stepper_tests;
+#[cfg(test)]
+mod thread_tests;

@@ -13,7 +13,7 @@ use std::sync::Arc;
 use std::test::Fail;
 
 /// A schema without definitions.
-fn no_definitions(alloc: Global) -> Schema {
+pub(crate) fn no_definitions(alloc: Global) -> Schema {
     Schema {
         structs: Items::new(alloc),
         unions: Items::new(alloc),

@@ -3,7 +3,7 @@ use Rattle.std.specs.Prelude.{slice_get}
 use Rattle.bind_hub.specs.declared.shared.Hub.{Hub}
 use Rattle.bind_hub.specs.Passes.{IsPassOf}
 use Rattle.turn_lock.proofs.Lists.{got_snoc, got_front, got_last}
-use Rattle.hub_tests.proofs.own_write.work_alone.Goals as goal
+use Rattle.machine_tests.proofs.own_write.work_alone.Goals as goal
 
 pub new-seat-requires : goal.new-seat-requires
 new-seat-requires g c =

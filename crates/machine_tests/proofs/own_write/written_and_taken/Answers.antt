@@ -3,7 +3,7 @@ use Rattle.std.specs.Prelude.{slice_get}
 use Rattle.std.proofs.lemmas.Option.{slice_get_cases}
 use Rattle.mj_schema.specs.declared.schema.Schema.{Schema}
 use Rattle.bind_hub.specs.Passes.{IsPassOf}
-use Rattle.hub_tests.proofs.own_write.written_and_taken.Goals as goal
+use Rattle.machine_tests.proofs.own_write.written_and_taken.Goals as goal
 
 pub work_alone-passes-requires : goal.work_alone-passes-requires
 work_alone-passes-requires g c = record {
