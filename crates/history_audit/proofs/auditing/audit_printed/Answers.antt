@@ -29,7 +29,8 @@ returns-in-Ok c =
       count_is = c.len-count.ensures;
       follows =
           subst (λ (s : Schema). Follows s script printed.events followed.ran.history.events followed.whole) c.requires.same
-          (subst (λ (es : List Event). Follows (arc_value c.args.shared) script es followed.ran.history.events followed.whole) c.as_slice-events.ensures c.in-Ok.ensures.follows);
+          (subst (λ (es : List Event). Follows (arc_value c.args.shared) script es followed.ran.history.events followed.whole)
+          c.as_slice-events.ensures c.in-Ok.ensures.follows);
       left_is = c.in-Ok.ensures.left;
       notes_are = c.in-Ok.ensures.notes;
     } in
