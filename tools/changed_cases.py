@@ -48,7 +48,7 @@ def refused(case):
 def refusals(paths, count, seed):
     """So many changed cases, of which those that are refused are given: the case, and what the program says."""
     chance = random.Random(seed)
-    cases = [case for path in paths for case in cases_of(path) if case['words'][1:2] and case['status'] in (0, 1) and not case['fails']
+    cases = [case for path in paths for case in cases_of(path) if case['words'][1:2] and case['files'] and case['status'] in (0, 1) and not case['fails']
              and sum(map(len, case['files'].values())) < MOST_BYTES]
     for _ in range(count):
         case = chance.choice(cases)
