@@ -10,4 +10,3 @@ pub mod SoleStepper
 mod Leaving
 mod CauseLists
 mod Waking
-mod Crossing

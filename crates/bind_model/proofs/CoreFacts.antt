@@ -1,6 +1,6 @@
 -- What a core rests on: it watches ends whatever they wait for, and forgets waits that are met.
-use Rattle.std.proofs.Common.{◌≡◌, Bool, true, false, List, [], ◌∷◌, ◌++◌, refl, inl, inr}
-use Rattle.std.specs.Prelude.{Option, Some, None, if◌then◌else◌, not, is_some}
+use Rattle.std.proofs.Common.{◌≡◌, Bool, true, false, List, [], ◌∷◌, inl, inr}
+use Rattle.std.specs.Prelude.{Option, Some, None, not, is_some}
 use Rattle.mj_base.specs.declared.ids.EndId.{EndId}
 use Rattle.mj_base.specs.declared.ids.SeqId.{SeqId}
 use Rattle.handle_table.specs.declared.thing.Thing.TheVariants.{End}
@@ -56,14 +56,3 @@ met_stays past event w h = elim (or_cases (is_gone past w.end) (has_met past w.e
   | inr m ↦ or_right (is_gone (event ∷ past) w.end) (has_met (event ∷ past) w.end w.flush)
       (or_left (has_met past w.end w.flush) (meets event.told event.asked w.end w.flush) m)
 ]
-
--- one that is met may be forgotten
-pub met_forgotten : (past : List Event) (before behind : List Wait) (w : Wait) → is_met past w ≡ true
-    → first_unmet past (before ++ w ∷ behind) ≡ first_unmet past (before ++ behind)
-met_forgotten past [] behind w h = rw h refl
-met_forgotten past (v ∷ before) behind w h = go (is_met past v) (met_forgotten past before behind w h)
-  where
-    go : (b : Bool) → first_unmet past (before ++ w ∷ behind) ≡ first_unmet past (before ++ behind)
-        → (if b then first_unmet past (before ++ w ∷ behind) else Some v.end) ≡ (if b then first_unmet past (before ++ behind) else Some v.end)
-    go true rest = rest
-    go false rest = refl

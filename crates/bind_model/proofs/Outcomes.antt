@@ -25,7 +25,6 @@ use Rattle.bind_model.specs.declared.asked.Notice.{Notice}
 use Rattle.control_bytes.specs.declared.control.Control.{Control as ControlType}
 use Rattle.control_bytes.specs.declared.control.Control.TheVariants as says
 use Rattle.bind_model.specs.declared.told.Noted.TheVariants as noted
-use Rattle.bind_model.specs.declared.told.BadWhy.{BadWhy}
 use Rattle.bind_model.specs.declared.told.BadWhy.TheVariants as bads
 use Rattle.bind_model.specs.declared.told.Why.TheVariants.{NoName, Disconnected, Elsewhere, WrongSide, WrongMethod, WrongPipe, SelfSend, TooLong}
 use Rattle.bind_model.specs.declared.told.Why.TheVariants.{TooManyHandles, Full, Empty, PeerClosed, SelfPause, BadSize}
@@ -156,9 +155,6 @@ module _ (wire : Wire) (seqs : ℕ) (past : List Event) (seq : SeqId) where
   -- ## Takes
 
   module _ (y : EndId) (m : Message) (front : Fronts wire past y m) where
-    spoiled : (why : BadWhy) (told : Told) → told ≡ bad wire past y why → Outcome wire seqs past seq (Take y) told
-    spoiled why told h = rw h (spoils m front refl)
-
     of_known : (h : Header) (r : Endpoint) (c : Content) (told : Told) → wire.header m.bytes ≡ Ok h → (h.id == CONTROL_ID) ≡ false
         → endpoint_at wire past y h.id ≡ Some r → r.state ≡ states.Bound seq → wire.stands r.side r.interface m.bytes (length m.handles) ≡ Ok c
         → (is_response c.target.side ≡ true → (r.peer_closed ≡ false) × (is_asked past y h.id c.request c.target.method ≡ true))

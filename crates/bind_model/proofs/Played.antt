@@ -24,7 +24,6 @@ use Rattle.bind_model.specs.Ready.{ready}
 use Rattle.mj_base.specs.declared.fault.FaultKind.TheVariants.{IllegalHandle}
 use Rattle.bind_model.proofs.SmallWire.{small, Step, play, e, out_of, got}
 use Rattle.mj_base.specs.declared.ids.SeqId.{SeqId}
-use Rattle.bind_model.specs.declared.endpoint.ResponderId.{ResponderId}
 
 -- an end as a thing
 abbrev end : ℕ → ℕ → Thing
@@ -40,10 +39,6 @@ token seq serial = Token (tk seq serial)
 -- a pending by its end and its id
 abbrev half : ℕ → ℕ → ℕ → PendingId
 half seq serial id = record { end = e seq serial; id = id }
-
--- a responder by its end, its id and its request
-abbrev right : ℕ → ℕ → ℕ → ℕ → ℕ → ℕ → ResponderId
-right seq serial id request interface method = record { end = e seq serial; id = id; request = request; interface = interface; method = method }
 
 -- a sequence
 abbrev on : ℕ → SeqId

@@ -7,8 +7,7 @@ use Rattle.std.proofs.lemmas.List.{reverse-append}
 use Rattle.mj_base.specs.declared.limits.TheConstants.{MAX_SCRIPT_LINES}
 use Rattle.mj_schema.specs.declared.schema.Schema.{Schema}
 use Rattle.call_script.specs.declared.script.AutoReply.{AutoReply}
-use Rattle.call_script.specs.declared.script_error.LineRefusal.{LineRefusal}
-use Rattle.call_script.specs.declared.script_error.LineRefusal.TheVariants.{BadLine, DoubleName, UnknownName, BadValue, TooManyLines}
+use Rattle.call_script.specs.declared.script_error.LineRefusal.TheVariants.{TooManyLines}
 use Rattle.call_script.specs.declared.commands.Stop.TheVariants as stops
 use Rattle.call_script.specs.declared.name_table.NameTable.{NameTable}
 use Rattle.call_script.specs.declared.additions.Part.{Part as WrittenPart}
@@ -19,7 +18,7 @@ use Rattle.call_script.specs.Script.{is_placed, names_set, methods_answered, lin
 use Rattle.call_script.specs.Script.{IsFormOf, IsReply, IsTaken, IsRefused}
 use Rattle.call_script.specs.Script.{Part, OfLine, OfReply, lines_in, replies_in}
 use Rattle.call_script.specs.steps.Names.{IsTable, Adds, Sets}
-use Rattle.call_script.specs.steps.Commands.{Gives, Parts, part_view}
+use Rattle.call_script.specs.steps.Commands.{Parts, part_view}
 use Rattle.indexmap.specs.IndexMap.{index_map_len}
 use Rattle.call_script.specs.declared.commands.Stop.{Stop}
 use Rattle.call_script.specs.steps.Lines.{HasRead, Holds, Pushes, TakesForm}
@@ -146,27 +145,6 @@ too_many schema seqs old table methods form count number part past is gives read
   taken_by schema seqs old table methods form count number part past is gives read placed numbered there,
   subst (λ n. MAX_SCRIPT_LINES < n) numbered many,
 )
-
--- it is refused
-module _ (schema : Schema) (seqs : ℕ) (old : Reader) (form : Form) (sound : IsForm form) (there : AreThere seqs (sequences form)) (past : List Form)
-    (read : HasRead schema seqs old past) (placed : is_placed past form ≡ true) where
-  has_form : IsFormOf seqs past (form_words form) form
-  has_form = record { sound = sound; there = there; placed = placed; spelled = refl }
-
-  refused_with : (table methods : NameTable) (count : ℕ) (why : LineRefusal) → IsNoted old table methods form count
-      → Gives schema (names_set past) form (Err (stops.Refused why)) → IsRefused schema seqs past (form_words form) why
-  refused_with table methods count BadLine is gives = absurd gives
-  refused_with table methods count DoubleName is gives = absurd gives
-  refused_with table methods count UnknownName is gives = (form, has_form, single schema seqs old table methods form count past is read, gives)
-  refused_with table methods count BadValue is gives = (form, has_form, single schema seqs old table methods form count past is read, gives.0, gives.1)
-  refused_with table methods count TooManyLines is gives = absurd gives
-
-pub refuses : (schema : Schema) (old new : Reader) (table methods : NameTable) (form : Form) (count number : ℕ) (stop : Stop)
-    → IsNoted old table methods form count → Parts schema table count number form (Err stop) → TakesForm schema old new form number (Err stop)
-refuses schema old new table methods form count number (stops.Refused why) is gives = λ seqs past there read placed numbered.
-    refused_with schema seqs old form is.sound there past read placed table methods count why is
-    (gives (names_set past) (is.added (names_set past) read.table).1 (is.counted ∙ read.table.count))
-refuses schema old new table methods form count number stops.Memory is gives = tt
 
 -- a line of the setup that stands behind another has no form that may stand there
 pub misplaced : (schema : Schema) (seqs : ℕ) (old : Reader) (past : List Form) (words : List (List ℕ)) (form : Form) → seqs < 2 ^ 64

@@ -12,11 +12,6 @@ module _ (A : Type 0) where
   seen_stays [] seen x h = h
   seen_stays (y ∷ kept) seen x h = seen_stays kept (y ∷ seen) x (inr h)
 
-  pub kept_seen : (kept seen : List A) → AllIn A kept (with_seen A kept seen)
-  kept_seen [] seen x h = absurd h
-  kept_seen (y ∷ kept) seen x (inl e) = seen_stays kept (y ∷ seen) x (inl e)
-  kept_seen (y ∷ kept) seen x (inr h) = kept_seen kept (y ∷ seen) x h
-
   -- each element was seen, or is kept
   pub all_seen : (seen kept xs : List A) → Skims A seen kept xs → AllIn A xs (with_seen A kept seen)
   all_seen seen kept [] s x h = absurd h

@@ -1,9 +1,8 @@
 -- Membership in lists, and what is found first of them.
 use Rattle.std.proofs.Common.{◌≡◌, Bool, true, false, cond, inl, inr, List, [], ◌∷◌, ◌++◌, map, Option, Some, None, refl, sym, ap, subst, ◌∙◌}
 use Rattle.std.specs.Prelude.{◌⊎◌, slice_get, ℕ, zero, suc}
-use Rattle.std.specs.List.{flat_map, filter, list_all}
+use Rattle.std.specs.List.{flat_map, filter}
 use Rattle.std.specs.Option.{option_or}
-use Rattle.std.proofs.lemmas.Bool.{and_parts}
 use Rattle.compat_model.specs.steps.Among.{IsAmong}
 use Rattle.compat_model.specs.Members.{first_found, unless}
 use Rattle.compat_model.specs.declared.reason.Change.{Change}
@@ -84,11 +83,6 @@ pub found_among : {A : Type 0} (xs : List A) (i : ℕ) (x : A) → slice_get xs 
 found_among [] i x e = absurd cc
 found_among (y ∷ ys) zero x e = let same : y ≡ x = cc in inl same
 found_among (y ∷ ys) (suc i) x e = inr (found_among ys i x e)
-
-pub all_among : {A : Type 0} (p : A → Bool) (xs : List A) (x : A) → list_all p xs ≡ true → IsAmong xs x → p x ≡ true
-all_among p [] x h g = absurd g
-all_among p (y ∷ ys) x h (inl e) = ap p (sym e) ∙ (and_parts (p y) (list_all p ys) h).0
-all_among p (y ∷ ys) x h (inr g) = all_among p ys x (and_parts (p y) (list_all p ys) h).1 g
 
 -- ## What is found first
 

@@ -3,7 +3,7 @@ use Rattle.std.proofs.Common.{◌≡◌, ◌<◌, ◌≤◌, ℕ, List, [], ◌�
 use Rattle.std.proofs.lemmas.List.{length-reverse}
 use Rattle.mj_base.specs.declared.ids.EndId.{EndId}
 use Rattle.mj_base.specs.declared.ids.SeqId.{SeqId}
-use Rattle.handle_table.specs.Places.{ends_made, tokens_made}
+use Rattle.handle_table.specs.Places.{tokens_made}
 use Rattle.handle_table.specs.declared.thing.Thing.{Thing}
 use Rattle.handle_table.specs.declared.thing.Thing.TheVariants.{End}
 use Rattle.handle_table.specs.declared.thing.TokenSort.{TokenSort}
@@ -24,7 +24,7 @@ use Rattle.bind_model.specs.declared.commands.Command.TheVariants as commands
 use Rattle.bind_model.specs.declared.commands.Reply.TheVariants as replies
 use Rattle.core_state.specs.declared.state.State.{State}
 use Rattle.core_state.proofs.Held.{finish}
-use Rattle.core_state.proofs.Facts.{made_few, serials_few, tokens_few}
+use Rattle.core_state.proofs.Facts.{made_few, tokens_few}
 use Rattle.core_ends.proofs.Making.{pipe_agrees, pipe_told, token_agrees, token_told}
 
 -- fewer things than 2 ^ 32 are made, and no sequence made more
@@ -34,9 +34,6 @@ module _ (s : State) (seq : SeqId) (able : HasRoom s seq) where
       let n = able.few in
       let m = able.holds.agrees.made in
       omega (arith, n, m, made_few (wire_in s) s.seqs (past_of s) able.holds.legal, length-reverse s.log.events)
-
-  pub few_ends : (t : ℕ) → ends_made s.pipes.table t ≤ s.pipes.made
-  few_ends t = rw (able.holds.agrees.serials t, able.holds.agrees.made) (serials_few (past_of s) t)
 
   pub few_tokens : (t : ℕ) → tokens_made s.pipes.table t ≤ s.pipes.made
   few_tokens t = rw (able.holds.agrees.tokens t, able.holds.agrees.made) (tokens_few (past_of s) t)

@@ -144,9 +144,6 @@ module _ (wire : Wire) (seqs : ℕ) (past : List Event) (k : Kept wire past) (se
             agrees.ends x ∙ sym (end_after wire made_pipe past x (has (made past) (End x)) (peer past x) (is_gone past x) (unread wire past x) h p
             (now_gone x) (now_unread x))
 
-    is_new : Thing → Bool
-    is_new z = same (End a) z || same (End b) z
-
     not_shut : (z : Thing) → (same (End a) z || same (End b) z) ≡ true → has (gone past) z ≡ false
     not_shut z h = go (same (End a) z) (same (End b) z) refl refl h
       where

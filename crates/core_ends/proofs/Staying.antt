@@ -1,6 +1,5 @@
--- Lists of what was just made, and what an answer says that is no error.
+-- Lists of what was just made.
 use Rattle.std.proofs.Common.{◌≡◌, List, [], ◌∷◌, ◌++◌, refl}
-use Rattle.std.specs.Prelude.{false, Result, Ok, Err, OnOk, is_err}
 use Rattle.handle_table.specs.declared.thing.Thing.{Thing}
 
 -- what was pushed one after the other
@@ -10,8 +9,3 @@ one_of none one all x a n o l e = rw (l, o, n, e) refl
 pub two_of : (none one two all : List Thing) (x y a b : Thing) → none ≡ [] → one ≡ none ++ x ∷ [] → two ≡ one ++ y ∷ [] → all ≡ two → x ≡ a → y ≡ b
     → all ≡ a ∷ b ∷ []
 two_of none one two all x y a b n o t l e f = rw (l, t, o, n, e, f) refl
-
--- what an answer says that is no error
-pub ok_of : {Y E A : Type 0} (r : Result Y E) → is_err r ≡ false → OnOk r A → A
-ok_of (Ok v) e h = h
-ok_of (Err x) e h = absurd cc

@@ -1,27 +1,17 @@
 -- Endpoints that enter one after the other, and those of which each is new.
-use Rattle.std.proofs.Common.{◌≡◌, ◌<◌, ◌+◌, ℕ, suc, Bool, true, false, List, [], ◌∷◌, ◌++◌, length, take, drop, get_or, refl, sym, ap, ◌∙◌, inl, inr}
+use Rattle.std.proofs.Common.{◌≡◌, ◌<◌, ◌+◌, ℕ, suc, Bool, true, false, List, [], ◌∷◌, ◌++◌, length, take, drop, get_or, refl, sym, ap, ◌∙◌}
 use Rattle.std.proofs.Math.Seq.{split_at}
 use Rattle.std.proofs.lemmas.List.{take_more}
-use Rattle.std.specs.Prelude.{if◌then◌else◌, ◌==◌, ◌||◌, not, Option, Some, None, IsTrue}
+use Rattle.std.specs.Prelude.{if◌then◌else◌, ◌==◌, not, Option, Some, None, IsTrue}
 use Rattle.std.proofs.lemmas.Bool.{eq-eqb, eqb-true}
-use Rattle.std.proofs.lemmas.List.Folds.{list_any-append}
-use Rattle.handle_table.proofs.ThingsLemmas.{and_left, and_right, not-true, or_cases, or_left, or_right}
+use Rattle.handle_table.proofs.ThingsLemmas.{and_left, and_right, not-true, or_left, or_right}
 use Rattle.bind_model.specs.Laws.{all_differ, has_number}
 use Rattle.bind_model.specs.Machine.{Entry}
 use Rattle.bind_model.specs.Tables.{ids_of_entries}
 use Rattle.endpoint_router.specs.Changes.{Stays}
 use Rattle.endpoint_router.specs.Rows.{Contents, RowSeen, has_place, no_endpoints, row_at, row_of}
 use Rattle.endpoint_router.proofs.Stepping.{last_enters, none_enters}
-use Rattle.core_state.specs.Entries.{AllEnterIf, AreNew, ArePlaced}
-use Rattle.core_state.specs.Turns.{IsSame}
-
-pub ids_more : (es : List Entry) (e : Entry) → ids_of_entries (es ++ e ∷ []) ≡ ids_of_entries es ++ e.id ∷ []
-ids_more [] e = refl
-ids_more (d ∷ es) e = ap (λ (ids : List ℕ). d.id ∷ ids) (ids_more es e)
-
-pub has_last : (es : List Entry) (e : Entry) (id : ℕ)
-    → has_number (ids_of_entries (es ++ e ∷ [])) id ≡ (has_number (ids_of_entries es) id || ((e.id == id) || false))
-has_last es e id = ap (λ (ids : List ℕ). has_number ids id) (ids_more es e) ∙ list_any-append (λ k. k == id) (ids_of_entries es) (e.id ∷ [])
+use Rattle.core_state.specs.Entries.{AllEnterIf, AreNew}
 
 -- the next one of a list whose ids differ
 module _ (xs : List Entry) (e : Entry) (rest : List Entry) where
@@ -55,36 +45,12 @@ module _ (xs : List Entry) (e : Entry) (rest : List Entry) where
           rw (other y (ids_of_entries (ys ++ e ∷ rest)) (there ys) none)
           (go ys (and_right (not (has_number (ids_of_entries (ys ++ e ∷ rest)) y.id)) (all_differ (ids_of_entries (ys ++ e ∷ rest))) d))
 
--- ## Places
-
-pub placed_none : (c : Contents) → ArePlaced c []
-placed_none c id h = absurd (let f : false ≡ true = h in cc)
-
-module _ (old now next : Contents) (xs : List Entry) (e : Entry) (same : IsSame old now) (placed : ArePlaced now xs)
-    (rows : (n : ℕ) → row_at next n ≡ row_at now n) (drawn : next.drawn ≡ now.drawn) where
-  pub same_next : IsSame old next
-  same_next = record { rows = λ n. rows n ∙ same.rows n; drawn = drawn ∙ same.drawn }
-
-  pub placed_next : ((n : ℕ) → has_place next n ≡ ((e.id == n) || has_place now n)) → ArePlaced next (xs ++ e ∷ [])
-  placed_next places id h =
-      places id ∙ elim (or_cases (has_number (ids_of_entries xs) id) ((e.id == id) || false) (sym (has_last xs e id) ∙ h)) [
-        | inl s ↦ or_right (e.id == id) (has_place now id) (placed id s)
-        | inr s ↦ or_left (e.id == id) (has_place now id) (plain (e.id == id) s)
-      ]
-    where
-      plain : (b : Bool) → (b || false) ≡ true → b ≡ true
-      plain true s = refl
-      plain false s = s
-
 -- ## Rows
 
 -- those so far entered, and the places are the same
 pub record EnteredSoFar (xs : List Entry) (old now : Contents) : Type 0 where
   pub enters : AllEnterIf xs true old now
   pub places : (n : ℕ) → has_place now n ≡ has_place old n
-
-pub entered_none : (c : Contents) → EnteredSoFar [] c c
-entered_none c = record { enters = record { rows = λ n. refl; drawn = refl }; places = λ n. refl }
 
 module _ (all xs : List Entry) (e : Entry) (rest : List Entry) (old now : Contents) (split : all ≡ xs ++ e ∷ rest) (new : AreNew old all)
     (so_far : EnteredSoFar xs old now) where

@@ -1,5 +1,5 @@
 -- Events that change nothing but the history, and changes of the state that nobody sees.
-use Rattle.std.proofs.Common.{◌≡◌, Bool, true, false, List, [], ◌∷◌, ◌++◌, length, refl, sym, ap, ◌∙◌, ◌<◌, subst}
+use Rattle.std.proofs.Common.{◌≡◌, Bool, true, false, List, [], ◌∷◌, ◌++◌, length, refl, sym, ap, ◌∙◌}
 use Rattle.std.specs.Prelude.{◌||◌, ◌&&◌, not, ◌==◌}
 use Rattle.std.specs.List.{count_by}
 use Rattle.std.proofs.lemmas.List.{append-nil}
@@ -17,14 +17,7 @@ use Rattle.bind_model.specs.Wire.{Wire}
 use Rattle.bind_model.specs.Machine.{made, made_by, peer, peer_by, gone, gone_by, out, given, handed, takes, written, puts, endpoint_at}
 use Rattle.core_state.specs.Routers.{Routers, router_at}
 use Rattle.core_state.specs.Turns.{IsSame}
-use Rattle.bind_model.specs.declared.commands.Command.{Command}
-use Rattle.bind_model.specs.declared.commands.Refused.TheVariants.{Memory}
-use Rattle.mj_base.specs.declared.limits.TheConstants.{MAX_EVENTS}
-use Rattle.core_state.specs.Agreement.{Agrees, Holds, end_in, past_of, wire_in}
-use Rattle.core_state.specs.declared.state.State.{State}
-use Rattle.end_notices.specs.Table.{AllSame, Lines}
-use Rattle.end_notices.proofs.Quieting.{all_same as notices_same}
-use Rattle.core_state.specs.Doing.{Undone}
+use Rattle.core_state.specs.Agreement.{Agrees, end_in}
 use Rattle.core_state.proofs.After.{out_after, gone_still, end_still}
 use Rattle.core_state.proofs.Steady.{AllAgree, IsSteady, all_same, steady}
 
@@ -102,27 +95,4 @@ unseen wire past pipes before after s a = record {
   serials = a.serials;
   tokens = a.tokens;
   routers = all_same wire past before after s a.routers;
-}
-
--- so a command that changed no more than that comes back
-pub undone : (s : State) (pipes : Contents) (after : Routers) (lines : Lines) (command back : Command) → Holds s → pipes ≡ s.pipes
-    → ((x : EndId) → IsSame (router_at s.endpoints x) (router_at after x)) → AllSame s.tables.notices lines → back ≡ command
-    → length s.log.events < MAX_EVENTS
-    → Undone s (record s { pipes = pipes; endpoints = after; tables = record s.tables { notices = lines } }) command (Memory back)
-undone s pipes after lines command back h e same alike given few = record {
-  holds = record {
-    legal = h.legal;
-    agrees =
-        subst (λ (p : Contents). Agrees (wire_in s) (past_of s) p after) (sym e)
-        (unseen (wire_in s) (past_of s) s.pipes s.endpoints after same h.agrees);
-    tables = record { notices = notices_same (past_of s) s.tables.notices lines alike h.tables.notices; flows = h.tables.flows };
-    responders = h.responders;
-    pendings = h.pendings;
-    few = h.few;
-  };
-  schema = refl;
-  seqs = refl;
-  events = refl;
-  back = given;
-  spent = few;
 }

@@ -7,7 +7,6 @@ use Rattle.mj_base.specs.declared.ids.SeqId.{SeqId}
 use Rattle.handle_table.specs.Things.{has}
 use Rattle.handle_table.specs.declared.thing.Thing.TheVariants.{End}
 use Rattle.message_pipe.specs.Contents.{Contents}
-use Rattle.message_pipe.specs.Ends.{end_of, is_closed, unread_at}
 use Rattle.message_pipe.specs.Mail.{front_of}
 use Rattle.message_pipe.specs.declared.message.Message.{Message}
 use Rattle.bind_model.specs.declared.asked.Asked.TheVariants as asks
@@ -22,11 +21,10 @@ use Rattle.bind_model.specs.Machine.{made, peer, is_gone, unread, endpoint_at}
 use Rattle.bind_model.specs.Replies.{first_of, unless, headed, pause_of, took, took_front}
 use Rattle.bind_model.proofs.Fresh.{kept}
 use Rattle.bind_model.proofs.Kept.{Kept, bound_made}
-use Rattle.core_state.specs.Routers.{Routers, found_at}
-use Rattle.core_taking.specs.steps.Founds.{front_at}
+use Rattle.core_state.specs.Routers.{Routers}
 use Rattle.core_state.specs.Agreement.{Agrees, Holds, past_of, wire_in}
 use Rattle.core_state.specs.Doing.{told_to}
-use Rattle.core_taking.specs.steps.Taking.{front_bound, front_found, front_free, front_in, front_open}
+use Rattle.core_taking.specs.steps.Taking.{front_bound, front_found, front_in, front_open}
 use Rattle.core_state.specs.declared.state.State.{State}
 use Rattle.core_state.proofs.Facts.{closed_is, unread_is, peer_is}
 use Rattle.core_state.proofs.Steady.{found_is}
@@ -78,38 +76,10 @@ module _ (wire : Wire) (past : List Event) (k : Kept wire past) (pipes : Content
   pub front_told : told_of_front next (front_found pipes endpoints y (first_unmet past (waits past y))) ≡ took wire past seq y
   front_told = rw (found_is a y 0) (bound_told (first_unmet past (waits past y)) (endpoint_at wire past y 0) refl)
 
--- what is found is the oldest unread message
-module _ (wire : Wire) (past : List Event) (k : Kept wire past) (pipes : Contents) (endpoints : Routers)
-    (a : Agrees wire past pipes endpoints) (y : EndId) where
-  found_open : (m : Message) (o : Option Message) → front_open pipes y o ≡ Ok m → o ≡ Some m
-  found_open m None e = cc
-  found_open m (Some n) e = cc
-
-  found_free : (m : Message) (pause : Option EndId) → front_free pipes y pause ≡ Ok m → front_of (unread_at pipes.ends y) ≡ Some m
-  found_free m (Some x) e = cc
-  found_free m None e = found_open m (front_of (unread_at pipes.ends y)) e
-
-  found_bound : (m : Message) (pause : Option EndId) (o : Option Endpoint) → front_bound pipes y pause o ≡ Ok m
-      → front_of (unread_at pipes.ends y) ≡ Some m
-  found_bound m pause None e = cc
-  found_bound m pause (Some main) e = go (is_closed (end_of pipes.ends y)) e
-    where
-      go : (b : Bool) → (if b then Err Disconnected else front_free pipes y pause) ≡ Ok m → front_of (unread_at pipes.ends y) ≡ Some m
-      go true e = cc
-      go false e = found_free m pause e
-
-  pub found_front : (m : Message) (pause : Option EndId) → front_found pipes endpoints y pause ≡ Ok m → front_at wire past y ≡ Some m
-  found_front m pause e =
-      sym (ap (λ (ms : List Message). front_of ms) (unread_is wire past k pipes endpoints a y)) ∙ found_bound m pause (found_at endpoints y 0) e
-
 -- what a state says of a take, by what is found
 module _ (s : State) (h : Holds s) (y : EndId) where
   kept_here : Kept (wire_in s) (past_of s)
   kept_here = kept (wire_in s) s.seqs (past_of s) h.legal
-
-  pub front_is : (m : Message) → front_in s y ≡ Ok m → front_at (wire_in s) (past_of s) y ≡ Some m
-  front_is m e =
-      found_front (wire_in s) (past_of s) kept_here s.pipes s.endpoints h.agrees y m (first_unmet (past_of s) (waits (past_of s) y)) e
 
   pub front_read : (seq : SeqId) (m : Message) → front_in s y ≡ Ok m
       → headed (wire_in s) (past_of s) seq y m ((wire_in s).header m.bytes) ≡ told_to s seq (asks.Take y)

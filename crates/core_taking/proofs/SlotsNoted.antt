@@ -25,11 +25,6 @@ Places = List (Option WantedEndpoint)
 
 -- ## One place
 
-pub vacant_there : (slots : Places) (i : ℕ) → is_vacant (slice_get slots i) ≡ true → i < length slots
-vacant_there [] i e = absurd cc
-vacant_there (slot ∷ slots) zero e = omega arith
-vacant_there (slot ∷ slots) (suc i) e = let lt = vacant_there slots i e in omega (arith, lt)
-
 pub vacant_filled : (slots : Places) (i : ℕ) (w : WantedEndpoint) → is_vacant (slice_get slots i) ≡ true → slice_set slots i (Some w) ≡ filled slots i w
 vacant_filled [] i w e = absurd cc
 vacant_filled (None ∷ slots) zero w e = refl
@@ -79,10 +74,6 @@ module _ (schema : Schema) where
       ∙ (sym (noted_append (names schema k (view v)) (each_names schema k (trees (map view (drop (i + 1) vs)))) old)
       ∙ (ap (λ ts. noted (each_names schema k ts) old) (sym (trees_from vs i v lt is)) ∙ before))
 
-  pub each_end : (k : KindTree) (vs : List Value) (i : ℕ) (old all : Places) → length vs ≤ i
-      → noted (each_names schema k (trees (map view (drop i vs)))) old ≡ all → old ≡ all
-  each_end k vs i old all le before = ap (λ (l : List Value). noted (each_names schema k (trees (map view l))) old) (sym (drop_all i vs le)) ∙ before
-
   -- one field's, and then those of the rest
   pub field_on : (fs : List FieldRow) (f : FieldRow) (k : KindTree) (vs : List Value) (i : ℕ) (v : Value) (old new all : Places) → i < length vs
       → v ≡ get_or vs i v → i < length fs → f ≡ get_or fs i f → k ≡ f.kind → new ≡ noted (names schema k (view v)) old
@@ -103,11 +94,6 @@ module _ (schema : Schema) where
       ap (λ (l : List FieldRow). noted (field_names schema (map kind_of l) (trees (map view (drop (i + 1) vs)))) old) (drop_all (i + 1) fs (omega (arith, le)))
       ∙ (ap (λ named. noted named old) (no_fields schema (trees (map view (drop (i + 1) vs))) ∙ sym (no_fields schema (trees (map view (drop i vs)))))
       ∙ (ap (λ (l : List FieldRow). noted (field_names schema (map kind_of l) (trees (map view (drop i vs)))) old) (sym (drop_all i fs le)) ∙ before))
-
-  pub field_end : (fs : List FieldRow) (vs : List Value) (i : ℕ) (old all : Places) → length vs ≤ i
-      → noted (field_names schema (map kind_of (drop i fs)) (trees (map view (drop i vs)))) old ≡ all → old ≡ all
-  field_end fs vs i old all le before =
-      ap (λ (l : List Value). noted (field_names schema (map kind_of (drop i fs)) (trees (map view l))) old) (sym (drop_all i vs le)) ∙ before
 
 -- the tree of a map
 pub view_map : (ks vs : Vec Value Global) → view (values.Map ks vs)

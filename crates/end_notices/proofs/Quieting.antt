@@ -81,10 +81,6 @@ all_quiet event past lines still all = λ x.
 pub none_agree : AllAgree [] []
 none_agree x = begins x
 
--- tables that look the same agree too
-pub all_same : (past : List Event) (old new : Lines) → AllSame old new → AllAgree past old → AllAgree past new
-all_same past old new same all = λ x. subst (λ (seen : Seen). Agrees past x seen) (sym (same x)) (all x)
-
 -- the first wait of an end may be forgotten once it is met
 pub all_forgot : (past : List Event) (y : EndId) (wait : Wait) (old new : Lines) → slice_get (notices_at old y).waits 0 ≡ Some wait
     → is_met past (wait_of wait) ≡ true → BecomesAt without_wait y old new → AllAgree past old → AllAgree past new

@@ -102,10 +102,6 @@ module _ (old new : BTreeMap ℕ (Option Row)) (id drawn : ℕ) (before after : 
               ∙ ap (λ (k : ℕ). is_some (lookup (same k) old.entries)) (eqb-true id n h)
           go false h = refl
 
-  -- the new row stands there
-  pub stands : row_in new.entries id ≡ after
-  stands = ap (λ (o : Option (Option Row)). unwrap_or o None) (found new id ∙ update.1)
-
 -- where the table doesn't have an id, nothing becomes of it
 pub nothing_turns : (m : BTreeMap ℕ (Option Row)) (id drawn : ℕ) (f : RowSeen → RowSeen) → None ≡ get nat_cmp m id → (n : ℕ)
     → row_at (contents_of m drawn) n ≡ (if id == n then option_map f (row_at (contents_of m drawn) n) else row_at (contents_of m drawn) n)

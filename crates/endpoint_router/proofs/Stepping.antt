@@ -1,32 +1,13 @@
--- Tables that agree with the events agree with one event more.
-use Rattle.std.proofs.Common.{◌≡◌, ℕ, ◌+◌, Bool, true, false, List, [], ◌∷◌, ◌++◌, length, Some, refl, sym, ap, ◌∙◌}
+-- Endpoints that enter one after the other.
+use Rattle.std.proofs.Common.{◌≡◌, ℕ, Bool, true, false, List, [], ◌∷◌, ◌++◌, Some, refl, sym, ◌∙◌}
 use Rattle.std.specs.Prelude.{if◌then◌else◌, ◌==◌, Option}
 use Rattle.std.proofs.lemmas.Bool.{eq-eqb, eqb-true, ne_eqb}
-use Rattle.std.proofs.lemmas.List.{length-append}
-use Rattle.mj_base.specs.declared.ids.EndId.{EndId}
 use Rattle.handle_table.proofs.ThingsLemmas.{not_left, not_right}
 use Rattle.bind_model.specs.Laws.{has_number}
-use Rattle.bind_model.specs.Machine.{Entry, associated, associates}
+use Rattle.bind_model.specs.Machine.{Entry}
 use Rattle.bind_model.specs.Tables.{ids_of_entries}
-use Rattle.bind_model.specs.Wire.{Wire}
-use Rattle.bind_model.specs.declared.event.Event.{Event}
-use Rattle.endpoint_router.specs.Agreement.{Agrees, entered_row, row_told}
-use Rattle.endpoint_router.specs.Rows.{Contents, RowSeen, row_at, row_of}
-
--- where the code turns each row as the event does
-pub turned : (wire : Wire) (past : List Event) (event : Event) (old new : EndId → Contents) → ((x : EndId) → Agrees wire past x (old x))
-    → (f : EndId → ℕ → Option RowSeen → Option RowSeen) → ((x : EndId) (id : ℕ) → row_told wire (event ∷ past) x id ≡ f x id (row_told wire past x id))
-    → ((x : EndId) (id : ℕ) → row_at (new x) id ≡ f x id (row_at (old x) id))
-    → ((x : EndId) → (new x).drawn ≡ (old x).drawn + length (associates event.told x))
-    → (x : EndId) → Agrees wire (event ∷ past) x (new x)
-turned wire past event old new agrees f told code more x = record {
-  rows = λ id. code x id ∙ (ap (f x id) ((agrees x).rows id) ∙ sym (told x id));
-  drawn =
-      more x
-      ∙ (ap (λ n. n + length (associates event.told x)) (agrees x).drawn ∙ sym (length-append (associated past x) (associates event.told x)));
-}
-
--- ## Endpoints that enter one after the other
+use Rattle.endpoint_router.specs.Agreement.{entered_row}
+use Rattle.endpoint_router.specs.Rows.{RowSeen, row_of}
 
 -- an id that isn't among them
 pub none_enters : (entries : List Entry) (id : ℕ) (before : Option RowSeen) → has_number (ids_of_entries entries) id ≡ false

@@ -9,7 +9,6 @@ pub mod Late
 pub mod From
 pub mod Comparing
 pub mod Deciding
-pub mod Texts
 pub mod OneValue
 pub mod OneWork
 pub mod SomeWork

@@ -8,7 +8,7 @@ use Rattle.command_line.specs.declared.asked.Command.{Command as Read}
 use Rattle.command_line.specs.declared.asked.Command.TheVariants as read
 use Rattle.command_line.specs.declared.asked.RunAtOnce.{RunAtOnce}
 use Rattle.mojo_tool.specs.Work.{Missing, ComesTo, IsWork}
-use Rattle.mojo_tool.specs.Answers.{Seen, Answers, IsRightText, IsTooLong, RefusedFrom, refused_work}
+use Rattle.mojo_tool.specs.Answers.{Answers, IsRightText, IsTooLong, RefusedFrom, refused_work}
 use Rattle.mojo_tool.specs.Fetched.{FetchedAll, FetchedFront, AllFetched, FetchedUpTo, PartFetched, mojoms_of, last_of}
 use Rattle.mojo_tool.specs.steps.Made.{StoppedAfter, StoppedFrom}
 use Rattle.mojo_tool.specs.steps.Stops.{Stops, IsOf}
@@ -30,9 +30,6 @@ pub short_at_once : (words : List (List ℕ)) (fb : FilesState) (ob eb : SinkSta
 short_at_once words fb ob eb = record { fetched = part_none (command_of words) fb.fetches; quiet = refl; silent = refl }
 
 module _ (words : List (List ℕ)) (command : Command) (e : Some command ≡ command_of words) (fb f : FilesState) (ob eb : SinkState) where
-  seen : SinkState → SinkState → Seen
-  seen o er = record { words = words; files_before = fb; files = f; out_before = ob; out = o; err_before = eb; err = er }
-
   -- of this command
   part : FetchedFront (mojoms_of command ++ last_of command) fb.fetches f.fetches → PartFetched (command_of words) fb.fetches f.fetches
   part front = subst (λ (asked : Option Command). PartFetched asked fb.fetches f.fetches) e front

@@ -212,11 +212,6 @@ pub begins_quoted : (c : ℕ) → kind_of c ≡ Some Quoted → c ≡ 34
 unfolding Tested
 begins_quoted c e = eqb_same c 34 (passes_for c Quoted e)
 
--- what begins a comment
-pub begins_comment : (c : ℕ) → kind_of c ≡ Some Comment → c ≡ 47
-unfolding Tested
-begins_comment c e = eqb_same c 47 (passes_for c Comment e)
-
 -- what begins a symbol
 pub begins_sign : (c : ℕ) → kind_of c ≡ Some Sign → is_some (single_symbol c) ≡ true
 unfolding Tested

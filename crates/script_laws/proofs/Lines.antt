@@ -124,9 +124,6 @@ header : (first : List (List ℕ)) (most : ℕ) → most ≤ MAX_SEQUENCES → D
 header first zero few = inr (λ x. let some = x.1.0 in let none = x.2 in omega (arith, some, none))
 header first (suc most) few = go (same_words first (header_words (suc most))) (header first most (omega (arith, few)))
   where
-    Says : ℕ → Type 0
-    Says n = (seqs : ℕ) × AreSequences seqs × (seqs ≤ n) × (first ≡ header_words seqs)
-
     go : Decided (first ≡ header_words (suc most)) → Decided ((seqs : ℕ) × AreSequences seqs × (seqs ≤ most) × (first ≡ header_words seqs))
         → Decided ((seqs : ℕ) × AreSequences seqs × (seqs ≤ suc most) × (first ≡ header_words seqs))
     go (inl e) d = inl (suc most, (omega arith, few), omega arith, e)

@@ -1,12 +1,12 @@
 -- What stands in a table after one thing is taken from it, or given to it.
-use Rattle.std.proofs.Common.{◌≡◌, ◌<◌, ◌≤◌, ◌+◌, ℕ, zero, suc, Bool, true, false, List, [], ◌∷◌, ◌++◌, length, drop, take, append_assoc, refl, sym, ap, ◌∙◌}
+use Rattle.std.proofs.Common.{◌≡◌, ◌<◌, ◌+◌, ℕ, zero, suc, Bool, true, false, List, [], ◌∷◌, ◌++◌, length, drop, take, append_assoc, refl, sym, ap, ◌∙◌}
 use Rattle.std.proofs.Common.{arith}
 use Rattle.std.specs.Prelude.{◌==◌, ◌||◌, Option, Some, None, slice_get, option_and_then, if◌then◌else◌, set}
 use Rattle.std.specs.Option.{option_map}
 use Rattle.std.proofs.Math.Path.{fun_ext}
 use Rattle.std.proofs.lemmas.Bool.{eqb-true, eq-eqb}
-use Rattle.std.proofs.Math.Seq.{drop-nil, take-nil}
-use Rattle.std.proofs.lemmas.List.{append-nil, set-set}
+use Rattle.std.proofs.Math.Seq.{take-nil}
+use Rattle.std.proofs.lemmas.List.{set-set}
 use Rattle.handle_table.proofs.NumberedLemmas.{get-set}
 use Rattle.call_script.specs.declared.script.NameId.{NameId}
 use Rattle.script_names.specs.Names.{has_name}
@@ -55,11 +55,6 @@ pub drop_at : {A : Type 0} (xs : List A) (k : ℕ) (x : A) → slice_get xs k �
 drop_at [] k x e = absurd cc
 drop_at (y ∷ xs) zero x e = let same : y ≡ x = cc in rw same refl
 drop_at (y ∷ xs) (suc k) x e = let next : suc k + 1 ≡ suc (k + 1) = omega arith in rw next (drop_at xs k x e)
-
-pub drop_past : {A : Type 0} (xs : List A) (k : ℕ) → length xs ≤ k → drop k xs ≡ []
-drop_past [] k h = drop-nil k
-drop_past (x ∷ xs) zero h = absurd (omega arith)
-drop_past (x ∷ xs) (suc k) h = drop_past xs k (omega arith)
 
 module _ {X : Type 0} where
   -- ## One name
@@ -242,13 +237,6 @@ module _ {X : Type 0} where
         → given names (taken ++ x ∷ []) (emptied table n) ≡ first
     back_more x count h e =
         given-snoc names taken n x (emptied table n) (ap (slice_get names) count ∙ here) ∙ (ap (given names taken) (back table n x h) ∙ e)
-
-  -- all were taken
-  pub taken_all : (names : List NameId) (first table : List (Option X)) (taken : List X) (k : ℕ) → length names ≤ k
-      → taken_from first names ≡ option_map (λ (more : List X). taken ++ more) (taken_from table (drop k names)) → taken_from first names ≡ Some taken
-  taken_all names first table taken k past e =
-      e ∙ ap (λ (ns : List NameId). option_map (λ (more : List X). taken ++ more) (taken_from table ns)) (drop_past names k past)
-      ∙ ap (λ (xs : List X). Some xs) (append-nil taken)
 
   -- what was taken from under a list's names, where the list was read so
   pub all_taken : (table : List (Option X)) (list read : List NameId) (o : Option (List X)) (things : List X) → read ≡ list → o ≡ taken_from table read

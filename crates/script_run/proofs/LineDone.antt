@@ -10,18 +10,12 @@ use Rattle.mj_base.specs.declared.ids.EndId.{EndId}
 use Rattle.mj_base.specs.declared.ids.SeqId.{SeqId}
 use Rattle.mj_base.specs.declared.limits.TheConstants.{MAX_EVENTS}
 use Rattle.mj_schema.specs.declared.schema.Schema.{Schema}
-use Rattle.handle_table.specs.declared.thing.Thing.{Thing}
-use Rattle.wire_encoder.specs.declared.prepared.Prepared.{Prepared}
-use Rattle.wire_model.specs.Trees.{Tree, view}
-use Rattle.wire_model.specs.declared.target.Target.{Target}
-use Rattle.bind_model.specs.Pendings.{Half}
-use Rattle.bind_model.specs.Plain.{asked_of, told_of, outgoing_of, responders_in}
+use Rattle.bind_model.specs.Plain.{asked_of, told_of, responders_in}
 use Rattle.bind_model.specs.Replies.{answer, responders_handed}
 use Rattle.bind_model.specs.Seen.{own_of}
 use Rattle.bind_model.specs.WireOf.{wire_of}
 use Rattle.bind_model.specs.declared.asked.Asked.{Asked}
 use Rattle.bind_model.specs.declared.asked.Asked.TheVariants as asks
-use Rattle.bind_model.specs.declared.asked.Outgoing.{Outgoing}
 use Rattle.bind_model.specs.declared.commands.Command.{Command}
 use Rattle.bind_model.specs.declared.commands.Command.TheVariants as commands
 use Rattle.bind_model.specs.declared.commands.Refused.{Refused}
@@ -38,7 +32,7 @@ use Rattle.remote_receiver.specs.Notes.{Kept}
 use Rattle.script_names.specs.Autos.{Due, due_for, replies_to}
 use Rattle.script_names.specs.Names.{Named, named_after}
 use Rattle.script_run.specs.OfScript.{replied}
-use Rattle.script_names.specs.Asking.{asked_by, outgoing}
+use Rattle.script_names.specs.Asking.{asked_by}
 use Rattle.script_run.specs.declared.cut.Cut.{Cut}
 use Rattle.script_run.specs.declared.cut.Cut.TheVariants as cuts
 use Rattle.script_names.specs.declared.names.Names.{Names}
@@ -192,18 +186,6 @@ pub due_some : (o : Option Due) (reply : AutoReply) → Some reply ≡ reply_of 
 due_some None reply e = absurd cc
 due_some (Some (r, other)) reply e = let same : other ≡ reply = cc in (r, ap (due_with r) same)
 
--- a list has one last item
-last_one : (r s : ResponderId) (rs : List ResponderId) → EndsWith r rs → EndsWith s rs → r ≡ s
-last_one r s rs (xs, e) (ys, f) = go xs ys (sym e ∙ f)
-  where
-    go : (xs ys : List ResponderId) → xs ++ r ∷ [] ≡ ys ++ s ∷ [] → r ≡ s
-    go [] [] e = cc
-    go [] (y ∷ []) e = absurd cc
-    go [] (y ∷ z ∷ ys) e = absurd cc
-    go (x ∷ []) [] e = absurd cc
-    go (x ∷ z ∷ xs) [] e = absurd cc
-    go (x ∷ xs) (y ∷ ys) e = let rest : xs ++ r ∷ [] ≡ ys ++ s ∷ [] = cc in go xs ys rest
-
 -- ## A line
 
 module _ (autos : List AutoReply) (before after : Seen) (old new : Kept Plain) (command : Command) (reply : Reply) (saw : SawAt before after command reply)
@@ -309,30 +291,6 @@ takes_done autos end before after old new reply saw went rooms (Ok found) is las
 takes_done autos end before after old new reply saw went rooms (Err cut) is last = tt
 
 -- ## Automatic replies
-
--- what is sent with handles alone
-abbrev with_sent : Target → Tree → List Thing → Outgoing
-with_sent t v hs = record { target = t; parameters = v; handles = hs; pendings = []; moment = None }
-
-same_sent : (p q : Prepared) (handles : List Thing) (pendings : List Half) → p.target ≡ q.target → view p.value ≡ view q.value → handles ≡ []
-    → pendings ≡ [] → outgoing_of p handles pendings None ≡ outgoing q [] [] None
-same_sent p q handles pendings targets values none bare =
-    ap (λ (ps : List Half). outgoing_of p handles ps None) bare
-    ∙ (ap (λ (t : Target). with_sent t (view p.value) handles) targets
-    ∙ (ap (λ (v : Tree). with_sent q.target v handles) values ∙ ap (λ (hs : List Thing). with_sent q.target (view q.value) hs) none))
-
--- it was sent with the last responder
-pub answer_done : (reply : AutoReply) (before after : Seen) (old new : Kept Plain) (responder : ResponderId) (copied : Prepared) (handles : List Thing)
-    (pendings : List Half) (told : Told) (others : List ResponderId) → EndsWith responder others → copied.target ≡ reply.prepared.target
-    → view copied.value ≡ view reply.prepared.value → handles ≡ [] → pendings ≡ []
-    → Went before after old new (asks.Answer responder (outgoing_of copied handles pendings None)) told
-    → (r : ResponderId) → EndsWith r others → Replied (Some (r, reply)) before after old new
-answer_done reply before after old new responder copied handles pendings told others mine targets values none bare went r last = (
-  told,
-  subst (λ (q : ResponderId). Went before after old new (asks.Answer q (outgoing reply.prepared [] [] None)) told) (last_one responder r others mine last)
-      (subst (λ (sent : Outgoing). Went before after old new (asks.Answer responder sent) told)
-      (same_sent copied reply.prepared handles pendings targets values none bare) went),
-)
 
 -- what a line's command asked came
 pub command_came : {A : Type 0} (result : Result A Cut) (before after : Seen) (old new : Kept Plain) (command : Command) (told : Told)

@@ -1,5 +1,5 @@
 -- Queues that give the lines in the order of the draws.
-use Rattle.std.proofs.Common.{◌≡◌, ◌<◌, ◌≤◌, ◌+◌, ◌-◌, ℕ, suc, Bool, true, false, List, [], ◌∷◌, ◌++◌, length, take, drop, get_or, ◌⊎◌}
+use Rattle.std.proofs.Common.{◌≡◌, ◌<◌, ◌≤◌, ◌+◌, ◌-◌, ℕ, suc, Bool, true, false, List, [], ◌∷◌, ◌++◌, length, take, get_or, ◌⊎◌}
 use Rattle.std.proofs.Common.{inl, inr, refl, sym, ap, ◌∙◌, subst, arith}
 use Rattle.std.specs.Prelude.{◌==◌, ◌/◌, ◌%◌, ◌^◌, cond, not, filter, map, nat_lt, set, sum_by, count_by, Option, Some, None, IfSome}
 use Rattle.std.specs.Prelude.{slice_get, option_and_then}
@@ -21,22 +21,10 @@ use Rattle.script_run.specs.steps.Orders.{AreInOrder, AreQueues, GivesNext, HasT
 use Rattle.script_run.specs.steps.Orders.{count_of, has_more, left_from, next_in_order, numbered, queued, waiting, whose}
 use Rattle.script_run.proofs.OrderLists.{kept_passes}
 use Rattle.script_run.proofs.Sequences.{same_seq}
-use Rattle.script_names.proofs.TableLemmas.{drop_at, eqb-turned}
+use Rattle.script_names.proofs.TableLemmas.{eqb-turned}
 use Rattle.script_run.proofs.TurnLemmas.{left_behind}
 
 -- ## The queues that have lines left
-
-pub left_more : (queues : List Queue) (k : ℕ) (queue : Queue) → slice_get queues k ≡ Some queue → has_more queue ≡ true
-    → left_from k (drop k queues) ≡ numbered k ∷ left_from (k + 1) (drop (k + 1) queues)
-left_more queues k queue here more =
-    ap (left_from k) (drop_at queues k queue here)
-    ∙ ap (λ (b : Bool). cond b (numbered k ∷ left_from (k + 1) (drop (k + 1) queues)) (left_from (k + 1) (drop (k + 1) queues))) more
-
-pub left_same : (queues : List Queue) (k : ℕ) (queue : Queue) → slice_get queues k ≡ Some queue → has_more queue ≡ false
-    → left_from k (drop k queues) ≡ left_from (k + 1) (drop (k + 1) queues)
-left_same queues k queue here more =
-    ap (left_from k) (drop_at queues k queue here)
-    ∙ ap (λ (b : Bool). cond b (numbered k ∷ left_from (k + 1) (drop (k + 1) queues)) (left_from (k + 1) (drop (k + 1) queues))) more
 
 -- how many they are
 left_length : (first : ℕ) (queues : List Queue) → length (filter has_more queues) ≡ length (left_from first queues)
@@ -219,10 +207,6 @@ each_more script queues new count queue long each is e n q h =
     go false at f = each n q f
 
 -- ## The lines that were taken
-
-pub taken_none : (script : Script) (order draw : ℕ) (queues : List Queue) → AreQueues script [] queues → draw ≡ next_draw order
-    → HasTaken script order draw [] queues
-taken_none script order draw queues are e = record { left = are; number = e; first = λ k h. absurd (omega arith) }
 
 get_before : (taken : List Line) (l : Line) (k : ℕ) → k < length taken → slice_get (taken ++ l ∷ []) k ≡ slice_get taken k
 get_before taken l k w = get-push l taken k

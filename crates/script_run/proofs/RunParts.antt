@@ -1,5 +1,5 @@
 -- How a run begins, where the joins end, where the lines end, and the whole.
-use Rattle.std.proofs.Common.{◌≡◌, ◌≤◌, ◌<◌, ℕ, zero, suc, Bool, Bor, true, false, List, [], ◌∷◌, ◌++◌, get_or, length, map, refl, sym, ap, ◌∙◌, subst, arith}
+use Rattle.std.proofs.Common.{◌≡◌, ◌<◌, ℕ, zero, suc, Bool, Bor, true, false, List, [], ◌∷◌, ◌++◌, get_or, length, map, refl, sym, ap, ◌∙◌, subst, arith}
 use Rattle.std.specs.Prelude.{◌==◌, Option, Some, None, Result, Ok, Err, IfOk, OnOk, IfNone, replicate, reverse, slice_get, option_and_then, if◌then◌else◌}
 use Rattle.std.specs.List.{AllByRecursion}
 use Rattle.std.specs.Option.{option_map}
@@ -7,7 +7,6 @@ use Rattle.std.proofs.Math.Path.{fun_ext}
 use Rattle.std.proofs.lemmas.List.{append-nil, length-replicate, length-reverse}
 use Rattle.std.proofs.lemmas.Option.{slice_get-map, slice_get_past, slice_get_read}
 use Rattle.mj_base.specs.declared.ids.SeqId.{SeqId}
-use Rattle.mj_base.specs.declared.limits.TheConstants.{MAX_EVENTS}
 use Rattle.mj_schema.specs.declared.schema.Schema.{Schema}
 use Rattle.handle_table.proofs.NumberedLemmas.{get-push}
 use Rattle.handle_table.specs.declared.thing.Thing.{Thing}
@@ -295,9 +294,6 @@ module _ (schema : Schema) (script : Script) (order : ℕ) (drained : Drained) (
   pub ran_notes : drained.notes ≡ Ok ran.notes → ran.notes ≡ callbacks script.seqs ran.history.events
   ran_notes e =
       subst (λ r. IfOk r (λ notes. notes ≡ callbacks script.seqs drained.core.events)) e all.notes ∙ ap (callbacks script.seqs) (sym history)
-
-  pub ran_few : length ran.history.events ≤ MAX_EVENTS
-  ran_few = subst (λ (events : List Event). length events ≤ MAX_EVENTS) (sym history) all.core.few
 
 -- a line behind a reference
 pub said_at : (lines : List (Bor Line)) (k : ℕ) (line : Bor Line) → k < length lines → line ≡ get_or lines k line

@@ -3,7 +3,7 @@ use Rattle.std.proofs.Common.{◌≡◌, ◌<◌, ◌++◌, ℕ, Bool, true, fal
 use Rattle.std.specs.Prelude.{◌==◌, Option, Some, None, cond, map, slice_get, if◌then◌else◌}
 use Rattle.std.specs.List.{AllByRecursion}
 use Rattle.std.specs.Option.{option_map}
-use Rattle.std.proofs.lemmas.Bool.{eqb-true, eq-eqb}
+use Rattle.std.proofs.lemmas.Bool.{eqb-true}
 use Rattle.std.proofs.lemmas.List.{append-nil, map-append}
 use Rattle.std.proofs.lemmas.List.Elements.{filter-append}
 use Rattle.mj_base.specs.declared.ids.EndId.{EndId}
@@ -53,12 +53,6 @@ are_both s (x ∷ xs) ys a b = (a.0, are_both s xs ys a.1 b)
 
 pub own_of_more : (t : SeqId) (events more : List Event) → own_of t (events ++ more) ≡ own_of t events ++ own_of t more
 own_of_more t events more = filter-append (λ (e : Event). e.seq.0 == t.0) events more
-
-pub own_of_same : (s : SeqId) (more : List Event) → AreOf s more → own_of s more ≡ more
-own_of_same s [] are = refl
-own_of_same s (event ∷ more) are =
-    ap (λ (b : Bool). cond b (event ∷ own_of s more) (own_of s more)) (eq-eqb event.seq.0 s.0 (ap (λ (q : SeqId). q.0) are.0))
-    ∙ ap (λ (es : List Event). event ∷ es) (own_of_same s more are.1)
 
 pub own_of_none : (s t : SeqId) (more : List Event) → (t.0 == s.0) ≡ false → AreOf s more → own_of t more ≡ []
 own_of_none s t [] other are = refl

@@ -2,7 +2,7 @@
 use Rattle.std.proofs.Common.{◌≡◌, ◌≢◌, ◌⊎◌, ℕ, zero, suc, ◌<◌, ◌+◌, ◌++◌, false, List, [], ◌∷◌, length, length-append, set, take, get_or, refl, sym, ap, ◌∙◌, subst, arith, Option, Some, None, ⊎_elim}
 use Rattle.std.specs.Prelude.{slice_get, is_err, Result, Ok, Err, IfErr, IfNone, IfSome, OnErr, OnOk}
 use Rattle.std.specs.Result.{result_err}
-use Rattle.std.proofs.lemmas.Option.{slice_get-get_or, slice_get_cases, slice_get_within}
+use Rattle.std.proofs.lemmas.Option.{slice_get_cases, slice_get_within}
 use Rattle.turn_lock.proofs.Lists.{each_at, got_front, got_last, got_snoc}
 
 pub some_is : {X : Type 0} (a b : X) → Some a ≡ Some b → a ≡ b
@@ -60,9 +60,6 @@ pub there_at : {X : Type 0} (xs : List X) (i : ℕ) → i < length xs → (x : X
 there_at {X} xs i below =
     ⊎_elim (λ (h : (x : X) × (i < length xs) × (slice_get xs i ≡ Some x) × (get_or xs i x ≡ x)). (h.0, h.2)) (λ h. absurd (omega arith))
     (slice_get_cases xs i).1
-
-pub row_there : {X : Type 0} (xs ys : List X) (j : ℕ) (x : X) → slice_get xs j ≡ Some x → length ys ≡ length xs → slice_get ys j ≡ Some (get_or ys j x)
-row_there xs ys j x got len = let h = slice_get_within xs j x got in slice_get-get_or ys j x (omega arith)
 
 pub taken_whole : {X : Type 0} (xs ys : List X) (n : ℕ) → n ≡ length xs → take n (xs ++ ys) ≡ xs
 taken_whole [] ys zero e = refl
