@@ -9,7 +9,7 @@ use wire_encoder::{EndpointSide, Prepared};
 /// those of joins and all sequences' own in one row. So a name that two sequences set has two numbers,
 /// each of which stands for what is that sequence's own, and a join's name has the same number in the
 /// lines of all sequences.
-#[derive(Clone, Copy, Debug, PartialEq, Eq)]
+#[derive(Clone, Copy, PartialEq, Eq)]
 pub struct NameId(pub usize);
 
 /// What a line asks. Whether something is held under a name is known only when the script runs.

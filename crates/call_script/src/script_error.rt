@@ -3,7 +3,7 @@
 use thiserror::Error;
 
 /// Why a line is refused.
-#[derive(Clone, Copy, Debug, PartialEq, Eq)]
+#[derive(Clone, Copy, Debug)]
 pub enum LineRefusal {
     /// It has none of the forms, or a number that is out of its range.
     BadLine,
@@ -21,7 +21,7 @@ pub enum LineRefusal {
 }
 
 /// Why a text is no script.
-#[derive(Clone, Copy, Debug, PartialEq, Eq, Error)]
+#[derive(Clone, Copy, Debug, Error)]
 pub enum ScriptError {
     /// The line of this number, from 1, is the first that is refused.
     #[error("a line of the script is refused")]

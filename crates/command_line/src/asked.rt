@@ -6,7 +6,7 @@ ghost use Rattle.command_line.specs.declared.asked.WordsError.TheVariants.{Memor
 use std::alloc::AllocError;
 
 /// Which message of a method is meant.
-#[derive(Clone, Copy, PartialEq, Eq)]
+#[derive(Clone, Copy)]
 pub enum Side {
     /// The one that the remote sends.
     Request,

@@ -1,7 +1,7 @@
 //! What a control says.
 
 /// What a control says to the end that it is read at.
-#[derive(Clone, Copy, Debug, PartialEq, Eq)]
+#[derive(Clone, Copy, PartialEq, Eq)]
 pub enum Control {
     /// The peer of the endpoint of this id is closed.
     Closed(u32),

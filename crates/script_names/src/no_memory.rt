@@ -3,6 +3,6 @@
 use thiserror::Error;
 
 /// There was no memory for the run.
-#[derive(Clone, Copy, Debug, PartialEq, Eq, Error)]
+#[derive(Clone, Copy, Debug, Error)]
 #[error("out of memory")]
 pub struct NoMemory;

@@ -3,7 +3,7 @@
 use thiserror::Error;
 
 /// Why a sequence didn't do all of its lines.
-#[derive(Clone, Copy, Debug, PartialEq, Eq, Error)]
+#[derive(Clone, Copy, Debug, Error)]
 pub enum Cut {
     #[error("out of memory")]
     Memory,
