@@ -25,6 +25,7 @@ gets_response x id request told asked = false
 abbrev pub is_answered : EndId → ℕ → ℕ → List Event → Bool
 is_answered x id request later = list_any (λ (event : Event). gets_response x id request event.told event.asked) later
 
+-- what became of a callback, by whether its response came
 abbrev pub fate_of : Bool → Fate
 fate_of true = Ran
 fate_of false = Dropped

@@ -87,21 +87,26 @@ compat = with_rule (with_rule (new_app (codes "compat")) (one_word (codes "OLD")
 abbrev pub bare : App
 bare = let app = new_app (codes "mojo") in record app { top = record app.top { subcommand_required = true } }
 
--- the program with its commands
+-- the program with its first two commands
 abbrev pub two_commands : App
 two_commands = with_subcommand (with_subcommand bare run.top) print.top
 
+-- and with the next two
 abbrev pub four_commands : App
 four_commands = with_subcommand (with_subcommand two_commands check.top) encode.top
 
+-- and with `decode`
 abbrev pub five_commands : App
 five_commands = with_subcommand four_commands decode.top
 
+-- and with `load`
 abbrev pub six_commands : App
 six_commands = with_subcommand five_commands load.top
 
+-- and with `audit`
 abbrev pub seven_commands : App
 seven_commands = with_subcommand six_commands audit.top
 
+-- the program with all its commands
 abbrev pub tool : App
 tool = with_subcommand seven_commands compat.top

@@ -45,8 +45,8 @@ begun_already b = if is_busy b then Some Busy else None
 abbrev pub nothing_begun : Begun → Option DataWhy
 nothing_begun b = if is_busy b then None else Some Idle
 
--- the reply to what is asked at a side of a data pipe, where the other side is gone or isn't
 module _ (pipe : Pipe) (gone : Bool) where
+  -- the reply to what is asked at a side of a data pipe, where the other side is gone or isn't
   abbrev pub told : Flow → Result Flowed DataWhy
   told (flows.Put bytes all) = first_of (
       begun_already pipe.producer

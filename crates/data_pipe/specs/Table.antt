@@ -33,6 +33,7 @@ abbrev pub pipe_in_line : Option Pipe → Pipe
 pipe_in_line None = empty_pipe 0
 pipe_in_line (Some pipe) = pipe
 
+-- the data pipe of a producer; an empty one where it has no line
 abbrev pub pipe_at : Lines → TokenId → Pipe
 pipe_at lines t = pipe_in_line (line_of lines t)
 
@@ -61,11 +62,12 @@ abbrev pub is_begun_at : Side → Option Pipe → Bool
 is_begun_at side None = false
 is_begun_at side (Some pipe) = is_busy (begun_at side pipe)
 
--- and at a token
+-- and at the side that a token is, if it is one
 abbrev pub is_begun_in : Lines → Option DataToken → Bool
 is_begun_in lines None = false
 is_begun_in lines (Some token) = is_begun_at token.side (line_of lines token.producer)
 
+-- whether something was begun at a token, and didn't end
 abbrev pub is_begun : Lines → TokenId → Bool
 is_begun lines t = is_begun_in lines (side_in lines t)
 
@@ -74,6 +76,7 @@ abbrev pub begun_token : Lines → Thing → Option TokenId
 begun_token lines (End x) = None
 begun_token lines (Token t) = if is_begun lines t then Some t else None
 
+-- the first of two tokens that is there
 abbrev pub or_token : Option TokenId → Option TokenId → Option TokenId
 or_token None other = other
 or_token (Some t) other = Some t

@@ -107,6 +107,7 @@ pub record HasScript (files : List Named) (words : AuditWords) : Type 0 where
   pub script : Script
   pub is : IsScriptOf schema source script
 
+-- so it is where files say what they hold; where none do, nothing is said
 abbrev pub HasScriptAt : Option (List Named) → AuditWords → Type 0
 HasScriptAt None words = Unit {0}
 HasScriptAt (Some files) words = HasScript files words

@@ -30,6 +30,7 @@ module _ (schema : Schema) (script : Script) (after_joins middle : List Event) w
     pub stops : (event : Event) → slice_get events (length middle) ≡ Some event → event.seq.0 < script.seqs
         → next_of (wire_of schema) script after_joins event.seq (own_of event.seq middle) ≡ None
 
+  -- how it ends: wholly where this is true, and else early
   abbrev pub EndsAs : List Event → List Event → Bool → Type 0
   EndsAs events taken true = EndsWhole taken
   EndsAs events taken false = EndsEarly events taken

@@ -12,6 +12,7 @@ pub record Parts : Type 0 where
   pub middle : List Event
   pub taken : List Event
 
+-- the sequence of a number
 abbrev pub seq_at : ℕ → SeqId
 seq_at n = record { 0 = n }
 
@@ -32,6 +33,7 @@ module _ (seqs : ℕ) (join : List Event → Option Next) (line : List Event →
   abbrev pub is_left : Parts → Bool
   is_left p = any_below (λ n. is_some (line p.joins (seq_at n) (own_of (seq_at n) p.middle))) seqs
 
+  -- what a sequence may ask, by whether a join is left, and whether one has anything to ask yet behind the joins
   abbrev pub next_at : Bool → Bool → Parts → SeqId → Option Asked
   next_at true left p s = asks_by (join p.joins) s
   next_at false true p s = line p.joins s (own_of s p.middle)
@@ -41,6 +43,7 @@ module _ (seqs : ℕ) (join : List Event → Option Next) (line : List Event →
   abbrev pub next_in : Parts → SeqId → Option Asked
   next_in p s = next_at (is_some (join p.joins)) (is_left p) p s
 
+  -- with an event, by the same two
   abbrev pub put_at : Bool → Bool → Event → Parts → Parts
   put_at true left event p = record { joins = event ∷ p.joins; middle = []; taken = [] }
   put_at false true event p = record { joins = p.joins; middle = event ∷ p.middle; taken = [] }
@@ -50,6 +53,7 @@ module _ (seqs : ℕ) (join : List Event → Option Next) (line : List Event →
   abbrev pub put : Event → Parts → Parts
   put event p = put_at (is_some (join p.joins)) (is_left p) event p
 
+  -- a past as its joins, its lines and its drain
   abbrev pub parts : List Event → Parts
   parts [] = record { joins = []; middle = []; taken = [] }
   parts (event ∷ past) = put event (parts past)

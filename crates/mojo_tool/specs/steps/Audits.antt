@@ -16,6 +16,7 @@ pub record IsSource (files : List Named) (name : List ℕ) (schema : Schema) : T
   pub script : Script
   pub is : IsScriptOf schema source script
 
+-- so it is where files say what they hold; where none do, nothing is said
 abbrev pub HasSource : Option (List Named) → List ℕ → Schema → Type 0
 HasSource None name schema = Unit {0}
 HasSource (Some files) name schema = IsSource files name schema

@@ -13,6 +13,7 @@ abbrev mutual
   IsShort most (Member tag t) = IsShort most t
   IsShort most t = Unit {0}
 
+  -- nor in any tree of a list
   pub AreShort : ℕ → Trees → Type 0
   AreShort most none = Unit {0}
   AreShort most (more t ts) = IsShort most t × AreShort most ts

@@ -102,6 +102,7 @@ module _ (schema : Schema) (script : Script) (after_joins : List Event) (s : Seq
     pub rests : HaveRested after desks
     pub come : HasCome schema script after_joins s own room agenda
 
+  -- what it did, by whether anything was next for it
   abbrev pub DidAny : Bool → Type 0
   DidAny true = DidNext
   DidAny false = DidNothing
@@ -135,6 +136,7 @@ module _ (schema : Schema) (script : Script) (after_joins middle : List Event) (
     pub none : seq.0 < script.seqs → next_of (wire_of schema) script after_joins seq (own_of seq middle) ≡ None
     pub amid : IsAmid schema script after_joins middle play desks held agendas
 
+  -- what came of this sequence, by whether anything did
   abbrev pub AnyMore : SeqId → Bool → Type 0
   AnyMore seq true = OneMore seq
   AnyMore seq false = NoneMore seq
