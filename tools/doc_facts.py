@@ -28,7 +28,7 @@ WORDS = ('none', 'one', 'two', 'three', 'four', 'five', 'six', 'seven', 'eight',
 COUNTED = ((r'^.*: \d+ texts, \d+ scripts, \d+ events, 0 differ$', 'all that {} walks give of up to five lines'),
            (r'^.*: \d+ lists, \d+ steps, 0 differ$', 'all that {} walks of two sequences give'))
 # The literal programs, as the page of promises has their sizes.
-LITERAL = (('bind_reference', 'past_reference', 'data_reference'), ('wire_reference',), ('names_reference',), ('kinds_reference',),
+LITERAL = (('bind_reference', 'script_reference', 'past_reference', 'data_reference'), ('wire_reference',), ('names_reference',), ('kinds_reference',),
            ('compat_reference',), ('layout_reference',))
 # What it prints of the messages that were worked by hand.
 MESSAGES = r'^.*: \d+ compared, \d+ stand, \d+ refused, 0 differ$'

@@ -7,13 +7,14 @@ ghost use Rattle.call_script.specs.Sound.{IsScript};
 
 use crate::callbacks::callbacks;
 use bind_model::{Event, History};
-use bind_reference::{events_by, left};
+use bind_reference::left;
 use call_script::{Script, ScriptError, read_script};
 use history_reader::read_history;
 use history_text::render;
 use mj_base::Items;
 use mj_base::limits::MAX_FILE_BYTES;
 use mj_schema::Schema;
+use script_reference::events_by;
 use std::alloc::{AllocError, Global};
 use std::sync::{Arc, Wait};
 use std::thread::Threads;

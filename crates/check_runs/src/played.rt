@@ -7,7 +7,7 @@ ghost use Rattle.call_script.specs.Sound.{IsScript};
 
 use crate::callbacks::callbacks;
 use bind_model::History;
-use bind_reference::{events_of, left};
+use bind_reference::left;
 use call_script::{Script, ScriptError, read_script};
 use handle_table::Thing;
 use history_text::{Note, render};
@@ -16,6 +16,7 @@ use mj_base::limits::MAX_FILE_BYTES;
 use mj_schema::Schema;
 use past_reference::same::are_same_events;
 use script_names::NoMemory;
+use script_reference::events_of;
 use script_run::{Ran, run_alone};
 use std::alloc::{AllocError, Global};
 use std::io;

@@ -4,10 +4,9 @@
 
 use crate::names::{Names, is_join};
 use crate::needs::{asks, outgoing};
-use crate::replies::answer;
 use crate::replying::reply_to;
-use crate::turns::ready;
 use bind_model::{Asked, Event};
+use bind_reference::{answer, ready};
 use call_script::{Line, Script};
 use mj_base::SeqId;
 use mj_base::limits::MAX_EVENTS;
