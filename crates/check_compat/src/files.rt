@@ -4,7 +4,7 @@ use crate::bases::{Base, Choice, take_line};
 use crate::choices::Choices;
 use crate::compare::compare;
 use crate::tally::Tally;
-use check_files::{MOST_BYTES, bytes_of};
+use check_files::text_of;
 use std::alloc::{AllocError, Global};
 use std::io;
 use std::io::Print;
@@ -117,13 +117,10 @@ fn run_files<R: std::rt::Files + Print + AllocGlobal>(
     total: &mut Tally,
 ) -> io::Result<()> {
     for word in words {
-        let name = word.as_str();
-        let bytes = bytes_of(rt, name, MOST_BYTES);
-        match bytes.as_ref().map(|bytes| str::from_utf8(bytes.as_slice())) {
-            Some(Ok(text)) => compare_text(rt, text, total)?,
-            _ => {
+        match text_of(rt, word.as_str())? {
+            Some(text) => compare_text(rt, text.as_str(), total)?,
+            None => {
                 total.differ = total.differ.saturating_add(1);
-                println!(rt; "{name}: it can't be read")?;
             }
         }
     }

@@ -1,10 +1,12 @@
-//! What programs that compare share: files that they read whole, and numbers that seem to be drawn.
+//! What programs that compare share: files that they read whole, as bytes or as a text, and numbers that seem to be drawn.
 #![tactic(auto)]
 
 mod draws;
 
 pub use draws::Draws;
 use mj_io::{Fetched, Files, RealFiles};
+use std::io;
+use std::io::Print;
 
 /// The bytes that a file of cases has at most.
 pub const MOST_BYTES: u64 = 1_048_576;
@@ -16,5 +18,25 @@ pub fn bytes_of<R: std::rt::Files + AllocGlobal>(rt: &R, name: &str, most: u64) 
     match files.fetch(rt.alloc(), name, most, &mut bytes) {
         Ok(Fetched::Whole) => Some(bytes),
         Ok(Fetched::Longer) | Err(_) => None,
+    }
+}
+
+/// Says that a file can't be read.
+fn unread<R: Print + AllocGlobal>(rt: &R, name: &str) -> io::Result<Option<String>> {
+    println!(rt; "{name}: it can't be read")?;
+    Ok(None)
+}
+
+/// The text of a file of cases; none where it can't be read, has more bytes than such a file or isn't UTF-8, which is said.
+pub fn text_of<R: std::rt::Files + Print + AllocGlobal>(
+    rt: &R,
+    name: &str,
+) -> io::Result<Option<String>> {
+    let Some(bytes) = bytes_of(rt, name, MOST_BYTES) else {
+        return unread(rt, name);
+    };
+    match String::from_utf8(bytes) {
+        Ok(text) => Ok(Some(text)),
+        Err(_) => unread(rt, name),
     }
 }

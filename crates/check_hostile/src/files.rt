@@ -4,7 +4,7 @@ use crate::edits::hostile;
 use crate::judge::{judge, judge_alone};
 use crate::seeds::{InputSort, Seed, Seeds, schemas_of};
 use crate::tally::Tally;
-use check_files::{Draws, MOST_BYTES, bytes_of};
+use check_files::{Draws, text_of};
 use check_messages::compare::Verdict;
 use mj_schema::Schema;
 use std::alloc::{AllocError, Global};
@@ -51,13 +51,9 @@ fn read_files<R: std::rt::Files + Print + AllocGlobal>(
         if name == "times" {
             continue;
         }
-        let bytes = bytes_of(rt, name, MOST_BYTES);
-        match bytes.as_ref().map(|bytes| str::from_utf8(bytes.as_slice())) {
-            Some(Ok(text)) => read_text(rt, text, &mut seeds, tally)?,
-            _ => {
-                tally.differs();
-                println!(rt; "{name}: it can't be read")?;
-            }
+        match text_of(rt, name)? {
+            Some(text) => read_text(rt, text.as_str(), &mut seeds, tally)?,
+            None => tally.differs(),
         }
     }
     Ok(seeds)

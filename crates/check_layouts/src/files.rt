@@ -1,7 +1,7 @@
 //! The files of layouts that words name, each line compared.
 
 use crate::layout::Wanted;
-use check_files::{MOST_BYTES, bytes_of};
+use check_files::text_of;
 use std::io;
 use std::io::Print;
 
@@ -39,13 +39,10 @@ fn run_files<R: std::rt::Files + Print + AllocGlobal>(
 ) -> io::Result<Tally> {
     let mut tally = Tally::default();
     for word in words {
-        let name = word.as_str();
-        let bytes = bytes_of(rt, name, MOST_BYTES);
-        match bytes.as_ref().map(|bytes| str::from_utf8(bytes.as_slice())) {
-            Some(Ok(text)) => compare(rt, text, &mut tally)?,
-            _ => {
+        match text_of(rt, word.as_str())? {
+            Some(text) => compare(rt, text.as_str(), &mut tally)?,
+            None => {
                 tally.failed = tally.failed.saturating_add(1);
-                println!(rt; "{name}: it can't be read")?;
             }
         }
     }

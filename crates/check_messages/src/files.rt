@@ -3,7 +3,7 @@
 use crate::case::{Case, cases};
 use crate::compare::{Setting, Verdict, compare};
 use crate::edits::{Tally, compare_cuts, compare_edits};
-use check_files::{MOST_BYTES, bytes_of};
+use check_files::text_of;
 use std::alloc::{AllocError, Global};
 use std::io;
 use std::io::Print;
@@ -62,13 +62,10 @@ fn run_files<R: std::rt::Files + Print + AllocGlobal>(
 ) -> io::Result<Tally> {
     let mut tally = Tally::default();
     for word in words {
-        let name = word.as_str();
-        let bytes = bytes_of(rt, name, MOST_BYTES);
-        match bytes.as_ref().map(|bytes| str::from_utf8(bytes.as_slice())) {
-            Some(Ok(text)) => compare_text(rt, text, &mut tally)?,
-            _ => {
+        match text_of(rt, word.as_str())? {
+            Some(text) => compare_text(rt, text.as_str(), &mut tally)?,
+            None => {
                 tally.differ = tally.differ.saturating_add(1);
-                println!(rt; "{name}: it can't be read")?;
             }
         }
     }

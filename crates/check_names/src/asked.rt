@@ -4,7 +4,7 @@ use crate::case::{Case, take_line};
 use crate::compare::compare;
 use crate::made::{made_sources, made_text};
 use crate::tally::Tally;
-use check_files::{MOST_BYTES, bytes_of};
+use check_files::text_of;
 use std::io;
 use std::io::Print;
 
@@ -73,12 +73,11 @@ fn compare_file<R: std::rt::Files + Print + AllocGlobal>(
     name: &str,
     tally: &mut Tally,
 ) -> io::Result<()> {
-    let bytes = bytes_of(rt, name, MOST_BYTES);
-    match bytes.as_ref().map(|bytes| str::from_utf8(bytes.as_slice())) {
-        Some(Ok(text)) => compare_cases(rt, text, tally),
-        _ => {
+    match text_of(rt, name)? {
+        Some(text) => compare_cases(rt, text.as_str(), tally),
+        None => {
             tally.differs();
-            println!(rt; "{name}: it can't be read")
+            Ok(())
         }
     }
 }

@@ -3,7 +3,7 @@
 use crate::played::Played;
 use crate::tally::Tally;
 use crate::walk::{Walk, walks};
-use check_files::{MOST_BYTES, bytes_of};
+use check_files::text_of;
 use mj_schema::Schema;
 use std::io;
 use std::io::Print;
@@ -105,12 +105,11 @@ fn compare_file<R: std::rt::Files + Print + AllocGlobal>(
     name: &str,
     tally: &mut Tally,
 ) -> io::Result<()> {
-    let bytes = bytes_of(rt, name, MOST_BYTES);
-    match bytes.as_ref().map(|bytes| str::from_utf8(bytes.as_slice())) {
-        Some(Ok(text)) => compare_walks(rt, text, tally),
-        _ => {
+    match text_of(rt, name)? {
+        Some(text) => compare_walks(rt, text.as_str(), tally),
+        None => {
             tally.differ = tally.differ.saturating_add(1);
-            println!(rt; "{name}: it can't be read")
+            Ok(())
         }
     }
 }

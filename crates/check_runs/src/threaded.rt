@@ -10,7 +10,7 @@ use crate::at_once::{Wanted, is_wanted, run_text, script_of, wanted_run};
 use crate::held::{HELD_RUNS, held_runs};
 use crate::walk::{Walk, walks};
 use call_script::Script;
-use check_files::{MOST_BYTES, bytes_of};
+use check_files::text_of;
 use mj_schema::Schema;
 use std::alloc::AllocError;
 use std::io;
@@ -202,12 +202,11 @@ fn compare_file<R: std::rt::Files + Print + AllocGlobal + Wait + Threads + Sync>
     more: Option<u64>,
     total: &mut Counts,
 ) -> io::Result<()> {
-    let bytes = bytes_of(rt, name, MOST_BYTES);
-    match bytes.as_ref().map(|bytes| str::from_utf8(bytes.as_slice())) {
-        Some(Ok(text)) => compare_walks(rt, text, more, total),
-        _ => {
+    match text_of(rt, name)? {
+        Some(text) => compare_walks(rt, text.as_str(), more, total),
+        None => {
             total.differ = total.differ.saturating_add(1);
-            println!(rt; "{name}: it can't be read")
+            Ok(())
         }
     }
 }
