@@ -17,10 +17,11 @@ use line_parts::keywords::keyword;
 use line_parts::lists::things;
 use line_parts::messages::outgoing;
 use line_parts::names::Names;
-use line_parts::numbers::{index, moment};
+use line_parts::numbers::moment;
 use mj_base::EndId;
 use mj_schema::Schema;
 use std::alloc::Global;
+use value_text::index;
 use wire_encoder::EndpointSide;
 use wire_model::MessageSide;
 

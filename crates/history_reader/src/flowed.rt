@@ -8,8 +8,8 @@ use bind_model::{Flowed, Told};
 use byte_rules::{Stop, expect};
 use line_parts::hexadecimal::hexadecimal;
 use line_parts::ids::token;
-use line_parts::numbers::index;
 use std::alloc::Global;
+use value_text::index;
 
 /// The word of what a data pipe did.
 #[derive(Clone, Copy)]

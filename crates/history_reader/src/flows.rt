@@ -8,8 +8,8 @@ use bind_model::{Asked, Flow};
 use byte_rules::{Stop, expect};
 use line_parts::hexadecimal::hexadecimal;
 use line_parts::ids::thing;
-use line_parts::numbers::index;
 use std::alloc::Global;
+use value_text::index;
 
 /// The word of what is asked of a data pipe; true where all is asked for.
 #[derive(Clone, Copy)]

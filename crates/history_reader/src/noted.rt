@@ -6,7 +6,7 @@ ghost use Rattle.history_reader.specs.Noted.{version_or_none, control, queried, 
 use crate::reasons::ends;
 use bind_model::{Noted, Notified, Told};
 use byte_rules::{Stop, expect, is_next};
-use line_parts::numbers::index;
+use value_text::index;
 
 /// The word of a control that was consumed.
 #[derive(Clone, Copy)]

@@ -7,8 +7,8 @@ use crate::arrows::asks;
 use bind_model::{Asked, Notice};
 use byte_rules::{Stop, expect};
 use line_parts::ids::{end, endpoint};
-use line_parts::numbers::index;
 use mj_base::EndId;
+use value_text::index;
 
 /// The word of a command that writes a control.
 #[derive(Clone, Copy)]

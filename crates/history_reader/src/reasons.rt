@@ -10,8 +10,9 @@ use bind_model::{BadWhy, Told, Why};
 use byte_rules::{Stop, expect};
 use line_parts::ids::{end, sequence, token};
 use line_parts::keywords::keyword;
-use line_parts::numbers::{index, wide};
+use line_parts::numbers::wide;
 use mj_base::{Fault, FaultKind};
+use value_text::index;
 
 /// What a refusal says behind its word.
 #[derive(Clone, Copy)]

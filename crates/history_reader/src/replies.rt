@@ -16,9 +16,10 @@ use line_parts::keywords::keyword;
 use line_parts::lists::{pendings, things};
 use line_parts::messages::message;
 use line_parts::names::Names;
-use line_parts::numbers::{index, moment, wide};
+use line_parts::numbers::{moment, wide};
 use mj_schema::Schema;
 use std::alloc::Global;
+use value_text::index;
 use wire_model::{MessageSide, Target};
 
 /// The word that a reply begins with; of what a take got, true where a moment follows.

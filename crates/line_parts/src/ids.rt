@@ -3,11 +3,12 @@
 ghost use Rattle.byte_rules.specs.Reading.{Gives};
 ghost use Rattle.line_parts.specs.Ids.{sequence, end, token, thing, endpoint, pending, responder};
 
-use crate::numbers::{index, wide};
+use crate::numbers::wide;
 use bind_model::{PendingId, ResponderId};
 use byte_rules::{Stop, expect, is_next};
 use handle_table::{Thing, TokenId};
 use mj_base::{EndId, SeqId};
+use value_text::index;
 
 /// A sequence by its number, and the bytes after it.
 pub fn sequence(bytes: &[u8]) -> Result<(SeqId, &[u8]), Stop>

@@ -15,6 +15,7 @@ mod values;
 mod writing;
 
 pub use laws::{one_text, texts_are_read_back};
+pub use numbers::{index, number};
 pub use printing::write_value;
 pub use reading::read_value;
 pub use text_error::TextError;
