@@ -21,12 +21,12 @@ ghost use Rattle.readable_marks.specs.steps.Rooms.{EndsIn, field_marks, field_va
 
 use crate::absent::{add_absent, copied};
 use crate::adding::{add, put_into_union, struct_of};
-use crate::scalars::{endpoint, endpoint_remote, handle, remote, whole_at};
+use crate::scalars::{endpoint, endpoint_remote, handle, remote};
 use mj_base::limits::MAX_DEPTH;
 use mj_schema::{FieldRow, KindNode, Schema, StructRow};
 use schema_rows::{absent, find_struct, find_union, has_value, kind_in, present, size_of};
 use std::alloc::{AllocError, Global};
-use wire_model::{Value, bit_at, le32, le64};
+use wire_model::{Value, bit_at, le32, le64, whole_at};
 
 /// Adds what stands at a place, where at most `left` more levels of objects may be behind it.
 #[cycle(decode)]

@@ -11,11 +11,10 @@ ghost use Rattle.readable_marks.specs.Readable.{AreReadable};
 ghost use Rattle.wire_view.specs.PartValues.{tree_in, object_in};
 ghost use Rattle.wire_view.specs.Views.{IsOf};
 
-use crate::numbers::whole_at;
 use crate::objects::{array_at, inline_at, map_at, string_at, struct_at};
 use crate::parts::Part;
 use mj_schema::{KindNode, Schema};
-use wire_model::{NO_INDEX, bit_at, le32, le64};
+use wire_model::{NO_INDEX, bit_at, le32, le64, whole_at};
 
 /// A handle or a receiver, or null.
 #[inline(always)]

@@ -5,7 +5,6 @@
 mod absent;
 mod cells;
 mod message;
-mod numbers;
 mod objects;
 mod on;
 mod parts;
