@@ -1,14 +1,13 @@
 //! What fields read as that the version of a struct lacks.
 
 ghost use Rattle.std.specs.Prelude.{◌≡◌, IfOk, OnOk, map, slice_get};
-ghost use Rattle.std.specs.Option.{option_copied};
 ghost use Rattle.mj_schema.specs.KindTrees.{kind_view};
-ghost use Rattle.wire_model.specs.Absent.{literal_value, has_zero, first_number, enum_number, absent_kind, absent_field, absent_values};
+ghost use Rattle.wire_model.specs.Absent.{literal_value, absent_kind, absent_field, absent_values};
 ghost use Rattle.wire_model.specs.Trees.{view, trees};
 ghost use Rattle.wire_decoder.specs.steps.Joined.{joined};
 
-use mj_schema::{EnumRow, FieldRow, KindNode, Literal, MemberRow, MemberRows, Schema};
-use schema_rows::find_enum;
+use mj_schema::{FieldRow, KindNode, Literal, Schema};
+use schema_rows::{enum_number, find_enum};
 use std::alloc::{AllocError, Global};
 use wire_model::Value;
 
@@ -29,37 +28,6 @@ fn literal_value(alloc: Global, literal: &Literal) -> Result<Value, AllocError>
         Literal::Bool(bool) => Ok(Value::Bool(*bool)),
         Literal::Whole(number) => Ok(Value::Whole(*number)),
         Literal::Text(bytes) => Ok(Value::Text(copied(alloc, bytes.as_slice())?)),
-    }
-}
-
-/// 0 where a member has it, else the number of the first member.
-fn first_number(members: &MemberRows) -> i32
-    ensures { result ≡ first_number members.now }
-{
-    first_unless(members.has_number(0), members.as_slice())
-}
-
-/// 0 where that is so, else the number of the first member.
-fn first_unless(zero: bool, members: &[MemberRow]) -> i32
-    requires { zero ≡ has_zero members.now }
-    ensures { result ≡ first_number members.now }
-{
-    match members {
-        [first, ..] if !zero => first.number,
-        _ => 0,
-    }
-}
-
-/// The number of an enum's default member, or else its first number.
-fn enum_number(row: Option<&EnumRow>) -> i32
-    ensures { result ≡ enum_number (option_copied row.entry) }
-{
-    match row {
-        Some(row) => match row.default {
-            Some(number) => number,
-            None => first_number(&row.members),
-        },
-        None => 0,
     }
 }
 

@@ -1,19 +1,19 @@
 //! What a field reads as that the version of a struct lacks.
 
 ghost use Rattle.std.specs.Prelude.{◌≡◌, IsTrue, true, None};
-ghost use Rattle.std.specs.Option.{option_copied, option_map_or};
+ghost use Rattle.std.specs.Option.{option_map_or};
 ghost use Rattle.std.specs.Str.{is_utf8};
 ghost use Rattle.mj_schema.specs.KindTrees.{kind_view};
 ghost use Rattle.mj_schema.specs.Sound.{is_text};
-ghost use Rattle.wire_model.specs.Absent.{literal_value, has_zero, first_number, enum_number, absent_kind, absent_field};
+ghost use Rattle.wire_model.specs.Absent.{literal_value, absent_kind, absent_field};
 ghost use Rattle.wire_view.specs.PartValues.{tree_in, object_in};
 ghost use Rattle.wire_view.specs.Parts.{number_of};
 
 use crate::parts::Part;
 use crate::texts::Utf8;
 use mj_base::Items;
-use mj_schema::{EnumRow, FieldRow, KindNode, Literal, MemberRow, MemberRows, Schema};
-use schema_rows::find_enum;
+use mj_schema::{FieldRow, KindNode, Literal, Schema};
+use schema_rows::{enum_number, find_enum};
 
 /// A string that a file has written out.
 fn text_of(bytes: &Items<u8>) -> Utf8<'_>
@@ -33,37 +33,6 @@ fn literal_value<'a>(literal: &'a Literal) -> Part<'a>
         Literal::Bool(bool) => Part::Bool(*bool),
         Literal::Whole(number) => Part::Whole(*number),
         Literal::Text(bytes) => Part::Text(text_of(bytes)),
-    }
-}
-
-/// 0 where a member has it, else the number of the first member.
-fn first_number(members: &MemberRows) -> i32
-    ensures { result ≡ first_number members.now }
-{
-    first_unless(members.has_number(0), members.as_slice())
-}
-
-/// 0 where that is so, else the number of the first member.
-fn first_unless(zero: bool, members: &[MemberRow]) -> i32
-    requires { zero ≡ has_zero members.now }
-    ensures { result ≡ first_number members.now }
-{
-    match members {
-        [first, ..] if !zero => first.number,
-        _ => 0,
-    }
-}
-
-/// The number of an enum's default member, or else its first number.
-fn enum_number(row: Option<&EnumRow>) -> i32
-    ensures { result ≡ enum_number (option_copied row.entry) }
-{
-    match row {
-        Some(row) => match row.default {
-            Some(number) => number,
-            None => first_number(&row.members),
-        },
-        None => 0,
     }
 }
 
