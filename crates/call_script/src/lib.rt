@@ -16,4 +16,4 @@ pub use reading::read_script;
 pub use script::{AutoReply, Command, Line, NameId, Script};
 pub use script_error::{LineRefusal, ScriptError};
 pub use script_forms::MAX_SEQUENCES;
-pub use targets::{split_word, target_in};
+pub use targets::{parameters_kind, parameters_of, split_word, target_in};

@@ -15,7 +15,7 @@ use mj_schema::{Kind, KindNode, MethodRow, Schema};
 use wire_model::{MessageSide, Target};
 
 /// The kind of the parameters of a struct's number.
-pub(crate) fn parameters_kind(number: u32) -> Kind
+pub fn parameters_kind(number: u32) -> Kind
     ensures { result ≡ StructKind number false }
 {
     Kind::new(KindNode::Struct {
@@ -119,7 +119,7 @@ fn target_named(indexed: &IndexedSchema, side: MessageSide, word: &[u8]) -> Opti
 }
 
 /// The number of the struct of a target's parameters.
-fn parameters_of(schema: &Schema, target: Target) -> Option<u32>
+pub fn parameters_of(schema: &Schema, target: Target) -> Option<u32>
     ensures { result ≡ parameters_of schema.now target }
 {
     let method = schema.method(target.interface, target.method)?;

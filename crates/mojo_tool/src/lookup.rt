@@ -1,14 +1,12 @@
 //! The interface and the method that words name.
 
 ghost use Rattle.std.specs.Prelude.{◌≡◌};
-ghost use Rattle.wire_encoder.specs.Prepared.{parameters_of};
 ghost use Rattle.call_script.specs.Targets.{target_named, message_named, target_between};
 ghost use Rattle.mojo_tool.specs.Targets.{side_of};
-ghost use Rattle.mojo_tool.specs.Work.{parameters_kind};
 
-use call_script::{split_word, target_in};
+use call_script::{parameters_of, split_word, target_in};
 use command_line::Side;
-use mj_schema::{Kind, KindNode, Schema};
+use mj_schema::Schema;
 use wire_model::{MessageSide, Target};
 
 /// Which message of a method the words mean.
@@ -19,16 +17,6 @@ pub fn side_of(side: Side) -> MessageSide
         Side::Request => MessageSide::Request,
         Side::Response => MessageSide::Response,
     }
-}
-
-/// The kind of the parameters of a struct's number.
-pub fn parameters_kind(number: u32) -> Kind
-    ensures { result ≡ parameters_kind number }
-{
-    Kind::new(KindNode::Struct {
-        number,
-        nullable: false,
-    })
 }
 
 /// A message of the method of a name in the interface of a full name.
@@ -52,17 +40,6 @@ fn target_named(schema: &Schema, side: MessageSide, word: &str) -> Option<Target
     match split_word(word.as_bytes()) {
         Some((interface, method)) => target_between(schema, side, interface, method),
         None => None,
-    }
-}
-
-/// The number of the struct of a target's parameters.
-fn parameters_of(schema: &Schema, target: Target) -> Option<u32>
-    ensures { result ≡ parameters_of schema.now target }
-{
-    let method = schema.method(target.interface, target.method)?;
-    match target.side {
-        MessageSide::Request => Some(method.request),
-        MessageSide::Response => method.response,
     }
 }
 
