@@ -8,9 +8,9 @@ import sys
 
 from message_reader import WIDTHS
 
-MOST_BRACKETS = 512
+MAX_BRACKETS = 512
 # a bracket in a bracket is some calls in one another
-sys.setrecursionlimit(max(sys.getrecursionlimit(), 16 * MOST_BRACKETS))
+sys.setrecursionlimit(max(sys.getrecursionlimit(), 16 * MAX_BRACKETS))
 MOST_INDEX = 2 ** 32 - 1
 # How many numbers of an enum are named.
 SOME = 8
@@ -78,8 +78,8 @@ class Walk:
     def opened(self, letter, told):
         if self.here() != letter.encode():
             self.stop(f'{told}: `{letter}` begins it')
-        if self.open == MOST_BRACKETS:
-            self.stop(f'no more than {MOST_BRACKETS} brackets are open at once')
+        if self.open == MAX_BRACKETS:
+            self.stop(f'no more than {MAX_BRACKETS} brackets are open at once')
         self.open, self.at = self.open + 1, self.at + 1
 
     def closed(self, letter, why):

@@ -1,11 +1,12 @@
 -- How many brackets are open at once in the text of a value, at most: those of arrays, maps, structs and unions.
 use Rattle.std.specs.Prelude.{ℕ, suc, max}
+use Rattle.mj_base.specs.declared.limits.TheConstants as limits
 use Rattle.wire_model.specs.Trees.{Tree, Trees, Flag, Whole, Text, Items, Pairs, Fields, Member, Unknown, Handle, Remote, Endpoint, EndpointRemote, Null}
 use Rattle.wire_model.specs.Trees.{none, more}
 
 -- how many brackets may be open at once in the text of a value
 abbrev pub MAX_BRACKETS : ℕ
-MAX_BRACKETS = 512
+MAX_BRACKETS = limits.MAX_BRACKETS
 
 abbrev mutual
   -- a map's two lists have no brackets of their own, but the map has one

@@ -11,12 +11,10 @@ ghost use Rattle.value_text.specs.steps.Reading.{Agrees};
 use crate::text_error::TextError;
 use crate::values::value;
 use byte_rules::Stop;
+use mj_base::limits::MAX_BRACKETS;
 use mj_schema::{Kind, Schema};
 use std::alloc::Global;
 use wire_model::Value;
-
-/// How many brackets may be open at once.
-const MOST_BRACKETS: u32 = 512;
 
 /// What the reading of a kind says of all the bytes.
 #[tactic(auto, unfolding(crate::specs::Rules::value))]
@@ -26,7 +24,7 @@ fn judge(alloc: Global, schema: &Schema, kind: &Kind, bytes: &[u8]) -> Result<Va
     match value(
         alloc,
         schema,
-        MOST_BRACKETS,
+        MAX_BRACKETS,
         kind.node(),
         kind.has_flag(),
         bytes,
