@@ -1,7 +1,7 @@
 //! What two groups of two sequences do.
 
 use crate::moves::{Method, Move, Turn};
-use bind_model::Notice::Flush;
+use bind_model::Notice::{Flush, Query};
 use bind_model::PendingId;
 use handle_table::{Thing, TokenId};
 use mj_base::{EndId, FaultKind};
@@ -181,7 +181,7 @@ pub const EDITS: &[Edit] = &[
 /// Without handles.
 pub const NO_THINGS: &[Thing] = &[];
 
-/// The ends of the second group's first pipe, and of the two that its first sequence has alone.
+/// The ends of the second group's first pipe, and of the three that its first sequence has alone.
 const C: EndId = EndId { seq: 2, serial: 0 };
 
 const D: EndId = EndId { seq: 3, serial: 0 };
@@ -194,6 +194,10 @@ const K: EndId = EndId { seq: 2, serial: 3 };
 
 const L: EndId = EndId { seq: 2, serial: 4 };
 
+const M: EndId = EndId { seq: 2, serial: 5 };
+
+const N: EndId = EndId { seq: 2, serial: 6 };
+
 /// The producer and the consumer of its data pipe.
 const PRODUCER: Thing = Thing::Token(TokenId { seq: 2, serial: 0 });
 
@@ -205,7 +209,8 @@ const MADE_AT_C: PendingId = PendingId { end: C, id: A1 };
 const CAME_TO_D: PendingId = PendingId { end: D, id: A1 };
 
 /// What the second group does: a handle and an endpoint are sent, a request is answered, an end is flushed and another waits
-/// for that, bytes go through a data pipe, and two requests lie unread in the end.
+/// for that, a version is asked for and told, bytes go through a data pipe, an end is closed with what goes with it, its consumer
+/// among that, and two requests lie unread in the end.
 pub const GROUP: &[Turn] = &[
     Turn(2, Move::Join(3)),
     Turn(2, Move::Bind(Thing::End(C), Remote, P)),
@@ -225,6 +230,9 @@ pub const GROUP: &[Turn] = &[
     Turn(2, Move::Take(C)),
     Turn(2, Move::Notify(C, Flush)),
     Turn(3, Move::Take(D)),
+    Turn(2, Move::Notify(C, Query(0))),
+    Turn(3, Move::Take(D)),
+    Turn(2, Move::Take(C)),
     Turn(2, Move::Data(4)),
     Turn(2, Move::Put(PRODUCER, &[1, 2, 3], false)),
     Turn(2, Move::Get(CONSUMER, 2, false)),
@@ -236,6 +244,11 @@ pub const GROUP: &[Turn] = &[
     Turn(2, Move::Notify(K, Flush)),
     Turn(2, Move::Take(L)),
     Turn(2, Move::CloseHandle(Thing::End(E))),
+    Turn(2, Move::Join(2)),
+    Turn(2, Move::Raw(Thing::End(M), &[7], &[CONSUMER])),
+    Turn(2, Move::Call(K, 0, GIVE, &[Thing::End(N)], &[])),
+    Turn(2, Move::CloseEndpoint(L, 0)),
+    Turn(2, Move::Put(PRODUCER, &[4], false)),
     Turn(2, Move::Call(C, 0, ASK, &[], &[])),
     Turn(2, Move::Call(C, 0, PING, &[], &[])),
 ];
