@@ -6,8 +6,11 @@ use std::io;
 use std::io::Print;
 use std::time::Duration;
 
+/// From how many bytes on an input is large. Where time grew faster than the bytes, the slowest would be among these.
+const LARGE_BYTES: usize = 256;
+
 /// The inputs of one sort: how many there were, how many stood or were refused, how many differ, and the most nanoseconds that the
-/// proved code took for a byte of one.
+/// proved code took for a byte of one, and of a large one.
 #[derive(Clone, Copy)]
 struct Sum {
     word: &'static str,
@@ -16,6 +19,7 @@ struct Sum {
     refused: u64,
     differ: u64,
     slowest: u128,
+    slowest_large: u128,
 }
 
 /// The inputs of all sorts.
@@ -28,7 +32,7 @@ pub struct Tally {
 
 impl Sum {
     /// One input more, and the time that the proved code took for one of its bytes.
-    fn count(&mut self, verdict: Verdict, taken: u128) {
+    fn count(&mut self, verdict: Verdict, taken: u128, is_large: bool) {
         self.inputs = self.inputs.saturating_add(1);
         match verdict {
             Verdict::Stands => self.stand = self.stand.saturating_add(1),
@@ -37,6 +41,9 @@ impl Sum {
         }
         if self.slowest < taken {
             self.slowest = taken;
+        }
+        if is_large && self.slowest_large < taken {
+            self.slowest_large = taken;
         }
     }
 }
@@ -71,13 +78,14 @@ impl Tally {
         bytes: usize,
     ) -> Result<(), AllocError> {
         let each = nanoseconds_a_byte(taken, bytes);
+        let is_large = bytes >= LARGE_BYTES;
         self.inputs = self.inputs.saturating_add(1);
         if verdict == Verdict::Differs {
             self.differs();
         }
         for sum in &mut self.sums {
             if sum.word == word {
-                sum.count(verdict, each);
+                sum.count(verdict, each, is_large);
                 return Ok(());
             }
         }
@@ -88,8 +96,9 @@ impl Tally {
             refused: 0,
             differ: 0,
             slowest: 0,
+            slowest_large: 0,
         };
-        sum.count(verdict, each);
+        sum.count(verdict, each, is_large);
         Ok(self.sums.push(sum)?)
     }
 
@@ -102,8 +111,8 @@ impl Tally {
             )?;
             if has_times {
                 println!(rt;
-                    "  {} stand, {} are refused; at most {} ns a byte",
-                    sum.stand, sum.refused, sum.slowest
+                    "  {} stand, {} are refused; at most {} ns a byte, {} of those of {} bytes and more",
+                    sum.stand, sum.refused, sum.slowest, sum.slowest_large, LARGE_BYTES
                 )?;
             }
         }
