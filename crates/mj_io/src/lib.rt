@@ -92,10 +92,11 @@ pub trait Sink {
         ensures stuck { IfOk result (λ n. n ≡ 0 → piece.now ≢ [] → Rose (state self.old).faults (state self.new).faults) }
         ensures failed { OnErr result (Rose (state self.old).faults (state self.new).faults) }
 
-        // A write that failed is counted once, as is one that takes nothing, and none that takes something.
+        // A write that failed is counted once, as is one that takes nothing of a piece that isn't empty, and no other is.
         ensures counted { OnErr result ((state self.new).faults ≡ after_fault (state self.old).faults) }
         ensures stuck_once { IfOk result (λ n. n ≡ 0 → piece.now ≢ [] → (state self.new).faults ≡ after_fault (state self.old).faults) }
-        ensures uncounted { IfOk result (λ n. n ≢ 0 → (state self.new).faults ≡ (state self.old).faults) };
+        ensures uncounted { IfOk result (λ n. n ≢ 0 → (state self.new).faults ≡ (state self.old).faults) }
+        ensures uncounted_empty { OnOk result (piece.now ≡ [] → (state self.new).faults ≡ (state self.old).faults) };
 }
 
 /// Writes the whole text, in as many pieces as the sink wants.

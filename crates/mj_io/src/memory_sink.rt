@@ -1,6 +1,6 @@
 //! A sink in memory, with a list of writes that are to fail.
 
-ghost use Rattle.std.specs.Prelude.{◌≡◌, ◌≢◌, ◌≤◌, [], length, min, Some, Err, IfOk, OnErr};
+ghost use Rattle.std.specs.Prelude.{◌≡◌, ◌≢◌, ◌≤◌, [], length, min, Some, Err, IfOk, OnOk, OnErr};
 ghost use Rattle.mj_io.specs.Outside.{Rose, Wrote, after_fault, taken_by};
 ghost use Rattle.mj_io.specs.InMemory.{after_call, IsToFail};
 
@@ -59,6 +59,7 @@ impl Sink for MemorySink {
         ensures counted { OnErr result ((sink_state self.new).faults ≡ after_fault (sink_state self.old).faults) }
         ensures stuck_once { IfOk result (λ n. n ≡ 0 → piece.now ≢ [] → (sink_state self.new).faults ≡ after_fault (sink_state self.old).faults) }
         ensures uncounted { IfOk result (λ n. n ≢ 0 → (sink_state self.new).faults ≡ (sink_state self.old).faults) }
+        ensures uncounted_empty { OnOk result (piece.now ≡ [] → (sink_state self.new).faults ≡ (sink_state self.old).faults) }
 
         ensures plan { plan_of_sink self.new ≡ after_call (plan_of_sink self.old) }
         ensures same_most { most_of self.new ≡ most_of self.old }

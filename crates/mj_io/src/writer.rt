@@ -28,6 +28,9 @@ impl<W: Write + Drop> Sink for WriterSink<W> {
     fn write(&mut self, piece: &[u8]) -> Result<usize, SinkError> {
         match self.writer.write(piece) {
             Ok(0) => {
+                if piece.is_empty() {
+                    return Ok(0);
+                }
                 self.faults = self.faults.saturating_add(1);
                 Ok(0)
             }
