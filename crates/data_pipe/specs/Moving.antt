@@ -1,5 +1,5 @@
 -- What is told at a data pipe by itself, and what it is after that.
-use Rattle.std.specs.Prelude.{ℕ, ◌≡◌, ◌==◌, ◌||◌, ◌++◌, Bool, nat_le, nat_lt, not, if◌then◌else◌, List, [], ◌∷◌, length, take, drop, Option, Some, None, Result, Ok, Err, IsOk}
+use Rattle.std.specs.Prelude.{ℕ, ◌≡◌, ◌==◌, ◌||◌, ◌++◌, Bool, true, false, nat_le, nat_lt, not, if◌then◌else◌, List, [], ◌∷◌, length, take, drop, Option, Some, None, Result, Ok, Err, IsOk, IsTrue}
 use Rattle.bind_model.specs.declared.flow.Flow.{Flow}
 use Rattle.bind_model.specs.declared.flow.Flow.TheVariants as flows
 use Rattle.bind_model.specs.declared.flow.Flowed.{Flowed}
@@ -85,3 +85,13 @@ after (flows.EndPut bytes) (flowed.Put n) pipe = record pipe { held = pipe.held 
 after flows.BeginGet (flowed.View bytes) pipe = record pipe { consumer = View bytes }
 after (flows.EndGet n) flowed.Ended pipe = record pipe { held = drop n pipe.held; consumer = Nothing }
 after f w pipe = pipe
+
+-- whether bytes come out of what is asked
+abbrev pub gets_bytes : Flow → Bool
+gets_bytes (flows.Get n all) = true
+gets_bytes flows.BeginGet = true
+gets_bytes f = false
+
+-- memory may be wanting only where bytes come out
+abbrev pub WantsToGet : Flow → DataRefused → Type 0
+WantsToGet f refused = refused ≡ Memory → IsTrue (gets_bytes f)

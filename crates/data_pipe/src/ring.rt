@@ -5,7 +5,7 @@ ghost use Rattle.circular_buffer.specs.Buffer.{buffer};
 ghost use Rattle.bind_model.specs.declared.flow.Flow.TheVariants as flows;
 ghost use Rattle.bind_model.specs.declared.flow.Flowed.TheVariants as flowed;
 ghost use Rattle.data_pipe.specs.Pipe.{room};
-ghost use Rattle.data_pipe.specs.Moving.{told, after, made, IsRefused};
+ghost use Rattle.data_pipe.specs.Moving.{told, after, made, IsRefused, WantsToGet};
 ghost use Rattle.data_pipe.specs.Table.{begun_at, bytes_for};
 ghost use Rattle.bind_model.specs.Data.{is_busy};
 
@@ -259,10 +259,12 @@ impl DataPipe {
         }
     }
 
-    /// What is asked, with the other side gone or not. Refused, nothing changes.
+    /// What is asked, with the other side gone or not. Refused, nothing changes. Takes memory only where bytes
+    /// come out.
     pub fn flow(&mut self, alloc: Global, flow: &Flow, gone: bool) -> Result<Flowed, DataRefused>
         ensures ok { IfOk result (λ flowed. (told self.old gone flow.now ≡ Ok flowed) × (self.new ≡ after flow.now flowed self.old)) }
         ensures err { IfErr result (λ refused. IsRefused (told self.old gone flow.now) refused × (self.new ≡ self.old)) }
+        ensures wants { IfErr result (λ refused. WantsToGet flow.now refused) }
     {
         match flow {
             Flow::Put(bytes, all) => match self.put(bytes.as_slice(), *all, gone) {

@@ -2,6 +2,7 @@
 
 ghost use Rattle.std.specs.Prelude.{◌≡◌, [], Some, None, IfOk, IfErr, IsTrue, OnOk, OnErr};
 ghost use Rattle.std.specs.Option.{option_copied};
+ghost use Rattle.data_pipe.specs.Moving.{WantsToGet};
 ghost use Rattle.data_pipe.specs.Table.{begun_token, bytes_for, first_begun, has_line, is_begun, line_of, pipe_at, side_in, AllStay, Becomes, Moves, Refuses};
 
 use crate::refused::DataRefused;
@@ -149,7 +150,8 @@ impl DataTable {
         }
     }
 
-    /// What is asked of a producer's data pipe, with the other side gone or not. Refused, nothing changes.
+    /// What is asked of a producer's data pipe, with the other side gone or not. Refused, nothing changes. Takes
+    /// memory only where bytes come out.
     pub fn flow(
         &mut self,
         alloc: Global,
@@ -160,6 +162,7 @@ impl DataTable {
         requires { IsTrue (has_line self.old producer) }
         ensures ok { IfOk result (λ flowed. Moves producer gone flow.now flowed self.old self.new) }
         ensures err { IfErr result (λ refused. Refuses producer gone flow.now refused self.old self.new) }
+        ensures wants { IfErr result (λ refused. WantsToGet flow.now refused) }
     {
         match self.pipes.get_mut(&producer) {
             Some(pipe) => pipe.flow(alloc, flow, gone),

@@ -22,3 +22,9 @@ returns-clause-err c = elim c.match-get_mut.branch [
       w.flow.result c.args.gone c.args.flow.now w.flow.ensures.err)
   | in-None w ↦ absurd (no_line c.self.inside.pipes c.args.self.now c.args.producer c.self.view_is w.in-None.ensures.value c.requires)
 ]
+
+pub returns-clause-wants : goal.returns-clause-wants
+returns-clause-wants c = elim c.match-get_mut.branch [
+  | in-Some w ↦ rw w.result-is w.flow.ensures.wants
+  | in-None w ↦ absurd (no_line c.self.inside.pipes c.args.self.now c.args.producer c.self.view_is w.in-None.ensures.value c.requires)
+]
