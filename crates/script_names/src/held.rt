@@ -1,7 +1,7 @@
 //! What a sequence holds of one kind, handles, pendings or responders: under names, and without.
 
 ghost use Rattle.std.specs.Prelude.{◌≡◌, ◌+◌, ◌<◌, ◌≤◌, ◌++◌, [], ◌∷◌, length, None, Some, is_some, replicate};
-ghost use Rattle.std.specs.Prelude.{IfNone, IfOk, IfSome, OnOk, vec_len, vec_capacity};
+ghost use Rattle.std.specs.Prelude.{IfErr, IfNone, IfOk, IfSome, OnErr, OnOk, vec_len, vec_capacity};
 ghost use Rattle.std.specs.Option.{option_map};
 ghost use Rattle.script_names.specs.Held.{held_at};
 ghost use Rattle.script_names.specs.Tables.{emptied, filled, filled_one, given, taken_from, left_where};
@@ -148,9 +148,11 @@ impl<T> Held<T> {
         left.destroy_empty();
     }
 
-    /// As `give`, where there is memory to keep the things; else they come back.
+    /// As `give`, where there is memory to keep the things; else they come back, and nothing changes.
     pub fn give_new(&mut self, names: &[NameId], things: Vec<T>) -> Result<(), Vec<T>>
-        ensures { OnOk result (self.new.named.items ≡ given names.now things.items self.old.named.items) }
+        ensures ok { OnOk result (self.new.named.items ≡ given names.now things.items self.old.named.items) }
+        ensures back { IfErr result (λ rest. rest ≡ things) }
+        ensures err { OnErr result ((self.new.named ≡ self.old.named) × (self.new.others.items ≡ self.old.others.items)) }
     {
         if self.make_room(things.len()).is_err() {
             return Err(things);
@@ -160,11 +162,12 @@ impl<T> Held<T> {
     }
 
     /// Takes what is held under these names, in order; none, and nothing is taken, where one of them holds
-    /// nothing or stands twice.
+    /// nothing or stands twice. Without memory nothing changes.
     pub fn take_all(&mut self, alloc: Global, names: &[NameId]) -> Result<Option<Vec<T>>, NoMemory>
         ensures things { IfOk result (λ taken. option_map (λ list. list.items) taken ≡ taken_from self.old.named.items names.now) }
         ensures named { IfOk result (λ taken. self.new.named.items ≡ left_where (taken_from self.old.named.items names.now) self.old.named.items names.now) }
         ensures room { IfOk result (λ taken. IfSome taken (λ list. length list.items + vec_len self.new.others ≤ vec_capacity self.new.others)) }
+        ensures err { OnErr result ((self.new.named ≡ self.old.named) × (self.new.others.items ≡ self.old.others.items)) }
     {
         self.make_room(names.len())?;
         let Ok(mut taken) = Vec::with_capacity(alloc, names.len()) else {
