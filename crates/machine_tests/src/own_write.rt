@@ -5,12 +5,12 @@ ghost use Rattle.bind_hub.specs.Hubs.{schema_in, seqs_in};
 ghost use Rattle.bind_hub.specs.Passes.{IsPassOf};
 ghost use Rattle.bind_model.specs.Plain.{IsOf};
 
+use crate::compiled::compiled;
 use bind_hub::{Hub, Pass, Seat};
 use bind_model::{Command, History, Received, Reply};
 use handle_table::{Handle, Handles};
-use mj_base::{EndId, Items, Text, push_le32};
+use mj_base::{EndId, Items, push_le32};
 use mj_schema::Schema;
-use mojom_compile::{Source, compile};
 use std::alloc::{AllocError, Global};
 use std::process::Abort;
 use std::sync::{Arc, Wait};
@@ -18,14 +18,8 @@ use std::test::Fail;
 use wire_encoder::EndpointSide;
 use wire_model::Value;
 
-/// The tables of an interface whose one message says a number; none where it is refused.
-fn compiled(alloc: Global) -> Result<Option<Schema>, AllocError> {
-    let source = Source {
-        name: Text::from_str(alloc, "t.mojom")?,
-        bytes: Items::from_vec(Vec::from_slice(alloc, b"interface P { Say(uint32 n); };")?),
-    };
-    Ok(compile(alloc, &[source]).ok())
-}
+/// An interface whose one message says a number.
+const LISTENER: &str = "interface P { Say(uint32 n); };";
 
 /// The bytes of a message that says 7.
 fn message(alloc: Global) -> Result<Items<u8>, AllocError> {
@@ -166,7 +160,7 @@ fn written_and_taken<R: Abort + Wait>(
 #[test]
 fn a_pass_takes_what_it_wrote(rt: HostRuntime) -> Result<(), Fail> {
     let alloc = rt.alloc();
-    let Some(schema) = compiled(alloc)? else {
+    let Some(schema) = compiled(alloc, LISTENER)? else {
         panic!(rt; "the interface is refused");
     };
     let schema = Arc::new(alloc, schema)?;

@@ -1,17 +1,12 @@
 //! The versions of interfaces.
 
-use mj_base::{Items, Text};
-use mojom_compile::{Source, compile};
+use crate::compiled::compiled;
 use std::alloc::{AllocError, Global};
 use std::test::Fail;
 
 /// The version of the first interface of a text; none where the text is refused or has no interface.
 fn version_of(alloc: Global, text: &str) -> Result<Option<u32>, AllocError> {
-    let source = Source {
-        name: Text::from_str(alloc, "t.mojom")?,
-        bytes: Items::from_vec(Vec::from_slice(alloc, text.as_bytes())?),
-    };
-    let Ok(schema) = compile(alloc, &[source]) else {
+    let Some(schema) = compiled(alloc, text)? else {
         return Ok(None);
     };
     match schema.interfaces.as_slice().first() {

@@ -1,8 +1,7 @@
 //! A payload of 67,108,864 bytes, and one of a letter more.
 
-use mj_base::{Items, Text};
+use crate::compiled::compiled;
 use mj_schema::Schema;
-use mojom_compile::{Source, compile};
 use std::alloc::{AllocError, Global};
 use std::test::Fail;
 use wire_encoder::{PrepareError, prepare, target};
@@ -13,15 +12,6 @@ const LISTENER: &str = "interface P { Say(string s); };";
 
 /// As many letters as a payload has room for, behind 16 bytes of parameters and 8 of the string.
 const MOST_LETTERS: usize = 67_108_840;
-
-/// The tables of the text; none where it is refused.
-fn compiled(alloc: Global) -> Result<Option<Schema>, AllocError> {
-    let source = Source {
-        name: Text::from_str(alloc, "t.mojom")?,
-        bytes: Items::from_vec(Vec::from_slice(alloc, LISTENER.as_bytes())?),
-    };
-    Ok(compile(alloc, &[source]).ok())
-}
 
 /// The parameters with so many letters.
 fn letters(alloc: Global, count: usize) -> Result<Value, AllocError> {
@@ -53,7 +43,7 @@ fn a_payload_of_64_mebibytes_is_prepared_and_one_more_letter_is_too_long(
     rt: HostRuntime,
 ) -> Result<(), Fail> {
     let alloc = rt.alloc();
-    let Some(schema) = compiled(alloc)? else {
+    let Some(schema) = compiled(alloc, LISTENER)? else {
         panic!(rt; "the listener is refused");
     };
     assert_eq!(rt; said(alloc, &schema, MOST_LETTERS)?, Some(67_108_864));
