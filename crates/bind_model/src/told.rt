@@ -37,7 +37,7 @@ pub enum BadWhy {
 }
 
 /// Why a command is refused.
-#[derive(Clone, Copy, Debug, PartialEq, Eq)]
+#[derive(Clone, Copy, PartialEq, Eq)]
 pub enum Why {
     /// A named end, endpoint, interface or sequence isn't there, or a handle, a pending endpoint or a
     /// responder isn't out here, or is named twice.
@@ -88,7 +88,7 @@ pub enum Why {
 }
 
 /// What was written by a control.
-#[derive(Clone, Copy, Debug, PartialEq, Eq)]
+#[derive(Clone, Copy, PartialEq, Eq)]
 pub enum Notified {
     /// The version was asked for.
     Asking,
@@ -99,7 +99,7 @@ pub enum Notified {
 }
 
 /// What a control told where it was consumed.
-#[derive(Clone, Copy, Debug, PartialEq, Eq)]
+#[derive(Clone, Copy, PartialEq, Eq)]
 pub enum Noted {
     /// The peer of the endpoint of this id is closed.
     Closed(u32),

@@ -30,7 +30,7 @@ fn bools_share_bytes_and_holes_are_filled(rt: HostRuntime) -> Result<(), Fail> {
         bit,
         flag: None,
     });
-    assert_eq!(rt; places.as_slice(), wanted.as_slice());
+    assert!(rt; places.as_slice() == wanted.as_slice());
     Ok(())
 }
 
@@ -49,6 +49,6 @@ fn a_declared_bool_has_the_first_bit(rt: HostRuntime) -> Result<(), Fail> {
         bit: 0,
         flag: None,
     }];
-    assert_eq!(rt; places.as_slice(), wanted.as_slice());
+    assert!(rt; places.as_slice() == wanted.as_slice());
     Ok(())
 }

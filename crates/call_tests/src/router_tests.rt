@@ -88,12 +88,9 @@ fn is_said(rt: &impl Abort, router: &Router) -> Result<(), Fail> {
     let Some(row) = router.row(0) else {
         return Err(Fail::new("no row"));
     };
-    assert_eq!(rt; (row.endpoint(), row.next_request()), (REMOTE, 3));
+    assert!(rt; row.endpoint() == REMOTE && row.next_request() == 3);
     assert!(rt; row.is_pending(1, 7) && !row.is_pending(1, 8));
-    assert_eq!(rt;
-        (router.endpoint(0), router.endpoint(1)),
-        (Some(REMOTE), None)
-    );
+    assert!(rt; router.endpoint(0) == Some(REMOTE) && router.endpoint(1).is_none());
     Ok(())
 }
 
@@ -119,7 +116,7 @@ fn an_endpoint_waits_until_it_is_attached(rt: HostRuntime) -> Result<(), Fail> {
     router.reserve(1)?;
     router.enter(1, Row::new(alloc, PENDING));
     router.attach(1, ONLY);
-    assert_eq!(rt; router.endpoint(1), Some(RECEIVER));
+    assert!(rt; router.endpoint(1) == Some(RECEIVER));
     router.detach(1);
     Ok(())
 }

@@ -19,7 +19,7 @@ use bind_model::{Event, Told};
 
 /// The numbers of a load: its events, the messages written, those got, the callbacks that ran, and the bytes
 /// of all messages written. What is a sum has 128 bits, so that none is cut off.
-#[derive(Clone, Copy, Debug, PartialEq, Eq)]
+#[derive(Clone, Copy)]
 pub struct Counts {
     pub events: u64,
     pub sent: u64,

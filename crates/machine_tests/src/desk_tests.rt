@@ -413,7 +413,7 @@ fn a_job_runs_on_its_response_though_its_desk_rests_between(rt: HostRuntime) -> 
     let (_history, over) = core.end();
     got.retire(&over);
     let want = [note(from, 1, true, 107)];
-    assert_eq!(rt; notes.as_slice(), want.as_slice());
+    assert!(rt; notes.as_slice() == want.as_slice());
     Ok(())
 }
 
@@ -452,7 +452,7 @@ fn a_refused_call_hands_back_its_job_its_value_and_its_token(rt: HostRuntime) ->
         [8u8, 0, 0, 0, 0, 0, 0, 0].as_slice()
     );
     let want = [note(from, 1, false, 0)];
-    assert_eq!(rt; notes.as_slice(), want.as_slice());
+    assert!(rt; notes.as_slice() == want.as_slice());
     Ok(())
 }
 
@@ -489,6 +489,6 @@ fn a_boxed_job_that_counts_its_runs_is_dropped_unrun_at_a_disconnect(
     got.retire(&over);
     let want = [note(from, 1, true, 0), note(from, 2, false, 0)];
     assert_eq!(rt; runs.load(Ordering::SeqCst), 1);
-    assert_eq!(rt; notes.as_slice(), want.as_slice());
+    assert!(rt; notes.as_slice() == want.as_slice());
     Ok(())
 }

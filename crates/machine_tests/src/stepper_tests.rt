@@ -45,7 +45,7 @@ fn a_core_is_stepped(rt: HostRuntime) -> Result<(), Fail> {
         core: &mut core,
         seq: SeqId(0),
     };
-    assert_eq!(rt; stepper.seq(), SeqId(0));
+    assert!(rt; stepper.seq() == SeqId(0));
     match step(&rt, &mut stepper, alloc, Command::Join(SeqId(1))) {
         Reply::No(Why::NoName, Command::Join(SeqId(1))) => {}
         _other => panic!(rt; "joined with no sequence"),

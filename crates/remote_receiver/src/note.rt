@@ -4,7 +4,7 @@ use response_map::Key;
 
 /// A job by the request that it was given with: whether it ran, and what it answered, 0 where it didn't
 /// run.
-#[derive(Clone, Copy, Debug, PartialEq, Eq)]
+#[derive(Clone, Copy, PartialEq, Eq)]
 pub struct Note {
     pub key: Key,
     pub ran: bool,
