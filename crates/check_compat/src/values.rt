@@ -1,10 +1,10 @@
 //! Values of a kind, made by number: what they are made of is listed in the order in which it is written, and put together from the end.
 
 use crate::choices::Choices;
-use compat_reference::is_nullable;
 use mj_schema::{EnumRow, Kind, KindNode, Schema};
 use std::alloc::{AllocError, Global};
 use wire_model::Value;
+use wire_reference::is_nullable;
 
 /// How many pieces a value has at most.
 const MOST_PIECES: usize = 10_000;

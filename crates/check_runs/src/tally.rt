@@ -1,6 +1,7 @@
 //! What was compared.
 
-use bind_model::{Event, Told, Why};
+use bind_model::{Event, Told};
+use past_reference::refusals::refusal;
 use std::alloc::{AllocError, Global};
 use wire_model::MessageSide;
 
@@ -19,34 +20,6 @@ pub struct Tally {
     pub events: u64,
     pub differ: u64,
     pub counts: Vec<Count>,
-}
-
-/// The word for a refusal.
-fn refusal(why: Why) -> &'static str {
-    match why {
-        Why::NoName => "no no-name",
-        Why::NotPipe => "no not-pipe",
-        Why::Disconnected => "no disconnected",
-        Why::WrongSide => "no wrong-side",
-        Why::WrongMethod => "no wrong-method",
-        Why::WrongTokens => "no wrong-tokens",
-        Why::SelfSend => "no self-send",
-        Why::Full => "no full",
-        Why::Empty => "no empty",
-        Why::PeerClosed => "no peer-closed",
-        Why::Unbound(_) => "no unbound",
-        Why::Elsewhere(_) => "no elsewhere",
-        Why::WrongPipe(_) => "no wrong-pipe",
-        Why::TooLong => "no too-long",
-        Why::TooManyHandles => "no too-many-handles",
-        Why::Paused(_) => "no paused",
-        Why::SelfPause => "no self-pause",
-        Why::BadSize(_) => "no bad-size",
-        Why::NotData => "no not-data",
-        Why::Busy(_) => "no busy",
-        Why::Idle => "no idle",
-        Why::Short(_) => "no short",
-    }
 }
 
 /// The word for a reply.

@@ -1,12 +1,11 @@
 //! Whether a value that was read by a newer schema agrees with the one that was written by an older one: they are equal, but that the
 //! list of each struct may go on with what its absent fields read as.
 
-use crate::kinds::is_nullable;
 use crate::members::kind_under;
 use mj_schema::{FieldRow, Kind, KindNode, Literal, Schema};
 use std::alloc::{AllocError, Global};
 use wire_model::Value;
-use wire_reference::are_same;
+use wire_reference::{are_same, is_nullable};
 
 /// How many values two values have at most.
 const MOST_VALUES: usize = 1_000_000;

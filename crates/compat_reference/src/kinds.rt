@@ -4,6 +4,7 @@ use crate::definitions::Given;
 use crate::found::Found;
 use mj_schema::{HandleSort, KindNode, RowSort, Width};
 use std::alloc::{AllocError, Global};
+use wire_reference::is_nullable;
 
 /// Adds a kind and all that it is made of: each before its parts, a key before its value.
 fn add_parts<'a>(parts: &mut Vec<&'a KindNode>, kind: &'a KindNode) -> Result<(), AllocError> {
@@ -15,25 +16,6 @@ fn add_parts<'a>(parts: &mut Vec<&'a KindNode>, kind: &'a KindNode) -> Result<()
             add_parts(parts, value)
         }
         _ => Ok(()),
-    }
-}
-
-/// Whether a kind has `?`.
-pub fn is_nullable(kind: &KindNode) -> bool {
-    match kind {
-        KindNode::Bool { nullable }
-        | KindNode::Int { nullable, .. }
-        | KindNode::Enum { nullable, .. }
-        | KindNode::Text { nullable }
-        | KindNode::Handle { nullable, .. }
-        | KindNode::Array { nullable, .. }
-        | KindNode::Map { nullable, .. }
-        | KindNode::Struct { nullable, .. }
-        | KindNode::Union { nullable, .. }
-        | KindNode::Remote { nullable, .. }
-        | KindNode::Receiver { nullable, .. }
-        | KindNode::AssociatedRemote { nullable, .. }
-        | KindNode::AssociatedReceiver { nullable, .. } => *nullable,
     }
 }
 

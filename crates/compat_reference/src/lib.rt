@@ -14,4 +14,3 @@ mod reasons;
 pub use agreed::agrees;
 pub use answer::{Answer, answer_of};
 pub use found::Word;
-pub use kinds::is_nullable;

@@ -14,5 +14,6 @@ mod same;
 mod values;
 mod whole;
 
+pub use rows::is_nullable;
 pub use same::are_same;
 pub use whole::{Message, Outcome, read};
