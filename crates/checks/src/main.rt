@@ -67,30 +67,40 @@ fn own_words(behind: &[String]) -> &[String] {
     }
 }
 
-/// Does a check with the words for it; whether all was right.
-fn do_check<R: std::rt::Files + Print + AllocGlobal + CpuClock + Clock + Wait + Threads + Sync>(
+/// Does a check, but for callers, with the words for it; whether all was right.
+fn compare<R: std::rt::Files + Print + AllocGlobal + CpuClock + Clock + Wait + Threads + Sync>(
     rt: &R,
     check: Check,
     words: &[String],
-) -> Result<bool> {
+) -> io::Result<bool> {
     match check {
-        Check::Names => Ok(check_names::run(rt, words)?),
-        Check::Layouts => Ok(check_layouts::run(rt, words)?),
-        Check::Messages => Ok(check_messages::run(rt, words)?),
-        Check::Compat => Ok(check_compat::run(rt, words)?),
-        Check::Runs => Ok(check_runs::run(rt, words)?),
-        Check::Cores => Ok(check_cores::run(rt)?),
-        Check::Hostile => Ok(check_hostile::run(rt, words)?),
-        Check::Threads => Ok(check_runs::run_threads(rt, words)?),
-        Check::Callers => {
-            callers::run(rt)?;
-            Ok(true)
-        }
+        Check::Names => check_names::run(rt, words),
+        Check::Layouts => check_layouts::run(rt, words),
+        Check::Messages => check_messages::run(rt, words),
+        Check::Compat => check_compat::run(rt, words),
+        Check::Runs => check_runs::run(rt, words),
+        Check::Cores => check_cores::run(rt),
+        Check::Hostile => check_hostile::run(rt, words),
+        Check::Threads => check_runs::run_threads(rt, words),
+        Check::Callers => Ok(true),
         Check::Benchmarks => {
             benchmarks::run(rt, words)?;
             Ok(true)
         }
     }
+}
+
+/// Does a check with the words for it; whether all was right. The errors of callers are of another type than all others.
+fn do_check<R: std::rt::Files + Print + AllocGlobal + CpuClock + Clock + Wait + Threads + Sync>(
+    rt: &R,
+    check: Check,
+    words: &[String],
+) -> Result<bool> {
+    if matches!(check, Check::Callers) {
+        callers::run(rt)?;
+        return Ok(true);
+    }
+    Ok(compare(rt, check, words)?)
 }
 
 /// Does the checks that words name, and prints the name of each before it; whether all was right.
