@@ -12,6 +12,7 @@ pub mod ObjectFacts
 pub mod Parameters
 pub mod PartKinds
 pub mod Readable
+pub mod SlotKinds
 pub mod Sorts
 pub mod Standing
 pub mod Strings

@@ -4,5 +4,6 @@ pub mod PartValues
 pub mod Parts
 pub mod Readable
 pub mod Shapes
+pub mod Strings
 pub mod Views
 pub mod steps

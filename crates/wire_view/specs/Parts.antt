@@ -105,6 +105,11 @@ plain (kinds.StructKind number nullable) = kinds.StructKind number false
 plain (kinds.UnionKind number nullable) = kinds.UnionKind number false
 plain k = k
 
+-- a string
+abbrev pub is_string : KindTree → Bool
+is_string (kinds.TextKind nullable) = true
+is_string k = false
+
 -- an array of uint8
 abbrev pub is_bytes : KindTree → Bool
 is_bytes (kinds.ArrayKind (kinds.IntKind Bits8 false false) n nullable) = true

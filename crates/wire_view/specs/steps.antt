@@ -2,3 +2,4 @@
 pub mod Lists
 pub mod Placed
 pub mod Proper
+pub mod SlotNumbers

@@ -4,7 +4,9 @@
 
 mod absent;
 mod cells;
+mod known;
 mod message;
+mod numbers;
 mod objects;
 mod on;
 mod parts;

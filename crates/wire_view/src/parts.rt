@@ -29,6 +29,7 @@ pub enum Part<'a> {
 impl<'a> Part<'a> {
     ghost use Rattle.wire_view.specs.PartValues.{tree_in, object_in};
     ghost use Rattle.wire_view.specs.Parts.{number_of, version_of, text_of, held};
+    ghost use Rattle.wire_view.specs.Strings.{bytes_in};
     ghost use Rattle.wire_view.specs.Views.{tree_of};
 
     /// The number that it is: a bool as 0 or 1, an integer, an enum or an index.
@@ -72,6 +73,19 @@ impl<'a> Part<'a> {
     {
         match self {
             Part::Text(text) => Some(text.as_str()),
+            Part::Object(_) => None,
+            _ => None,
+        }
+    }
+
+    /// The string that it is, where it lies.
+    #[tactic(auto, using(crate::proofs::ObjectFacts::no_text))]
+    #[inline(always)]
+    pub fn as_string(&self) -> Option<Utf8<'a>>
+        ensures { option_map bytes_in result ≡ text_of (tree_in self.now) }
+    {
+        match self {
+            Part::Text(text) => Some(*text),
             Part::Object(_) => None,
             _ => None,
         }

@@ -3,10 +3,12 @@
 ghost use Rattle.std.specs.Prelude.{◌≡◌, ◌+◌, ◌≤◌, if◌then◌else◌, length, slice_get, None, true, false};
 ghost use Rattle.std.specs.Option.{option_copied};
 ghost use Rattle.mj_schema.specs.KindTrees.{kind_view, ArrayKind};
+ghost use Rattle.mj_schema.specs.Sizes.{size_of};
 ghost use Rattle.wire_view.specs.Parts.{is_bytes};
 ghost use Rattle.wire_view.specs.steps.Lists.{IsThere, bytes_behind};
 
 use mj_schema::{FieldRow, KindNode, Width};
+use schema_rows::size_of;
 use wire_model::{le32, le64};
 
 /// Where a part lies.
@@ -42,6 +44,30 @@ pub fn field_at(fields: &[FieldRow], i: u32) -> Option<&FieldRow>
     ensures { option_copied result ≡ slice_get fields.now i }
 {
     fields.get(i as usize)
+}
+
+/// How many bits a slot of this kind takes. Integers, strings and structs are looked for first, and without
+/// a call.
+#[inline(always)]
+pub fn slot_size(kind: &KindNode) -> u64
+    ensures value { result ≡ size_of (kind_view kind.now) }
+    ensures small { result ≤ 128 }
+{
+    match kind {
+        KindNode::Int { width, .. } => u64::from(width.bits()),
+        KindNode::Text { .. } | KindNode::Struct { .. } => 64,
+        _ => any_size(kind),
+    }
+}
+
+/// The same of all kinds. It stands by itself, so that a getter that meets one of those has no room to make
+/// for the others.
+#[inline(never)]
+fn any_size(kind: &KindNode) -> u64
+    ensures value { result ≡ size_of (kind_view kind.now) }
+    ensures small { result ≤ 128 }
+{
+    size_of(kind)
 }
 
 /// Whether a kind is an array of uint8.

@@ -13,13 +13,16 @@ ghost use Rattle.wire_view.specs.steps.Proper.{fields-prop};
 
 use crate::absent::{absent_field, absent_number};
 use crate::cells::{cell_at, slot_at};
+use crate::known::known_in;
+use crate::numbers::number_at;
 use crate::objects::list_at;
 use crate::on::On;
 use crate::parts::Part;
-use crate::places::{Place, field_at, list_bytes, slot_bytes};
+use crate::places::{Place, field_at, list_bytes, slot_bytes, slot_size};
 use crate::shapes::Shape;
+use crate::texts::Utf8;
 use mj_schema::{FieldRow, KindNode, Schema, StructRow};
-use schema_rows::{has_value, kind_in, row_for, size_of};
+use schema_rows::{has_value, kind_in};
 use wire_model::le32;
 
 /// A struct, an array, a map or a union of a message that was checked, at a byte place, where at most
@@ -54,6 +57,7 @@ impl<'a> View<'a> {
     ghost use Rattle.wire_view.specs.PartValues.{tree_in, object_in};
     ghost use Rattle.wire_view.specs.Parts.{part, how_many, number_of, version_of, text_of, held, item_of, tag_of, list_kind, kind_at, bytes_of_part};
     ghost use Rattle.wire_view.specs.Shapes.{HasShape};
+    ghost use Rattle.wire_view.specs.Strings.{bytes_in};
     ghost use Rattle.wire_view.specs.Views.{tree_of, kind_of, schema_of, IsOf};
     ghost use Rattle.wire_view.specs.steps.Placed.{IsPlace};
 
@@ -105,7 +109,7 @@ impl<'a> View<'a> {
         ensures schema { schema_of result ≡ schema.now }
     {
         let version = le32(bytes, at + 4);
-        let found = row_for(row.versions.as_slice(), version);
+        let known = known_in(row.versions.as_slice(), version);
         View::standing(
             schema,
             bytes,
@@ -113,7 +117,7 @@ impl<'a> View<'a> {
             left,
             On::Struct(number),
             row.fields.as_slice(),
-            found.fields,
+            known,
         )
     }
 
@@ -163,7 +167,7 @@ impl<'a> View<'a> {
         let at = self.at;
         let count = le32(self.bytes, at + 4);
         if i < count {
-            let place = u64::from(i) * size_of(of);
+            let place = u64::from(i) * slot_size(of);
             Place::Slot {
                 at: at + 8 + place / 8,
                 bit: (place % 8) as u32,
@@ -292,9 +296,7 @@ impl<'a> View<'a> {
         ensures { result ≡ option_and_then number_of (part (tree_of self.now) i) }
     {
         match self.place(i) {
-            Place::Slot { at, bit, kind } => {
-                slot_at(self.schema, self.bytes, at, bit, kind, self.left).as_number()
-            }
+            Place::Slot { at, bit, kind } => number_at(self.bytes, at, bit, kind),
             Place::Member { at, kind } => {
                 cell_at(self.schema, self.bytes, at, 0, kind, self.left).as_number()
             }
@@ -327,6 +329,18 @@ impl<'a> View<'a> {
     {
         match self.part(i) {
             Some(part) => part.as_text(),
+            None => None,
+        }
+    }
+
+    /// The string of a part, where it lies. None exactly where there is no such part, or it is null or of
+    /// another kind.
+    #[inline(always)]
+    pub fn string(&self, i: u32) -> Option<Utf8<'a>>
+        ensures { option_map bytes_in result ≡ option_and_then text_of (part (tree_of self.now) i) }
+    {
+        match self.part(i) {
+            Some(part) => part.as_string(),
             None => None,
         }
     }

@@ -11,8 +11,8 @@ pub returns-then-i-count : goal.returns-then-i-count
 returns-then-i-count c =
     let v = c.args.self.now in
     let lt : c.args.i < number32 v.bytes.now (v.at + 4) = omega (arith, c.if-i-count.true, c.le32-count.ensures) in
-    let place-is : c.from.result * c.size_of.result ≡ c.args.i * size_of (kind_view c.args.of.now) =
-    ap (λ j. j * c.size_of.result) c.from.ensures ∙ ap (λ s. c.args.i * s) c.size_of.ensures.value in
+    let place-is : c.from.result * c.slot_size.result ≡ c.args.i * size_of (kind_view c.args.of.now) =
+    ap (λ j. j * c.slot_size.result) c.from.ensures ∙ ap (λ s. c.args.i * s) c.slot_size.ensures.value in
     element_found v.left v.schema.now v.bytes.now v.at c.args.i _ (kind_view c.args.of.now) lt place-is c.requires.within c.requires.readable
 
 pub returns-else-i-count : goal.returns-else-i-count

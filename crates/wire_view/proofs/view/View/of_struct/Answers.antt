@@ -1,4 +1,4 @@
-use Rattle.std.proofs.Common.{◌≡◌, ◌+◌, length, Option, ap, ◌∙◌, arith}
+use Rattle.std.proofs.Common.{ℕ, ◌+◌, List, length, Option, ap, ◌∙◌, arith}
 use Rattle.mj_schema.specs.declared.rows.StructRow.{StructRow}
 use Rattle.mj_schema.specs.declared.rows.VersionRow.{VersionRow}
 use Rattle.wire_model.specs.Bytes.{number32}
@@ -37,7 +37,7 @@ standing-requires-clause-row c = c.as_slice-2.ensures ∙ ap fields_of c.require
 
 pub standing-requires-clause-version : goal.standing-requires-clause-version
 standing-requires-clause-version c =
-    let e : c.row_for-found.result ≡ row_for c.args.row.now.versions (number32 c.args.bytes.now (c.args.at + 4)) =
-    c.row_for-found.ensures ∙ ap (λ rows. row_for rows c.le32-version.result) c.as_slice.ensures
-    ∙ ap (row_for c.args.row.now.versions) c.le32-version.ensures in
-    ap (λ (r : VersionRow). r.fields) e ∙ ap (λ (o : Option StructRow). known_of o (number32 c.args.bytes.now (c.args.at + 4))) c.requires.found
+    c.known_in-known.ensures
+    ∙ ap (λ (rows : List VersionRow). (row_for rows c.le32-version.result).fields) c.as_slice.ensures
+    ∙ ap (λ (n : ℕ). (row_for c.args.row.now.versions n).fields) c.le32-version.ensures
+    ∙ ap (λ (o : Option StructRow). known_of o (number32 c.args.bytes.now (c.args.at + 4))) c.requires.found
