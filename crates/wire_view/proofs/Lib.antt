@@ -13,6 +13,7 @@ pub mod Parameters
 pub mod PartKinds
 pub mod Readable
 pub mod SlotKinds
+pub mod SortedViews
 pub mod Sorts
 pub mod Standing
 pub mod Strings

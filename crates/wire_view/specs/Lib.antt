@@ -4,6 +4,7 @@ pub mod PartValues
 pub mod Parts
 pub mod Readable
 pub mod Shapes
+pub mod SortedViews
 pub mod Strings
 pub mod Views
 pub mod steps

@@ -110,6 +110,21 @@ abbrev pub is_string : KindTree → Bool
 is_string (kinds.TextKind nullable) = true
 is_string k = false
 
+-- a struct
+abbrev pub is_struct : KindTree → Bool
+is_struct (kinds.StructKind number nullable) = true
+is_struct k = false
+
+-- an array
+abbrev pub is_array : KindTree → Bool
+is_array (kinds.ArrayKind of n nullable) = true
+is_array k = false
+
+-- a part, if it is of a kind that is wanted
+abbrev pub of_kind : (KindTree → Bool) → Option KindTree → Option Tree → Option Tree
+of_kind wanted None t = None
+of_kind wanted (Some k) t = if wanted k then t else None
+
 -- an array of uint8
 abbrev pub is_bytes : KindTree → Bool
 is_bytes (kinds.ArrayKind (kinds.IntKind Bits8 false false) n nullable) = true

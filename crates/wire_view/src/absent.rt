@@ -1,13 +1,14 @@
 //! What a field reads as that the version of a struct lacks.
 
 ghost use Rattle.std.specs.Prelude.{◌≡◌, IsTrue, true, None};
-ghost use Rattle.std.specs.Option.{option_map_or};
+ghost use Rattle.std.specs.Option.{option_map, option_map_or};
 ghost use Rattle.std.specs.Str.{is_utf8};
 ghost use Rattle.mj_schema.specs.KindTrees.{kind_view};
 ghost use Rattle.mj_schema.specs.Sound.{is_text};
 ghost use Rattle.wire_model.specs.Absent.{literal_value, absent_kind, absent_field};
 ghost use Rattle.wire_view.specs.PartValues.{tree_in, object_in};
-ghost use Rattle.wire_view.specs.Parts.{number_of};
+ghost use Rattle.wire_view.specs.Parts.{number_of, text_of};
+ghost use Rattle.wire_view.specs.Strings.{bytes_in};
 
 use crate::parts::Part;
 use crate::texts::Utf8;
@@ -78,4 +79,14 @@ pub fn absent_number(schema: &Schema, field: &FieldRow) -> Option<i128>
     ensures { result ≡ number_of (absent_field schema.now field.now.default field.now.kind) }
 {
     absent_field(schema, field).as_number()
+}
+
+/// The string that a field reads as; none where it reads as something else. It stands by itself, as
+/// `absent_number` does.
+#[inline(never)]
+pub fn absent_string<'a>(schema: &Schema, field: &'a FieldRow) -> Option<Utf8<'a>>
+    requires { IsTrue (option_map_or is_text field.now.default true) }
+    ensures { option_map bytes_in result ≡ text_of (absent_field schema.now field.now.default field.now.kind) }
+{
+    absent_field(schema, field).as_string()
 }

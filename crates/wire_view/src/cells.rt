@@ -1,6 +1,7 @@
 //! What lies in a slot.
 
 ghost use Rattle.std.specs.Prelude.{◌≡◌, ◌+◌, ◌/◌, ◌<◌, ◌≤◌, length, IfSome, Some, None};
+ghost use Rattle.std.specs.Option.{option_map};
 ghost use Rattle.mj_schema.specs.KindTrees.{kind_view};
 ghost use Rattle.mj_schema.specs.Versions.{bytes_of};
 ghost use Rattle.wire_model.specs.Marks.{visit, object_marks, slot_marks, cell_marks, pointer_marks};
@@ -9,10 +10,14 @@ ghost use Rattle.wire_model.specs.Values.{value, object_value, slot_value, cell_
 ghost use Rattle.wire_model.specs.steps.Cells.{cell_size};
 ghost use Rattle.readable_marks.specs.Readable.{AreReadable};
 ghost use Rattle.wire_view.specs.PartValues.{tree_in, object_in};
+ghost use Rattle.wire_view.specs.Parts.{text_of};
+ghost use Rattle.wire_view.specs.Strings.{bytes_in};
 ghost use Rattle.wire_view.specs.Views.{IsOf};
 
 use crate::objects::{array_at, inline_at, map_at, string_at, struct_at};
 use crate::parts::Part;
+use crate::places::is_string;
+use crate::texts::Utf8;
 use mj_schema::{KindNode, Schema};
 use wire_model::{NO_INDEX, bit_at, le32, le64, whole_at};
 
@@ -170,4 +175,26 @@ fn behind<'a>(
         unreachable!()
     }
     object_at(schema, bytes, at + pointer, kind, left - 1)
+}
+
+/// The string in a slot; none where it is null or no string.
+#[inline(always)]
+pub fn string_in<'a>(
+    schema: &'a Schema,
+    bytes: &'a [u8],
+    at: u64,
+    bit: u32,
+    kind: &'a KindNode,
+    left: u32,
+) -> Option<Utf8<'a>>
+    requires bit { bit < 8 }
+    requires within { at + bytes_of (kind_view kind.now) ≤ length bytes.now }
+    requires readable { AreReadable (length bytes.now) (slot_marks (visit left schema.now bytes.now) schema.now bytes.now at (kind_view kind.now)) }
+    ensures { option_map bytes_in result ≡ text_of (slot_value (value left schema.now bytes.now) schema.now bytes.now at bit (kind_view kind.now)) }
+{
+    if is_string(kind) {
+        slot_at(schema, bytes, at, bit, kind, left).as_string()
+    } else {
+        None
+    }
 }

@@ -27,5 +27,6 @@ fn known_before(rows: &[VersionRow], version: u32) -> u32
     requires { IsTrue (is_table rows.now) }
     ensures { result ≡ (row_for rows.now version).fields }
 {
-    row_for(rows, version).fields
+    let found = row_for(rows, version);
+    found.fields
 }

@@ -3,6 +3,7 @@
 #![tactic(auto)]
 
 mod absent;
+mod array_view;
 mod cells;
 mod known;
 mod message;
@@ -12,11 +13,15 @@ mod on;
 mod parts;
 mod places;
 mod shapes;
+mod sorted;
+mod struct_view;
 mod texts;
 mod view;
 
+pub use array_view::ArrayView;
 pub use message::root;
 pub use parts::Part;
 pub use shapes::Shape;
+pub use struct_view::StructView;
 pub use texts::Utf8;
 pub use view::View;

@@ -4,7 +4,7 @@ ghost use Rattle.std.specs.Prelude.{◌≡◌, ◌+◌, ◌≤◌, if◌then◌e
 ghost use Rattle.std.specs.Option.{option_copied};
 ghost use Rattle.mj_schema.specs.KindTrees.{kind_view, ArrayKind};
 ghost use Rattle.mj_schema.specs.Sizes.{size_of};
-ghost use Rattle.wire_view.specs.Parts.{is_bytes};
+ghost use Rattle.wire_view.specs.Parts.{is_array, is_bytes, is_string, is_struct};
 ghost use Rattle.wire_view.specs.steps.Lists.{IsThere, bytes_behind};
 
 use mj_schema::{FieldRow, KindNode, Width};
@@ -68,6 +68,39 @@ fn any_size(kind: &KindNode) -> u64
     ensures small { result ≤ 128 }
 {
     size_of(kind)
+}
+
+/// Whether a kind is a string.
+#[inline(always)]
+pub fn is_string(kind: &KindNode) -> bool
+    ensures { result ≡ is_string (kind_view kind.now) }
+{
+    match kind {
+        KindNode::Text { .. } => true,
+        _ => false,
+    }
+}
+
+/// Whether a kind is an array.
+#[inline(always)]
+pub fn is_array(kind: &KindNode) -> bool
+    ensures { result ≡ is_array (kind_view kind.now) }
+{
+    match kind {
+        KindNode::Array { .. } => true,
+        _ => false,
+    }
+}
+
+/// Whether a kind is a struct.
+#[inline(always)]
+pub fn is_struct(kind: &KindNode) -> bool
+    ensures { result ≡ is_struct (kind_view kind.now) }
+{
+    match kind {
+        KindNode::Struct { .. } => true,
+        _ => false,
+    }
 }
 
 /// Whether a kind is an array of uint8.

@@ -30,13 +30,13 @@ use wire_model::le32;
 /// its version has, so that no getter looks for them.
 #[derive(Clone, Copy)]
 pub struct View<'a> {
-    schema: &'a Schema,
-    bytes: &'a [u8],
+    pub(crate) schema: &'a Schema,
+    pub(crate) bytes: &'a [u8],
     at: u64,
-    left: u32,
+    pub(crate) left: u32,
     known: u32,
     fields: &'a [FieldRow],
-    on: On<'a>,
+    pub(crate) on: On<'a>,
     ghost readable: { IsTrue (are_readable (length bytes.now) (object_marks (visit left schema.now bytes.now) schema.now bytes.now at (on_kind on))) },
     ghost whole: { IsTrue (is_object (object_value (value left schema.now bytes.now) schema.now bytes.now at (on_kind on))) },
     ghost kept: { fields.now ≡ fields_of (row_of schema.now (on_kind on)) } by { fields-prop fields.now (fields_of (row_of schema.now (on_kind on))) },
@@ -59,7 +59,7 @@ impl<'a> View<'a> {
     ghost use Rattle.wire_view.specs.Shapes.{HasShape};
     ghost use Rattle.wire_view.specs.Strings.{bytes_in};
     ghost use Rattle.wire_view.specs.Views.{tree_of, kind_of, schema_of, IsOf};
-    ghost use Rattle.wire_view.specs.steps.Placed.{IsPlace};
+    ghost use Rattle.wire_view.specs.steps.Placed.{IsPlace, is_element, is_field};
 
     /// A view of an object at a place, which isn't null.
     #[inline(always)]
@@ -123,11 +123,12 @@ impl<'a> View<'a> {
 
     /// Where the field of an ordinal of a struct lies.
     #[inline(always)]
-    fn field_place(&self, i: u32) -> Place<'a>
+    pub(crate) fn field_place(&self, i: u32) -> Place<'a>
         requires { (number : ℕ) × (self.now.on ≡ On.Struct number) }
-        ensures { IsPlace (length self.now.bytes.now) (visit self.now.left self.now.schema.now self.now.bytes.now)
+        ensures place { IsPlace (length self.now.bytes.now) (visit self.now.left self.now.schema.now self.now.bytes.now)
             (value self.now.left self.now.schema.now self.now.bytes.now) self.now.schema.now self.now.bytes.now
             (part (tree_of self.now) i) (kind_at self.now.schema.now (on_kind self.now.on) i) result }
+        ensures own { IsTrue (is_field result) }
     {
         let base = self.at + 8;
         let known = self.known;
@@ -151,21 +152,22 @@ impl<'a> View<'a> {
         }
     }
 
-    /// Where the element of a number of an array lies.
+    /// Where the element of a number of an array of so many lies.
     #[inline(always)]
-    fn element_place(&self, of: &'a KindNode, i: u32) -> Place<'a>
+    pub(crate) fn element_place(&self, of: &'a KindNode, count: u32, i: u32) -> Place<'a>
+        requires counted { count ≡ number32 self.now.bytes.now (self.now.at + 4) }
         requires within { self.now.at + 8 + element_bytes (kind_view of.now) (number32 self.now.bytes.now (self.now.at + 4)) ≤ length self.now.bytes.now }
         requires readable { AreReadable (length self.now.bytes.now)
             (content_marks (visit self.now.left self.now.schema.now self.now.bytes.now) self.now.schema.now self.now.bytes.now
             (self.now.at + 8) (kind_view of.now) (number32 self.now.bytes.now (self.now.at + 4))) }
-        ensures { IsPlace (length self.now.bytes.now) (visit self.now.left self.now.schema.now self.now.bytes.now)
+        ensures place { IsPlace (length self.now.bytes.now) (visit self.now.left self.now.schema.now self.now.bytes.now)
             (value self.now.left self.now.schema.now self.now.bytes.now) self.now.schema.now self.now.bytes.now
             (part (Items (slots_value (value self.now.left self.now.schema.now self.now.bytes.now) self.now.schema.now self.now.bytes.now
             (self.now.at + 8) (element_slots (kind_view of.now) 0 (number32 self.now.bytes.now (self.now.at + 4))) none)) i)
             (Some (kind_view of.now)) result }
+        ensures own { IsTrue (is_element result) }
     {
         let at = self.at;
-        let count = le32(self.bytes, at + 4);
         if i < count {
             let place = u64::from(i) * slot_size(of);
             Place::Slot {
@@ -251,7 +253,10 @@ impl<'a> View<'a> {
     {
         match self.on {
             On::Struct(_) => self.field_place(i),
-            On::Array(of) => self.element_place(of, i),
+            On::Array(of) => {
+                let count = le32(self.bytes, self.at + 4);
+                self.element_place(of, count, i)
+            }
             On::Map(key, one) => self.list_place(key, one, i),
             On::Union(number) => self.member_place(number, i),
         }

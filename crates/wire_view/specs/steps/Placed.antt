@@ -1,5 +1,5 @@
 -- Where a part lies.
-use Rattle.std.specs.Prelude.{◌≡◌, ℕ, ◌+◌, ◌/◌, ◌<◌, ◌≤◌, true, false, IsTrue, List, Option, Some, None}
+use Rattle.std.specs.Prelude.{◌≡◌, ℕ, ◌+◌, ◌/◌, ◌<◌, ◌≤◌, Bool, true, false, IsTrue, List, Option, Some, None}
 use Rattle.std.specs.Option.{option_map_or}
 use Rattle.mj_schema.specs.KindTrees.{KindTree, ArrayKind, kind_view}
 use Rattle.mj_schema.specs.Sound.{is_text}
@@ -54,3 +54,15 @@ IsPlace n marks next schema bytes found of (places.Absent field) = IsAbsent sche
 IsPlace n marks next schema bytes found of (places.Slot at bit kind) = IsSlot n marks next schema bytes found of at bit (kind_view kind.now)
 IsPlace n marks next schema bytes found of (places.Member at kind) = IsMember n marks next schema bytes found of at (kind_view kind.now)
 IsPlace n marks next schema bytes found of (places.List at kind) = IsList n marks next bytes found of at (kind_view kind.now)
+
+-- where a field may lie
+abbrev pub is_field : Place → Bool
+is_field (places.Member at kind) = false
+is_field (places.List at kind) = false
+is_field p = true
+
+-- where an element may lie
+abbrev pub is_element : Place → Bool
+is_element places.Nothing = true
+is_element (places.Slot at bit kind) = true
+is_element p = false

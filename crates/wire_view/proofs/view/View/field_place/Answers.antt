@@ -24,19 +24,19 @@ overflow_add-result c =
     let room = (ends_in c.args.self.now c.requires.0 c.requires.1 c.args.i c.in-Some.field.now c.in-Some.ensures c.if-i-known.true).room in
     omega (arith, room, c.from.ensures)
 
-pub returns-then-has_value : goal.returns-then-has_value
-returns-then-has_value c =
+pub returns-then-has_value-clause-place : goal.returns-then-has_value-clause-place
+returns-then-has_value-clause-place c =
     rw c.from.ensures
     (slot_is c.args.self.now c.requires.0 c.requires.1 c.args.i c.in-Some.field.now (kind_view c.node.result.now) c.in-Some.ensures c.if-i-known.true
     (sym c.if-has_value.ensures) c.node.ensures)
 
-pub returns-else-has_value : goal.returns-else-has_value
-returns-else-has_value c =
+pub returns-else-has_value-clause-place : goal.returns-else-has_value-clause-place
+returns-else-has_value-clause-place c =
     null_is c.args.self.now c.requires.0 c.requires.1 c.args.i c.in-Some.field.now c.in-Some.ensures c.if-i-known.true (sym c.if-has_value.ensures)
 
-pub returns-else-i-known : goal.returns-else-i-known
-returns-else-i-known c =
+pub returns-else-i-known-clause-place : goal.returns-else-i-known-clause-place
+returns-else-i-known-clause-place c =
     absent_is c.args.self.now c.requires.0 c.requires.1 c.args.i c.in-Some.field.now c.in-Some.ensures c.if-i-known.false
 
-pub returns-in-None : goal.returns-in-None
-returns-in-None c = nothing_is c.args.self.now c.requires.0 c.requires.1 c.args.i c.in-None.ensures
+pub returns-in-None-clause-place : goal.returns-in-None-clause-place
+returns-in-None-clause-place c = nothing_is c.args.self.now c.requires.0 c.requires.1 c.args.i c.in-None.ensures

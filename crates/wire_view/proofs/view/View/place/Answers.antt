@@ -1,4 +1,4 @@
-use Rattle.std.proofs.Common.{length, ap}
+use Rattle.std.proofs.Common.{length, ap, arith}
 use Rattle.wire_model.specs.Marks.{visit}
 use Rattle.wire_model.specs.Trees.{Tree}
 use Rattle.wire_model.specs.Values.{value}
@@ -12,7 +12,27 @@ use Rattle.wire_view.proofs.view.View.place.Goals as goal
 pub field_place-requires : goal.field_place-requires
 field_place-requires c = (c.in-Struct.field-0, c.in-Struct.is)
 
+pub returns-in-Struct : goal.returns-in-Struct
+returns-in-Struct c = c.field_place.ensures.place
+
 -- arrays
+
+pub overflow_add-self : goal.overflow_add-self
+overflow_add-self c =
+    let v = c.args.self.now in
+    let r = (array_readable (length v.bytes.now) (visit v.left v.schema.now v.bytes.now) v.schema.now v.bytes.now v.at v.on v.readable c.in-Array.of
+    c.in-Array.is).within in
+    omega (arith, r)
+
+pub le32-count-requires : goal.le32-count-requires
+le32-count-requires c =
+    let v = c.args.self.now in
+    let r = (array_readable (length v.bytes.now) (visit v.left v.schema.now v.bytes.now) v.schema.now v.bytes.now v.at v.on v.readable c.in-Array.of
+    c.in-Array.is).within in
+    omega (arith, r)
+
+pub element_place-requires-clause-counted : goal.element_place-requires-clause-counted
+element_place-requires-clause-counted c = c.le32-count.ensures
 
 pub element_place-requires-clause-within : goal.element_place-requires-clause-within
 element_place-requires-clause-within c =
@@ -32,7 +52,7 @@ returns-in-Array c =
     let next = value v.left v.schema.now v.bytes.now in
     moved (length v.bytes.now) (visit v.left v.schema.now v.bytes.now) next v.schema.now v.bytes.now c.element_place.result _ _ _ _
     (ap (λ (t : Tree). part t c.args.i) (array_tree next v.schema.now v.bytes.now v.at v.on c.in-Array.of c.in-Array.is))
-    (array_kind v.schema.now v.on c.args.i c.in-Array.of c.in-Array.is) c.element_place.ensures
+    (array_kind v.schema.now v.on c.args.i c.in-Array.of c.in-Array.is) c.element_place.ensures.place
 
 -- maps
 
