@@ -5,7 +5,7 @@ use message_validator::Checked;
 use mj_base::limits::MAX_DEPTH;
 use std::io;
 use std::time::{CpuClock, Duration};
-use wire_view::{Part, View, root};
+use wire_view::{ArrayView, Part, StructView, View, root};
 
 /// How a message is read.
 #[derive(Clone, Copy)]
@@ -65,44 +65,68 @@ fn with_object(view: &View<'_>, left: u32, sum: u64) -> u64 {
     }
 }
 
-/// How many of the first parts are numbers above 0.
-fn count_numbers(view: &View<'_>, parts: u32) -> u64 {
+/// 1 for a number above 0.
+#[inline(always)]
+fn above_zero(number: Option<i128>) -> u64 {
+    match number {
+        Some(number) => u64::from(number > 0),
+        None => 0,
+    }
+}
+
+/// How many tags are above 0.
+#[inline(always)]
+fn in_tags(tags: &ArrayView<'_>) -> u64 {
     let mut sum = 0u64;
-    for i in 0..parts {
-        if let Some(number) = view.number(i) {
-            sum = sum.saturating_add(u64::from(number > 0));
-        }
+    for j in 0..tags.len() {
+        sum = sum.saturating_add(above_zero(tags.number(j)));
     }
     sum
 }
 
 /// What an item holds: three numbers, a name, and tags.
-fn in_item(item: &View<'_>) -> u64 {
-    let name = match item.part(3) {
-        Some(part) => number_of(&part),
+#[inline(always)]
+fn in_item(item: &StructView<'_>) -> u64 {
+    let name = match item.string(3) {
+        Some(name) => name.as_bytes().len() as u64,
         None => 0,
     };
-    let tags = match item.child(4) {
-        Some(tags) => count_numbers(&tags, tags.len()),
+    let tags = match item.array(4) {
+        Some(tags) => in_tags(&tags),
         None => 0,
     };
-    count_numbers(item, 3)
+    above_zero(item.number(0))
+        .saturating_add(above_zero(item.number(1)))
+        .saturating_add(above_zero(item.number(2)))
         .saturating_add(name)
         .saturating_add(tags)
 }
 
 /// What the items of a batch hold.
-fn in_batch(view: &View<'_>) -> u64 {
-    let Some(items) = view.child(0) else {
-        return 0;
-    };
+#[inline(always)]
+fn in_items(items: &ArrayView<'_>) -> u64 {
     let mut sum = 0u64;
-    for i in 0..items.len() {
-        if let Some(item) = items.child(i) {
+    for j in 0..items.len() {
+        if let Some(item) = items.item(j) {
             sum = sum.saturating_add(in_item(&item));
         }
     }
     sum
+}
+
+/// The items of a batch, where it is one.
+#[inline(always)]
+fn items_of<'a>(view: &View<'a>) -> Option<ArrayView<'a>> {
+    let batch = StructView::from_view(view)?;
+    batch.array(0)
+}
+
+/// What a batch holds.
+fn in_batch(view: &View<'_>) -> u64 {
+    match items_of(view) {
+        Some(items) => in_items(&items),
+        None => 0,
+    }
 }
 
 /// What a message holds, read so many times.

@@ -4,7 +4,7 @@ use mj_schema::{Kind, KindNode, Schema, Width};
 use schema_rows::{find_struct, kind_in};
 use std::alloc::{AllocError, Global};
 use wire_model::Value;
-use wire_view::View;
+use wire_view::{ArrayView, StructView, Utf8, View};
 
 /// How many objects are compared at most: a message has 64 MiB, and each object takes 8 bytes.
 const MOST_OBJECTS: u32 = 8_388_608;
@@ -62,6 +62,25 @@ fn is_text(found: Option<&str>, value: &Value) -> bool {
     }
 }
 
+/// Whether a string is that of a value; there is none where the value is no string.
+fn is_string(found: Option<Utf8<'_>>, value: &Value) -> bool {
+    match value {
+        Value::Text(bytes) => match found {
+            Some(text) => text.as_bytes() == bytes.as_slice(),
+            None => false,
+        },
+        _ => found.is_none(),
+    }
+}
+
+/// Whether a value is a struct.
+fn is_struct(value: &Value) -> bool {
+    match value {
+        Value::Struct(_) => true,
+        _ => false,
+    }
+}
+
 /// Whether a kind is uint8.
 fn is_byte(kind: &KindNode) -> bool {
     match kind {
@@ -116,7 +135,41 @@ fn has_leaf(view: View<'_>, i: u32, kind: &KindNode, value: &Value) -> bool {
     view.number(i) == number_of(value)
         && view.version(i) == version_of(value)
         && is_text(view.text(i), value)
+        && is_string(view.string(i), value)
         && has_bytes(view, i, kind, value)
+}
+
+/// Whether an array has these elements, by the getters of its own, and no more.
+fn has_elements(array: &ArrayView<'_>, items: &[Value]) -> bool {
+    if array.len() as usize != items.len() {
+        return false;
+    }
+    let mut j = 0u32;
+    for item in items {
+        if array.number(j) != number_of(item) || array.item(j).is_some() != is_struct(item) {
+            return false;
+        }
+        j = j.saturating_add(1);
+    }
+    array.number(j).is_none() && array.item(j).is_none()
+}
+
+/// Whether there is an array of these elements exactly where a value is a list.
+fn is_list(found: Option<ArrayView<'_>>, value: &Value) -> bool {
+    match value {
+        Value::List(items) => match found {
+            Some(array) => has_elements(&array, items.as_slice()),
+            None => false,
+        },
+        _ => found.is_none(),
+    }
+}
+
+/// Whether a struct has a field of this value, by the getters of its own.
+fn has_field(view: &StructView<'_>, i: u32, value: &Value) -> bool {
+    view.number(i) == number_of(value)
+        && is_string(view.string(i), value)
+        && is_list(view.array(i), value)
 }
 
 /// Whether there is a view exactly where a value is an object. It is compared later.
@@ -201,12 +254,17 @@ fn has_fields<'a>(
     let Some(row) = find_struct(schema, *number) else {
         return Ok(false);
     };
+    let Some(view) = StructView::from_view(&seen.view) else {
+        return Ok(false);
+    };
     if seen.view.len() as usize != fields.len() {
         return Ok(false);
     }
     let mut i = 0u32;
     for (field, value) in row.fields.as_slice().iter().zip(fields) {
-        if !has_part(seen.view, i, field.kind.node(), value, later)? {
+        if !has_field(&view, i, value)
+            || !has_part(view.as_view(), i, field.kind.node(), value, later)?
+        {
             return Ok(false);
         }
         i = i.saturating_add(1);
@@ -223,12 +281,15 @@ fn has_items<'a>(
     let KindNode::Array { of, .. } = seen.kind else {
         return Ok(false);
     };
-    if seen.view.len() as usize != items.len() {
+    let Some(array) = ArrayView::from_view(&seen.view) else {
+        return Ok(false);
+    };
+    if !has_elements(&array, items) {
         return Ok(false);
     }
     let mut j = 0u32;
     for item in items {
-        if !has_part(seen.view, j, of, item, later)? {
+        if !has_part(array.as_view(), j, of, item, later)? {
             return Ok(false);
         }
         j = j.saturating_add(1);
@@ -246,6 +307,9 @@ fn has_pairs<'a>(
     let KindNode::Map { key, value, .. } = seen.kind else {
         return Ok(false);
     };
+    if StructView::from_view(&seen.view).is_some() || ArrayView::from_view(&seen.view).is_some() {
+        return Ok(false);
+    }
     if !has_list(seen.view, 0, key, keys, later)? {
         return Ok(false);
     }
