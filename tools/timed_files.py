@@ -205,13 +205,19 @@ def dear_messages():
     yield 'members out of order', unordered, members(mixed(MANY - 1))
 
 
-def messages():
-    """All messages by their names, each with its definitions."""
+def batches():
+    """The batches of items by their names, each with how many items it has, and whether their ids may be null."""
     for nullable in (False, True):
         for count in (10, 1000, 100_000):
-            yield f'{count} items{" with ids that may be null" if nullable else ""}', batch_file(nullable), batch(count, nullable)
+            yield f'{count} items{" with ids that may be null" if nullable else ""}', count, nullable, batch(count, nullable)
     for count in (10, 1000, 100_000):
-        yield f'{count} items behind a moment', batch_file(False), batch(count, False, TIMED_HEADER)
+        yield f'{count} items behind a moment', count, False, batch(count, False, TIMED_HEADER)
+
+
+def messages():
+    """All messages by their names, each with its definitions."""
+    for name, _, nullable, message in batches():
+        yield name, batch_file(nullable), message
     for name, file, objects in dear_messages():
         yield name, file, words(*HEADER, 16, 0, 8, 0) + objects
 
