@@ -11,6 +11,7 @@ mod shown;
 mod shown_lists;
 mod told_text;
 mod words;
+mod writing;
 
 pub use history::{push_event, render};
 pub use notes::{Fate, Note};

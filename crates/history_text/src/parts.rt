@@ -4,6 +4,7 @@ ghost use Rattle.std.specs.Prelude.{◌≡◌, ◌++◌, OnOk, IfSome, codes};
 ghost use Rattle.history_text.specs.History.{hex_text};
 
 use crate::message_text::{push_hex, push_text};
+use crate::writing::push_written;
 use std::alloc::{AllocError, Global};
 use std::fmt;
 
@@ -17,7 +18,7 @@ pub(crate) fn push_shown<A: fmt::Display + Copy>(
     ensures { OnOk result (IfSome (A.output shown) (λ a. out.new.items ≡ out.old.items ++ (word.now ++ a))) }
 {
     push_text(out, word)?;
-    push_text(out, shown.to_string(alloc)?.as_str())
+    push_written(alloc, out, shown)
 }
 
 /// Adds a word and two that are shown behind it, with a blank between them.
