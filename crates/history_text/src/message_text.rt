@@ -5,7 +5,7 @@ ghost use Rattle.mj_schema.specs.KindTrees.{StructKind};
 ghost use Rattle.wire_encoder.specs.Prepared.{parameters_of, kind_for};
 ghost use Rattle.history_text.specs.History.{hex_text, message_text, outgoing_text};
 
-use crate::names::{name_of_interface, name_of_method};
+use crate::names::{name_of_method, push_interface};
 use crate::parts::push_shown;
 use crate::shown_lists::ShownTokens;
 use bind_model::{Outgoing, Parameters};
@@ -68,8 +68,7 @@ pub(crate) fn push_message(
 ) -> Result<(), AllocError>
     ensures { OnOk result (out.new.items ≡ out.old.items ++ message_text schema.now target parameters.now) }
 {
-    let interface = name_of_interface(alloc, schema, target.interface)?;
-    push_text(out, interface.as_str())?;
+    push_interface(out, schema, target.interface)?;
     push_text(out, ".")?;
     push_text(out, name_of_method(schema, target.interface, target.method))?;
     push_text(out, " ")?;

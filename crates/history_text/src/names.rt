@@ -1,6 +1,6 @@
 //! The names of interfaces and methods, by their numbers.
 
-ghost use Rattle.std.specs.Prelude.{◌≡◌, IfOk};
+ghost use Rattle.std.specs.Prelude.{◌≡◌, ◌++◌, IfOk, OnOk};
 ghost use Rattle.history_text.specs.Names.{interface_name, method_name};
 
 use mj_base::Text;
@@ -18,6 +18,20 @@ pub(crate) fn name_of_interface(
     match schema.interfaces.as_slice().get(interface as usize) {
         Some(row) => row.name.full(alloc),
         None => Text::from_str(alloc, ""),
+    }
+}
+
+/// Adds the full name of an interface, nothing where there is none of this number.
+pub(crate) fn push_interface(
+    out: &mut Vec<u8>,
+    schema: &Schema,
+    interface: u32,
+) -> Result<(), AllocError>
+    ensures { OnOk result (out.new.items ≡ out.old.items ++ interface_name schema.now interface) }
+{
+    match schema.interfaces.as_slice().get(interface as usize) {
+        Some(row) => row.name.push_to(out),
+        None => Ok(()),
     }
 }
 
