@@ -131,6 +131,7 @@ impl Core {
             &mut self.state.tables.notices,
             &self.state.pipes,
             looked.as_slice(),
+            end,
         );
         let outcome = commands::step(&mut self.state, alloc, seq, command);
         unwatch(&mut self.watched, &self.state, end, &outcome);

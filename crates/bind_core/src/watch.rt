@@ -50,12 +50,7 @@ fn peer(state: &State, end: EndId) -> EndId
 }
 
 /// Watches an end and its peer: both.
-fn watch_near(
-    watched: &mut EndSet,
-    state: &State,
-    end: Option<EndId>,
-    looked: &mut Vec<EndId>,
-) -> Result<(), AllocError>
+fn watch_near(watched: &mut EndSet, state: &State, end: Option<EndId>) -> Result<(), AllocError>
     requires { Holds state.now }
     ensures more { IsWithin watched.old watched.new }
     ensures near { OnOk result (HasNear state.now end watched.new) }
@@ -63,11 +58,8 @@ fn watch_near(
     let Some(end) = end else {
         return Ok(());
     };
-    let peer = peer(state, end);
-    looked.push(end)?;
-    looked.push(peer)?;
     watched.insert(end)?;
-    watched.insert(peer)
+    watched.insert(peer(state, end))
 }
 
 /// Watches the ends whose waits the last event may have ended, where a take is ready: all that were looked at. The
@@ -89,7 +81,7 @@ fn watch_woken(
 }
 
 /// Watches what a command may make ready, and what the last event did, and notes the wait that the command
-/// gives: all ends that were looked at.
+/// gives: the ends whose waits the last event may have ended.
 pub(crate) fn watch(
     watched: &mut EndSet,
     waiting: &mut Waiting,
@@ -101,9 +93,9 @@ pub(crate) fn watch(
     ensures stands { Stands state.now watched.new waiting.new }
     ensures watched { OnOk result (IsWatched state.now command.now watched.new waiting.new) }
 {
-    let mut looked = watch_woken(watched, waiting, state, alloc)?;
+    let looked = watch_woken(watched, waiting, state, alloc)?;
     note_wait(waiting, alloc, command)?;
-    watch_near(watched, state, end_named(command), &mut looked)?;
+    watch_near(watched, state, end_named(command))?;
     Ok(looked)
 }
 

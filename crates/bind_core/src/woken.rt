@@ -132,11 +132,45 @@ pub(crate) fn watch_ready(
 }
 
 /// Forgets the waits of these ends that are met.
-pub(crate) fn forget_all(notices: &mut NoticeTable, pipes: &Pipes, ends: &[EndId])
+fn forget_each(notices: &mut NoticeTable, pipes: &Pipes, ends: &[EndId])
     ensures { StaysTrue pipes.now notices.old notices.new }
 {
     for end in ends {
         forget_met(notices, pipes, *end);
+    }
+}
+
+/// Forgets the waits of the other end of an end's pipe that are met.
+fn forget_peer(notices: &mut NoticeTable, pipes: &Pipes, end: EndId)
+    ensures { StaysTrue pipes.now notices.old notices.new }
+{
+    match pipes.peer(end) {
+        Some(peer) => forget_met(notices, pipes, peer),
+        None => {}
+    }
+}
+
+/// Forgets the waits of an end and of its peer that are met.
+fn forget_near(notices: &mut NoticeTable, pipes: &Pipes, end: EndId)
+    ensures { StaysTrue pipes.now notices.old notices.new }
+{
+    forget_met(notices, pipes, end);
+    forget_peer(notices, pipes, end);
+}
+
+/// Forgets the waits that are met of these ends, and of an end and its peer. Takes no memory.
+pub(crate) fn forget_all(
+    notices: &mut NoticeTable,
+    pipes: &Pipes,
+    ends: &[EndId],
+    near: Option<EndId>,
+)
+    ensures { StaysTrue pipes.now notices.old notices.new }
+{
+    forget_each(notices, pipes, ends);
+    match near {
+        Some(end) => forget_near(notices, pipes, end),
+        None => {}
     }
 }
 

@@ -1,4 +1,4 @@
 use Rattle.bind_core.proofs.woken.forget_all.Goals as goal
 
-pub loop-end-preserved : goal.loop-end-preserved
-loop-end-preserved c = λ past closed agree. c.forget_met.ensures past closed (c.loop-end.invariant past closed agree)
+pub returns-in-Some : goal.returns-in-Some
+returns-in-Some c = λ past closed agree. c.forget_near.ensures past closed (c.forget_each.ensures past closed agree)

@@ -1,5 +1,5 @@
 use Rattle.core_state.specs.Forgets.{StaysTrue}
-use Rattle.bind_core.proofs.woken.forget_all.Given as goal
+use Rattle.bind_core.proofs.woken.forget_each.Given as goal
 
 -- what was forgotten so far was met
 abbrev pub invariant-loop-end : goal.invariant-loop-end
