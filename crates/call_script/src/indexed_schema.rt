@@ -236,12 +236,18 @@ fn number_of(names: &NumberedNames, name: &str) -> Option<u32>
     names.numbers.get(&node).copied()
 }
 
+/// The most interfaces among which a name is sought by comparing it with each, which is quicker than the tree there.
+const FEW: usize = 8;
+
 /// The number of the interface whose full name has these bytes, which are a part of a word.
 pub(crate) fn interface_named(indexed: &IndexedSchema, name: &[u8]) -> Option<u32>
     requires indexed { IsIndexed indexed.now }
     requires text { IsAscii name.now }
     ensures { result ≡ interface_named indexed.now.schema.now.interfaces name.now }
 {
+    if indexed.schema.interfaces.len() <= FEW {
+        return indexed.schema.find_interface_of(name);
+    }
     match str::from_utf8(name) {
         Ok(text) => number_of(&indexed.names, text),
         Err(_) => unreachable!(),
