@@ -23,7 +23,7 @@ use thiserror::Error;
 use value_text::TextError;
 
 /// What is said of a text.
-#[derive(Clone, Copy, Debug)]
+#[derive(Clone, Copy)]
 pub enum AuditFinding {
     /// It is that of a whole run, with so many events.
     Sound(u64),
