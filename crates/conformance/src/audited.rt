@@ -1,14 +1,12 @@
 //! The histories that runs print, audited: each is sound.
 
 use crate::case::Case;
+use mj_base::limits::MAX_FILE_BYTES;
 use mj_io::NamedFile;
 use std::alloc::{AllocError, Global};
 
 /// The name under which the history is put beside the case's files.
 const HISTORY: &str = "printed.history";
-
-/// The greatest history that a file may have.
-const MOST_BYTES: usize = 1048576;
 
 /// A file once more.
 fn copied(alloc: Global, file: &NamedFile) -> Result<NamedFile, AllocError> {
@@ -75,7 +73,7 @@ pub fn audited(alloc: Global, case: &Case) -> Result<Option<Case>, AllocError> {
     };
     let is_run = command.as_str() == "run" && option.as_str() == "--script";
     let history = case.wanted.out.as_slice();
-    if !is_run || case.wanted.status != 0 || history.len() > MOST_BYTES {
+    if !is_run || case.wanted.status != 0 || history.len() as u64 > MAX_FILE_BYTES {
         return Ok(None);
     }
     let Ok(text) = str::from_utf8(history) else {
