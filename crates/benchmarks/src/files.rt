@@ -1,6 +1,6 @@
 //! Schemas of files, and scripts over them.
 
-use check_files::{MOST_BYTES, bytes_of};
+use check_files::bytes_of;
 use mj_base::limits::MAX_FILE_BYTES;
 use mj_base::{Items, Text};
 use mj_schema::Schema;
@@ -15,7 +15,7 @@ pub fn schema_at<R: std::rt::Files + AllocGlobal>(
     rt: &R,
     name: &str,
 ) -> Result<Option<Schema>, AllocError> {
-    let Some(bytes) = bytes_of(rt, name, MOST_BYTES) else {
+    let Some(bytes) = bytes_of(rt, name, MAX_FILE_BYTES) else {
         return Ok(None);
     };
     let source = Source {

@@ -4,7 +4,7 @@ use crate::bases::{Base, Choice, take_line};
 use crate::choices::Choices;
 use crate::compare::compare;
 use crate::tally::Tally;
-use check_files::text_of;
+use check_files::texts_of;
 use std::alloc::{AllocError, Global};
 use std::io;
 use std::io::Print;
@@ -110,27 +110,14 @@ fn compare_text<R: Print + AllocGlobal>(rt: &R, text: &str, total: &mut Tally) -
     Ok(())
 }
 
-/// Compares the bases of each file that the words name.
-fn run_files<R: std::rt::Files + Print + AllocGlobal>(
-    rt: &R,
-    words: &[String],
-    total: &mut Tally,
-) -> io::Result<()> {
-    for word in words {
-        match text_of(rt, word.as_str())? {
-            Some(text) => compare_text(rt, text.as_str(), total)?,
-            None => {
-                total.differ = total.differ.saturating_add(1);
-            }
-        }
-    }
-    Ok(())
-}
-
 /// Compares the bases of the files that the words name, and prints what came of each; whether nothing differs.
 pub fn run<R: std::rt::Files + Print + AllocGlobal>(rt: &R, words: &[String]) -> io::Result<bool> {
+    let (texts, unread) = texts_of(rt, words)?;
     let mut total = Tally::new(rt.alloc());
-    run_files(rt, words, &mut total)?;
+    total.differ = unread;
+    for text in &texts {
+        compare_text(rt, text.as_str(), &mut total)?;
+    }
     total.print_reasons(rt)?;
     total.print(rt, "all")?;
     Ok(total.differ == 0)

@@ -9,7 +9,7 @@ use std::io;
 use std::io::Print;
 
 /// The bytes that a file of cases has at most.
-pub const MOST_BYTES: u64 = 1_048_576;
+const MOST_BYTES: u64 = 1_048_576;
 
 /// The bytes of a file; none where it can't be read or has more than so many.
 pub fn bytes_of<R: std::rt::Files + AllocGlobal>(rt: &R, name: &str, most: u64) -> Option<Vec<u8>> {
@@ -39,4 +39,20 @@ pub fn text_of<R: std::rt::Files + Print + AllocGlobal>(
         Ok(text) => Ok(Some(text)),
         Err(_) => unread(rt, name),
     }
+}
+
+/// The texts of the files of cases that words name, and how many of the files have none, which is said of each.
+pub fn texts_of<R: std::rt::Files + Print + AllocGlobal>(
+    rt: &R,
+    words: &[String],
+) -> io::Result<(Vec<String>, u64)> {
+    let mut texts = Vec::new(rt.alloc());
+    let mut missing = 0u64;
+    for word in words {
+        match text_of(rt, word.as_str())? {
+            Some(text) => texts.push(text)?,
+            None => missing = missing.saturating_add(1),
+        }
+    }
+    Ok((texts, missing))
 }

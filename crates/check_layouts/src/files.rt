@@ -1,12 +1,12 @@
 //! The files of layouts that words name, each line compared.
 
 use crate::layout::Wanted;
-use check_files::text_of;
+use check_files::texts_of;
 use std::io;
 use std::io::Print;
 
 /// How many layouts went which way.
-#[derive(Clone, Copy, Default)]
+#[derive(Clone, Copy)]
 struct Tally {
     passed: u64,
     failed: u64,
@@ -32,27 +32,17 @@ fn compare<R: Print + AllocGlobal>(rt: &R, text: &str, tally: &mut Tally) -> io:
     Ok(())
 }
 
-/// Compares the layouts of each file that the words name.
-fn run_files<R: std::rt::Files + Print + AllocGlobal>(
-    rt: &R,
-    words: &[String],
-) -> io::Result<Tally> {
-    let mut tally = Tally::default();
-    for word in words {
-        match text_of(rt, word.as_str())? {
-            Some(text) => compare(rt, text.as_str(), &mut tally)?,
-            None => {
-                tally.failed = tally.failed.saturating_add(1);
-            }
-        }
-    }
-    Ok(tally)
-}
-
 /// Compares the layouts of the files that the words name, and prints those that are wrong and how many there were;
 /// whether all are right.
 pub fn run<R: std::rt::Files + Print + AllocGlobal>(rt: &R, words: &[String]) -> io::Result<bool> {
-    let tally = run_files(rt, words)?;
+    let (texts, unread) = texts_of(rt, words)?;
+    let mut tally = Tally {
+        passed: 0,
+        failed: unread,
+    };
+    for text in &texts {
+        compare(rt, text.as_str(), &mut tally)?;
+    }
     println!(rt; "{} passed, {} failed", tally.passed, tally.failed)?;
     Ok(tally.failed == 0)
 }

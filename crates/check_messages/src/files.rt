@@ -3,7 +3,7 @@
 use crate::case::{Case, cases};
 use crate::compare::{Setting, Verdict, compare};
 use crate::edits::{Tally, compare_cuts, compare_edits};
-use check_files::text_of;
+use check_files::texts_of;
 use std::alloc::{AllocError, Global};
 use std::io;
 use std::io::Print;
@@ -55,26 +55,14 @@ fn compare_text<R: Print + AllocGlobal>(rt: &R, text: &str, total: &mut Tally) -
     Ok(())
 }
 
-/// Compares the cases of each file that the words name.
-fn run_files<R: std::rt::Files + Print + AllocGlobal>(
-    rt: &R,
-    words: &[String],
-) -> io::Result<Tally> {
-    let mut tally = Tally::default();
-    for word in words {
-        match text_of(rt, word.as_str())? {
-            Some(text) => compare_text(rt, text.as_str(), &mut tally)?,
-            None => {
-                tally.differ = tally.differ.saturating_add(1);
-            }
-        }
-    }
-    Ok(tally)
-}
-
 /// Compares the cases of the files that the words name, and prints what came of each; whether nothing differs.
 pub fn run<R: std::rt::Files + Print + AllocGlobal>(rt: &R, words: &[String]) -> io::Result<bool> {
-    let tally = run_files(rt, words)?;
+    let (texts, unread) = texts_of(rt, words)?;
+    let mut tally = Tally::default();
+    tally.differ = unread;
+    for text in &texts {
+        compare_text(rt, text.as_str(), &mut tally)?;
+    }
     println!(rt;
         "{} compared, {} differences",
         tally.compared(),

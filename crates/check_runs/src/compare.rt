@@ -3,7 +3,7 @@
 use crate::played::Played;
 use crate::tally::Tally;
 use crate::walk::{Walk, walks};
-use check_files::text_of;
+use check_files::texts_of;
 use mj_schema::Schema;
 use std::io;
 use std::io::Print;
@@ -99,26 +99,13 @@ fn compare_walks<R: Print + AllocGlobal>(rt: &R, text: &str, total: &mut Tally) 
     Ok(())
 }
 
-/// Compares the walks of a file.
-fn compare_file<R: std::rt::Files + Print + AllocGlobal>(
-    rt: &R,
-    name: &str,
-    tally: &mut Tally,
-) -> io::Result<()> {
-    match text_of(rt, name)? {
-        Some(text) => compare_walks(rt, text.as_str(), tally),
-        None => {
-            tally.differ = tally.differ.saturating_add(1);
-            Ok(())
-        }
-    }
-}
-
 /// Compares the walks of each file that the words name, and prints what came of each; whether nothing differs.
 pub fn run<R: std::rt::Files + Print + AllocGlobal>(rt: &R, words: &[String]) -> io::Result<bool> {
+    let (texts, unread) = texts_of(rt, words)?;
     let mut tally = Tally::new(rt.alloc());
-    for name in words {
-        compare_file(rt, name.as_str(), &mut tally)?;
+    tally.differ = unread;
+    for text in &texts {
+        compare_walks(rt, text.as_str(), &mut tally)?;
     }
     println!(rt; "{} scripts, {} differences", tally.scripts, tally.differ)?;
     Ok(tally.differ == 0)
