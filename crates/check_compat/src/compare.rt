@@ -20,33 +20,31 @@ fn schema_of(alloc: Global, text: &str) -> Result<Option<Schema>, AllocError> {
     Ok(compile(alloc, sources.as_slice()).ok())
 }
 
-/// The ordinal, tag or number of the member that a change is of.
-fn number_of(change: Change) -> Option<i64> {
+/// The ordinal, tag or number of the member that a change is of; 0 where it is of none.
+fn number_of(change: Change) -> i64 {
     match change {
-        Change::Missing | Change::NotStable | Change::ExtensibleGone => None,
-        Change::MemberGone(number) => Some(i64::from(number)),
+        Change::Missing | Change::NotStable | Change::ExtensibleGone => 0,
+        Change::MemberGone(number) => i64::from(number),
         Change::TagGone(number)
         | Change::MethodGone(number)
         | Change::ResponseChanged(number)
         | Change::FieldGone(number)
         | Change::KindChanged(number)
         | Change::VersionChanged(number)
-        | Change::EarlyField(number) => Some(i64::from(number)),
+        | Change::EarlyField(number) => i64::from(number),
     }
 }
 
-/// A reason as it is printed.
+/// A reason as a text.
 fn reason_text(alloc: Global, reason: &Reason) -> Result<String, AllocError> {
     let name = reason.name.full(alloc)?;
     let name = name.as_str();
     let word = reason.change.word();
-    match number_of(reason.change) {
-        Some(number) => format!(in alloc; "{word} {name} {number}"),
-        None => format!(in alloc; "{word} {name}"),
-    }
+    let number = number_of(reason.change);
+    format!(in alloc; "{word} {name} {number}")
 }
 
-/// What is answered, as it is printed.
+/// What is answered, as a text.
 fn answer(alloc: Global, old: &Schema, new: &Schema) -> Result<String, AllocError> {
     match compatible(alloc, old, new)? {
         Verdict::Compatible(stable) => format!(in alloc; "compatible {stable}"),

@@ -7,8 +7,8 @@ use std::str;
 /// A value: a string as it is, in quotes.
 fn literal_text(alloc: Global, value: &Literal) -> Result<String, AllocError> {
     match value {
-        Literal::Bool(value) => format!(in alloc; "{value}"),
-        Literal::Whole(value) => format!(in alloc; "{value}"),
+        Literal::Bool(value) => value.to_string(alloc),
+        Literal::Whole(value) => value.to_string(alloc),
         Literal::Text(bytes) => {
             let text = str::from_utf8(bytes.as_slice()).unwrap_or("?");
             format!(in alloc; "\"{text}\"")

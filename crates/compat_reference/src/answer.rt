@@ -13,7 +13,7 @@ pub struct Answer {
     pub text: String,
 }
 
-/// A reason as it is printed: with the full name of the older definition, but for a field that comes too early.
+/// A reason as a text: with the full name of the older definition, but for a field that comes too early, and with 0 where it is of no member.
 fn reason_text(
     alloc: Global,
     given: Given<'_>,
@@ -30,10 +30,8 @@ fn reason_text(
     };
     let full = definition.name.full(alloc)?;
     let name = full.as_str();
-    match reason.number {
-        Some(number) => format!(in alloc; "{word} {name} {number}"),
-        None => format!(in alloc; "{word} {name}"),
-    }
+    let number = reason.number.unwrap_or(0);
+    format!(in alloc; "{word} {name} {number}")
 }
 
 /// What is answered of an older schema and a newer one.
