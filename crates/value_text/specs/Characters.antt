@@ -2,6 +2,7 @@
 use Rattle.std.specs.Prelude.{ℕ, ◌+◌, ◌-◌, ◌*◌, ◌==◌, ◌&&◌, ◌||◌, not, nat_le, if◌then◌else◌, Bool, List, [], ◌∷◌}
 use Rattle.std.specs.List.{flat_map}
 use Rattle.byte_rules.specs.Lang.{Lang, byte_in, choice, as_value, closed, ◌then◌, ◌▸◌, many}
+use Rattle.value_text.specs.Signs.{quote, backslash, letter_x}
 use Rattle.value_text.specs.Numbers.{is_digit}
 
 -- a hexadecimal digit, in lower case
@@ -18,11 +19,11 @@ low_pair = byte_in (λ b. nat_le 48 b && nat_le b 49) then λ a. as_value (λ b.
 
 -- behind a backslash
 unfoldable pub escape : Lang (List ℕ)
-escape = choice (λ b. b == 34) (closed 34 (34 ∷ [])) (choice (λ b. b == 92) (closed 92 (92 ∷ [])) (120 ▸ low_pair))
+escape = choice (λ b. b == quote) (closed quote (quote ∷ [])) (choice (λ b. b == backslash) (closed backslash (backslash ∷ [])) (letter_x ▸ low_pair))
 
 -- a byte that stands for itself
 abbrev pub is_plain : ℕ → Bool
-is_plain b = nat_le 32 b && nat_le b 127 && not (b == 34) && not (b == 92)
+is_plain b = nat_le 32 b && nat_le b 127 && not (b == quote) && not (b == backslash)
 
 -- what begins a character of two bytes
 abbrev pub leads_two : ℕ → Bool
@@ -58,7 +59,7 @@ four_bytes = byte_in leads_four then λ a. byte_in (second_of a) then λ b. byte
 
 -- the bytes that a character of a text stands for
 unfoldable pub character : Lang (List ℕ)
-character = choice (λ b. b == 92) (92 ▸ escape)
+character = choice (λ b. b == backslash) (backslash ▸ escape)
     (choice is_plain (as_value (λ b. b ∷ []) (byte_in is_plain)) (choice leads_two two_bytes (choice leads_three three_bytes four_bytes)))
 
 -- the bytes of some characters, one behind the other
@@ -67,4 +68,4 @@ all_of cs = flat_map (λ c. c) cs
 
 -- a text between quotes
 unfoldable pub text : Lang (List ℕ)
-text = 34 ▸ as_value all_of (many 34 character)
+text = quote ▸ as_value all_of (many quote character)

@@ -1,3 +1,4 @@
+pub mod Signs
 pub mod Brackets
 pub mod Characters
 pub mod Escapes

@@ -9,6 +9,7 @@ use Rattle.mj_schema.specs.declared.rows.MemberRow.{MemberRow}
 use Rattle.mj_schema.specs.declared.rows.UnionFieldRow.{UnionFieldRow}
 use Rattle.byte_rules.specs.Lang.{Lang, Read, Words, words, choice, as_value, ◌▸◌}
 use Rattle.byte_rules.specs.Among.{among}
+use Rattle.value_text.specs.Signs.{dash}
 
 -- a decimal digit
 abbrev pub is_digit : ℕ → Bool
@@ -41,7 +42,7 @@ minus (suc n) = negsuc n
 
 -- an integer from -low to high
 abbrev pub integer : ℕ → ℕ → Lang ℤ
-integer low high = choice (λ b. b == 45) (45 ▸ as_value minus (number 1 low)) (as_value pos (number 0 high))
+integer low high = choice (λ b. b == dash) (dash ▸ as_value minus (number 1 low)) (as_value pos (number 0 high))
 
 -- an integer of so many bits
 abbrev pub whole : Width → Bool → Lang ℤ

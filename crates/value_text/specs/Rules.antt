@@ -12,6 +12,7 @@ use Rattle.wire_model.specs.Rows.{kind_of_tag}
 use Rattle.wire_model.specs.Trees.{Tree, trees}
 use Rattle.wire_model.specs.Trees as values
 use Rattle.byte_rules.specs.Lang.{Lang, choice, as_value, never, closed, ◌then◌, ◌▸◌, listed, exactly}
+use Rattle.value_text.specs.Signs.{percent, open_round, close_round, comma, colon, open_angle, close_angle, at_sign, open_square, close_square, caret, open_curly, close_curly, letter_n, letter_t}
 use Rattle.value_text.specs.Numbers.{whole, index, number_of, fields_tags, tag_of}
 use Rattle.value_text.specs.Characters.{text}
 
@@ -23,7 +24,7 @@ letters (c ∷ d ∷ ds) x = c ▸ letters (d ∷ ds) x
 
 -- a bool
 unfoldable pub boolean : Lang Tree
-boolean = choice (λ b. b == 116) (letters (codes "true") (values.Flag true)) (letters (codes "false") (values.Flag false))
+boolean = choice (λ b. b == letter_t) (letters (codes "true") (values.Flag true)) (letters (codes "false") (values.Flag false))
 
 -- null
 unfoldable pub null_word : Lang Tree
@@ -37,12 +38,12 @@ opened true c one = c ▸ one
 -- one value for each field, null too where it has a flag, each behind a comma, and the bracket that ends them; `inside` are the values
 -- of slots, whether they have a flag and of which kind
 unfoldable pub fields_after : (Bool → KindTree → Lang Tree) → List FieldRow → Lang (List Tree)
-fields_after inside [] = closed 41 []
-fields_after inside (f ∷ fs) = 44 ▸ inside (is_some f.flag) f.kind then λ v. as_value (λ vs. v ∷ vs) (fields_after inside fs)
+fields_after inside [] = closed close_round []
+fields_after inside (f ∷ fs) = comma ▸ inside (is_some f.flag) f.kind then λ v. as_value (λ vs. v ∷ vs) (fields_after inside fs)
 
 -- one value for each field with commas between, and the bracket that ends them
 unfoldable pub fields : (Bool → KindTree → Lang Tree) → List FieldRow → Lang (List Tree)
-fields inside [] = closed 41 []
+fields inside [] = closed close_round []
 fields inside (f ∷ fs) = inside (is_some f.flag) f.kind then λ v. as_value (λ vs. v ∷ vs) (fields_after inside fs)
 
 -- the array of these elements
@@ -55,8 +56,8 @@ fields_of vs = values.Fields (trees vs)
 
 -- the elements of an array, of any number or so many, and the bracket that ends them
 abbrev pub elements : Lang Tree → Option ℕ → Lang (List Tree)
-elements one None = listed 93 one
-elements one (Some n) = exactly 93 n one
+elements one None = listed close_square one
+elements one (Some n) = exactly close_square n one
 
 -- an array of such elements, of any number or so many, behind its first bracket
 abbrev pub array : Lang Tree → Option ℕ → Lang Tree
@@ -69,7 +70,7 @@ structure inside (Some row) = as_value fields_of (fields inside row.fields)
 
 -- a key and its value
 unfoldable pub pair : Lang Tree → Lang Tree → Lang (Tree × Tree)
-pair key one = key then λ k. 58 ▸ as_value (λ v. (k, v)) one
+pair key one = key then λ k. colon ▸ as_value (λ v. (k, v)) one
 
 -- the keys of pairs, in order
 abbrev pub keys_of : List (Tree × Tree) → List Tree
@@ -89,8 +90,8 @@ pairs_of ps = map_of (keys_of ps) (values_of ps)
 
 -- what stands behind a tag
 abbrev pub member : (Bool → KindTree → Lang Tree) → ℕ → Option KindTree → Lang Tree
-member inside tag None = closed 62 (values.Unknown tag)
-member inside tag (Some k) = 58 ▸ inside false k then λ v. closed 62 (values.Member tag v)
+member inside tag None = closed close_angle (values.Unknown tag)
+member inside tag (Some k) = colon ▸ inside false k then λ v. closed close_angle (values.Member tag v)
 
 -- a tag and what stands behind it; of a union that isn't there no byte goes on
 abbrev pub union : (Bool → KindTree → Lang Tree) → Option UnionRow → Lang Tree
@@ -104,20 +105,21 @@ base schema room inside (kinds.BoolKind nullable) = boolean
 base schema room inside (kinds.IntKind w signed nullable) = as_value values.Whole (whole w signed)
 base schema room inside (kinds.EnumKind n nullable) = as_value values.Whole (number_of (slice_get schema.enums n))
 base schema room inside (kinds.TextKind nullable) = as_value values.Text text
-base schema room inside (kinds.HandleKind sort nullable) = 37 ▸ as_value values.Handle index
-base schema room inside (kinds.ArrayKind of count nullable) = opened room 91 (array (inside false of) count)
-base schema room inside (kinds.MapKind key one nullable) = opened room 123 (as_value pairs_of (listed 125 (pair (inside false key) (inside false one))))
-base schema room inside (kinds.StructKind n nullable) = opened room 40 (structure inside (slice_get schema.structs n))
-base schema room inside (kinds.UnionKind n nullable) = opened room 60 (union inside (slice_get schema.unions n))
-base schema room inside (kinds.RemoteKind interface nullable) = 37 ▸ index then λ i. 64 ▸ as_value (values.Remote i) index
-base schema room inside (kinds.ReceiverKind interface nullable) = 37 ▸ as_value values.Handle index
-base schema room inside (kinds.AssociatedRemoteKind interface nullable) = 94 ▸ index then λ i. 64 ▸ as_value (values.EndpointRemote i) index
-base schema room inside (kinds.AssociatedReceiverKind interface nullable) = 94 ▸ as_value values.Endpoint index
+base schema room inside (kinds.HandleKind sort nullable) = percent ▸ as_value values.Handle index
+base schema room inside (kinds.ArrayKind of count nullable) = opened room open_square (array (inside false of) count)
+base schema room inside (kinds.MapKind key one nullable) =
+    opened room open_curly (as_value pairs_of (listed close_curly (pair (inside false key) (inside false one))))
+base schema room inside (kinds.StructKind n nullable) = opened room open_round (structure inside (slice_get schema.structs n))
+base schema room inside (kinds.UnionKind n nullable) = opened room open_angle (union inside (slice_get schema.unions n))
+base schema room inside (kinds.RemoteKind interface nullable) = percent ▸ index then λ i. at_sign ▸ as_value (values.Remote i) index
+base schema room inside (kinds.ReceiverKind interface nullable) = percent ▸ as_value values.Handle index
+base schema room inside (kinds.AssociatedRemoteKind interface nullable) = caret ▸ index then λ i. at_sign ▸ as_value (values.EndpointRemote i) index
+base schema room inside (kinds.AssociatedReceiverKind interface nullable) = caret ▸ as_value values.Endpoint index
 
 -- null too, where the slot may be null
 abbrev pub or_null : Bool → Lang Tree → Lang Tree
 or_null false one = one
-or_null true one = choice (λ b. b == 110) null_word one
+or_null true one = choice (λ b. b == letter_n) null_word one
 
 -- the values of a slot, where so many brackets may be open at once: null where the slot has a flag, or its kind may be null by itself
 unfoldable pub slot_value : Schema → ℕ → (flagged : Bool) → KindTree → Lang Tree

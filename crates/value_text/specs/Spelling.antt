@@ -9,6 +9,7 @@ use Rattle.mj_schema.specs.declared.schema.Schema.{Schema}
 use Rattle.wire_model.specs.Rows.{member_kind, row_of}
 use Rattle.wire_model.specs.Trees.{Tree, Trees, none, more}
 use Rattle.wire_model.specs.Trees as values
+use Rattle.value_text.specs.Signs.{percent, open_round, close_round, comma, colon, open_angle, close_angle, at_sign, open_square, close_square, caret, open_curly, close_curly}
 use Rattle.value_text.specs.Escapes.{quoted}
 
 -- a bool
@@ -50,15 +51,15 @@ held schema k tag = unwrap_or (member_kind schema k tag) k
 
 -- texts of keys and of values as pairs, each behind a comma, and the bracket
 abbrev pub next_pairs : List (List ℕ) → List (List ℕ) → List ℕ
-next_pairs [] vs = 125 ∷ []
-next_pairs (k ∷ ks) [] = 125 ∷ []
-next_pairs (k ∷ ks) (v ∷ vs) = 44 ∷ (k ++ 58 ∷ (v ++ next_pairs ks vs))
+next_pairs [] vs = close_curly ∷ []
+next_pairs (k ∷ ks) [] = close_curly ∷ []
+next_pairs (k ∷ ks) (v ∷ vs) = comma ∷ (k ++ colon ∷ (v ++ next_pairs ks vs))
 
 -- with commas between, and the bracket
 abbrev pub first_pair : List (List ℕ) → List (List ℕ) → List ℕ
-first_pair [] vs = 125 ∷ []
-first_pair (k ∷ ks) [] = 125 ∷ []
-first_pair (k ∷ ks) (v ∷ vs) = k ++ 58 ∷ (v ++ next_pairs ks vs)
+first_pair [] vs = close_curly ∷ []
+first_pair (k ∷ ks) [] = close_curly ∷ []
+first_pair (k ∷ ks) (v ∷ vs) = k ++ colon ∷ (v ++ next_pairs ks vs)
 
 unfoldable mutual
   -- the text of a value of a kind; the kind says which kinds the parts have
@@ -67,30 +68,30 @@ unfoldable mutual
   spell schema k (values.Flag b) = flag_text b
   spell schema k (values.Whole z) = signed_decimal z
   spell schema k (values.Text bytes) = quoted bytes
-  spell schema k (values.Items ts) = 91 ∷ first_item schema (element_of k) ts
-  spell schema k (values.Pairs ts) = 123 ∷ both_lists schema (key_of k) (value_of k) ts
-  spell schema k (values.Fields ts) = 40 ∷ first_field schema (field_kinds schema k) ts
-  spell schema k (values.Member tag t) = 60 ∷ (decimal tag ++ 58 ∷ (spell schema (held schema k tag) t ++ 62 ∷ []))
-  spell schema k (values.Unknown tag) = 60 ∷ (decimal tag ++ 62 ∷ [])
-  spell schema k (values.Handle i) = 37 ∷ decimal i
-  spell schema k (values.Remote i v) = 37 ∷ (decimal i ++ 64 ∷ decimal v)
-  spell schema k (values.Endpoint i) = 94 ∷ decimal i
-  spell schema k (values.EndpointRemote i v) = 94 ∷ (decimal i ++ 64 ∷ decimal v)
+  spell schema k (values.Items ts) = open_square ∷ first_item schema (element_of k) ts
+  spell schema k (values.Pairs ts) = open_curly ∷ both_lists schema (key_of k) (value_of k) ts
+  spell schema k (values.Fields ts) = open_round ∷ first_field schema (field_kinds schema k) ts
+  spell schema k (values.Member tag t) = open_angle ∷ (decimal tag ++ colon ∷ (spell schema (held schema k tag) t ++ close_angle ∷ []))
+  spell schema k (values.Unknown tag) = open_angle ∷ (decimal tag ++ close_angle ∷ [])
+  spell schema k (values.Handle i) = percent ∷ decimal i
+  spell schema k (values.Remote i v) = percent ∷ (decimal i ++ at_sign ∷ decimal v)
+  spell schema k (values.Endpoint i) = caret ∷ decimal i
+  spell schema k (values.EndpointRemote i v) = caret ∷ (decimal i ++ at_sign ∷ decimal v)
 
   -- elements with commas between, and the bracket
   pub first_item : Schema → KindTree → Trees → List ℕ
-  first_item schema k none = 93 ∷ []
+  first_item schema k none = close_square ∷ []
   first_item schema k (more t ts) = spell schema k t ++ next_items schema k ts
 
   -- elements each behind a comma, and the bracket
   pub next_items : Schema → KindTree → Trees → List ℕ
-  next_items schema k none = 93 ∷ []
-  next_items schema k (more t ts) = 44 ∷ (spell schema k t ++ next_items schema k ts)
+  next_items schema k none = close_square ∷ []
+  next_items schema k (more t ts) = comma ∷ (spell schema k t ++ next_items schema k ts)
 
   -- the pairs of two lists
   pub both_lists : Schema → KindTree → KindTree → Trees → List ℕ
   both_lists schema key one (more (values.Items ks) (more (values.Items vs) none)) = first_pair (each_text schema key ks) (each_text schema one vs)
-  both_lists schema key one ts = 125 ∷ []
+  both_lists schema key one ts = close_curly ∷ []
 
   -- the texts of values, each by itself
   pub each_text : Schema → KindTree → Trees → List (List ℕ)
@@ -99,12 +100,12 @@ unfoldable mutual
 
   -- fields with commas between, and the bracket
   pub first_field : Schema → List KindTree → Trees → List ℕ
-  first_field schema [] ts = 41 ∷ []
-  first_field schema (k ∷ ks) none = 41 ∷ []
+  first_field schema [] ts = close_round ∷ []
+  first_field schema (k ∷ ks) none = close_round ∷ []
   first_field schema (k ∷ ks) (more t ts) = spell schema k t ++ next_fields schema ks ts
 
   -- fields each behind a comma, and the bracket
   pub next_fields : Schema → List KindTree → Trees → List ℕ
-  next_fields schema [] ts = 41 ∷ []
-  next_fields schema (k ∷ ks) none = 41 ∷ []
-  next_fields schema (k ∷ ks) (more t ts) = 44 ∷ (spell schema k t ++ next_fields schema ks ts)
+  next_fields schema [] ts = close_round ∷ []
+  next_fields schema (k ∷ ks) none = close_round ∷ []
+  next_fields schema (k ∷ ks) (more t ts) = comma ∷ (spell schema k t ++ next_fields schema ks ts)

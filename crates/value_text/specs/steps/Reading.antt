@@ -6,6 +6,7 @@ use Rattle.mj_schema.specs.KindTrees.{KindTree}
 use Rattle.mj_schema.specs.declared.schema.Schema.{Schema}
 use Rattle.wire_model.specs.Trees.{Tree, view}
 use Rattle.byte_rules.specs.Lang.{Lang, never, ◌▸◌, many}
+use Rattle.value_text.specs.Signs.{comma, close_square, close_curly}
 use Rattle.value_text.specs.Rules.{pair, keys_of, values_of, base, slot_value}
 use Rattle.wire_model.specs.declared.value.Value.{Value}
 use Rattle.value_text.specs.declared.text_error.TextError.{TextError}
@@ -30,7 +31,7 @@ base_at schema left k = base schema (has_room left) (inside schema left) k
 
 -- what follows in an array, behind its first element
 abbrev pub more_of : Schema → ℕ → KindTree → Lang (List Tree)
-more_of schema left k = many 93 (44 ▸ inner schema left k)
+more_of schema left k = many close_square (comma ▸ inner schema left k)
 
 -- a key and its value
 abbrev pub pair_of : Schema → ℕ → KindTree → KindTree → Lang (Tree × Tree)
@@ -38,7 +39,7 @@ pair_of schema left key one = pair (inner schema left key) (inner schema left on
 
 -- what follows in a map, behind its first pair
 abbrev pub more_pairs_of : Schema → ℕ → KindTree → KindTree → Lang (List (Tree × Tree))
-more_pairs_of schema left key one = many 125 (44 ▸ pair_of schema left key one)
+more_pairs_of schema left key one = many close_curly (comma ▸ pair_of schema left key one)
 
 -- keys and values with those of more pairs behind them
 abbrev pub add_pairs : List Tree × List Tree → List (Tree × Tree) → List Tree × List Tree
