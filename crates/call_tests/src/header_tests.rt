@@ -1,8 +1,9 @@
 //! Messages as bytes that were written down by hand.
 
+use check_files::word_bytes;
 use control_bytes::{Control, read_control, write_control};
 use message_header::{Head, read_header, write_header, write_ids};
-use mj_base::{Fault, FaultKind, Span, push_le32};
+use mj_base::{Fault, FaultKind, Span};
 use std::alloc::{AllocError, Global};
 use std::test::Fail;
 
@@ -45,15 +46,6 @@ const REFUSED: [(usize, u32, FaultKind, u64); 11] = [
     (18, 0, FaultKind::IllegalInterfaceId, 72),
 ];
 
-/// The bytes of numbers.
-fn bytes_of(alloc: Global, numbers: &[u32]) -> Result<Vec<u8>, AllocError> {
-    let mut bytes = Vec::new(alloc);
-    for number in numbers {
-        push_le32(&mut bytes, *number)?;
-    }
-    Ok(bytes)
-}
-
 /// Whether the message with another number in one place is refused so.
 fn is_refused(
     alloc: Global,
@@ -66,7 +58,7 @@ fn is_refused(
     if place < 20 {
         numbers[place] = number;
     }
-    let bytes = bytes_of(alloc, &numbers)?;
+    let bytes = word_bytes(alloc, &numbers)?;
     Ok(match read_header(&bytes) {
         Ok(_) => false,
         Err(fault) => fault == Fault { kind, at },
@@ -88,7 +80,7 @@ fn a_header_with_ids_is_written_and_read(rt: HostRuntime) -> Result<(), Fail> {
     write_header(&mut message, &head, 16)?;
     message.extend_from_slice(&[16, 0, 0, 0, 0, 0, 0, 0, 0, 0, 0, 0, 0, 0, 0, 0])?;
     write_ids(&mut message, head.ids)?;
-    let wanted = bytes_of(alloc, &CARRYING)?;
+    let wanted = word_bytes(alloc, &CARRYING)?;
     assert_eq!(rt; message.as_slice(), wanted.as_slice());
     let payload = Span { start: 48, len: 16 };
     let ids = Span { start: 72, len: 4 };
@@ -124,7 +116,7 @@ fn said(bytes: &[u8]) -> Result<Option<Control>, Fault> {
 fn a_control_is_written_and_read(rt: HostRuntime) -> Result<(), Fail> {
     let alloc = rt.alloc();
     let control = write_control(alloc, Control::Closed(5))?;
-    let wanted = bytes_of(alloc, &[24, 0, 0xffff_ffff, 0, 0, 0, 16, 0, 1, 5])?;
+    let wanted = word_bytes(alloc, &[24, 0, 0xffff_ffff, 0, 0, 0, 16, 0, 1, 5])?;
     assert_eq!(rt; control.as_slice(), wanted.as_slice());
     assert!(rt; said(&control) == Ok(Some(Control::Closed(5))));
     Ok(())

@@ -8,20 +8,12 @@ use crate::held::Held;
 use crate::moves::{Method, Move};
 use crate::values::prepared;
 use bind_model::{Command, Flow, PendingId, ToClose};
+use check_files::word_bytes;
 use handle_table::{Handles, Thing};
 use mj_base::{EndId, Items, SeqId};
 use mj_schema::Schema;
 use std::alloc::{AllocError, Global};
 use wire_model::MessageSide;
-
-/// The bytes of numbers of 32 bits.
-fn bytes_of(alloc: Global, numbers: &[u32]) -> Result<Items<u8>, AllocError> {
-    let mut bytes = Vec::new(alloc);
-    for number in numbers {
-        bytes.extend_from_slice(&number.to_le_bytes())?;
-    }
-    Ok(Items::from_vec(bytes))
-}
 
 /// Bytes that are owned.
 fn items_of(alloc: Global, bytes: &[u8]) -> Result<Items<u8>, AllocError> {
@@ -94,7 +86,7 @@ fn raw(
 ) -> Result<Option<Command>, AllocError>
     ensures { IfOk result (λ found. (schema : Schema) → IfSome found (IsOf schema)) }
 {
-    let bytes = bytes_of(alloc, numbers)?;
+    let bytes = Items::from_vec(word_bytes(alloc, numbers)?);
     let Some(handle) = held.take_handle(from) else {
         return Ok(None);
     };

@@ -1,12 +1,15 @@
-//! What programs that compare share: files that they read whole, as bytes or as a text, and numbers that seem to be drawn.
+//! What programs that compare share: files that they read whole, as bytes or as a text, numbers that seem to be drawn, and the
+//! bytes of numbers.
 #![tactic(auto)]
 
 mod draws;
+mod words;
 
 pub use draws::Draws;
 use mj_io::{Fetched, Files, RealFiles};
 use std::io;
 use std::io::Print;
+pub use words::{push_words, word_bytes};
 
 /// The bytes that a file of cases has at most.
 const MOST_BYTES: u64 = 1_048_576;

@@ -8,8 +8,9 @@ ghost use Rattle.bind_model.specs.Plain.{IsOf};
 use crate::compiled::compiled;
 use bind_hub::{Hub, Pass, Seat};
 use bind_model::{Command, History, Received, Reply};
+use check_files::word_bytes;
 use handle_table::{Handle, Handles};
-use mj_base::{EndId, Items, push_le32};
+use mj_base::{EndId, Items};
 use mj_schema::Schema;
 use std::alloc::{AllocError, Global};
 use std::process::Abort;
@@ -23,10 +24,7 @@ const LISTENER: &str = "interface P { Say(uint32 n); };";
 
 /// The bytes of a message that says 7.
 fn message(alloc: Global) -> Result<Items<u8>, AllocError> {
-    let mut bytes = Vec::new(alloc);
-    for word in [24u32, 0, 0, 0, 0, 0, 16, 0, 7, 0] {
-        push_le32(&mut bytes, word)?;
-    }
+    let bytes = word_bytes(alloc, &[24, 0, 0, 0, 0, 0, 16, 0, 7, 0])?;
     Ok(Items::from_vec(bytes))
 }
 

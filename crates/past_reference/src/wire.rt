@@ -5,6 +5,7 @@ ghost use Rattle.std.specs.Prelude.{IfSome};
 ghost use Rattle.wire_encoder.specs.Prepared.{HasTarget};
 
 use bind_model::{Endpoint, Outgoing, State};
+use check_files::push_words;
 use control_bytes::{Control, read_control};
 use core_state::copy_value;
 use message_header::{CONTROL_ID, read_header};
@@ -114,14 +115,6 @@ fn known(schema: &Schema, target: Target) -> Option<Target>
     }
 }
 
-/// Adds numbers of 32 bits.
-fn push32(out: &mut Vec<u8>, numbers: &[u32]) -> Result<(), AllocError> {
-    for number in numbers {
-        out.extend_from_slice(&number.to_le_bytes())?;
-    }
-    Ok(())
-}
-
 /// Adds numbers of 64 bits.
 fn push64(out: &mut Vec<u8>, numbers: &[u64]) -> Result<(), AllocError> {
     for number in numbers {
@@ -155,7 +148,7 @@ fn push_header(
 ) -> Result<(), AllocError> {
     let (version, size) = version_of(prepared.flags, ids, moment);
     let method = prepared.target.method;
-    push32(out, &[size, version, id, method, prepared.flags, 0])?;
+    push_words(out, &[size, version, id, method, prepared.flags, 0])?;
     let ahead = u64::from(size).saturating_sub(32);
     let length = u64::from(size).saturating_add(prepared.payload.len() as u64);
     let behind = if ids == 0 {
@@ -177,10 +170,10 @@ fn push_ids(out: &mut Vec<u8>, ids: &[u32]) -> Result<(), AllocError> {
         return Ok(());
     }
     let count = u32::try_from(ids.len()).unwrap_or(u32::MAX);
-    push32(out, &[count.saturating_mul(4).saturating_add(8), count])?;
-    push32(out, ids)?;
+    push_words(out, &[count.saturating_mul(4).saturating_add(8), count])?;
+    push_words(out, ids)?;
     if count % 2 == 1 {
-        push32(out, &[0])?;
+        push_words(out, &[0])?;
     }
     Ok(())
 }
