@@ -20,6 +20,20 @@ pub struct Answer {
     pub err: Vec<u8>,
 }
 
+/// The status and the texts of a call.
+fn answer_of(
+    alloc: Global,
+    status: u8,
+    out: &MemorySink,
+    err: &MemorySink,
+) -> Result<Answer, AllocError> {
+    Ok(Answer {
+        status,
+        out: out.text().to_vec(alloc)?,
+        err: err.text().to_vec(alloc)?,
+    })
+}
+
 /// Runs the product over files and sinks in memory, of which some calls fail, or take few bytes.
 pub fn run<R: Wait + Threads + Sync>(
     rt: &R,
@@ -32,11 +46,7 @@ pub fn run<R: Wait + Threads + Sync>(
     let mut out = MemorySink::new(alloc, failing.most_out, failing.out);
     let mut err = MemorySink::new(alloc, failing.most_err, failing.err);
     let status = mojo_tool::mojo_main(rt, alloc, words, &mut files, &mut out, &mut err, &OpenGates);
-    Ok(Answer {
-        status,
-        out: out.text().to_vec(alloc)?,
-        err: err.text().to_vec(alloc)?,
-    })
+    answer_of(alloc, status, &out, &err)
 }
 
 impl Answer {

@@ -1,6 +1,6 @@
 //! What a message is made of, and the end that it goes to.
 
-ghost use Rattle.std.specs.Prelude.{◌≡◌, ◌<◌, ◌==◌, ◌&&◌, length, IfOk, IsSome, OnErr, OnOk};
+ghost use Rattle.std.specs.Prelude.{◌≡◌, ◌<◌, ◌==◌, ◌&&◌, false, length, IfOk, IsSome, OnErr, OnOk};
 ghost use Rattle.mj_base.specs.declared.limits.TheConstants.{MAX_UNREAD_MESSAGES};
 ghost use Rattle.message_pipe.specs.Contents.{Becomes};
 ghost use Rattle.message_pipe.specs.Ends.{end_of, peer_of, unread_at, with_message};
@@ -155,6 +155,45 @@ pub(crate) struct Writes {
     pub(crate) told: Items<u8>,
 }
 
+/// The bytes of what is prepared, for the endpoint of an id, with this request id, this moment and the ids of these pendings.
+fn bytes_for(
+    alloc: Global,
+    prepared: &Prepared,
+    id: u32,
+    request_id: u64,
+    pendings: &[PendingId],
+    moment: Option<i64>,
+) -> Result<Items<u8>, AllocError>
+    requires wanted { length (ids_of pendings.now) ≡ length prepared.now.endpoints.items }
+    requires ids { AreIds (ids_of pendings.now) }
+    ensures { IfOk result (λ bytes. bytes ≡ sealed_bytes id request_id moment (ids_of pendings.now) prepared.now) }
+{
+    let ids = ids_of(alloc, pendings)?;
+    let head = Head {
+        interface_id: id,
+        request_id,
+        moment,
+        ids: ids.as_slice(),
+    };
+    Ok(Items::from_vec(seal(alloc, prepared, &head)?))
+}
+
+/// A message of these bytes, with these handles.
+fn message_with(
+    alloc: Global,
+    bytes: Items<u8>,
+    things: &Items<Thing>,
+) -> Result<Message, AllocError>
+    ensures { IfOk result (λ message. message ≡ record { bytes = bytes; handles = things.now; emitted = false }) }
+{
+    let handles = things.copy(alloc)?;
+    Ok(Message {
+        bytes,
+        handles,
+        emitted: false,
+    })
+}
+
 /// Makes all that is written for the endpoint of an id, with this request id and this moment.
 pub(crate) fn writes_of(
     alloc: Global,
@@ -168,23 +207,12 @@ pub(crate) fn writes_of(
     requires ids { AreIds (ids_of names.pendings) }
     ensures { IfOk result (λ writes. AreOf prepared.now names moment (sealed_bytes id request_id moment (ids_of names.pendings) prepared.now) writes) }
 {
-    let ids = ids_of(alloc, names.pendings.as_slice())?;
-    let head = Head {
-        interface_id: id,
-        request_id,
-        moment,
-        ids: ids.as_slice(),
-    };
-    let bytes = Items::from_vec(seal(alloc, prepared, &head)?);
+    let pendings = names.pendings.as_slice();
+    let bytes = bytes_for(alloc, prepared, id, request_id, pendings, moment)?;
     let noted = bytes.copy(alloc)?;
     let told = bytes.copy(alloc)?;
-    let carried = names.things.copy(alloc)?;
+    let message = message_with(alloc, bytes, &names.things)?;
     let outgoing = outgoing(alloc, prepared, names, moment)?;
-    let message = Message {
-        bytes,
-        handles: carried,
-        emitted: false,
-    };
     Ok(Writes {
         outgoing,
         message,

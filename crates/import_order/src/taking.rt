@@ -90,14 +90,18 @@ fn count_down(
     Ok(())
 }
 
-/// The files that can be taken, again and again the first whose imports are all taken.
-pub(crate) fn take_all(alloc: Global, imports: &[Items<u32>]) -> Result<Marked, AllocError>
+/// The files that can be taken, again and again the first whose imports are all taken; the files that import each are given.
+fn take_behind(
+    alloc: Global,
+    imports: &[Items<u32>],
+    importers: &[Items<u32>],
+) -> Result<Marked, AllocError>
     requires few { length imports.now < 2 ^ 32 }
-    requires imports { AreImports imports.now }
+    requires long { length importers.now ≡ length imports.now }
+    requires are { AreImporters imports.now importers.now }
     ensures limit { IfOk result (λ taken. taken.limit ≡ length imports.now) }
     ensures whole { IfOk result (λ taken. IsTakenWhole imports.now taken.numbers) }
 {
-    let importers = all_importers(alloc, imports)?;
     let mut free = LeastFirst::new(alloc);
     let mut left = count_imports(alloc, imports, &mut free)?;
     let mut taken = Marked::new(alloc, imports.len())?;
@@ -107,4 +111,15 @@ pub(crate) fn take_all(alloc: Global, imports: &[Items<u32>]) -> Result<Marked, 
         count_down(left.as_mut_slice(), &mut free, waiting)?;
     }
     Ok(taken)
+}
+
+/// The files that can be taken, again and again the first whose imports are all taken.
+pub(crate) fn take_all(alloc: Global, imports: &[Items<u32>]) -> Result<Marked, AllocError>
+    requires few { length imports.now < 2 ^ 32 }
+    requires imports { AreImports imports.now }
+    ensures limit { IfOk result (λ taken. taken.limit ≡ length imports.now) }
+    ensures whole { IfOk result (λ taken. IsTakenWhole imports.now taken.numbers) }
+{
+    let importers = all_importers(alloc, imports)?;
+    take_behind(alloc, imports, importers.as_slice())
 }

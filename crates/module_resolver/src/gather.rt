@@ -3,7 +3,7 @@
 ghost use Rattle.std.specs.Prelude.{◌≡◌, ◌++◌, IfOk, OnOk, map, filter};
 ghost use Rattle.std.specs.List.{flat_map};
 ghost use Rattle.mj_base.specs.Names.{within};
-ghost use Rattle.mojom_files.specs.Definitions.{enumerator_names};
+ghost use Rattle.mojom_files.specs.Definitions.{definitions_of, enumerator_names};
 ghost use Rattle.mojom_files.specs.Views.{item_view};
 ghost use Rattle.module_resolver.specs.NamesOf.{sort_of_item, module_fronts, sees, sees_number, names_in, names_of};
 ghost use Rattle.module_resolver.specs.Enums.{names_in_enum};
@@ -17,7 +17,7 @@ use crate::seen::Seen;
 use crate::target::DefinitionSort;
 use indexmap::IndexSet;
 use mj_base::{FullName, Items, Text};
-use mojom_ast::{Enumerator, Import, ModuleStatement};
+use mojom_ast::{Enumerator, File, Import, ModuleStatement};
 use mojom_files::{DefinitionView, ItemView, NamedFile, definitions};
 use std::alloc::{AllocError, Global};
 
@@ -173,6 +173,24 @@ fn module_fronts(alloc: Global, statement: &Option<ModuleStatement>) -> Result<F
     }
 }
 
+/// What a file defines: the full names, what each of them is, and the enumerators.
+fn defined(
+    alloc: Global,
+    file: &File,
+) -> Result<(Items<FullName>, Items<DefinitionSort>, EnumeratorNames), AllocError>
+    ensures names { IfOk result (λ x. x.0 ≡ map (λ d. d.full) (definitions_of file.now)) }
+    ensures sorts { IfOk result (λ x. x.1 ≡ map (λ d. sort_of_item d.item) (definitions_of file.now)) }
+    ensures enumerators { IfOk result (λ x. x.2 ≡ flat_map enumerator_names (definitions_of file.now)) }
+{
+    let found = definitions(alloc, file)?;
+    let views = found.as_slice();
+    Ok((
+        full_names(alloc, views)?,
+        sorts(alloc, views)?,
+        enumerator_names(alloc, views)?,
+    ))
+}
+
 /// The names of a file.
 fn names_in(
     alloc: Global,
@@ -182,14 +200,16 @@ fn names_in(
 ) -> Result<FileNames, AllocError>
     ensures { IfOk result (λ names. names ≡ names_in files.now order.now file.now) }
 {
-    let found = definitions(alloc, &file.tree)?;
-    let views = found.as_slice();
+    let numbers = seen(alloc, files, order, file)?;
+    let known = Seen::new(alloc, numbers)?;
+    let fronts = module_fronts(alloc, &file.tree.module_statement)?;
+    let (names, kinds, enumerators) = defined(alloc, &file.tree)?;
     Ok(FileNames {
-        definitions: full_names(alloc, views)?,
-        sorts: sorts(alloc, views)?,
-        enumerators: enumerator_names(alloc, views)?,
-        seen: Seen::new(alloc, seen(alloc, files, order, file)?)?,
-        fronts: module_fronts(alloc, &file.tree.module_statement)?,
+        definitions: names,
+        sorts: kinds,
+        enumerators,
+        seen: known,
+        fronts,
     })
 }
 

@@ -178,6 +178,27 @@ fn owner(line: Option<&Line>, event: &Event, place: usize) -> SeqId {
     }
 }
 
+/// Adds what the event at a place handed out, each under the name that its line set for it.
+fn push_labels(
+    alloc: Global,
+    labels: &mut Vec<Label>,
+    line: Option<&Line>,
+    event: &Event,
+    place: usize,
+    handed: &[Held],
+) -> Result<(), AllocError> {
+    let names = set_by(alloc, line)?;
+    for (k, held) in handed.iter().enumerate() {
+        labels.push(Label {
+            place,
+            seq: owner(line, event, k),
+            held: *held,
+            name: names.get(k).copied(),
+        })?;
+    }
+    Ok(())
+}
+
 /// What names stand for behind some events.
 #[derive(Drop)]
 pub struct Names<'a> {
@@ -201,16 +222,8 @@ impl<'a> Names<'a> {
             if let Some(name) = spent_by(line, &event.told) {
                 spendings.push(Spending { place, name })?;
             }
-            let names = set_by(alloc, line)?;
             let handed = handed_to_line(alloc, schema, script.autos.as_slice(), event)?;
-            for (k, held) in handed.iter().enumerate() {
-                labels.push(Label {
-                    place,
-                    seq: owner(line, event, k),
-                    held: *held,
-                    name: names.get(k).copied(),
-                })?;
-            }
+            push_labels(alloc, &mut labels, line, event, place, &handed)?;
         }
         Ok(Names {
             past,

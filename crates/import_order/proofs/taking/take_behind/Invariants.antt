@@ -1,7 +1,7 @@
 use Rattle.std.proofs.Common.{◌≡◌, ◌-◌, length}
 use Rattle.import_order.specs.Imports.{IsTakenInOrder}
 use Rattle.import_order.proofs.Frees.{IsCounted}
-use Rattle.import_order.proofs.taking.take_all.Given as goal
+use Rattle.import_order.proofs.taking.take_behind.Given as goal
 
 abbrev pub invariant-loop-file : goal.invariant-loop-file
 invariant-loop-file l = record {
