@@ -10,13 +10,13 @@ use Rattle.mj_base.specs.declared.fault.Fault.{Fault}
 use Rattle.mj_base.specs.declared.header.Header.{Header as Read}
 use Rattle.mj_base.specs.declared.ids.EndId.{EndId}
 use Rattle.mj_base.specs.declared.ids.SeqId.{SeqId}
+use Rattle.mj_base.specs.Bytes.{number32}
 use Rattle.mj_schema.specs.declared.schema.Schema.{Schema}
 use Rattle.message_header.specs.Said.{header_said}
 use Rattle.message_header.proofs.Fine.{fine_passes}
 use Rattle.message_pipe.specs.Ends.{end_of, is_closed, unread_at}
 use Rattle.message_pipe.specs.Mail.{front_of}
 use Rattle.message_pipe.specs.declared.message.Message.{Message}
-use Rattle.wire_model.specs.Bytes.{number32}
 use Rattle.wire_model.specs.HeaderMarks.{CONTROL_ID, header_marks}
 use Rattle.wire_model.specs.Stands.{IsFine}
 use Rattle.bind_model.specs.declared.endpoint.Endpoint.{Endpoint}

@@ -3,6 +3,7 @@ use Rattle.std.specs.Prelude.{ℕ, Bool, false, List, [], ◌∷◌, length, Opt
 use Rattle.std.specs.Option.{option_map_or}
 use Rattle.bounds_claims.specs.Runs.{first_fault}
 use Rattle.mj_base.specs.declared.fault.Fault.{Fault}
+use Rattle.mj_base.specs.Bytes.{number32}
 use Rattle.mj_schema.specs.KindTrees.{StructKind}
 use Rattle.mj_schema.specs.Lookups.{method_in}
 use Rattle.mj_schema.specs.declared.rows.InterfaceRow.{InterfaceRow}
@@ -18,7 +19,6 @@ use Rattle.wire_encoder.specs.Prepared.{flags_for, method_of, payload_for, verdi
 use Rattle.wire_encoder.specs.declared.endpoint.EndpointSide.{EndpointSide}
 use Rattle.wire_encoder.specs.declared.endpoint.EndpointSide.TheVariants.{Remote, Receiver}
 use Rattle.wire_encoder.specs.declared.endpoint.WantedEndpoint.{WantedEndpoint}
-use Rattle.wire_model.specs.Bytes.{number32}
 use Rattle.wire_model.specs.Expected.{message_marks, method_named, struct_of}
 use Rattle.wire_model.specs.HeaderMarks.{header_marks}
 use Rattle.wire_model.specs.Indexes.{handles_of}

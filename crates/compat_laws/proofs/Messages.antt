@@ -2,12 +2,12 @@
 use Rattle.std.proofs.Common.{◌≡◌, ℕ, zero, ◌%◌, true, inl, inr, List, [], ◌∷◌, ◌++◌, length, Option, Some, None, refl, sym, ap, subst, ◌∙◌}
 use Rattle.std.specs.Prelude.{◌==◌, is_some, slice_get}
 use Rattle.mj_base.specs.declared.fault.FaultKind.TheVariants.{MessageHeaderInvalidFlags}
+use Rattle.mj_base.specs.Bytes.{number32}
 use Rattle.mj_schema.specs.Lookups.{method_in}
 use Rattle.mj_schema.specs.declared.rows.InterfaceRow.{InterfaceRow}
 use Rattle.mj_schema.specs.declared.rows.MethodRow.{MethodRow}
 use Rattle.mj_schema.specs.declared.rows.RowSort.TheVariants.{Interface}
 use Rattle.mj_schema.specs.declared.schema.Schema.{Schema}
-use Rattle.wire_model.specs.Bytes.{number32}
 use Rattle.wire_model.specs.Expected.{message_marks, method_marks, parameter_marks, struct_of, flags_of}
 use Rattle.wire_model.specs.HeaderMarks.{header_marks}
 use Rattle.wire_model.specs.Marks.{Mark, Test, Object, Handle, Id}

@@ -1,7 +1,7 @@
 -- The request id that a message says of its head: it stands in the header, unless the message is plain.
 use Rattle.std.proofs.Common.{◌≡◌, ℕ, ℤ, Bool, true, false, List, [], ◌∷◌, ◌++◌, length, refl, ◌∙◌}
 use Rattle.std.specs.Prelude.{Option, Some, None}
-use Rattle.wire_model.specs.Bytes.{bytes32, bytes64, number32, number64}
+use Rattle.mj_base.specs.Bytes.{bytes32, bytes64, number32, number64}
 use Rattle.wire_model.specs.Message.{Head, back_of, front, is_plain, message, plain_front, request_read, written_request}
 use Rattle.compat_model.proofs.Lists.{by_test}
 

@@ -2,7 +2,7 @@
 use Rattle.std.proofs.Common.{◌≡◌, ℕ, ◌^◌, ◌<◌, true, ◌&&◌, List, length, refl, arith}
 use Rattle.std.specs.Prelude.{nat_lt}
 use Rattle.std.proofs.lemmas.Bool.Decides.{nat_tests}
-use Rattle.wire_model.specs.Bytes.{bytes32, number32}
+use Rattle.mj_base.specs.Bytes.{bytes32, number32}
 use Rattle.wire_model.specs.HeaderMarks.{header_marks}
 use Rattle.wire_model.specs.Message.{payload_start, payload_end}
 use Rattle.wire_model.specs.Stands.{IsFine}

@@ -3,7 +3,7 @@ use Rattle.std.proofs.Common.{◌≡◌, ℕ, ◌+◌, ◌≤◌, true, not, ◌
 use Rattle.std.specs.Prelude.{nat_le}
 use Rattle.std.proofs.lemmas.Bool.Decides.{nat_tests}
 use Rattle.mj_base.specs.declared.header.Header.{Header}
-use Rattle.wire_model.specs.Bytes.{number32}
+use Rattle.mj_base.specs.Bytes.{number32}
 use Rattle.wire_model.specs.Message.{payload_start, payload_end}
 use Rattle.wire_model.specs.Stands.{IsFine}
 use Rattle.message_header.specs.Said.{header_said, IsPlaced}

@@ -4,7 +4,7 @@ use Rattle.std.specs.Prelude.{◌≡◌, ℕ, ◌+◌, ◌^◌, ◌<◌, Bool, n
 use Rattle.std.specs.Prelude.{if◌then◌else◌}
 use Rattle.mj_base.specs.declared.fault.FaultKind.TheVariants.{UnexpectedStructHeader, IllegalInterfaceId, IllegalMemoryRange, MisalignedObject}
 use Rattle.mj_base.specs.declared.fault.FaultKind.TheVariants.{MessageHeaderInvalidFlags, MessageHeaderUnknownMethod}
-use Rattle.wire_model.specs.Bytes.{bytes32, number32}
+use Rattle.mj_base.specs.Bytes.{bytes32, number32}
 use Rattle.wire_model.specs.HeaderMarks.{CONTROL_ID, aligned, expects, responds, header_marks}
 use Rattle.wire_model.specs.Marks.{Mark, Test}
 use Rattle.wire_model.specs.Message.{Head, front_of, message, payload_start, payload_end}

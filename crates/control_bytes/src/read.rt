@@ -16,8 +16,7 @@ use crate::kinds::{
     CLOSED_KIND, FLUSH_KIND, LONG_BYTES, QUERY_KIND, REQUIRE_KIND, SHORT_BYTES, VERSION_KIND,
 };
 use message_header::CONTROL_ID;
-use mj_base::{Fault, FaultKind, Header};
-use wire_model::le32;
+use mj_base::{Fault, FaultKind, Header, le32};
 
 /// Whether a message neither expects a response nor is one.
 fn is_plain(flags: u32) -> bool

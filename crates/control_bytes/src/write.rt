@@ -1,8 +1,7 @@
 //! The bytes of controls.
 
-ghost use Rattle.std.specs.Prelude.{◌≡◌, ◌++◌, OnOk, IfOk, []};
+ghost use Rattle.std.specs.Prelude.{◌≡◌, IfOk};
 ghost use Rattle.control_bytes.specs.Controls.{begun, short_control, long_control, written_control, HasNumber};
-ghost use Rattle.wire_model.specs.Bytes.{bytes32};
 
 use crate::control::Control;
 use crate::kinds::{
@@ -11,14 +10,6 @@ use crate::kinds::{
 use message_header::{CONTROL_ID, Head, write_header};
 use mj_base::push_le32;
 use std::alloc::{AllocError, Global};
-
-/// Adds the four bytes of a number.
-#[tactic(auto, unfolding(wire_model::specs::Bytes::bytes32))]
-fn push32(out: &mut Vec<u8>, number: u32) -> Result<(), AllocError>
-    ensures { OnOk result (out.new.items ≡ out.old.items ++ bytes32 number) }
-{
-    push_le32(out, number)
-}
 
 /// What each control with a payload of so many bytes begins with: its header and that of its struct.
 fn begin(alloc: Global, size: u32) -> Result<Vec<u8>, AllocError>
@@ -34,8 +25,8 @@ fn begin(alloc: Global, size: u32) -> Result<Vec<u8>, AllocError>
     };
     let mut out = Vec::new(alloc);
     write_header(&mut out, &head, u64::from(size))?;
-    push32(&mut out, size)?;
-    push32(&mut out, 0)?;
+    push_le32(&mut out, size)?;
+    push_le32(&mut out, 0)?;
     Ok(out)
 }
 
@@ -44,8 +35,8 @@ fn write_short(alloc: Global, kind: u32, number: u32) -> Result<Vec<u8>, AllocEr
     ensures { IfOk result (λ made. made.items ≡ short_control kind number) }
 {
     let mut out = begin(alloc, SHORT_BYTES)?;
-    push32(&mut out, kind)?;
-    push32(&mut out, number)?;
+    push_le32(&mut out, kind)?;
+    push_le32(&mut out, number)?;
     Ok(out)
 }
 
@@ -54,10 +45,10 @@ fn write_long(alloc: Global, kind: u32, number: u32, second: u32) -> Result<Vec<
     ensures { IfOk result (λ made. made.items ≡ long_control kind number second) }
 {
     let mut out = begin(alloc, LONG_BYTES)?;
-    push32(&mut out, kind)?;
-    push32(&mut out, number)?;
-    push32(&mut out, second)?;
-    push32(&mut out, 0)?;
+    push_le32(&mut out, kind)?;
+    push_le32(&mut out, number)?;
+    push_le32(&mut out, second)?;
+    push_le32(&mut out, 0)?;
     Ok(out)
 }
 

@@ -9,6 +9,7 @@ use Rattle.mj_base.specs.declared.fault.Fault.{Fault}
 use Rattle.mj_base.specs.declared.ids.EndId.{EndId}
 use Rattle.mj_base.specs.declared.ids.SeqId.{SeqId}
 use Rattle.mj_base.specs.declared.limits.TheConstants.{MAX_EVENTS}
+use Rattle.mj_base.specs.Bytes.{number32, number64}
 use Rattle.mj_schema.specs.declared.schema.Schema.{Schema}
 use Rattle.handle_table.specs.Things.{same_end}
 use Rattle.handle_table.proofs.ThingsLemmas.{and_right, or_cases, or_left, or_right}
@@ -16,7 +17,6 @@ use Rattle.message_header.specs.FirstFailed.{first_failed}
 use Rattle.message_header.proofs.Fine.{header_tests, passing_is_fine}
 use Rattle.message_pipe.specs.declared.message.Message.{Message}
 use Rattle.message_pipe.specs.Mail.{front_of}
-use Rattle.wire_model.specs.Bytes.{number32, number64}
 use Rattle.wire_model.specs.HeaderMarks.{CONTROL_ID, header_marks, id_marks, ids_marks, payload_marks}
 use Rattle.wire_model.specs.Marks.{Mark}
 use Rattle.wire_model.specs.Message.{ids_from, ids_read}

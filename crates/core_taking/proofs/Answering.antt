@@ -7,6 +7,7 @@ use Rattle.std.proofs.lemmas.Bool.Decides.{nat_tests}
 use Rattle.mj_base.specs.declared.ids.EndId.{EndId}
 use Rattle.mj_base.specs.declared.ids.SeqId.{SeqId}
 use Rattle.mj_base.specs.declared.fault.Fault.{Fault}
+use Rattle.mj_base.specs.Bytes.{number32}
 use Rattle.mj_schema.specs.declared.schema.Schema.{Schema}
 use Rattle.handle_table.specs.Things.{has}
 use Rattle.handle_table.specs.declared.thing.Thing.TheVariants.{End}
@@ -16,7 +17,6 @@ use Rattle.message_pipe.specs.Contents.{Becomes, Contents}
 use Rattle.message_pipe.specs.Ends.{end_of, peer_of, with_messages, without_front}
 use Rattle.message_pipe.specs.declared.message.Message.{Message}
 use Rattle.message_pipe.specs.declared.pipe_end.PipeEnd.{PipeEnd}
-use Rattle.wire_model.specs.Bytes.{number32}
 use Rattle.wire_model.specs.HeaderMarks.{CONTROL_ID}
 use Rattle.wire_model.specs.Message.{payload_start}
 use Rattle.wire_model.specs.Stands.{IsFine}

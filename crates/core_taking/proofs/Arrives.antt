@@ -4,10 +4,10 @@ use Rattle.std.specs.Prelude.{◌||◌, ◌==◌, if◌then◌else◌, map, filt
 use Rattle.std.specs.List.{list_any}
 use Rattle.mj_base.specs.declared.header.Header.{Header as Read}
 use Rattle.mj_base.specs.declared.ids.EndId.{EndId}
+use Rattle.mj_base.specs.Bytes.{number32}
 use Rattle.message_pipe.specs.declared.message.Message.{Message}
 use Rattle.handle_table.specs.declared.thing.Thing.{Thing}
 use Rattle.mj_schema.specs.declared.schema.Schema.{Schema}
-use Rattle.wire_model.specs.Bytes.{number32}
 use Rattle.wire_model.specs.Expected.{message_value}
 use Rattle.wire_model.specs.Indexes.{handles_of}
 use Rattle.wire_model.specs.Message.{ids_read, payload_start}

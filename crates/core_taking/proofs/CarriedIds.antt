@@ -1,7 +1,7 @@
 -- The ids that a message carries, as they are read one after the other.
 use Rattle.std.proofs.Common.{◌≡◌, ℕ, zero, suc, ◌+◌, List, [], ◌∷◌, ◌++◌, sym, ap, ◌∙◌, arith, add-one}
 use Rattle.std.specs.Prelude.{◌*◌}
-use Rattle.wire_model.specs.Bytes.{number32}
+use Rattle.mj_base.specs.Bytes.{number32}
 use Rattle.wire_model.specs.Message.{ids_from}
 
 from_more : (bytes : List ℕ) (p k : ℕ) → ids_from bytes p (suc k) ≡ ids_from bytes p k ++ number32 bytes (p + 4 * k) ∷ []

@@ -13,10 +13,9 @@ use bind_model::limits::REMOTE_IDS;
 use bind_model::{Endpoint, State as EndpointState};
 use core_state::{Entering, Routers, enter_one};
 use endpoint_router::Router;
-use mj_base::{EndId, Span};
+use mj_base::{EndId, Span, le32};
 use std::alloc::{AllocError, Global};
 use wire_encoder::{EndpointSide, WantedEndpoint};
-use wire_model::le32;
 
 /// What the ids of a message are to the table of an end: the first strange one, the endpoints that enter
 /// under the others, and the ids of those that enter as closed.

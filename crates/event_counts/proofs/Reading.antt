@@ -3,14 +3,13 @@ use Rattle.std.proofs.Common.{◌≡◌, ◌≤◌, ◌<◌, ℕ, ℤ, zero, suc
 use Rattle.std.specs.Prelude.{◌==◌, nat_lt, Option, Some, None, Result, Ok, Err, is_some, if◌then◌else◌}
 use Rattle.std.proofs.lemmas.Bool.Decides.{nat_tests}
 use Rattle.std.proofs.lemmas.List.{get_or_append_left, get_or-append-add}
-use Rattle.mj_base.specs.Bytes.{rounded8}
+use Rattle.mj_base.specs.Bytes.{bytes16, bytes32, bytes64, number32, number64, rounded8}
 use Rattle.mj_base.specs.declared.fault.Fault.{Fault}
 use Rattle.mj_base.specs.declared.fault.FaultKind.{FaultKind}
 use Rattle.mj_schema.specs.Lookups.{method_in}
 use Rattle.mj_schema.specs.declared.rows.MethodRow.{MethodRow}
 use Rattle.mj_schema.specs.declared.schema.Schema.{Schema}
 use Rattle.hex.specs.Hex.{IsBytes}
-use Rattle.wire_model.specs.Bytes.{bytes16, bytes32, bytes64, number32, number64}
 use Rattle.wire_model.specs.Cells.{zeros}
 use Rattle.wire_model.specs.Expected.{flags_of, method_marks, method_named, message_marks}
 use Rattle.wire_model.specs.HeaderMarks.{HEADER_BYTES_2, HEADER_BYTES_3, header_marks}

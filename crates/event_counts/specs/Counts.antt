@@ -1,6 +1,5 @@
 -- How many messages come to be taken, and how many requests to be answered: each is read off the commands and the replies that brought them.
 use Rattle.std.specs.Prelude.{ℕ, ◌≡◌, ◌≤◌, Result, ◌+◌, ◌%◌, ◌==◌, Bool, List, [], ◌∷◌, length, Ok, Err, if◌then◌else◌}
-use Rattle.wire_model.specs.Bytes.{number32}
 use Rattle.bind_model.specs.declared.asked.Asked.{Asked}
 use Rattle.bind_model.specs.declared.asked.Asked.TheVariants.{Raw, Notify}
 use Rattle.bind_model.specs.declared.asked.Notice.{Notice}
@@ -8,6 +7,7 @@ use Rattle.bind_model.specs.declared.asked.Notice.TheVariants.{Query, Require, F
 use Rattle.control_bytes.specs.declared.control.Control.{Control}
 use Rattle.control_bytes.specs.declared.control.Control.TheVariants as controls
 use Rattle.mj_base.specs.declared.fault.Fault.{Fault}
+use Rattle.mj_base.specs.Bytes.{number32}
 use Rattle.wire_model.specs.HeaderMarks.{CONTROL_ID}
 use Rattle.bind_model.specs.declared.event.Event.{Event}
 use Rattle.bind_model.specs.declared.told.Told.{Told}

@@ -4,11 +4,11 @@ use Rattle.std.specs.Prelude.{◌==◌, nat_lt, slice_get}
 use Rattle.std.proofs.lemmas.Bool.Decides.{nat_tests}
 use Rattle.mj_base.specs.declared.fault.FaultKind.{FaultKind}
 use Rattle.mj_base.specs.declared.fault.FaultKind.TheVariants as faults
+use Rattle.mj_base.specs.Bytes.{number32, number64}
 use Rattle.mj_schema.specs.KindTrees as kinds
 use Rattle.mj_schema.specs.KindTrees.{KindTree}
 use Rattle.mj_schema.specs.declared.rows.UnionRow.{UnionRow}
 use Rattle.mj_schema.specs.declared.schema.Schema.{Schema}
-use Rattle.wire_model.specs.Bytes.{number32, number64}
 use Rattle.wire_model.specs.Cells.{NO_INDEX}
 use Rattle.wire_model.specs.Depth.{IsOfKind, levels}
 use Rattle.wire_model.specs.Kinded.{is_nullable, OrNull}

@@ -4,10 +4,10 @@ use Rattle.std.specs.Int.{cast_signed, w32}
 use Rattle.std.specs.Prelude.{FitsSigned}
 use Rattle.std.proofs.lemmas.List.Elements.{All-head, All-tail}
 use Rattle.std.proofs.Math.Facts.{sfits_to_z}
+use Rattle.mj_base.specs.Bytes.{number16, number32, number64}
 use Rattle.mj_schema.specs.Sizes.{bits_of}
 use Rattle.mj_schema.specs.declared.kind.Width.{Width}
 use Rattle.mj_schema.specs.declared.kind.Width.TheVariants.{Bits8, Bits16, Bits32, Bits64}
-use Rattle.wire_model.specs.Bytes.{number16, number32, number64}
 use Rattle.wire_model.specs.Kinded.{IsInRange}
 use Rattle.wire_model.specs.Values.{int_at, whole_at}
 use Rattle.message_laws.specs.Filled.{AreBytes}

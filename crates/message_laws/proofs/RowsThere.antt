@@ -5,6 +5,7 @@ use Rattle.std.specs.List.{list_all}
 use Rattle.std.specs.Option.{option_map_or}
 use Rattle.std.proofs.lemmas.Bool.{and_parts, ltb-true}
 use Rattle.std.proofs.lemmas.List.Folds.{list_all-append}
+use Rattle.mj_base.specs.Bytes.{number32}
 use Rattle.mj_schema.specs.KindTrees.{KindTree, StructKind}
 use Rattle.mj_schema.specs.Layout.{kind_of}
 use Rattle.mj_schema.specs.WellFormed.{all_kinds, are_within, has_structs}
@@ -17,7 +18,6 @@ use Rattle.mj_schema.specs.declared.rows.StructRow.{StructRow}
 use Rattle.mj_schema.specs.declared.rows.UnionFieldRow.{UnionFieldRow}
 use Rattle.mj_schema.specs.declared.rows.UnionRow.{UnionRow}
 use Rattle.mj_schema.specs.declared.schema.Schema.{Schema}
-use Rattle.wire_model.specs.Bytes.{number32}
 use Rattle.wire_model.specs.Expected.{method_named, struct_of}
 use Rattle.wire_model.specs.Rows.{kind_of_tag}
 use Rattle.wire_model.specs.Slots.{element_slots, field_slot}

@@ -3,7 +3,7 @@ use Rattle.std.proofs.Common.{◌≡◌, ◌∙◌, ◌<◌, ℕ, zero, suc, ◌
 use Rattle.std.specs.Prelude.{Option, Some, None, is_some, Result, Ok, Err, ◌==◌, nat_lt, if◌then◌else◌}
 use Rattle.std.proofs.lemmas.Bool.{eqb-true, ltb-true}
 use Rattle.std.proofs.lemmas.List.{length-append}
-use Rattle.mj_base.specs.Bytes.{rounded8}
+use Rattle.mj_base.specs.Bytes.{bytes32, rounded8}
 use Rattle.mj_schema.specs.KindTrees as kinds
 use Rattle.mj_schema.specs.KindTrees.{KindTree}
 use Rattle.mj_schema.specs.Parts.{flag_place}
@@ -20,7 +20,6 @@ use Rattle.wire_encoder.specs.Prepared.{IsPrepared, kind_for, parameters_of}
 use Rattle.wire_encoder.specs.declared.prepared.Prepared.{Prepared}
 use Rattle.wire_encoder.specs.declared.refusal.Flaw.TheVariants.{Misfit, TooManyHandles}
 use Rattle.bind_model.specs.WireOf.{endpoints_met}
-use Rattle.wire_model.specs.Bytes.{bytes32}
 use Rattle.wire_model.specs.Cells.{UNION_BYTES, put_cell, put_slot, zeros}
 use Rattle.wire_model.specs.Depth.{deeper}
 use Rattle.wire_model.specs.Emit.{object, text_object, struct_object, member_object, emit, body_of, behind}

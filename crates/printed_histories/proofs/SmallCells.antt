@@ -3,13 +3,14 @@ use Rattle.std.proofs.Common.{◌≡◌, ◌<◌, ℕ, zero, suc, ◌+◌, ◌-�
 use Rattle.std.specs.Prelude.{ℤ, ◌==◌, Option, Some, None, slice_index, if◌then◌else◌}
 use Rattle.std.specs.Int.{cast_unsigned, w128}
 use Rattle.std.proofs.lemmas.Bool.{eqb-true}
+use Rattle.mj_base.specs.Bytes.{bytes16, bytes32}
 use Rattle.mj_schema.specs.Parts.{FLAG_KIND}
 use Rattle.mj_schema.specs.KindTrees as kinds
 use Rattle.mj_schema.specs.KindTrees.{KindTree}
 use Rattle.mj_schema.specs.declared.kind.Width.{Width}
 use Rattle.mj_schema.specs.declared.kind.Width.TheVariants.{Bits8, Bits16, Bits32, Bits64}
 use Rattle.mj_schema.specs.declared.schema.Schema.{Schema}
-use Rattle.wire_model.specs.Bytes.{bytes16, bytes32, over, write, with_bit}
+use Rattle.wire_model.specs.Bytes.{over, write, with_bit}
 use Rattle.wire_model.specs.Cells.{is_value, put_present, put_slot}
 use Rattle.wire_model.specs.Cells.{NO_INDEX, UNION_BYTES, int_bytes, whole_bytes, index_bytes, pointer_bytes, remote_bytes, cell_bytes, put_flag, put_cell, put_member, put}
 use Rattle.wire_model.specs.Rows.{member_kind}

@@ -6,6 +6,7 @@ use Rattle.std.proofs.lemmas.Bool.{ltb-true}
 use Rattle.std.proofs.lemmas.Str.{utf8_valid_len_le}
 use Rattle.mj_base.specs.declared.fault.FaultKind.{FaultKind}
 use Rattle.mj_base.specs.declared.fault.FaultKind.TheVariants.{UnexpectedStructHeader, UnexpectedArrayHeader, UnexpectedInvalidHandle, UnexpectedInvalidInterfaceId, IllegalMemoryRange, IllegalPointer, UnexpectedNullPointer, UnexpectedNullUnion, UnknownUnionTag, UnknownEnumValue, DifferentSizedArraysInMap, MaxRecursionDepth, BadUtf8}
+use Rattle.mj_base.specs.Bytes.{number32, number64}
 use Rattle.mj_schema.specs.KindTrees as kinds
 use Rattle.mj_schema.specs.KindTrees.{KindTree}
 use Rattle.mj_schema.specs.Sizes.{size_of}
@@ -13,7 +14,6 @@ use Rattle.mj_schema.specs.declared.kind.Width.TheVariants.{Bits8, Bits16, Bits3
 use Rattle.mj_schema.specs.declared.rows.StructRow.{StructRow}
 use Rattle.mj_schema.specs.declared.rows.UnionRow.{UnionRow}
 use Rattle.mj_schema.specs.declared.schema.Schema.{Schema}
-use Rattle.wire_model.specs.Bytes.{number32, number64}
 use Rattle.wire_model.specs.Cells.{NO_INDEX, UNION_BYTES}
 use Rattle.wire_model.specs.Marks.{Mark, Test, Handle, Id, Next, pointer_marks, index_marks, is_known, cell_marks, member_marks, found_union_marks, union_marks, slot_marks, has_value, marks_if, slots_marks, elements_marks, count_is, content_marks, array_marks, text_marks, count_at, map_marks, row_fits, slots_up_to, struct_marks, found_struct_marks, object_marks, visit}
 use Rattle.wire_model.specs.Rows.{kind_of_tag}

@@ -6,6 +6,7 @@ use Rattle.std.proofs.lemmas.Bool.Decides.{nat_tests}
 use Rattle.mj_base.specs.declared.fault.Fault.{Fault}
 use Rattle.mj_base.specs.declared.fault.FaultKind.{FaultKind}
 use Rattle.mj_base.specs.declared.fault.FaultKind.TheVariants.{IllegalInterfaceId, MessageHeaderInvalidFlags, MessageHeaderUnknownMethod}
+use Rattle.mj_base.specs.Bytes.{number32, number64}
 use Rattle.mj_schema.specs.KindTrees.{StructKind}
 use Rattle.mj_schema.specs.declared.rows.MethodRow.{MethodRow}
 use Rattle.mj_schema.specs.declared.schema.Schema.{Schema}
@@ -16,7 +17,6 @@ use Rattle.message_header.specs.FirstFailed.{first_failed}
 use Rattle.message_header.proofs.Facts.{ordered}
 use Rattle.message_header.proofs.Fine.{AreTests, header_tests, passing_is_fine}
 use Rattle.message_validator.specs.Before.{before_payload}
-use Rattle.wire_model.specs.Bytes.{number32, number64}
 use Rattle.wire_model.specs.Expected.{flags_of, message_marks, method_marks, method_named, parameter_marks, struct_of}
 use Rattle.wire_model.specs.HeaderMarks.{CONTROL_ID, header_marks, id_marks, ids_marks, payload_marks}
 use Rattle.wire_model.specs.Marks.{Mark, Test, Object, Handle, Id, visit}

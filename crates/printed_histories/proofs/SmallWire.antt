@@ -4,14 +4,13 @@ use Rattle.std.proofs.Math.Facts.{sfits_to_z}
 use Rattle.std.proofs.Common.{◌≡◌, ◌<◌, ◌≤◌, ℕ, pos, negsuc, zero, suc, ◌+◌, ◌-◌, ◌*◌, ◌/◌, ◌^◌, Bool, true, false, List, [], ◌∷◌, ◌++◌, length, refl, ap, subst, arith}
 use Rattle.std.specs.Int.{cast_signed, cast_unsigned, w64}
 use Rattle.std.specs.Prelude.{FitsSigned, ℤ, ◌==◌, nat_lt, Option, Some, None, Ok, slice_index, if◌then◌else◌}
-use Rattle.mj_base.specs.Bytes.{rounded8}
+use Rattle.mj_base.specs.Bytes.{bytes32, bytes64, number32, number64, rounded8}
 use Rattle.mj_base.specs.declared.fault.Fault.{Fault}
 use Rattle.mj_schema.specs.declared.schema.Schema.{Schema}
 use Rattle.bounds_claims.specs.Runs.{first_fault}
 use Rattle.control_bytes.specs.Controls.{control_by, control_marks, control_said, second_read}
 use Rattle.message_header.specs.FirstFailed.{first_failed}
 use Rattle.message_validator.specs.Before.{before_payload}
-use Rattle.wire_model.specs.Bytes.{bytes32, bytes64, number32, number64}
 use Rattle.wire_model.specs.Cells.{zeros}
 use Rattle.wire_model.specs.Expected.{message_marks}
 use Rattle.wire_model.specs.HeaderMarks.{header_marks, HEADER_BYTES, HEADER_BYTES_1, HEADER_BYTES_2, HEADER_BYTES_3}

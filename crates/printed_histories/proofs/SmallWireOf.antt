@@ -1,9 +1,9 @@
 -- The wire of a schema writes bytes, and reads numbers of their widths.
 use Rattle.std.proofs.Common.{◌<◌, ℕ, ◌^◌, [], ◌++◌, length, arith}
 use Rattle.std.specs.Prelude.{None}
+use Rattle.mj_base.specs.Bytes.{bytes32}
 use Rattle.mj_schema.specs.declared.schema.Schema.{Schema}
 use Rattle.wire_encoder.specs.Prepared.{flags_for, method_of, payload_for}
-use Rattle.wire_model.specs.Bytes.{bytes32}
 use Rattle.wire_model.specs.HeaderMarks.{CONTROL_ID}
 use Rattle.control_bytes.specs.Controls.{long_control, short_control, written_control}
 use Rattle.control_bytes.specs.declared.control.Control.{Control}

@@ -6,7 +6,7 @@ use Rattle.std.specs.Int.{cast_unsigned, w64, w128}
 use Rattle.std.proofs.lemmas.Bool.Decides.{nat_tests}
 use Rattle.std.proofs.lemmas.List.Elements.{All-nil, All-cons, All-head, All-tail, All-append, All-replicate}
 use lib.Utf8.{scalar, scalars, encode, encodes}
-use Rattle.mj_base.specs.Bytes.{rounded8}
+use Rattle.mj_base.specs.Bytes.{bytes16, bytes32, bytes64, rounded8}
 use Rattle.mj_schema.specs.Parts.{FLAG_KIND}
 use Rattle.mj_schema.specs.KindTrees as kinds
 use Rattle.mj_schema.specs.KindTrees.{KindTree}
@@ -14,7 +14,7 @@ use Rattle.mj_schema.specs.declared.kind.Width.{Width}
 use Rattle.mj_schema.specs.declared.kind.Width.TheVariants.{Bits8, Bits16, Bits32, Bits64}
 use Rattle.mj_schema.specs.declared.rows.StructRow.{StructRow}
 use Rattle.mj_schema.specs.declared.schema.Schema.{Schema}
-use Rattle.wire_model.specs.Bytes.{bytes16, bytes32, bytes64, over, write, with_bit}
+use Rattle.wire_model.specs.Bytes.{over, write, with_bit}
 use Rattle.wire_model.specs.Cells.{UNION_BYTES, int_bytes, whole_bytes, index_bytes, pointer_bytes, remote_bytes, cell_bytes, put_flag, put_cell, put_member}
 use Rattle.wire_model.specs.Cells.{is_value, put, put_present, put_slot, zeros}
 use Rattle.wire_model.specs.Depth.{IsOfKind, AreOfKinds}

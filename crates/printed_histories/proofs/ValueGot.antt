@@ -7,9 +7,9 @@ use Rattle.std.proofs.lemmas.List.Elements.{All-nil, All-cons, All-head, All-app
 use Rattle.mj_base.specs.declared.fault.Fault.{Fault}
 use Rattle.mj_base.specs.declared.ids.EndId.{EndId}
 use Rattle.mj_base.specs.declared.ids.SeqId.{SeqId}
+use Rattle.mj_base.specs.Bytes.{bytes32}
 use Rattle.mj_schema.specs.declared.rows.MethodRow.{MethodRow}
 use Rattle.mj_schema.specs.declared.schema.Schema.{Schema}
-use Rattle.wire_model.specs.Bytes.{bytes32}
 use Rattle.wire_model.specs.Expected.{Stands, message_marks, method_marks, method_named, parameter_marks, struct_of}
 use Rattle.wire_model.specs.HeaderMarks.{header_marks}
 use Rattle.wire_model.specs.Stands.{IsFine}

@@ -2,6 +2,7 @@
 use Rattle.std.proofs.Common.{◌≡◌, ℕ, suc, ◌+◌, ◌-◌, ◌*◌, ◌/◌, ◌^◌, ◌<◌, ◌≤◌, Bool, true, false, Option, None, List, [], ◌∷◌, ◌++◌, length, get_or, drop, map, add-one, drop-cons, refl, sym, ap, subst, ◌∙◌, arith}
 use Rattle.std.proofs.lemmas.Bool.Decides.{nat_tests}
 use Rattle.std.specs.Prelude.{◌==◌, ◌&&◌, slice_get}
+use Rattle.mj_base.specs.Bytes.{number32, number64}
 use Rattle.mj_schema.specs.Versions.{bytes_of}
 use Rattle.mj_schema.specs.KindTrees as kinds
 use Rattle.mj_schema.specs.KindTrees.{KindTree}
@@ -10,7 +11,6 @@ use Rattle.mj_schema.specs.declared.rows.FieldRow.{FieldRow}
 use Rattle.mj_schema.specs.declared.rows.StructRow.{StructRow}
 use Rattle.mj_schema.specs.declared.rows.VersionRow.{VersionRow}
 use Rattle.mj_schema.specs.declared.schema.Schema.{Schema}
-use Rattle.wire_model.specs.Bytes.{number32, number64}
 use Rattle.wire_model.specs.Trees.{Trees, Items, none}
 use Rattle.wire_model.specs.Values.{Behind, value, pointer_value, object_value, slot_value, slots_value}
 use Rattle.wire_model.specs.Marks.{visit, object_marks, Mark, Test, Object, Handle, Id, Next, has_value, marks_if, union_marks, found_union_marks, slot_marks, slots_marks, content_marks, array_marks, map_marks, struct_marks, found_struct_marks, pointer_marks, slots_up_to, row_fits}

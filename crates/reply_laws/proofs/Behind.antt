@@ -6,11 +6,11 @@ use Rattle.std.proofs.lemmas.List.{length-append}
 use Rattle.mj_base.specs.declared.ids.EndId.{EndId}
 use Rattle.mj_base.specs.declared.ids.SeqId.{SeqId}
 use Rattle.mj_base.specs.declared.limits.TheConstants.{MAX_EVENTS}
+use Rattle.mj_base.specs.Bytes.{bytes32, bytes64, number32}
 use Rattle.mj_schema.specs.declared.schema.Schema.{Schema}
 use Rattle.handle_table.specs.Things.{same_end}
 use Rattle.handle_table.proofs.ThingsLemmas.{not_left, not_right}
 use Rattle.message_pipe.specs.declared.message.Message.{Message}
-use Rattle.wire_model.specs.Bytes.{bytes32, bytes64, number32}
 use Rattle.wire_model.specs.HeaderMarks.{CONTROL_ID}
 use Rattle.control_bytes.specs.Controls.{control_said, written_control}
 use Rattle.bind_model.specs.Flushes as flushing

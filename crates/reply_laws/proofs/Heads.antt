@@ -1,7 +1,7 @@
 -- What the header of a message says of its head, whatever that is.
 use Rattle.std.proofs.Common.{◌≡◌, ℕ, ℤ, ◌+◌, ◌*◌, ◌/◌, ◌%◌, ◌^◌, Bool, true, false, List, [], ◌∷◌, ◌++◌, length, refl, arith}
 use Rattle.std.specs.Prelude.{Option, Some, None}
-use Rattle.wire_model.specs.Bytes.{bytes32, bytes64, number32, number64}
+use Rattle.mj_base.specs.Bytes.{bytes32, bytes64, number32, number64}
 use Rattle.wire_model.specs.HeaderMarks.{CONTROL_ID}
 use Rattle.wire_model.specs.Message.{Head, is_plain, plain_front, front, back_of, message, request_read}
 use Rattle.control_bytes.specs.Controls.{written_control}

@@ -4,9 +4,9 @@ use Rattle.std.specs.Prelude.{if◌then◌else◌}
 use Rattle.mj_base.specs.declared.ids.EndId.{EndId}
 use Rattle.mj_base.specs.declared.ids.SeqId.{SeqId}
 use Rattle.mj_base.specs.declared.limits.TheConstants.{MAX_EVENTS}
+use Rattle.mj_base.specs.Bytes.{number32}
 use Rattle.mj_schema.specs.declared.schema.Schema.{Schema}
 use Rattle.message_pipe.specs.declared.message.Message.{Message}
-use Rattle.wire_model.specs.Bytes.{number32}
 use Rattle.wire_model.specs.declared.target.MessageSide.{MessageSide}
 use Rattle.wire_model.specs.declared.target.MessageSide.TheVariants.{Request}
 use Rattle.wire_model.specs.declared.target.Target.{Target}

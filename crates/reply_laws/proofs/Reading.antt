@@ -4,10 +4,10 @@ use Rattle.std.specs.Prelude.{◌==◌, Option, Some, None, Result, Ok, Err, if�
 use Rattle.std.proofs.lemmas.Bool.{eqb-true}
 use Rattle.mj_base.specs.declared.fault.Fault.{Fault}
 use Rattle.mj_base.specs.declared.fault.FaultKind.{FaultKind}
+use Rattle.mj_base.specs.Bytes.{number32}
 use Rattle.mj_schema.specs.Lookups.{method_in}
 use Rattle.mj_schema.specs.declared.rows.MethodRow.{MethodRow}
 use Rattle.mj_schema.specs.declared.schema.Schema.{Schema}
-use Rattle.wire_model.specs.Bytes.{number32}
 use Rattle.wire_model.specs.Expected.{flags_of, message_marks, method_marks, method_named, parameter_marks, struct_of}
 use Rattle.wire_model.specs.HeaderMarks.{CONTROL_ID, header_marks}
 use Rattle.wire_model.specs.Marks.{Mark, Test}

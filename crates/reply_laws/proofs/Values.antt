@@ -1,12 +1,12 @@
 -- The value that a sealed message stands for is the one that was sealed.
 use Rattle.std.proofs.Common.{◌≡◌, ◌≤◌, ◌<◌, ◌^◌, ℕ, suc, true, false, List, [], ◌∷◌, length, refl, sym, ap, ◌∙◌, subst, arith}
 use Rattle.std.specs.Prelude.{Option, Some, None, Result, Ok, ◌&&◌, ◌==◌, option_and_then}
+use Rattle.mj_base.specs.Bytes.{number32}
 use Rattle.mj_schema.specs.KindTrees.{StructKind}
 use Rattle.mj_schema.specs.Lookups.{method_in}
 use Rattle.mj_schema.specs.declared.rows.MethodRow.{MethodRow}
 use Rattle.mj_schema.specs.declared.schema.Schema.{Schema}
 use Rattle.handle_table.proofs.ThingsLemmas.{and_right}
-use Rattle.wire_model.specs.Bytes.{number32}
 use Rattle.wire_model.specs.Emit.{emit}
 use Rattle.wire_model.specs.Expected.{flags_of, struct_of}
 use Rattle.wire_model.specs.HeaderMarks.{expects, responds}

@@ -5,7 +5,7 @@ use Rattle.std.specs.Prelude.{◌==◌, ◌&&◌, ℤ, nat_le, nat_lt}
 use Rattle.std.proofs.lemmas.Bool.{and_parts, leb-true, le-leb}
 use Rattle.std.proofs.lemmas.Bool.Decides.{nat_tests}
 use Rattle.mj_base.specs.declared.fault.FaultKind.TheVariants as faults
-use Rattle.wire_model.specs.Bytes.{number32, number64}
+use Rattle.mj_base.specs.Bytes.{number32, number64}
 use Rattle.wire_model.specs.HeaderMarks.{aligned, range, id_marks, ids_marks, payload_marks, header_marks}
 use Rattle.wire_model.specs.Marks.{Mark, Test}
 use Rattle.wire_model.specs.Message.{ids_from, payload_end}

@@ -1,10 +1,10 @@
 -- Numbers and texts that are read where two messages have the same bytes.
 use Rattle.std.proofs.Common.{◌≡◌, ℕ, zero, suc, ◌+◌, ◌/◌, ◌≤◌, List, [], ◌∷◌, ◌++◌, length, take, drop, All, slice_index, refl, arith}
 use Rattle.std.proofs.lemmas.List.Elements.{All-head, All-tail}
+use Rattle.mj_base.specs.Bytes.{number16, number32, number64}
 use Rattle.mj_schema.specs.declared.kind.Width.{Width}
 use Rattle.mj_schema.specs.declared.kind.Width.TheVariants.{Bits8, Bits16, Bits32, Bits64}
 use Rattle.mj_schema.specs.Sizes.{bits_of}
-use Rattle.wire_model.specs.Bytes.{number16, number32, number64}
 use Rattle.wire_model.specs.Marks.{Mark, Test, Object, Handle, Id}
 use Rattle.wire_model.specs.Stands.{Extent, IsOrderly}
 use Rattle.wire_model.specs.Values.{int_at}

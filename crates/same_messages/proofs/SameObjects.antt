@@ -5,6 +5,7 @@ use Rattle.std.proofs.lemmas.Bool.Decides.{nat_tests}
 use Rattle.std.proofs.lemmas.List.Elements.{All-head, All-tail, All-get_or}
 use Rattle.std.proofs.lemmas.Option.{get_or_from_slice_get, slice_get_within}
 use Rattle.mj_base.specs.declared.fault.FaultKind.TheVariants as faults
+use Rattle.mj_base.specs.Bytes.{number32, number64}
 use Rattle.mj_schema.specs.KindTrees as kinds
 use Rattle.mj_schema.specs.KindTrees.{KindTree}
 use Rattle.mj_schema.specs.Parts.{flag_bit, flag_place}
@@ -17,7 +18,6 @@ use Rattle.mj_schema.specs.declared.rows.StructRow.{StructRow}
 use Rattle.mj_schema.specs.declared.rows.VersionRow.{VersionRow}
 use Rattle.mj_schema.specs.declared.schema.Schema.{Schema}
 use Rattle.wire_model.specs.Absent.{absent_values}
-use Rattle.wire_model.specs.Bytes.{number32, number64}
 use Rattle.wire_model.specs.Marks as marks
 use Rattle.wire_model.specs.Marks.{Mark, Next, pointer_marks, array_marks, content_marks, text_marks, map_marks, struct_marks, found_struct_marks, object_marks, visit, count_at, row_fits, slots_up_to}
 use Rattle.wire_model.specs.Readable.{EndsWithin, IsReadableRow}

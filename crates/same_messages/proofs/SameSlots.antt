@@ -2,13 +2,13 @@
 use Rattle.std.proofs.Common.{◌≡◌, ℕ, ◌+◌, ◌/◌, ◌%◌, ◌^◌, Bool, true, false, cond, List, [], ◌∷◌, Option, Some, None, refl, ap, arith}
 use Rattle.std.specs.Prelude.{◌==◌, nat_lt, slice_get}
 use Rattle.mj_base.specs.declared.fault.FaultKind.TheVariants as faults
+use Rattle.mj_base.specs.Bytes.{number32, number64}
 use Rattle.mj_schema.specs.KindTrees as kinds
 use Rattle.mj_schema.specs.KindTrees.{KindTree}
 use Rattle.mj_schema.specs.Versions.{bytes_of}
 use Rattle.mj_schema.specs.declared.kind.Width.{Width}
 use Rattle.mj_schema.specs.declared.rows.UnionRow.{UnionRow}
 use Rattle.mj_schema.specs.declared.schema.Schema.{Schema}
-use Rattle.wire_model.specs.Bytes.{number32, number64}
 use Rattle.wire_model.specs.Marks as marks
 use Rattle.wire_model.specs.Marks.{Mark, Next, pointer_marks, index_marks, cell_marks, member_marks, found_union_marks, union_marks, slot_marks, has_value, marks_if, slots_marks}
 use Rattle.wire_model.specs.Rows.{kind_of_tag}

@@ -1,8 +1,8 @@
 -- Messages that have the same bytes wherever one of them is read: in its header, in its ids, and in the objects that it claims.
 use Rattle.std.specs.Prelude.{◌≡◌, ℕ, ◌+◌, ◌<◌, ◌≤◌, ◌==◌, nat_lt, if◌then◌else◌, List, [], ◌∷◌, ◌++◌, length, All, slice_index}
+use Rattle.mj_base.specs.Bytes.{number32, number64}
 use Rattle.mj_schema.specs.declared.schema.Schema.{Schema}
 use Rattle.wire_model.specs.declared.target.Expected.{Expected}
-use Rattle.wire_model.specs.Bytes.{number32, number64}
 use Rattle.wire_model.specs.Expected.{message_marks}
 use Rattle.wire_model.specs.Stands.{Extent, objects}
 

@@ -1,11 +1,11 @@
 -- A value that passes all checks is read as itself where it is sealed.
 use Rattle.std.proofs.Common.{◌≡◌, ◌≤◌, ◌<◌, ◌^◌, ℕ, true, false, List, ◌∷◌, length, refl, sym, ap, ◌∙◌, subst, arith}
 use Rattle.std.specs.Prelude.{IsSome, is_some, Option, Some, None, Ok, ◌&&◌, option_and_then}
+use Rattle.mj_base.specs.Bytes.{number32}
 use Rattle.mj_schema.specs.KindTrees.{StructKind}
 use Rattle.mj_schema.specs.Lookups.{method_in}
 use Rattle.mj_schema.specs.declared.rows.MethodRow.{MethodRow}
 use Rattle.mj_schema.specs.declared.schema.Schema.{Schema}
-use Rattle.wire_model.specs.Bytes.{number32}
 use Rattle.wire_model.specs.Emit.{emit}
 use Rattle.wire_model.specs.Expected.{Stands, flags_of, message_value, method_named, struct_of}
 use Rattle.wire_model.specs.HeaderMarks.{expects, responds}

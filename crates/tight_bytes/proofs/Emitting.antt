@@ -5,8 +5,8 @@ use Rattle.std.proofs.Math.Nat.{suc-mul}
 use Rattle.mj_schema.specs.declared.rows.FieldRow.{FieldRow}
 use Rattle.mj_schema.specs.declared.schema.Schema.{Schema}
 use Rattle.wire_model.specs.declared.value.Value.{Value}
-use Rattle.mj_base.specs.Bytes.{rounded8}
-use Rattle.wire_model.specs.Bytes.{bytes32, bytes64, write}
+use Rattle.mj_base.specs.Bytes.{bytes32, bytes64, rounded8}
+use Rattle.wire_model.specs.Bytes.{write}
 use Rattle.mj_schema.specs.Sizes.{size_of}
 use Rattle.wire_model.specs.Cells.{UNION_BYTES, put, put_slot, put_present, zeros, put_cell}
 use Rattle.wire_model.specs.Emit.{emit, body_of, behind, object, struct_object, member_object}

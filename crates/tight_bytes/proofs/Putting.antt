@@ -1,12 +1,13 @@
 -- A value that is put within a part of a list.
 use Rattle.std.proofs.Common.{◌≡◌, ℕ, ◌+◌, ◌-◌, ◌*◌, ◌/◌, ◌%◌, ◌<◌, ◌≤◌, Bool, true, false, List, [], ◌∷◌, ◌++◌, length, Option, Some, None, refl, ◌∙◌, arith, get_or}
 use Rattle.std.proofs.lemmas.List.{get_or_append_left, get_or-append-add}
+use Rattle.mj_base.specs.Bytes.{bytes32}
 use Rattle.mj_schema.specs.KindTrees as kinds
 use Rattle.mj_schema.specs.KindTrees.{KindTree}
 use Rattle.mj_schema.specs.Parts.{FLAG_KIND}
 use Rattle.mj_schema.specs.Sizes.{size_of}
 use Rattle.mj_schema.specs.declared.schema.Schema.{Schema}
-use Rattle.wire_model.specs.Bytes.{bytes32, write, with_bit}
+use Rattle.wire_model.specs.Bytes.{write, with_bit}
 use Rattle.wire_model.specs.Cells.{UNION_BYTES, put, put_cell, put_flag, put_member, cell_bytes, put_present, is_value}
 use Rattle.wire_model.specs.Rows.{member_kind}
 use Rattle.wire_model.specs.Trees as values

@@ -1,11 +1,11 @@
 //! The bytes of a value, object by object, in one pass.
 
 ghost use Rattle.std.specs.Prelude.{◌≡◌, ◌+◌, ◌-◌, ◌*◌, ◌<◌, ◌≤◌, ◌^◌, ◌++◌, length, map, take, drop, IfOk, OnOk, None, true, false};
-ghost use Rattle.mj_base.specs.Bytes.{rounded8};
+ghost use Rattle.mj_base.specs.Bytes.{bytes32, bytes64, rounded8};
 ghost use Rattle.mj_schema.specs.KindTrees.{kind_view, ArrayKind, StructKind, TextKind};
 ghost use Rattle.mj_schema.specs.Parts.{flag_place};
 ghost use Rattle.mj_schema.specs.Sizes.{size_of};
-ghost use Rattle.wire_model.specs.Bytes.{bytes32, bytes64, write};
+ghost use Rattle.wire_model.specs.Bytes.{write};
 ghost use Rattle.wire_model.specs.Cells.{put, put_cell, put_present, zeros, UNION_BYTES};
 ghost use Rattle.wire_model.specs.Emit.{emit, body_of, behind, object, text_object};
 ghost use Rattle.wire_model.specs.Slots.{element_slots, field_slot};

@@ -3,10 +3,10 @@
 
 ghost use Rattle.std.specs.Prelude.{◌≡◌, ◌+◌, ◌*◌, ◌/◌, ◌<◌, ◌≤◌, ◌∷◌, ◌++◌, [], length, map, take, drop, slice_get, false, true};
 ghost use Rattle.std.specs.Prelude.{All, IfOk, OnOk, IsTrue, None, ℕ, vec_len, vec_capacity};
+ghost use Rattle.mj_base.specs.Bytes.{number32};
 ghost use Rattle.mj_schema.specs.KindTrees.{kind_view, ArrayKind};
 ghost use Rattle.mj_schema.specs.Sizes.{size_of};
 ghost use Rattle.mj_schema.specs.Versions.{bytes_of, is_table};
-ghost use Rattle.wire_model.specs.Bytes.{number32};
 ghost use Rattle.wire_model.specs.Marks.{visit, object_marks, struct_marks, map_marks, content_marks, slots_marks, slot_marks};
 ghost use Rattle.wire_model.specs.Marks.{cell_marks, found_union_marks, pointer_marks};
 ghost use Rattle.wire_model.specs.Readable.{IsReadableRow};
@@ -23,10 +23,11 @@ use crate::absent::{add_absent, copied};
 use crate::adding::{add, put_into_union, struct_of};
 use crate::scalars::{endpoint, endpoint_remote, handle, remote};
 use mj_base::limits::MAX_DEPTH;
+use mj_base::{le32, le64};
 use mj_schema::{FieldRow, KindNode, Schema, StructRow};
 use schema_rows::{absent, find_struct, find_union, has_value, kind_in, present, size_of};
 use std::alloc::{AllocError, Global};
-use wire_model::{Value, bit_at, le32, le64, whole_at};
+use wire_model::{Value, bit_at, whole_at};
 
 /// Adds what stands at a place, where at most `left` more levels of objects may be behind it.
 #[cycle(decode)]

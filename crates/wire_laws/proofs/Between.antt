@@ -1,10 +1,10 @@
 -- A payload between other bytes, and how long it is at least.
 use Rattle.std.proofs.Common.{◌≡◌, ℕ, ◌≤◌, false, Option, Some, List, ◌++◌, length, ap, ◌∙◌, arith}
 use Rattle.std.proofs.lemmas.List.{get_or_append_left, get_or-append-add}
+use Rattle.mj_base.specs.Bytes.{bytes16, bytes32, bytes64}
 use Rattle.mj_schema.specs.declared.rows.StructRow.{StructRow}
 use Rattle.mj_schema.specs.declared.schema.Schema.{Schema}
 use Rattle.mj_schema.specs.KindTrees.{StructKind}
-use Rattle.wire_model.specs.Bytes.{bytes16, bytes32, bytes64}
 use Rattle.wire_model.specs.Cells.{zeros}
 use Rattle.wire_model.specs.Emit.{emit, struct_object, body_of, behind}
 use Rattle.wire_model.specs.Fits.{Fits}

@@ -3,8 +3,8 @@ use Rattle.mj_base.specs.declared.fault.FaultKind.TheVariants as faults
 use Rattle.std.proofs.Common.{◌≡◌, ℕ, ◌+◌, ◌^◌, ◌<◌, Bool, true, false, inl, inr, List, length, Some, refl, sym, subst, arith}
 use Rattle.std.specs.Prelude.{ℤ, IsTrue, nat_lt, ◌==◌}
 use Rattle.std.proofs.lemmas.Bool.Decides.{nat_tests}
+use Rattle.mj_base.specs.Bytes.{number64}
 use Rattle.mj_schema.specs.declared.schema.Schema.{Schema}
-use Rattle.wire_model.specs.Bytes.{number64}
 use Rattle.wire_model.specs.Emit.{emit}
 use Rattle.wire_model.specs.Rows.{member_kind, row_of}
 use Rattle.mj_schema.specs.KindTrees as kinds

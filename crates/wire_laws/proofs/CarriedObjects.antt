@@ -6,8 +6,7 @@ use Rattle.std.proofs.lemmas.List.{length-replicate}
 use Rattle.mj_schema.specs.declared.rows.StructRow.{StructRow}
 use Rattle.mj_schema.specs.declared.rows.FieldRow.{FieldRow}
 use Rattle.mj_schema.specs.declared.schema.Schema.{Schema}
-use Rattle.mj_base.specs.Bytes.{rounded8}
-use Rattle.wire_model.specs.Bytes.{number32}
+use Rattle.mj_base.specs.Bytes.{number32, rounded8}
 use Rattle.mj_schema.specs.Sizes.{size_of}
 use Rattle.wire_model.specs.Cells.{UNION_BYTES, put_cell, zeros}
 use Rattle.wire_model.specs.Emit.{emit, body_of, behind, object, text_object, struct_object, member_object}

@@ -1,7 +1,8 @@
 -- A slot that one schema wrote, read by another whose kind fits; a union within it too.
 use Rattle.std.proofs.Common.{◌≡◌, ℕ, ◌+◌, ◌-◌, ◌*◌, ◌/◌, ◌%◌, ◌^◌, ◌<◌, ◌≤◌, inl, inr, Bool, true, false, List, ◌++◌, length, Option, Some, refl, sym, ap, subst, arith}
+use Rattle.mj_base.specs.Bytes.{number32, bytes16, bytes32, bytes64}
 use Rattle.mj_schema.specs.declared.schema.Schema.{Schema}
-use Rattle.wire_model.specs.Bytes.{number32, bytes16, bytes32, bytes64, write}
+use Rattle.wire_model.specs.Bytes.{write}
 use Rattle.mj_schema.specs.Sizes.{size_of}
 use Rattle.wire_model.specs.Cells.{UNION_BYTES, put, put_cell, put_member}
 use Rattle.wire_model.specs.Emit.{emit, member_object}

@@ -1,6 +1,7 @@
 -- Arrays of uint8 as their bytes.
 use Rattle.std.proofs.Common.{◌≡◌, ℕ, zero, suc, ◌+◌, ◌-◌, ◌/◌, ◌%◌, ◌<◌, ◌≤◌, Bool, true, false, cond, List, ◌∷◌, length, take, drop, drop-cons, Option, Some, None, refl, sym, ap, ◌∙◌, arith}
 use Rattle.std.specs.Prelude.{◌==◌, slice_index, option_and_then}
+use Rattle.mj_base.specs.Bytes.{number32, number64}
 use Rattle.mj_schema.specs.KindTrees as kinds
 use Rattle.mj_schema.specs.KindTrees.{KindTree}
 use Rattle.mj_schema.specs.Versions.{bytes_of}
@@ -9,7 +10,6 @@ use Rattle.mj_schema.specs.declared.rows.Literal.{Literal}
 use Rattle.mj_schema.specs.declared.rows.Literal.TheVariants as literals
 use Rattle.mj_schema.specs.declared.schema.Schema.{Schema}
 use Rattle.wire_model.specs.Absent.{absent_field, absent_kind, null_or}
-use Rattle.wire_model.specs.Bytes.{number32, number64}
 use Rattle.wire_model.specs.Marks.{visit, pointer_marks, slot_marks, cell_marks}
 use Rattle.wire_model.specs.Slots.{element_slots}
 use Rattle.wire_model.specs.Trees.{Tree, Null, none}

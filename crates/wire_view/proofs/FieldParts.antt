@@ -1,10 +1,10 @@
 -- The parts of what a view of a struct stands on.
 use Rattle.std.proofs.Common.{◌≡◌, ℕ, ◌+◌, ◌<◌, ◌≤◌, true, false, List, length, take, Option, Some, None, sym, ap, subst, ◌∙◌}
 use Rattle.std.specs.Prelude.{slice_get}
+use Rattle.mj_base.specs.Bytes.{number32}
 use Rattle.mj_schema.specs.KindTrees.{KindTree}
 use Rattle.mj_schema.specs.Parts.{flag_place}
 use Rattle.mj_schema.specs.declared.rows.FieldRow.{FieldRow}
-use Rattle.wire_model.specs.Bytes.{number32}
 use Rattle.wire_model.specs.Marks.{visit, has_value}
 use Rattle.wire_model.specs.Rows.{row_for}
 use Rattle.wire_model.specs.Trees.{Tree, Null}

@@ -2,6 +2,7 @@
 use Rattle.std.proofs.Common.{◌≡◌, ℕ, suc, zero, ◌+◌, ◌-◌, ◌*◌, ◌/◌, ◌%◌, ◌<◌, ◌≤◌, true, false, List, [], ◌∷◌, length, take, drop, map, Option, Some, None, refl, sym, ap, subst, ◌∙◌, arith}
 use Rattle.std.specs.Prelude.{All, slice_get}
 use Rattle.std.specs.Option.{option_map}
+use Rattle.mj_base.specs.Bytes.{number32}
 use Rattle.mj_schema.specs.KindTrees.{KindTree}
 use Rattle.mj_schema.specs.Parts.{flag_place}
 use Rattle.mj_schema.specs.Sizes.{size_of}
@@ -9,7 +10,6 @@ use Rattle.mj_schema.specs.declared.rows.FieldRow.{FieldRow}
 use Rattle.mj_schema.specs.declared.rows.StructRow.{StructRow}
 use Rattle.mj_schema.specs.declared.schema.Schema.{Schema}
 use Rattle.wire_model.specs.Absent.{absent_field, absent_values}
-use Rattle.wire_model.specs.Bytes.{number32}
 use Rattle.wire_model.specs.Marks.{visit, has_value, slot_marks, content_marks, struct_marks}
 use Rattle.wire_model.specs.Readable.{EndsWithin}
 use Rattle.wire_model.specs.Rows.{row_for}

@@ -1,11 +1,11 @@
 -- What a view stands on.
 use Rattle.std.proofs.Common.{◌≡◌, ℕ, ◌+◌, ◌≤◌, Bool, true, false, cond, List, Option, Some, None, Bor, refl, sym, ap, subst, ◌∙◌}
 use Rattle.std.specs.Prelude.{◌==◌, slice_get}
+use Rattle.mj_base.specs.Bytes.{number32}
 use Rattle.mj_schema.specs.KindTrees.{StructKind, ArrayKind, MapKind, UnionKind, KindTree, kind_view}
 use Rattle.mj_schema.specs.declared.kind.KindNode.{KindNode}
 use Rattle.mj_schema.specs.declared.rows.StructRow.{StructRow}
 use Rattle.mj_schema.specs.declared.schema.Schema.{Schema}
-use Rattle.wire_model.specs.Bytes.{number32}
 use Rattle.wire_model.specs.Marks.{Next, object_marks, found_struct_marks, found_union_marks, struct_marks}
 use Rattle.wire_model.specs.Slots.{element_slots}
 use Rattle.wire_model.specs.Trees.{Items, Pairs, Null, none, more}

@@ -3,12 +3,12 @@ use Rattle.std.proofs.Common.{◌≡◌, ℕ, ◌+◌, ◌≤◌, Bool, true, fa
 use Rattle.std.specs.Prelude.{◌==◌, slice_get}
 use Rattle.std.proofs.lemmas.Bool.Decides.{Decides-eqb}
 use Rattle.mj_base.specs.declared.fault.FaultKind.TheVariants.{UnexpectedNullUnion}
+use Rattle.mj_base.specs.Bytes.{number32}
 use Rattle.mj_schema.specs.KindTrees as kinds
 use Rattle.mj_schema.specs.KindTrees.{KindTree}
 use Rattle.mj_schema.specs.declared.rows.StructRow.{StructRow}
 use Rattle.mj_schema.specs.declared.rows.UnionRow.{UnionRow}
 use Rattle.mj_schema.specs.declared.schema.Schema.{Schema}
-use Rattle.wire_model.specs.Bytes.{number32}
 use Rattle.wire_model.specs.Marks.{Test, Next, object_marks, array_marks, union_marks, found_union_marks, slot_marks}
 use Rattle.wire_model.specs.Rows.{kind_of_tag}
 use Rattle.wire_model.specs.Texts.{valid_len}

@@ -18,8 +18,9 @@ use crate::objects::{array_at, inline_at, map_at, string_at, struct_at};
 use crate::parts::Part;
 use crate::places::is_string;
 use crate::texts::Utf8;
+use mj_base::{le32, le64};
 use mj_schema::{KindNode, Schema};
-use wire_model::{NO_INDEX, bit_at, le32, le64, whole_at};
+use wire_model::{NO_INDEX, bit_at, whole_at};
 
 /// A handle or a receiver, or null.
 #[inline(always)]

@@ -1,8 +1,8 @@
 //! Views of the objects at a place.
 
 ghost use Rattle.std.specs.Prelude.{◌≡◌, ◌+◌, ◌≤◌, length, take, drop, slice_get, IfSome, Some, None, false};
+ghost use Rattle.mj_base.specs.Bytes.{number32};
 ghost use Rattle.mj_schema.specs.KindTrees.{kind_view, ArrayKind, MapKind, StructKind, UnionKind};
-ghost use Rattle.wire_model.specs.Bytes.{number32};
 ghost use Rattle.wire_model.specs.Marks.{visit, object_marks, pointer_marks, found_union_marks};
 ghost use Rattle.wire_model.specs.Texts.{valid_len};
 ghost use Rattle.wire_model.specs.Values.{value, object_value, pointer_value, union_value, found_union_value};
@@ -14,9 +14,9 @@ use crate::on::On;
 use crate::parts::Part;
 use crate::texts::Utf8;
 use crate::view::View;
+use mj_base::{le32, le64};
 use mj_schema::{KindNode, Schema};
 use schema_rows::{find_struct, find_union};
-use wire_model::{le32, le64};
 
 /// The string at a place.
 #[inline(always)]

@@ -7,9 +7,9 @@ ghost use Rattle.mj_schema.specs.Sizes.{size_of};
 ghost use Rattle.wire_view.specs.Parts.{is_array, is_bytes, is_string, is_struct};
 ghost use Rattle.wire_view.specs.steps.Lists.{IsThere, bytes_behind};
 
+use mj_base::{le32, le64};
 use mj_schema::{FieldRow, KindNode, Width};
 use schema_rows::size_of;
-use wire_model::{le32, le64};
 
 /// Where a part lies.
 #[derive(Clone, Copy)]

@@ -1,7 +1,7 @@
 //! Views.
 
 ghost use Rattle.std.specs.Prelude.{◌≡◌, ◌+◌, ℕ, length, IsTrue};
-ghost use Rattle.wire_model.specs.Bytes.{number32};
+ghost use Rattle.mj_base.specs.Bytes.{number32};
 ghost use Rattle.wire_model.specs.Marks.{visit, object_marks};
 ghost use Rattle.wire_model.specs.Rows.{row_of};
 ghost use Rattle.wire_model.specs.Values.{value, object_value};
@@ -21,9 +21,9 @@ use crate::parts::Part;
 use crate::places::{Place, field_at, list_bytes, slot_bytes, slot_size};
 use crate::shapes::Shape;
 use crate::texts::Utf8;
+use mj_base::le32;
 use mj_schema::{FieldRow, KindNode, Schema, StructRow};
 use schema_rows::{has_value, kind_in};
-use wire_model::le32;
 
 /// A struct, an array, a map or a union of a message that was checked, at a byte place, where at most
 /// `left` more levels of objects may be behind it. Of a struct it keeps the `fields`, and how many of them

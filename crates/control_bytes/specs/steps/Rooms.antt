@@ -1,6 +1,6 @@
 -- The bytes that a control's payload needs.
 use Rattle.std.specs.Prelude.{◌≡◌, ℕ, ◌+◌, ◌≤◌, List, length}
-use Rattle.wire_model.specs.Bytes.{number32}
+use Rattle.mj_base.specs.Bytes.{number32}
 use Rattle.control_bytes.specs.declared.kinds.TheConstants.{SHORT_BYTES, LONG_BYTES}
 
 -- a payload at a place has the bytes that its size says

@@ -1,7 +1,7 @@
 -- What two messages have in common.
 use Rattle.std.specs.Prelude.{◌≡◌, ℕ, ◌≤◌, List}
+use Rattle.mj_base.specs.Bytes.{number32}
 use Rattle.mj_schema.specs.KindTrees.{KindTree}
-use Rattle.wire_model.specs.Bytes.{number32}
 use Rattle.wire_model.specs.HeaderMarks.{header_marks}
 use Rattle.wire_model.specs.Marks.{Mark, Next}
 use Rattle.wire_model.specs.Message.{ids_read, moment_read, payload_end, payload_start, request_read}

@@ -1,6 +1,6 @@
 -- Lists of bytes behind pointers.
 use Rattle.std.specs.Prelude.{◌≡◌, ℕ, ◌+◌, ◌≤◌, ◌==◌, List, length, take, drop, Option, Some, None, false, if◌then◌else◌}
-use Rattle.wire_model.specs.Bytes.{number32, number64}
+use Rattle.mj_base.specs.Bytes.{number32, number64}
 
 -- the bytes of the list at a place
 abbrev pub bytes_at : List ℕ → ℕ → List ℕ

@@ -1,9 +1,10 @@
 -- The number that lies in a slot, by the kind of the slot alone.
 use Rattle.std.specs.Prelude.{ℕ, ℤ, pos, List, Option, Some, None, ◌==◌, if◌then◌else◌}
 use Rattle.std.specs.Int.{cast_signed, w32}
+use Rattle.mj_base.specs.Bytes.{number32}
 use Rattle.mj_schema.specs.KindTrees as kinds
 use Rattle.mj_schema.specs.KindTrees.{KindTree}
-use Rattle.wire_model.specs.Bytes.{number32, bit_at}
+use Rattle.wire_model.specs.Bytes.{bit_at}
 use Rattle.wire_model.specs.Cells.{NO_INDEX}
 use Rattle.wire_model.specs.Values.{whole_at}
 use Rattle.wire_view.specs.Parts.{flag_number}

@@ -1,10 +1,10 @@
 use Rattle.std.proofs.Common.{◌≡◌, ℕ, List, length, refl, sym, ap, ◌∙◌, subst}
 use Rattle.std.specs.Prelude.{Some}
 use Rattle.std.proofs.lemmas.Result.{IfOk-weaker}
+use Rattle.mj_base.specs.Bytes.{number32}
 use Rattle.bounds_claims.specs.Runs.{first_fault}
 use Rattle.mj_schema.specs.declared.schema.Schema.{Schema}
 use Rattle.message_validator.specs.Before.{before_payload}
-use Rattle.wire_model.specs.Bytes.{number32}
 use Rattle.wire_model.specs.Expected.{message_marks}
 use Rattle.wire_model.specs.Message.{request_read}
 use Rattle.wire_model.specs.declared.target.MessageSide.{MessageSide}

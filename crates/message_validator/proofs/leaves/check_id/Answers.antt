@@ -1,5 +1,5 @@
 use Rattle.std.proofs.Common.{refl}
-use Rattle.wire_model.specs.Bytes.{number32}
+use Rattle.mj_base.specs.Bytes.{number32}
 use Rattle.wire_model.specs.Cells.{NO_INDEX}
 use Rattle.message_validator.proofs.MapWalks.{other_counts}
 use Rattle.message_validator.proofs.Walks.{index_claimed}

@@ -4,8 +4,7 @@ use Rattle.tight_bytes.proofs.Values.{size_map, size_map2, view_map}
 use denote.Param.Weighed.{at_most, most}
 use Rattle.wire_model.proofs.value.Value.TheLaws.{the_size}
 use Rattle.std.proofs.Common.{Some, None, true, false, List, ℕ}
-use Rattle.mj_base.specs.Bytes.{rounded8}
-use Rattle.wire_model.specs.Bytes.{bytes32, bytes64}
+use Rattle.mj_base.specs.Bytes.{bytes32, bytes64, rounded8}
 use Rattle.mj_schema.specs.Sizes.{size_of}
 use Rattle.wire_model.specs.Cells.{UNION_BYTES, zeros, put_cell}
 use Rattle.wire_model.specs.Emit.{emit, body_of, behind, object}

@@ -1,8 +1,8 @@
 use Rattle.std.proofs.Common.{refl, ◌≡◌, ◌+◌, ◌-◌, ◌∷◌, [], ◌++◌, sym, ap, subst, ◌∙◌, arith, rules, drop, length, map, None, false}
 use Rattle.mj_schema.specs.KindTrees.{kind_view, ArrayKind}
 use Rattle.std.specs.Prelude.{OnOk}
+use Rattle.mj_base.specs.Bytes.{number32, number64}
 use Rattle.wire_model.specs.Absent.{absent_values}
-use Rattle.wire_model.specs.Bytes.{number32, number64}
 use Rattle.wire_model.specs.Rows.{row_for}
 use Rattle.wire_model.specs.Slots.{element_slots}
 use Rattle.wire_model.specs.Marks.{visit}

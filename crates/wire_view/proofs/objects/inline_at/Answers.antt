@@ -1,5 +1,5 @@
 use Rattle.std.proofs.Common.{◌≡◌, sym, ◌∙◌}
-use Rattle.wire_model.specs.Bytes.{number32}
+use Rattle.mj_base.specs.Bytes.{number32}
 use Rattle.wire_model.specs.Values.{value}
 use Rattle.wire_view.proofs.Targets.{sized_value, null_union}
 use Rattle.wire_view.proofs.objects.inline_at.Goals as goal

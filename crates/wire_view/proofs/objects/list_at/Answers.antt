@@ -1,6 +1,6 @@
 use Rattle.std.proofs.Common.{◌-◌, None, false, length, sym, ◌∙◌}
+use Rattle.mj_base.specs.Bytes.{number64}
 use Rattle.mj_schema.specs.KindTrees.{ArrayKind, kind_view}
-use Rattle.wire_model.specs.Bytes.{number64}
 use Rattle.readable_marks.proofs.Reading.{readable_behind, value_behind, not_zero, one_less}
 use Rattle.wire_view.proofs.objects.list_at.Goals as goal
 

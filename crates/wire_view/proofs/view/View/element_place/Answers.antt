@@ -1,7 +1,7 @@
 use Rattle.std.proofs.Common.{◌≡◌, ◌+◌, ◌*◌, ◌<◌, ◌≤◌, ap, ◌∙◌, arith}
+use Rattle.mj_base.specs.Bytes.{number32}
 use Rattle.mj_schema.specs.KindTrees.{kind_view}
 use Rattle.mj_schema.specs.Sizes.{size_of}
-use Rattle.wire_model.specs.Bytes.{number32}
 use Rattle.wire_model.specs.Values.{value}
 use Rattle.wire_view.proofs.Fields.{element_found}
 use Rattle.wire_view.proofs.Nths.{nth_past}

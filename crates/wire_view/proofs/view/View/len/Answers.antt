@@ -1,6 +1,6 @@
 use Rattle.std.proofs.Common.{◌+◌, length, sym, ap, ◌∙◌, arith}
+use Rattle.mj_base.specs.Bytes.{number32}
 use Rattle.mj_schema.specs.KindTrees.{kind_view}
-use Rattle.wire_model.specs.Bytes.{number32}
 use Rattle.wire_model.specs.Marks.{visit}
 use Rattle.wire_model.specs.Rows.{row_for}
 use Rattle.wire_model.specs.Values.{value}

@@ -1,7 +1,7 @@
 use Rattle.std.proofs.Common.{ℕ, ◌+◌, List, length, Option, ap, ◌∙◌, arith}
+use Rattle.mj_base.specs.Bytes.{number32}
 use Rattle.mj_schema.specs.declared.rows.StructRow.{StructRow}
 use Rattle.mj_schema.specs.declared.rows.VersionRow.{VersionRow}
-use Rattle.wire_model.specs.Bytes.{number32}
 use Rattle.wire_model.specs.Marks.{visit}
 use Rattle.wire_model.specs.Rows.{row_for}
 use Rattle.wire_model.specs.Values.{value}
