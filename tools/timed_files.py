@@ -111,6 +111,12 @@ def batch(count, nullable, header=HEADER):
     return b''.join(parts)
 
 
+def held(count, nullable):
+    """What the items of a batch hold: how many of their numbers, flags and tags are above 0, and how many bytes their names have."""
+    ids = sum(k > 0 and not (nullable and k % 4 == 0) for k in range(count))
+    return ids + sum((k % 7 > 0) + k % 2 + 19 + 4 * (k > 0) for k in range(count))
+
+
 def batch_file(nullable):
     mark = '?' if nullable else ''
     return (f'struct Item {{ uint64{mark} id; uint32 kind; bool flag; string name; array<uint32> tags; }};\n'

@@ -2,13 +2,26 @@
 //! that were judged before: by getters over tables of fields, and with each place known to the compiler. Each reads what the line `viewed as
 //! a batch` of `benchmarks wire` does, and finds the same.
 //!
-//!     rustc --edition 2021 -O -C target-cpu=x86-64-v2 tools/peers/batch_views.rs -o PEER
+//!     rustc --edition 2021 -C opt-level=3 -C target-cpu=x86-64-v2 tools/peers/batch_views.rs -o PEER
 //!     PEER MESSAGE plain|nullable
 //!
-//! MESSAGE is a batch of `tools/timed_files.py`, whose ids may be null where the second word says so. Prints nanoseconds an item, the least
-//! of seven rounds. `tools/time_program views` has it take turns with the program.
+//! MESSAGE is a batch of `tools/timed_files.py`, whose ids may be null where the second word says so. Prints nanoseconds of processor time an
+//! item, the least of seven rounds, and what was found, which is the same by each way. `tools/time_program views` has it take turns with the
+//! program, whose clock, rounds and count of readings it has.
 use std::hint::black_box;
-use std::time::Instant;
+
+/// A time by a clock of Linux, and the number of the clock of a thread's processor time.
+#[repr(C)]
+struct Time { seconds: i64, nanoseconds: i64 }
+const THREAD_CLOCK: i32 = 3;
+extern "C" { fn clock_gettime(clock: i32, time: *mut Time) -> i32; }
+
+/// The processor time so far, in nanoseconds.
+fn now() -> f64 {
+    let mut time = Time { seconds: 0, nanoseconds: 0 };
+    assert_eq!(unsafe { clock_gettime(THREAD_CLOCK, &mut time) }, 0);
+    time.seconds as f64 * 1e9 + time.nanoseconds as f64
+}
 
 /// Integers have their bits, and whether they are signed.
 #[allow(dead_code)]
@@ -164,9 +177,9 @@ fn time(what: &str, bytes: &[u8], items: u32, read: impl Fn(&[u8]) -> u64) -> u6
     let (times, found) = (20_000_000 / bytes.len() + 1, read(bytes));
     let mut best = f64::MAX;
     for _ in 0..7 {
-        let begun = Instant::now();
+        let begun = now();
         for _ in 0..times { assert_eq!(read(black_box(bytes)), found); }
-        best = best.min(begun.elapsed().as_nanos() as f64 / times as f64);
+        best = best.min((now() - begun) / times as f64);
     }
     println!("{what}: {:.1} ns an item", best / f64::from(items));
     found
@@ -183,4 +196,5 @@ fn main() {
     assert_eq!(found, time("tables, each place tested", &bytes, items, |bytes| by_tables::<false>(&schema, bytes, start)));
     let places = if nullable { by_places::<true> } else { by_places::<false> };
     assert_eq!(found, time("places", &bytes, items, |bytes| places(bytes, start)));
+    println!("found {found}");
 }
