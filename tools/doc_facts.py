@@ -39,6 +39,10 @@ LINK = re.compile(r'\[[^\]]*\]\((?!https?:)([^)\s#]*)(?:#([^)\s]*))?\)')
 # A file or a folder of the repository, without those that only a build makes, and a must-fail edit by its name.
 PATH = re.compile(r'`((?:crates|docs|examples|tools)/(?!X/|\w+/out|\*/out)[\w./*-]+|must-fail/\w+\.edit)`')
 
+# A name where code or definitions give it to something.
+DEFINED = re.compile(r'^ *(?:pub(?:\(\w+\))? |ghost |const |unfoldable |abbrev |mutual |data |record |fn |struct |enum |trait |mod |type |impl(?:<.*>)? |'
+                     r'requires |ensures )*(\w+)(?=[ ,:;({<]|$)', re.M)
+
 # A name with the file where a page says that it stands.
 PLACED = re.compile(r'`(\w+)` (?:in|of) `(crates/[^`*]+\.(?:antt|rt|cases))`')
 
@@ -216,8 +220,36 @@ def of_edits(text):
     yield from gate_facts.of_budget(text)
 
 
+def names_of(crate):
+    """What a crate defines: calls, types and their clauses, variants and fields, definitions, and files of definitions."""
+    names = [name for sort in ('src/**/*.rt', 'specs/**/*.antt') for name in glob.glob(os.path.join(TOP, 'crates', crate, sort), recursive=True)]
+    return {word for name in names for word in DEFINED.findall(text_of(name))} | files_of_specs(crate)
+
+
+def named_in(cell, crates, below):
+    """The names that a cell has in backticks, each with the crates that should have it: a crate that is named before it, or those of the row.
+    Behind `clauses of` stand calls of other crates."""
+    for word in re.finditer(r'`([^`]+)`|\b([a-z_]+)\b', cell.partition('clauses of')[0]):
+        if word[2] in below:
+            crates = [word[2]]
+        yield from ((name, crates) for name in re.findall(r'\w+', word[1] or ''))
+
+
+def of_names(text, below):
+    """The calls and definitions that the rows of promises name and that their crates don't have."""
+    names, crates = {crate: names_of(crate) for crate in below}, []
+    for row in re.findall(r'^\|(.*)\|$', text, re.M):
+        first, *cells = [cell.strip() for cell in row.split('|')]
+        crates = [name for name in first.split(', ') if name in below] or crates
+        for cell in cells[1:] if len(cells) == 3 and crates else ():
+            yield from (f'{" and ".join(named)} has no {name}' for name, named in named_in(cell, crates, below)
+                        if not any(name in names[crate] for crate in named))
+
+
 def of_promises(text):
-    """The crates of the program that have no row on the page of what is promised: one with their promises, and one of one line."""
+    """The crates of the program that have no row on the page of what is promised: one with their promises, and one of one line; and what
+    these rows name that isn't there."""
+    yield from of_names(text, crates())
     parts = text.split('## In one line each')
     for part, lacks in zip(parts, ('promises', 'line')):
         named = {name for row in re.findall(r'^\| ([a-z_0-9, ]+) \|', part, re.M) for name in row.split(', ')}
