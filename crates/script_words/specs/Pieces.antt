@@ -1,6 +1,22 @@
 -- The lines of a text, and the words of a line.
 use Rattle.std.specs.Prelude.{ℕ, Bool, false, ◌==◌, ◌++◌, List, [], ◌∷◌, if◌then◌else◌, length, map}
 
+-- what ends a line
+abbrev pub line_feed : ℕ
+line_feed = 10
+
+-- what parts words
+abbrev pub blank : ℕ
+blank = 32
+
+-- `"`, on both sides of a string
+abbrev pub quote : ℕ
+quote = 34
+
+-- `\`, before what is escaped in a string
+abbrev pub backslash : ℕ
+backslash = 92
+
 -- bytes before the first part
 abbrev pub onto : List ℕ → List (List ℕ) → List (List ℕ)
 onto bytes [] = bytes ∷ []
@@ -19,7 +35,7 @@ without_empty_last (p ∷ q ∷ ps) = p ∷ without_empty_last (q ∷ ps)
 
 -- the lines of a text: each ends in LF, which the last may lack, and the empty text has none
 abbrev pub text_lines : List ℕ → List (List ℕ)
-text_lines bytes = without_empty_last (pieces 10 bytes)
+text_lines bytes = without_empty_last (pieces line_feed bytes)
 
 -- where in a line a byte stands: in no string, in one, or behind a backslash in one
 pub data Place : Type 0 where
@@ -29,13 +45,13 @@ pub data Place : Type 0 where
 
 -- where the next byte stands
 abbrev pub behind : Place → ℕ → Place
-behind Outside b = if b == 34 then Inside else Outside
-behind Inside b = if b == 34 then Outside else (if b == 92 then Escaped else Inside)
+behind Outside b = if b == quote then Inside else Outside
+behind Inside b = if b == quote then Outside else (if b == backslash then Escaped else Inside)
 behind Escaped b = Inside
 
 -- whether the byte is a blank that stands in no string
 abbrev pub parts_words : Place → ℕ → Bool
-parts_words Outside b = b == 32
+parts_words Outside b = b == blank
 parts_words Inside b = false
 parts_words Escaped b = false
 

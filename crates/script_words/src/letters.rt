@@ -12,28 +12,28 @@ use std::alloc::{AllocError, Global};
 fn is_small_letter(c: u8) -> bool
     ensures { result ≡ is_small_letter c }
 {
-    97 <= c && c <= 122
+    b'a' <= c && c <= b'z'
 }
 
 /// Whether the byte is one of `0` to `9`.
 fn is_digit(c: u8) -> bool
     ensures { result ≡ is_digit c }
 {
-    48 <= c && c <= 57
+    b'0' <= c && c <= b'9'
 }
 
 /// Whether an identifier may begin with the byte.
 fn is_first_letter(c: u8) -> bool
     ensures { result ≡ is_first_letter c }
 {
-    is_small_letter(c) || (65 <= c && c <= 90) || c == 95
+    is_small_letter(c) || (b'A' <= c && c <= b'Z') || c == b'_'
 }
 
 /// Whether the byte may stand in a name behind its first letter.
 fn is_name_byte(c: u8) -> bool
     ensures { result ≡ is_name_byte c }
 {
-    is_small_letter(c) || is_digit(c) || c == 95
+    is_small_letter(c) || is_digit(c) || c == b'_'
 }
 
 /// Whether all the bytes may stand in a name behind its first letter.

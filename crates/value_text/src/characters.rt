@@ -7,6 +7,7 @@ ghost use Rattle.byte_rules.specs.Reading.{Gives, Fails};
 ghost use Rattle.byte_rules.specs.steps.Reading.{with_front, behind};
 ghost use Rattle.value_text.specs.Characters.{is_hex, hex_value, low_pair, escape, is_plain, leads_two, leads_three, leads_four, goes_on, second_of};
 ghost use Rattle.value_text.specs.Characters.{two_bytes, three_bytes, four_bytes, character, all_of, text};
+ghost use Rattle.value_text.specs.Signs.{quote};
 
 use crate::numbers::is_digit;
 use byte_rules::{Stop, expect, is_next};
@@ -16,7 +17,7 @@ use std::alloc::Global;
 fn is_hex(byte: u8) -> bool
     ensures { result ≡ is_hex byte }
 {
-    is_digit(byte) || (97 <= byte && byte <= 102)
+    is_digit(byte) || (b'a' <= byte && byte <= b'f')
 }
 
 /// The value of a hexadecimal digit.
@@ -24,7 +25,7 @@ fn hex_value(byte: u8) -> u8
     requires { is_hex byte ≡ true }
     ensures { result ≡ hex_value byte }
 {
-    if byte <= 57 { byte - 48 } else { byte - 87 }
+    if byte <= b'9' { byte - b'0' } else { byte - 87 }
 }
 
 /// Two hexadecimal digits of a number below 32, and the bytes after them.
@@ -33,7 +34,7 @@ fn low_pair(bytes: &[u8]) -> Result<(u8, &[u8]), Stop>
 {
     match bytes {
         [high, rest @ ..] => {
-            if !(48 <= *high && *high <= 49) {
+            if !(b'0' <= *high && *high <= b'1') {
                 return Err(Stop::Left(bytes.len()));
             }
             match rest {
@@ -41,7 +42,7 @@ fn low_pair(bytes: &[u8]) -> Result<(u8, &[u8]), Stop>
                     if !is_hex(*low) {
                         return Err(Stop::Left(rest.len()));
                     }
-                    Ok((16 * (*high - 48) + hex_value(*low), after))
+                    Ok((16 * (*high - b'0') + hex_value(*low), after))
                 }
                 [] => Err(Stop::Left(0)),
             }
@@ -55,15 +56,15 @@ fn low_pair(bytes: &[u8]) -> Result<(u8, &[u8]), Stop>
 fn escape(bytes: &[u8]) -> Result<(u8, &[u8]), Stop>
     ensures { Gives (λ x. (x.0 ∷ [], x.1.now)) result (escape.read bytes.now) }
 {
-    if is_next(bytes, 34) {
-        let rest = expect(bytes, 34)?;
-        return Ok((34, rest));
+    if is_next(bytes, b'"') {
+        let rest = expect(bytes, b'"')?;
+        return Ok((b'"', rest));
     }
-    if is_next(bytes, 92) {
-        let rest = expect(bytes, 92)?;
-        return Ok((92, rest));
+    if is_next(bytes, b'\\') {
+        let rest = expect(bytes, b'\\')?;
+        return Ok((b'\\', rest));
     }
-    let rest = expect(bytes, 120)?;
+    let rest = expect(bytes, b'x')?;
     low_pair(rest)
 }
 
@@ -71,7 +72,7 @@ fn escape(bytes: &[u8]) -> Result<(u8, &[u8]), Stop>
 fn is_plain(byte: u8) -> bool
     ensures { result ≡ is_plain byte }
 {
-    32 <= byte && byte <= 127 && !(byte == 34) && !(byte == 92)
+    32 <= byte && byte <= 127 && !(byte == b'"') && !(byte == b'\\')
 }
 
 /// Whether the byte goes on with a character.
@@ -214,8 +215,8 @@ fn leads_four(byte: u8) -> bool
 fn character<'a>(out: &mut Vec<u8>, bytes: &'a [u8]) -> Result<&'a [u8], Stop>
     ensures { Gives (λ rest. (out.new.items, rest.now)) result (behind out.old.items (character.read bytes.now)) }
 {
-    if is_next(bytes, 92) {
-        let rest = expect(bytes, 92)?;
+    if is_next(bytes, b'\\') {
+        let rest = expect(bytes, b'\\')?;
         let (byte, rest) = escape(rest)?;
         out.push(byte)?;
         return Ok(rest);
@@ -246,18 +247,18 @@ fn character<'a>(out: &mut Vec<u8>, bytes: &'a [u8]) -> Result<&'a [u8], Stop>
 
 /// Characters up to a quote, and the bytes after it.
 fn characters(alloc: Global, bytes: &[u8]) -> Result<(Vec<u8>, &[u8]), Stop>
-    ensures { Gives (λ x. (x.0.items, x.1.now)) result ((as_value all_of (many 34 character)).read bytes.now) }
+    ensures { Gives (λ x. (x.0.items, x.1.now)) result ((as_value all_of (many quote character)).read bytes.now) }
 {
     let mut out = Vec::new(alloc);
     let mut rest = bytes;
     for _ in 0..bytes.len() {
-        if is_next(rest, 34) {
-            let rest = expect(rest, 34)?;
+        if is_next(rest, b'"') {
+            let rest = expect(rest, b'"')?;
             return Ok((out, rest));
         }
         rest = character(&mut out, rest)?;
     }
-    let rest = expect(rest, 34)?;
+    let rest = expect(rest, b'"')?;
     Ok((out, rest))
 }
 
@@ -266,6 +267,6 @@ fn characters(alloc: Global, bytes: &[u8]) -> Result<(Vec<u8>, &[u8]), Stop>
 pub fn text(alloc: Global, bytes: &[u8]) -> Result<(Vec<u8>, &[u8]), Stop>
     ensures { Gives (λ x. (x.0.items, x.1.now)) result (text.read bytes.now) }
 {
-    let rest = expect(bytes, 34)?;
+    let rest = expect(bytes, b'"')?;
     characters(alloc, rest)
 }

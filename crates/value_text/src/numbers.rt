@@ -12,7 +12,7 @@ use mj_schema::Width;
 pub fn is_digit(byte: u8) -> bool
     ensures { result ≡ is_digit byte }
 {
-    48 <= byte && byte <= 57
+    b'0' <= byte && byte <= b'9'
 }
 
 /// Whether a decimal digit is next.
@@ -37,7 +37,7 @@ fn digits(high: u64, first: u64, bytes: &[u8]) -> (u64, &[u8])
         if !is_digit(*byte) {
             return (value, &bytes[i..]);
         }
-        let next = u128::from(value) * 10 + u128::from(*byte - 48);
+        let next = u128::from(value) * 10 + u128::from(*byte - b'0');
         if next > u128::from(high) {
             return (value, &bytes[i..]);
         }
@@ -53,7 +53,7 @@ pub fn number(low: u64, high: u64, bytes: &[u8]) -> Result<(u64, &[u8]), Stop>
 {
     match bytes {
         [first, rest @ ..] => {
-            if *first == 48 {
+            if *first == b'0' {
                 if low == 0 {
                     return Ok((0, rest));
                 }
@@ -62,7 +62,7 @@ pub fn number(low: u64, high: u64, bytes: &[u8]) -> Result<(u64, &[u8]), Stop>
             if !is_digit(*first) {
                 return Err(Stop::Left(bytes.len()));
             }
-            let first = u64::from(*first - 48);
+            let first = u64::from(*first - b'0');
             if first > high {
                 return Err(Stop::Left(bytes.len()));
             }
@@ -76,8 +76,8 @@ pub fn number(low: u64, high: u64, bytes: &[u8]) -> Result<(u64, &[u8]), Stop>
 pub fn integer(low: u64, high: u64, bytes: &[u8]) -> Result<(i128, &[u8]), Stop>
     ensures { Gives (λ x. (x.0, x.1.now)) result ((integer low high).read bytes.now) }
 {
-    if is_next(bytes, 45) {
-        let rest = expect(bytes, 45)?;
+    if is_next(bytes, b'-') {
+        let rest = expect(bytes, b'-')?;
         let (number, rest) = number(1, low, rest)?;
         return Ok((-i128::from(number), rest));
     }

@@ -7,6 +7,7 @@ ghost use Rattle.wire_model.specs.Trees.{view, trees};
 ghost use Rattle.byte_rules.specs.Judged.{Spells};
 ghost use Rattle.value_text.specs.Brackets.{MAX_BRACKETS, brackets};
 ghost use Rattle.value_text.specs.Rules as rules;
+ghost use Rattle.value_text.specs.Signs.{open_round, colon, open_angle, close_angle, open_square, open_curly};
 ghost use Rattle.value_text.specs.Spelling.{fields_kinds, spell, first_item, each_text, first_pair, first_field, element_of, key_of, value_of, field_kinds, held};
 
 use crate::writing::{push_index, push_text, push_versioned, push_whole};
@@ -94,11 +95,11 @@ pub fn push_value(
         Value::Struct(fields) => push_struct(fields, fields_of(schema, kind), alloc, schema, out),
         Value::Union { tag, value } => push_member(value, *tag, kind, alloc, schema, out),
         Value::Unknown(tag) => push_unknown(alloc, *tag, out),
-        Value::Handle(index) => push_index(alloc, out, 37, *index),
-        Value::Remote { index, version } => push_versioned(alloc, out, 37, *index, *version),
-        Value::Endpoint(index) => push_index(alloc, out, 94, *index),
+        Value::Handle(index) => push_index(alloc, out, b'%', *index),
+        Value::Remote { index, version } => push_versioned(alloc, out, b'%', *index, *version),
+        Value::Endpoint(index) => push_index(alloc, out, b'^', *index),
         Value::EndpointRemote { index, version } => push_versioned(
-            alloc, out, 94, *index, *version,
+            alloc, out, b'^', *index, *version,
         ),
     }
 }
@@ -113,16 +114,16 @@ fn push_list(
     schema: &Schema,
     out: &mut Vec<u8>,
 ) -> Result<(), AllocError>
-    ensures { OnOk result (out.new.items ≡ out.old.items ++ 91 ∷ first_item schema.now (kind_view of.now) (trees (map view items.now))) }
+    ensures { OnOk result (out.new.items ≡ out.old.items ++ open_square ∷ first_item schema.now (kind_view of.now) (trees (map view items.now))) }
 {
-    out.push(91)?;
+    out.push(b'[')?;
     for (i, item) in items.iter().enumerate() {
         if i > 0 {
-            out.push(44)?;
+            out.push(b',')?;
         }
         push_value(item, of, alloc, schema, out)?;
     }
-    out.push(93)?;
+    out.push(b']')?;
     Ok(())
 }
 
@@ -138,21 +139,21 @@ fn push_map(
     out: &mut Vec<u8>,
 ) -> Result<(), AllocError>
     ensures { OnOk result
-        (out.new.items ≡ out.old.items ++ 123 ∷ first_pair (each_text schema.now (key_of (kind_view kind.now)) (trees (map view keys.now)))
+        (out.new.items ≡ out.old.items ++ open_curly ∷ first_pair (each_text schema.now (key_of (kind_view kind.now)) (trees (map view keys.now)))
         (each_text schema.now (value_of (kind_view kind.now)) (trees (map view values.now)))) }
 {
-    out.push(123)?;
+    out.push(b'{')?;
     let mut i = 0;
     while i < keys.len() && i < values.len() {
         if i > 0 {
-            out.push(44)?;
+            out.push(b',')?;
         }
         push_value(&keys[i], key_of(kind), alloc, schema, out)?;
-        out.push(58)?;
+        out.push(b':')?;
         push_value(&values[i], value_of(kind), alloc, schema, out)?;
         i += 1;
     }
-    out.push(125)?;
+    out.push(b'}')?;
     Ok(())
 }
 
@@ -166,18 +167,18 @@ fn push_struct(
     schema: &Schema,
     out: &mut Vec<u8>,
 ) -> Result<(), AllocError>
-    ensures { OnOk result (out.new.items ≡ out.old.items ++ 40 ∷ first_field schema.now (fields_kinds row.now) (trees (map view values.now))) }
+    ensures { OnOk result (out.new.items ≡ out.old.items ++ open_round ∷ first_field schema.now (fields_kinds row.now) (trees (map view values.now))) }
 {
-    out.push(40)?;
+    out.push(b'(')?;
     let mut i = 0;
     while i < values.len() && i < row.len() {
         if i > 0 {
-            out.push(44)?;
+            out.push(b',')?;
         }
         push_value(&values[i], row[i].kind.node(), alloc, schema, out)?;
         i += 1;
     }
-    out.push(41)?;
+    out.push(b')')?;
     Ok(())
 }
 
@@ -192,22 +193,22 @@ fn push_member(
     out: &mut Vec<u8>,
 ) -> Result<(), AllocError>
     ensures { OnOk result
-        (out.new.items ≡ out.old.items ++ 60 ∷
-        (decimal tag ++ 58 ∷ (spell schema.now (held schema.now (kind_view kind.now) tag) (view value.now) ++ 62 ∷ []))) }
+        (out.new.items ≡ out.old.items ++ open_angle ∷
+        (decimal tag ++ colon ∷ (spell schema.now (held schema.now (kind_view kind.now) tag) (view value.now) ++ close_angle ∷ []))) }
 {
-    push_index(alloc, out, 60, tag)?;
-    out.push(58)?;
+    push_index(alloc, out, b'<', tag)?;
+    out.push(b':')?;
     push_value(value, held(schema, kind, tag), alloc, schema, out)?;
-    out.push(62)?;
+    out.push(b'>')?;
     Ok(())
 }
 
 /// Adds a tag that the union lacks between brackets.
 fn push_unknown(alloc: Global, tag: u32, out: &mut Vec<u8>) -> Result<(), AllocError>
-    ensures { OnOk result (out.new.items ≡ out.old.items ++ 60 ∷ (decimal tag ++ 62 ∷ [])) }
+    ensures { OnOk result (out.new.items ≡ out.old.items ++ open_angle ∷ (decimal tag ++ close_angle ∷ [])) }
 {
-    push_index(alloc, out, 60, tag)?;
-    out.push(62)?;
+    push_index(alloc, out, b'<', tag)?;
+    out.push(b'>')?;
     Ok(())
 }
 

@@ -8,6 +8,7 @@ ghost use Rattle.byte_rules.specs.Reading.{Gives};
 ghost use Rattle.value_text.specs.Characters.{text};
 ghost use Rattle.value_text.specs.Numbers.{whole, index, number_of, fields_tags, tag_of};
 ghost use Rattle.value_text.specs.Rules.{boolean, null_word};
+ghost use Rattle.value_text.specs.Signs.{percent, close_angle, at_sign, caret};
 
 use crate::characters::text;
 use crate::members::{known_member, known_tag, nearest_member, nearest_tag};
@@ -23,10 +24,10 @@ use wire_model::Value;
 pub fn null(bytes: &[u8]) -> Result<(Value, &[u8]), Stop>
     ensures { Gives (λ x. (view x.0, x.1.now)) result (null_word.read bytes.now) }
 {
-    let rest = expect(bytes, 110)?;
-    let rest = expect(rest, 117)?;
-    let rest = expect(rest, 108)?;
-    let rest = expect(rest, 108)?;
+    let rest = expect(bytes, b'n')?;
+    let rest = expect(rest, b'u')?;
+    let rest = expect(rest, b'l')?;
+    let rest = expect(rest, b'l')?;
     Ok((Value::Null, rest))
 }
 
@@ -35,18 +36,18 @@ pub fn null(bytes: &[u8]) -> Result<(Value, &[u8]), Stop>
 pub fn boolean(bytes: &[u8]) -> Result<(Value, &[u8]), Stop>
     ensures { Gives (λ x. (view x.0, x.1.now)) result (boolean.read bytes.now) }
 {
-    if is_next(bytes, 116) {
-        let rest = expect(bytes, 116)?;
-        let rest = expect(rest, 114)?;
-        let rest = expect(rest, 117)?;
-        let rest = expect(rest, 101)?;
+    if is_next(bytes, b't') {
+        let rest = expect(bytes, b't')?;
+        let rest = expect(rest, b'r')?;
+        let rest = expect(rest, b'u')?;
+        let rest = expect(rest, b'e')?;
         return Ok((Value::Bool(true), rest));
     }
-    let rest = expect(bytes, 102)?;
-    let rest = expect(rest, 97)?;
-    let rest = expect(rest, 108)?;
-    let rest = expect(rest, 115)?;
-    let rest = expect(rest, 101)?;
+    let rest = expect(bytes, b'f')?;
+    let rest = expect(rest, b'a')?;
+    let rest = expect(rest, b'l')?;
+    let rest = expect(rest, b's')?;
+    let rest = expect(rest, b'e')?;
     Ok((Value::Bool(false), rest))
 }
 
@@ -105,20 +106,20 @@ pub fn string(alloc: Global, bytes: &[u8]) -> Result<(Value, &[u8]), Stop>
 
 /// A handle or a receiver, and the bytes after it.
 pub fn handle(bytes: &[u8]) -> Result<(Value, &[u8]), Stop>
-    ensures { Gives (λ x. (view x.0, x.1.now)) result ((37 ▸ as_value values.Handle index).read bytes.now) }
+    ensures { Gives (λ x. (view x.0, x.1.now)) result ((percent ▸ as_value values.Handle index).read bytes.now) }
 {
-    let rest = expect(bytes, 37)?;
+    let rest = expect(bytes, b'%')?;
     let (index, rest) = index(rest)?;
     Ok((Value::Handle(index), rest))
 }
 
 /// A remote, and the bytes after it.
 pub fn remote(bytes: &[u8]) -> Result<(Value, &[u8]), Stop>
-    ensures { Gives (λ x. (view x.0, x.1.now)) result ((37 ▸ index then λ i. 64 ▸ as_value (values.Remote i) index).read bytes.now) }
+    ensures { Gives (λ x. (view x.0, x.1.now)) result ((percent ▸ index then λ i. at_sign ▸ as_value (values.Remote i) index).read bytes.now) }
 {
-    let rest = expect(bytes, 37)?;
+    let rest = expect(bytes, b'%')?;
     let (number, rest) = index(rest)?;
-    let rest = expect(rest, 64)?;
+    let rest = expect(rest, b'@')?;
     let (version, rest) = index(rest)?;
     let value = Value::Remote {
         index: number,
@@ -129,20 +130,20 @@ pub fn remote(bytes: &[u8]) -> Result<(Value, &[u8]), Stop>
 
 /// The receiver of an associated endpoint, and the bytes after it.
 pub fn endpoint(bytes: &[u8]) -> Result<(Value, &[u8]), Stop>
-    ensures { Gives (λ x. (view x.0, x.1.now)) result ((94 ▸ as_value values.Endpoint index).read bytes.now) }
+    ensures { Gives (λ x. (view x.0, x.1.now)) result ((caret ▸ as_value values.Endpoint index).read bytes.now) }
 {
-    let rest = expect(bytes, 94)?;
+    let rest = expect(bytes, b'^')?;
     let (index, rest) = index(rest)?;
     Ok((Value::Endpoint(index), rest))
 }
 
 /// The remote of an associated endpoint, and the bytes after it.
 pub fn endpoint_remote(bytes: &[u8]) -> Result<(Value, &[u8]), Stop>
-    ensures { Gives (λ x. (view x.0, x.1.now)) result ((94 ▸ index then λ i. 64 ▸ as_value (values.EndpointRemote i) index).read bytes.now) }
+    ensures { Gives (λ x. (view x.0, x.1.now)) result ((caret ▸ index then λ i. at_sign ▸ as_value (values.EndpointRemote i) index).read bytes.now) }
 {
-    let rest = expect(bytes, 94)?;
+    let rest = expect(bytes, b'^')?;
     let (number, rest) = index(rest)?;
-    let rest = expect(rest, 64)?;
+    let rest = expect(rest, b'@')?;
     let (version, rest) = index(rest)?;
     let value = Value::EndpointRemote {
         index: number,
@@ -174,8 +175,8 @@ pub fn tag<'a>(
 
 /// The bracket behind a tag that the union lacks, and the bytes after it.
 pub fn unknown(tag: u32, bytes: &[u8]) -> Result<(Value, &[u8]), Stop>
-    ensures { Gives (λ x. (view x.0, x.1.now)) result ((closed 62 (values.Unknown tag)).read bytes.now) }
+    ensures { Gives (λ x. (view x.0, x.1.now)) result ((closed close_angle (values.Unknown tag)).read bytes.now) }
 {
-    let rest = expect(bytes, 62)?;
+    let rest = expect(bytes, b'>')?;
     Ok((Value::Unknown(tag), rest))
 }

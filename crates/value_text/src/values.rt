@@ -34,7 +34,7 @@ pub fn value<'a>(
 ) -> Result<(Value, &'a [u8]), Stop>
     ensures { Gives (λ x. (view x.0, x.1.now)) result ((slot_value schema.now left flagged (kind_view kind.now)).read bytes.now) }
 {
-    if may_be_null(flagged, kind) && is_next(bytes, 110) {
+    if may_be_null(flagged, kind) && is_next(bytes, b'n') {
         return null(bytes);
     }
     base(alloc, schema, left, kind, bytes)
@@ -84,7 +84,7 @@ fn array<'a>(
     if left == 0 {
         return Err(Stop::Left(bytes.len()));
     }
-    let rest = expect(bytes, 91)?;
+    let rest = expect(bytes, b'[')?;
     let (items, rest) = elements(alloc, schema, left - 1, of, count, rest)?;
     Ok((list_of(items), rest))
 }
@@ -120,8 +120,8 @@ fn list<'a>(
     ensures { Gives (λ x. (map view x.0.items, x.1.now)) result ((listed 93 (inner schema.now left (kind_view of.now))).read bytes.now) }
 {
     let mut items = Vec::new(alloc);
-    if is_next(bytes, 93) {
-        let rest = expect(bytes, 93)?;
+    if is_next(bytes, b']') {
+        let rest = expect(bytes, b']')?;
         return Ok((items, rest));
     }
     let (first, rest) = value(alloc, schema, left, of, false, bytes)?;
@@ -143,7 +143,7 @@ fn so_many<'a>(
 {
     let mut items = Vec::new(alloc);
     if count == 0 {
-        let rest = expect(bytes, 93)?;
+        let rest = expect(bytes, b']')?;
         return Ok((items, rest));
     }
     let (first, rest) = value(alloc, schema, left, of, false, bytes)?;
@@ -163,7 +163,7 @@ fn next<'a>(
 ) -> Result<(Value, &'a [u8]), Stop>
     ensures { Gives (λ x. (view x.0, x.1.now)) result ((44 ▸ slot_value schema.now left flagged (kind_view of.now)).read bytes.now) }
 {
-    let rest = expect(bytes, 44)?;
+    let rest = expect(bytes, b',')?;
     value(alloc, schema, left, of, flagged, rest)
 }
 
@@ -183,15 +183,15 @@ fn more<'a>(
     let mut items = items;
     let mut rest = bytes;
     for _ in 0..bytes.len() {
-        if is_next(rest, 93) {
-            let rest = expect(rest, 93)?;
+        if is_next(rest, b']') {
+            let rest = expect(rest, b']')?;
             return Ok((items, rest));
         }
         let (item, after) = next(alloc, schema, left, of, false, rest)?;
         items.push(item)?;
         rest = after;
     }
-    let rest = expect(rest, 93)?;
+    let rest = expect(rest, b']')?;
     Ok((items, rest))
 }
 
@@ -216,7 +216,7 @@ fn as_many<'a>(
         items.push(item)?;
         rest = after;
     }
-    let rest = expect(rest, 93)?;
+    let rest = expect(rest, b']')?;
     Ok((items, rest))
 }
 
@@ -239,7 +239,7 @@ fn dictionary<'a>(
     if left == 0 {
         return Err(Stop::Left(bytes.len()));
     }
-    let rest = expect(bytes, 123)?;
+    let rest = expect(bytes, b'{')?;
     let (pairs, rest) = pairs(alloc, schema, left - 1, key, one, rest)?;
     Ok((map_of(pairs), rest))
 }
@@ -261,8 +261,8 @@ fn pairs<'a>(
         keys: Vec::new(alloc),
         values: Vec::new(alloc),
     };
-    if is_next(bytes, 125) {
-        let rest = expect(bytes, 125)?;
+    if is_next(bytes, b'}') {
+        let rest = expect(bytes, b'}')?;
         return Ok((pairs, rest));
     }
     let (first, second, rest) = pair(alloc, schema, left, key, one, bytes)?;
@@ -284,7 +284,7 @@ fn pair<'a>(
     ensures { Gives (λ x. ((view x.0, view x.1), x.2.now)) result ((pair_of schema.now left (kind_view key.now) (kind_view one.now)).read bytes.now) }
 {
     let (first, rest) = value(alloc, schema, left, key, false, bytes)?;
-    let rest = expect(rest, 58)?;
+    let rest = expect(rest, b':')?;
     let (second, rest) = value(alloc, schema, left, one, false, rest)?;
     Ok((first, second, rest))
 }
@@ -301,7 +301,7 @@ fn next_pair<'a>(
 ) -> Result<(Value, Value, &'a [u8]), Stop>
     ensures { Gives (λ x. ((view x.0, view x.1), x.2.now)) result ((44 ▸ pair_of schema.now left (kind_view key.now) (kind_view one.now)).read bytes.now) }
 {
-    let rest = expect(bytes, 44)?;
+    let rest = expect(bytes, b',')?;
     pair(alloc, schema, left, key, one, rest)
 }
 
@@ -323,15 +323,15 @@ fn more_pairs<'a>(
     let mut pairs = pairs;
     let mut rest = bytes;
     for _ in 0..bytes.len() {
-        if is_next(rest, 125) {
-            let rest = expect(rest, 125)?;
+        if is_next(rest, b'}') {
+            let rest = expect(rest, b'}')?;
             return Ok((pairs, rest));
         }
         let (first, second, after) = next_pair(alloc, schema, left, key, one, rest)?;
         pairs.push(first, second)?;
         rest = after;
     }
-    let rest = expect(rest, 125)?;
+    let rest = expect(rest, b'}')?;
     Ok((pairs, rest))
 }
 
@@ -351,7 +351,7 @@ fn structure<'a>(
     if left == 0 {
         return Err(Stop::Left(bytes.len()));
     }
-    let rest = expect(bytes, 40)?;
+    let rest = expect(bytes, b'(')?;
     all_fields(alloc, schema, left - 1, number, rest)
 }
 
@@ -401,7 +401,7 @@ fn fields<'a>(
             fields_after(alloc, schema, left, others, values, rest)
         }
         [] => {
-            let rest = expect(bytes, 41)?;
+            let rest = expect(bytes, b')')?;
             Ok((values, rest))
         }
     }
@@ -434,7 +434,7 @@ fn fields_after<'a>(
         values.push(value)?;
         rest = after;
     }
-    let rest = expect(rest, 41)?;
+    let rest = expect(rest, b')')?;
     Ok((values, rest))
 }
 
@@ -454,7 +454,7 @@ fn union<'a>(
     if left == 0 {
         return Err(Stop::Left(bytes.len()));
     }
-    let rest = expect(bytes, 60)?;
+    let rest = expect(bytes, b'<')?;
     tagged(alloc, schema, left - 1, number, rest)
 }
 
@@ -492,9 +492,9 @@ fn member<'a>(
 ) -> Result<(Value, &'a [u8]), Stop>
     ensures { Gives (λ x. (view x.0, x.1.now)) result ((member (slot_value schema.now left) tag (Some (kind_view kind.now))).read bytes.now) }
 {
-    let rest = expect(bytes, 58)?;
+    let rest = expect(bytes, b':')?;
     let (held, rest) = value(alloc, schema, left, kind, false, rest)?;
-    let rest = expect(rest, 62)?;
+    let rest = expect(rest, b'>')?;
     let value = Box::new(alloc, held)?;
     Ok((Value::Union { tag, value }, rest))
 }

@@ -4,6 +4,7 @@ ghost use Rattle.std.specs.Prelude.{◌≡◌, ◌++◌, ◌∷◌, OnOk, ◌<�
 ghost use Rattle.std.specs.Fmt.{signed_decimal};
 ghost use Rattle.std.specs.List.{flat_map};
 ghost use Rattle.value_text.specs.Escapes.{escaped, quoted, hex_digit};
+ghost use Rattle.value_text.specs.Signs.{at_sign};
 
 use std::alloc::{AllocError, Global};
 
@@ -32,10 +33,10 @@ pub fn push_versioned(
     index: u32,
     version: u32,
 ) -> Result<(), AllocError>
-    ensures { OnOk result (out.new.items ≡ out.old.items ++ sign ∷ (decimal index ++ 64 ∷ decimal version)) }
+    ensures { OnOk result (out.new.items ≡ out.old.items ++ sign ∷ (decimal index ++ at_sign ∷ decimal version)) }
 {
     push_index(alloc, out, sign, index)?;
-    push_index(alloc, out, 64, version)
+    push_index(alloc, out, b'@', version)
 }
 
 /// A hexadecimal digit, in lower case.
@@ -43,7 +44,7 @@ fn hex_digit(digit: u8) -> u8
     requires { digit < 16 }
     ensures { result ≡ hex_digit digit }
 {
-    if digit < 10 { 48 + digit } else { 87 + digit }
+    if digit < 10 { b'0' + digit } else { 87 + digit }
 }
 
 /// Adds a byte of a text as it stands between quotes.
@@ -51,14 +52,14 @@ fn hex_digit(digit: u8) -> u8
 fn push_escaped(out: &mut Vec<u8>, byte: u8) -> Result<(), AllocError>
     ensures { OnOk result (out.new.items ≡ out.old.items ++ escaped byte) }
 {
-    if byte == 34 {
-        return out.extend_from_slice(&[92, 34]);
+    if byte == b'"' {
+        return out.extend_from_slice(&[b'\\', b'"']);
     }
-    if byte == 92 {
-        return out.extend_from_slice(&[92, 92]);
+    if byte == b'\\' {
+        return out.extend_from_slice(&[b'\\', b'\\']);
     }
     if byte < 32 {
-        return out.extend_from_slice(&[92, 120, 48 + byte / 16, hex_digit(byte % 16)]);
+        return out.extend_from_slice(&[b'\\', b'x', b'0' + byte / 16, hex_digit(byte % 16)]);
     }
     out.extend_from_slice(&[byte])
 }
@@ -67,9 +68,9 @@ fn push_escaped(out: &mut Vec<u8>, byte: u8) -> Result<(), AllocError>
 pub fn push_text(out: &mut Vec<u8>, text: &[u8]) -> Result<(), AllocError>
     ensures { OnOk result (out.new.items ≡ out.old.items ++ quoted text.now) }
 {
-    out.extend_from_slice(&[34])?;
+    out.extend_from_slice(&[b'"'])?;
     push_all_escaped(out, text)?;
-    out.extend_from_slice(&[34])
+    out.extend_from_slice(&[b'"'])
 }
 
 /// Adds the bytes of a text as they stand between quotes.

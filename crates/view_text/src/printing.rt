@@ -2,6 +2,7 @@
 
 ghost use Rattle.std.specs.Prelude.{◌≡◌, ◌<◌, ◌++◌, ◌∷◌, [], OnOk, IfOk, Some, decimal};
 ghost use Rattle.mj_schema.specs.KindTrees.{kind_view};
+ghost use Rattle.value_text.specs.Signs.{open_round, colon, open_angle, close_angle, open_square, open_curly};
 ghost use Rattle.value_text.specs.Spelling.{fields_kinds, spell, first_item, each_text, first_pair, first_field, held};
 ghost use Rattle.view_text.specs.steps.Inside.{IsListed, IsMap, IsUnion, inside};
 ghost use Rattle.wire_model.specs.Trees.{Trees, Items};
@@ -51,19 +52,19 @@ fn tag_at(view: &View<'_>) -> u32
 
 /// Adds the bracket of a union and its tag.
 fn push_tag(alloc: Global, tag: u32, out: &mut Vec<u8>) -> Result<(), AllocError>
-    ensures { OnOk result (out.new.items ≡ out.old.items ++ 60 ∷ decimal tag) }
+    ensures { OnOk result (out.new.items ≡ out.old.items ++ open_angle ∷ decimal tag) }
 {
-    out.push(60)?;
+    out.push(b'<')?;
     let text = tag.to_string(alloc)?;
     out.extend_from_slice(text.as_bytes())
 }
 
 /// Adds a tag that the union lacks between brackets.
 fn push_unknown(alloc: Global, tag: u32, out: &mut Vec<u8>) -> Result<(), AllocError>
-    ensures { OnOk result (out.new.items ≡ out.old.items ++ 60 ∷ (decimal tag ++ 62 ∷ [])) }
+    ensures { OnOk result (out.new.items ≡ out.old.items ++ open_angle ∷ (decimal tag ++ close_angle ∷ [])) }
 {
     push_tag(alloc, tag, out)?;
-    out.push(62)?;
+    out.push(b'>')?;
     Ok(())
 }
 
@@ -113,20 +114,20 @@ fn push_list(
     out: &mut Vec<u8>,
 ) -> Result<(), AllocError>
     requires { IsListed (tree_of view.now) }
-    ensures { OnOk result (out.new.items ≡ out.old.items ++ 91 ∷ first_item schema.now (kind_view of.now) (inside (tree_of view.now))) }
+    ensures { OnOk result (out.new.items ≡ out.old.items ++ open_square ∷ first_item schema.now (kind_view of.now) (inside (tree_of view.now))) }
 {
-    out.push(91)?;
+    out.push(b'[')?;
     let count = view.len();
     let mut i = 0;
     while i < count {
         if i > 0 {
-            out.push(44)?;
+            out.push(b',')?;
         }
         let item = part_at(view, i);
         push_part(&item, of, alloc, schema, out)?;
         i += 1;
     }
-    out.push(93)?;
+    out.push(b']')?;
     Ok(())
 }
 
@@ -170,25 +171,25 @@ fn push_pairs(
     requires keys { IsListed (tree_of keys.now) }
     requires values { IsListed (tree_of values.now) }
     ensures { OnOk result
-        (out.new.items ≡ out.old.items ++ 123 ∷ first_pair (each_text schema.now (kind_view key.now) (inside (tree_of keys.now)))
+        (out.new.items ≡ out.old.items ++ open_curly ∷ first_pair (each_text schema.now (kind_view key.now) (inside (tree_of keys.now)))
         (each_text schema.now (kind_view one.now) (inside (tree_of values.now)))) }
 {
-    out.push(123)?;
+    out.push(b'{')?;
     let names = keys.len();
     let count = values.len();
     let mut i = 0;
     while i < names && i < count {
         if i > 0 {
-            out.push(44)?;
+            out.push(b',')?;
         }
         let name = part_at(keys, i);
         push_part(&name, key, alloc, schema, out)?;
-        out.push(58)?;
+        out.push(b':')?;
         let item = part_at(values, i);
         push_part(&item, one, alloc, schema, out)?;
         i += 1;
     }
-    out.push(125)?;
+    out.push(b'}')?;
     Ok(())
 }
 
@@ -202,20 +203,20 @@ fn push_struct(
     out: &mut Vec<u8>,
 ) -> Result<(), AllocError>
     requires { IsListed (tree_of view.now) }
-    ensures { OnOk result (out.new.items ≡ out.old.items ++ 40 ∷ first_field schema.now (fields_kinds row.now) (inside (tree_of view.now))) }
+    ensures { OnOk result (out.new.items ≡ out.old.items ++ open_round ∷ first_field schema.now (fields_kinds row.now) (inside (tree_of view.now))) }
 {
-    out.push(40)?;
+    out.push(b'(')?;
     let count = view.len() as usize;
     let mut i = 0;
     while i < count && i < row.len() {
         if i > 0 {
-            out.push(44)?;
+            out.push(b',')?;
         }
         let item = part_at(view, i as u32);
         push_part(&item, row[i].kind.node(), alloc, schema, out)?;
         i += 1;
     }
-    out.push(41)?;
+    out.push(b')')?;
     Ok(())
 }
 
@@ -249,13 +250,13 @@ fn push_member(
     out: &mut Vec<u8>,
 ) -> Result<(), AllocError>
     ensures { OnOk result
-        (out.new.items ≡ out.old.items ++ 60 ∷
-        (decimal tag ++ 58 ∷ (spell schema.now (held schema.now (kind_view kind.now) tag) (tree_in part.now) ++ 62 ∷ []))) }
+        (out.new.items ≡ out.old.items ++ open_angle ∷
+        (decimal tag ++ colon ∷ (spell schema.now (held schema.now (kind_view kind.now) tag) (tree_in part.now) ++ close_angle ∷ []))) }
 {
     push_tag(alloc, tag, out)?;
-    out.push(58)?;
+    out.push(b':')?;
     push_part(part, held(schema, kind, tag), alloc, schema, out)?;
-    out.push(62)?;
+    out.push(b'>')?;
     Ok(())
 }
 
