@@ -3,6 +3,7 @@
 
 mod characters;
 mod entries;
+pub mod kinds;
 mod laws;
 mod members;
 mod numbers;

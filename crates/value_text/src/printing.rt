@@ -8,69 +8,13 @@ ghost use Rattle.byte_rules.specs.Judged.{Spells};
 ghost use Rattle.value_text.specs.Brackets.{MAX_BRACKETS, brackets};
 ghost use Rattle.value_text.specs.Rules as rules;
 ghost use Rattle.value_text.specs.Signs.{open_round, colon, open_angle, close_angle, open_square, open_curly};
-ghost use Rattle.value_text.specs.Spelling.{fields_kinds, spell, first_item, each_text, first_pair, first_field, element_of, key_of, value_of, field_kinds, held};
+ghost use Rattle.value_text.specs.Spelling.{fields_kinds, spell, first_item, each_text, first_pair, first_field, key_of, value_of, held};
 
+use crate::kinds::{element_of, fields_of, held, key_of, value_of};
 use crate::writing::{push_index, push_text, push_versioned, push_whole};
 use mj_schema::{FieldRow, Kind, KindNode, Schema};
-use schema_rows::{find_struct, kind_in};
 use std::alloc::{AllocError, Global};
 use wire_model::Value;
-
-/// The kind of an array's elements.
-fn element_of(kind: &KindNode) -> &KindNode
-    ensures { kind_view result.now ≡ element_of (kind_view kind.now) }
-{
-    match kind {
-        KindNode::Array { of, .. } => of,
-        _ => kind,
-    }
-}
-
-/// The kind of a map's keys.
-fn key_of(kind: &KindNode) -> &KindNode
-    ensures { kind_view result.now ≡ key_of (kind_view kind.now) }
-{
-    match kind {
-        KindNode::Map { key, .. } => key,
-        _ => kind,
-    }
-}
-
-/// The kind of a map's values.
-fn value_of(kind: &KindNode) -> &KindNode
-    ensures { kind_view result.now ≡ value_of (kind_view kind.now) }
-{
-    match kind {
-        KindNode::Map { value, .. } => value,
-        _ => kind,
-    }
-}
-
-/// The fields of a struct; none where there is no such struct.
-fn fields_of<'a>(schema: &'a Schema, kind: &KindNode) -> &'a [FieldRow]
-    ensures { fields_kinds result.now ≡ field_kinds schema.now (kind_view kind.now) }
-{
-    match kind {
-        KindNode::Struct { number, .. } => match find_struct(schema, *number) {
-            Some(row) => row.fields.as_slice(),
-            None => &[],
-        },
-        _ => &[],
-    }
-}
-
-/// What a union holds under a tag; the kind itself where it holds nothing there.
-fn held<'a>(schema: &'a Schema, kind: &'a KindNode, tag: u32) -> &'a KindNode
-    ensures { kind_view result.now ≡ held schema.now (kind_view kind.now) tag }
-{
-    let KindNode::Union { number, .. } = kind else {
-        return kind;
-    };
-    match kind_in(schema, *number, tag) {
-        Some(held) => held.node(),
-        None => kind,
-    }
-}
 
 /// Adds the text of a value.
 #[cycle(push)]

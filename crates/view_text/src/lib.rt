@@ -1,7 +1,6 @@
 //! The text of a message that was checked, written from its bytes, with no value between.
 #![tactic(auto)]
 
-mod kinds;
 mod leaves;
 mod printing;
 

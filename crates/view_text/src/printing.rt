@@ -10,10 +10,10 @@ ghost use Rattle.wire_view.specs.PartValues.{tree_in};
 ghost use Rattle.wire_view.specs.Parts.{nth, part, how_many, tag_of};
 ghost use Rattle.wire_view.specs.Views.{tree_of};
 
-use crate::kinds::{element_of, fields_of, held, key_of, value_of};
 use crate::leaves::push_leaf;
 use mj_schema::{FieldRow, Kind, KindNode, Schema};
 use std::alloc::{AllocError, Global};
+use value_text::kinds::{element_of, fields_of, held, key_of, value_of};
 use wire_view::{Part, Shape, View};
 
 /// The part of a number of an array or of a struct.
