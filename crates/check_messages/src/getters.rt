@@ -139,6 +139,33 @@ fn has_leaf(view: View<'_>, i: u32, kind: &KindNode, value: &Value) -> bool {
         && has_bytes(view, i, kind, value)
 }
 
+/// Whether no part has a number, by each getter.
+fn has_nothing(view: View<'_>, i: u32) -> bool {
+    view.part(i).is_none()
+        && view.number(i).is_none()
+        && view.version(i).is_none()
+        && view.text(i).is_none()
+        && view.string(i).is_none()
+        && view.bytes(i).is_none()
+        && view.child(i).is_none()
+        && view.element(i, 0).is_none()
+}
+
+/// Whether a view is of no union, and has no part behind its last.
+fn ends(view: View<'_>) -> bool {
+    view.tag().is_none() && has_nothing(view, view.len())
+}
+
+/// Whether a view is of a union of this tag, so many parts and none under another tag.
+fn has_tag(view: View<'_>, tag: u32, count: u32) -> bool {
+    view.tag() == Some(tag)
+        && view.len() == count
+        && StructView::from_view(&view).is_none()
+        && ArrayView::from_view(&view).is_none()
+        && has_nothing(view, tag.wrapping_add(1))
+        && (tag == 0 || has_nothing(view, 0))
+}
+
 /// Whether an array has these elements, by the getters of its own, and no more.
 fn has_elements(array: &ArrayView<'_>, items: &[Value]) -> bool {
     if array.len() as usize != items.len() {
@@ -257,7 +284,10 @@ fn has_fields<'a>(
     let Some(view) = StructView::from_view(&seen.view) else {
         return Ok(false);
     };
-    if seen.view.len() as usize != fields.len() {
+    if seen.view.len() as usize != fields.len() || !ends(seen.view) {
+        return Ok(false);
+    }
+    if ArrayView::from_view(&seen.view).is_some() {
         return Ok(false);
     }
     let mut i = 0u32;
@@ -284,7 +314,10 @@ fn has_items<'a>(
     let Some(array) = ArrayView::from_view(&seen.view) else {
         return Ok(false);
     };
-    if !has_elements(&array, items) {
+    if !has_elements(&array, items) || !ends(seen.view) {
+        return Ok(false);
+    }
+    if StructView::from_view(&seen.view).is_some() {
         return Ok(false);
     }
     let mut j = 0u32;
@@ -310,6 +343,9 @@ fn has_pairs<'a>(
     if StructView::from_view(&seen.view).is_some() || ArrayView::from_view(&seen.view).is_some() {
         return Ok(false);
     }
+    if seen.view.len() != 2 || !ends(seen.view) {
+        return Ok(false);
+    }
     if !has_list(seen.view, 0, key, keys, later)? {
         return Ok(false);
     }
@@ -330,7 +366,7 @@ fn has_member<'a>(
     let Some(kind) = kind_in(schema, *number, tag) else {
         return Ok(false);
     };
-    if seen.view.tag() != Some(tag) || seen.view.len() != 1 {
+    if !has_tag(seen.view, tag, 1) {
         return Ok(false);
     }
     has_part(seen.view, tag, kind.node(), value, later)
@@ -349,7 +385,7 @@ fn has_parts<'a>(
             has_pairs(seen, keys.as_slice(), values.as_slice(), later)
         }
         Value::Union { tag, value } => has_member(schema, seen, *tag, value, later),
-        Value::Unknown(tag) => Ok(seen.view.tag() == Some(*tag) && seen.view.len() == 0),
+        Value::Unknown(tag) => Ok(has_tag(seen.view, *tag, 0) && has_nothing(seen.view, *tag)),
         _ => Ok(false),
     }
 }
