@@ -38,7 +38,7 @@ use Rattle.core_state.specs.Doing.{Done, Undone, told_in}
 use Rattle.core_state.specs.Forgets.{StaysTrue}
 use Rattle.core_state.proofs.Pausing.{still_holds}
 use Rattle.end_notices.specs.Table.{Lines}
-use Rattle.bind_core.specs.steps.Takers.{ready_taker}
+use Rattle.bind_core.specs.Takers.{ready_taker}
 use Rattle.bind_model.specs.declared.commands.Command.{Command}
 use Rattle.bind_model.specs.declared.commands.Command.TheVariants.{Pipe, Join, Mint, Bind, Associate, Attach, Call, Answer, Raw, Take, Close, Notify}
 use Rattle.bind_model.specs.declared.commands.Command.TheVariants.{Pause, Data, Flow, Skip}

@@ -16,7 +16,7 @@ use Rattle.bind_model.specs.Wire.{Wire}
 use Rattle.bind_model.proofs.CoreFacts.{ready_takeable}
 use Rattle.bind_model.proofs.Kept.{Kept, bound_made}
 use Rattle.bind_core.specs.steps.FirstTaken.{IsLeast}
-use Rattle.bind_core.specs.steps.Takers.{taker_open}
+use Rattle.bind_core.specs.Takers.{taker_open}
 use Rattle.bind_core.proofs.Leasts.{AllFrom, has_of_made, has_passing_of, least_at, none_pass}
 use Rattle.bind_core.proofs.WhoTakes.{some_taker}
 

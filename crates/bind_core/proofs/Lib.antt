@@ -1,12 +1,11 @@
-mod EndOrder
-mod WhoTakes
-mod Untouched
-mod NearAsked
+pub mod EndOrder
+pub mod WhoTakes
+pub mod Untouched
+pub mod NearAsked
 mod Leasts
-mod Leastness
-mod FirstReady
-mod Covering
+pub mod Leastness
+pub mod FirstReady
+pub mod Covering
 pub mod SoleStepper
-mod Leaving
 mod CauseLists
-mod Waking
+pub mod Waking

@@ -19,7 +19,7 @@ use Rattle.bind_model.specs.Ready.{is_takeable, meant}
 use Rattle.bind_model.specs.Wire.{Wire}
 use Rattle.bind_model.proofs.Outcomes.{left_false, right_false}
 use Rattle.bind_core.specs.steps.Watching.{is_near}
-use Rattle.bind_core.specs.steps.Takers.{taker_at}
+use Rattle.bind_core.specs.Takers.{taker_at}
 use Rattle.core_state.proofs.After.{gone_after}
 use Rattle.bind_core.proofs.WhoTakes.{same_taker, some_taker, taker_closed}
 

@@ -260,7 +260,7 @@ listed_spared old new (event ∷ past) spared listed x = each (waits (event ∷ 
     )
 
 -- what is met stays so
-listed_later : (lists : Lists) (event : Event) (past : List Event) (x : EndId) (ws : List Wait) → AreListed lists past x ws
+pub listed_later : (lists : Lists) (event : Event) (past : List Event) (x : EndId) (ws : List Wait) → AreListed lists past x ws
     → AreListed lists (event ∷ past) x ws
 listed_later lists event past x [] listed = tt
 listed_later lists event past x (w ∷ ws) listed =
@@ -270,7 +270,7 @@ listed_later lists event past x (w ∷ ws) listed =
     not_yet true e h = absurd (let m : is_met (event ∷ past) w ≡ true = met_stays past event w e in cc)
     not_yet false e h = refl
 
-both_listed : (lists : Lists) (past : List Event) (x : EndId) (ws more : List Wait) → AreListed lists past x ws → AreListed lists past x more
+pub both_listed : (lists : Lists) (past : List Event) (x : EndId) (ws more : List Wait) → AreListed lists past x ws → AreListed lists past x more
     → AreListed lists past x (ws ++ more)
 both_listed lists past x [] more listed last = last
 both_listed lists past x (w ∷ ws) more listed last = (listed.0, both_listed lists past x ws more listed.1 last)

@@ -38,7 +38,7 @@ use Rattle.bind_model.proofs.CoreFacts.{ready_takeable, takeable_ready}
 use Rattle.bind_model.proofs.Fresh.{kept}
 use Rattle.core_state.specs.Routers.{found_at}
 use Rattle.core_state.specs.Agreement.{Holds, past_of, schema_of, wire_in}
-use Rattle.bind_core.specs.steps.Takers.{id_in, id_meant, ready_taker, taker_at, taker_for, taker_front, taker_in, taker_meant, taker_of, taker_open, unless_paused}
+use Rattle.bind_core.specs.Takers.{id_in, id_meant, ready_taker, taker_at, taker_for, taker_front, taker_in, taker_meant, taker_of, taker_open, unless_paused}
 use Rattle.core_state.specs.declared.state.State.{State}
 use Rattle.core_state.proofs.Facts.{closed_is, unread_is}
 use Rattle.core_state.proofs.Steady.{found_is}

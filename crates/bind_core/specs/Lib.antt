@@ -2,4 +2,5 @@ pub mod Causes
 pub mod Covers
 pub mod EndSets
 pub mod Play
+pub mod Takers
 pub mod steps

@@ -6,7 +6,7 @@ ghost use Rattle.handle_table.specs.Things.{same_end};
 ghost use Rattle.bind_core.specs.steps.Watching.{KeepsTaken};
 ghost use Rattle.bind_core.specs.EndSets.{has_end};
 ghost use Rattle.bind_core.specs.steps.FirstTaken.{Ascends, first_taken};
-ghost use Rattle.bind_core.specs.steps.Takers.{ready_taker};
+ghost use Rattle.bind_core.specs.Takers.{ready_taker};
 ghost use Rattle.core_state.specs.Agreement.{Holds};
 
 use crate::takers::ready_taker;

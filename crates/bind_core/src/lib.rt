@@ -13,3 +13,6 @@ mod woken;
 
 pub use alone::Alone;
 pub use machine::Core;
+pub use takers::{bound_on, id_meant, taker_for};
+pub use waiting::{Cause, Waiting};
+pub use woken::{clear_event, gone_of, note, push_woken};

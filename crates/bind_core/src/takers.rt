@@ -2,7 +2,7 @@
 
 ghost use Rattle.std.specs.Prelude.{◌≡◌, Some};
 ghost use Rattle.bind_model.specs.Ready.{on_of};
-ghost use Rattle.bind_core.specs.steps.Takers.{id_meant, ready_taker, taker_for, taker_of};
+ghost use Rattle.bind_core.specs.Takers.{id_meant, ready_taker, taker_for, taker_of};
 ghost use Rattle.core_state.specs.Agreement.{Holds};
 
 use bind_model::{Endpoint, State as EndpointState};
@@ -11,7 +11,7 @@ use message_header::{CONTROL_ID, read_header};
 use mj_base::{EndId, SeqId};
 
 /// The sequence that an endpoint is bound on.
-fn bound_on(endpoint: Endpoint) -> Option<SeqId>
+pub fn bound_on(endpoint: Endpoint) -> Option<SeqId>
     ensures { result ≡ on_of (Some endpoint) }
 {
     match endpoint.state {
@@ -21,7 +21,7 @@ fn bound_on(endpoint: Endpoint) -> Option<SeqId>
 }
 
 /// Who takes a message for this endpoint, where endpoint 0 is bound on that sequence.
-fn taker_for(main: Option<SeqId>, endpoint: Option<Endpoint>) -> Option<SeqId>
+pub fn taker_for(main: Option<SeqId>, endpoint: Option<Endpoint>) -> Option<SeqId>
     ensures { result ≡ taker_for main endpoint }
 {
     let Some(found) = endpoint else {
@@ -35,7 +35,7 @@ fn taker_for(main: Option<SeqId>, endpoint: Option<Endpoint>) -> Option<SeqId>
 }
 
 /// The id of the endpoint that a message is for; none where it has no header, or is a control.
-fn id_meant(bytes: &[u8]) -> Option<u32>
+pub fn id_meant(bytes: &[u8]) -> Option<u32>
     ensures { result ≡ id_meant bytes.now }
 {
     match read_header(bytes) {

@@ -13,22 +13,23 @@ use std::marker::Model;
 
 /// What ends waits for an end: that it goes, or that it consumes the flush of a number.
 #[derive(Clone, Copy, PartialEq, Eq, PartialOrd, Ord)]
-pub(crate) struct Cause {
-    end: EndId,
+pub struct Cause {
+    /// The end that goes, or that consumes the flush.
+    pub end: EndId,
     /// 0 where it goes, and else 1 above the flush.
-    what: u64,
+    pub what: u64,
 }
 
 impl Cause {
     /// That an end goes.
-    pub(crate) fn gone(end: EndId) -> Cause
+    pub fn gone(end: EndId) -> Cause
         ensures { result ≡ gone_cause end }
     {
         Cause { end, what: 0 }
     }
 
     /// That an end consumes the flush of a number.
-    pub(crate) fn flushed(end: EndId, flush: u32) -> Cause
+    pub fn flushed(end: EndId, flush: u32) -> Cause
         ensures { result ≡ flush_cause end flush }
     {
         Cause {
@@ -82,7 +83,7 @@ impl EndList {
 
 /// For each cause the ends with a wait that it ends, and maybe others.
 #[derive(Drop)]
-pub(crate) struct Waiting {
+pub struct Waiting {
     lists: BTreeMap<Cause, EndList>,
 }
 
@@ -98,7 +99,7 @@ impl Model for Waiting {
 
 impl Waiting {
     /// No ends. Takes no memory.
-    pub(crate) fn new(alloc: Global) -> Waiting
+    pub fn new(alloc: Global) -> Waiting
         ensures { result ≡ [] }
     {
         Waiting {
@@ -114,7 +115,7 @@ impl Waiting {
     }
 
     /// The ends whose waits a cause may end.
-    pub(crate) fn ends_for(&self, cause: Cause) -> &[EndId]
+    pub fn ends_for(&self, cause: Cause) -> &[EndId]
         ensures { result.now ≡ ends_for self.now cause }
     {
         match self.get(cause) {
@@ -155,7 +156,7 @@ impl Waiting {
     }
 
     /// Adds an end to those whose waits a cause may end.
-    pub(crate) fn add(&mut self, alloc: Global, cause: Cause, end: EndId) -> Result<(), AllocError>
+    pub fn add(&mut self, alloc: Global, cause: Cause, end: EndId) -> Result<(), AllocError>
         ensures more { Grows self.old self.new }
         ensures added { OnOk result (has_end (ends_for self.new cause) end ≡ true) }
     {
@@ -164,7 +165,7 @@ impl Waiting {
     }
 
     /// Lets the list of a cause go.
-    pub(crate) fn clear(&mut self, cause: Cause)
+    pub fn clear(&mut self, cause: Cause)
         ensures { (other : cause_name) → ends_for self.new other ≡ (if same_cause cause other then [] else ends_for self.old other) }
     {
         self.lists.remove(&cause);

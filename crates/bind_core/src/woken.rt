@@ -9,7 +9,7 @@ ghost use Rattle.core_state.specs.Agreement.{Holds, past_of};
 ghost use Rattle.core_state.specs.Forgets.{StaysTrue};
 ghost use Rattle.bind_core.specs.EndSets.{has_end};
 ghost use Rattle.bind_core.specs.steps.FirstTaken.{least_among, lesser_of};
-ghost use Rattle.bind_core.specs.steps.Takers.{ready_taker};
+ghost use Rattle.bind_core.specs.Takers.{ready_taker};
 ghost use Rattle.bind_core.specs.Causes.{Grows, HasCauses, IsNoted, Spares, all_for, causes_in, causes_of, causes_or, ends_for, gone_causes, newest, woken};
 ghost use Rattle.bind_core.specs.steps.Watching.{IsWithin};
 
@@ -45,7 +45,7 @@ fn flush_of(event: &Event) -> Option<Cause>
 }
 
 /// What went with an event.
-fn gone_of(told: &Told) -> &[Thing]
+pub fn gone_of(told: &Told) -> &[Thing]
     ensures { result.now ≡ gone_by told.now }
 {
     match told {
@@ -76,7 +76,7 @@ fn push_gone(ends: &mut Vec<EndId>, waiting: &Waiting, things: &[Thing]) -> Resu
 }
 
 /// Adds the ends with waits that an event may have ended.
-fn push_woken(ends: &mut Vec<EndId>, waiting: &Waiting, event: &Event) -> Result<(), AllocError>
+pub fn push_woken(ends: &mut Vec<EndId>, waiting: &Waiting, event: &Event) -> Result<(), AllocError>
     ensures { OnOk result (ends.new.items ≡ ends.old.items ++ all_for waiting.now (causes_of event.now.told event.now.asked)) }
 {
     match flush_of(event) {
@@ -175,7 +175,7 @@ pub(crate) fn forget_all(
 }
 
 /// Lets the list of the flush go that an event consumed, where it did: another may have its number.
-fn clear_event(waiting: &mut Waiting, event: &Event)
+pub fn clear_event(waiting: &mut Waiting, event: &Event)
     ensures { Spares (causes_of event.now.told event.now.asked) waiting.old waiting.new }
 {
     match flush_of(event) {
@@ -196,7 +196,7 @@ pub(crate) fn clear_woken(waiting: &mut Waiting, state: &State)
 }
 
 /// Notes that an end waits for a flush of another, by what ends its wait.
-fn note(
+pub fn note(
     waiting: &mut Waiting,
     alloc: Global,
     end: EndId,

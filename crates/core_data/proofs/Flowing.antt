@@ -48,7 +48,7 @@ use Rattle.core_state.proofs.Still.{still}
 use Rattle.core_data.specs.declared.moving.Moved.{Moved}
 use Rattle.core_data.specs.declared.spot.Spot.{Spot}
 use Rattle.core_data.specs.steps.Moved.{with_bytes, SaysWhy}
-use Rattle.core_data.specs.steps.Spots.{is_shut_at, other_token, same_side, side_asked, spot_at, spot_in, spot_of}
+use Rattle.core_data.specs.Spots.{is_shut_at, other_token, same_side, side_asked, spot_at, spot_in, spot_of}
 use Rattle.core_data.proofs.Spotted.{kept, other_is, side_by, side_fits}
 
 -- what is known of where bytes are moved

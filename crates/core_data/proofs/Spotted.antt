@@ -34,7 +34,7 @@ use Rattle.core_state.specs.Doing.{told_to}
 use Rattle.core_state.specs.declared.state.State.{State}
 use Rattle.core_state.proofs.Facts.{made_few, tokens_few}
 use Rattle.core_data.specs.declared.spot.Spot.{Spot}
-use Rattle.core_data.specs.steps.Spots.{is_shut_at, other_token, same_side, side_asked, spot_at, spot_in, spot_of}
+use Rattle.core_data.specs.Spots.{is_shut_at, other_token, same_side, side_asked, spot_at, spot_in, spot_of}
 
 -- ## Which side a token is, and which is asked
 

@@ -5,3 +5,4 @@ mod moving;
 mod spot;
 
 pub use moving::flow;
+pub use spot::{Spot, other_token, same_side, side_asked};

@@ -4,7 +4,7 @@ ghost use Rattle.std.specs.Prelude.{◌≡◌, IfOk, IfErr, Ok};
 ghost use Rattle.bind_model.specs.declared.told.Told.{Told};
 ghost use Rattle.core_state.specs.Doing.{CanDo, Done, Undone, told_in};
 ghost use Rattle.core_data.specs.steps.Moved.{command_of, with_bytes, SaysWhy};
-ghost use Rattle.core_data.specs.steps.Spots.{spot_in};
+ghost use Rattle.core_data.specs.Spots.{spot_in};
 
 use crate::spot::{Spot, find_spot};
 use bind_model::{Asked, Command, Event, Flow, Flowed, Refused, Reply, Told, Why};

@@ -2,7 +2,7 @@
 
 ghost use Rattle.std.specs.Prelude.{◌≡◌, ◌<◌, ◌-◌, ◌^◌};
 ghost use Rattle.core_state.specs.Agreement.{Holds};
-ghost use Rattle.core_data.specs.steps.Spots.{is_shut_at, other_token, same_side, side_asked, spot_in};
+ghost use Rattle.core_data.specs.Spots.{is_shut_at, other_token, same_side, side_asked, spot_in};
 
 use bind_model::{Flow, Why};
 use core_state::{State, is_out};
@@ -12,14 +12,14 @@ use message_pipe::Pipes;
 
 /// A token of a data pipe: its name, that of the producer, and whether the other side is gone.
 #[derive(Clone, Copy)]
-pub(crate) struct Spot {
-    pub(crate) token: TokenId,
-    pub(crate) producer: TokenId,
-    pub(crate) gone: bool,
+pub struct Spot {
+    pub token: TokenId,
+    pub producer: TokenId,
+    pub gone: bool,
 }
 
 /// The side that something is asked of.
-fn side_asked(flow: &Flow) -> Side
+pub fn side_asked(flow: &Flow) -> Side
     ensures { result ≡ side_asked flow.now }
 {
     match flow {
@@ -29,7 +29,7 @@ fn side_asked(flow: &Flow) -> Side
 }
 
 /// Whether two sides are one.
-fn same_side(one: Side, other: Side) -> bool
+pub fn same_side(one: Side, other: Side) -> bool
     ensures { result ≡ same_side one other }
 {
     match (one, other) {
@@ -39,7 +39,7 @@ fn same_side(one: Side, other: Side) -> bool
 }
 
 /// The token of the other side.
-fn other_token(found: DataToken) -> TokenId
+pub fn other_token(found: DataToken) -> TokenId
     requires { found.producer.serial < 2 ^ 32 - 1 }
     ensures { result ≡ other_token found }
 {

@@ -1,12 +1,12 @@
-mod Pended
-mod Retiring
-mod Shutting
-mod Unbinding
+pub mod Pended
+pub mod Retiring
+pub mod Shutting
+pub mod Unbinding
 mod Adding
 pub mod Staying
-mod Doing
+pub mod Doing
 mod Making
-mod Made
-mod Binding
-mod Bound
-mod Twins
+pub mod Made
+pub mod Binding
+pub mod Bound
+pub mod Twins

@@ -37,7 +37,7 @@ use Rattle.core_state.specs.Agreement.{Agrees, past_of, schema_of, wire_in}
 use Rattle.core_state.specs.Routers.{Routers, found_at, router_at}
 use Rattle.core_state.specs.Doing.{Done, HasRoom, told_to}
 use Rattle.core_state.specs.Turns.{TurnsAt}
-use Rattle.core_state.specs.steps.Unsent.{is_received}
+use Rattle.core_state.specs.Unsent.{is_received}
 use Rattle.core_state.specs.declared.state.State.{State}
 use Rattle.core_state.proofs.Held.{event_of, finish_with, unstirred}
 use Rattle.core_state.proofs.Quiet.{counts_still}

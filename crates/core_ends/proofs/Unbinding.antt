@@ -40,7 +40,7 @@ use Rattle.core_state.specs.Doing.{Done, HasRoom}
 use Rattle.core_state.specs.steps.Posted.{Adds, EmitsUnless}
 use Rattle.core_state.specs.Emitting.{HasPeer, IsNamed, controls_at}
 use Rattle.core_state.specs.Turns.{TurnsAt}
-use Rattle.core_state.specs.steps.Unsent.{is_received}
+use Rattle.core_state.specs.Unsent.{is_received}
 use Rattle.core_state.specs.declared.state.State.{State}
 use Rattle.core_ends.proofs.Adding.{IsAdding, adds_agree, adds_nothing}
 use Rattle.core_state.proofs.Facts.{closed_is}

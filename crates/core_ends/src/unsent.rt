@@ -7,7 +7,7 @@ ghost use Rattle.core_state.specs.Routers.{found_at};
 ghost use Rattle.core_state.specs.Doing.{CanDo, Done, HasRoom, Undone};
 ghost use Rattle.core_state.specs.steps.Posted.{EmitsUnless};
 ghost use Rattle.core_state.specs.Emitting.{HasPeer, IsNamed, controls_at};
-ghost use Rattle.core_state.specs.steps.Unsent.{is_received};
+ghost use Rattle.core_state.specs.Unsent.{is_received};
 
 use bind_model::{
     Asked, Closing, Command, Event, Pending, PendingId, Refused, Reply, State as EndpointState,

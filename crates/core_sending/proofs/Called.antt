@@ -32,11 +32,11 @@ use Rattle.endpoint_router.specs.Changes.{IsBound, with_request}
 use Rattle.endpoint_router.specs.Rows.{RowSeen, can_draw, next_number, row_at}
 use Rattle.endpoint_router.proofs.Agreeing.{row_there}
 use Rattle.core_state.specs.Routers.{Routers, found_at, router_at}
-use Rattle.core_sending.specs.steps.Calls.{AreOf, MaySend, command_of, number_of, outgoing_named, request_id, sealed_bytes}
-use Rattle.core_state.specs.steps.Requests.{SendsAt}
+use Rattle.core_sending.specs.Calls.{AreOf, MaySend, command_of, number_of, outgoing_named, request_id, sealed_bytes}
+use Rattle.core_state.specs.Requests.{SendsAt}
 use Rattle.core_state.specs.steps.Spends.{SpendsAll}
-use Rattle.core_sending.specs.steps.Carrying.{all_own, names_in}
-use Rattle.core_sending.specs.steps.Fitting.{way}
+use Rattle.core_sending.specs.Carrying.{all_own, names_in}
+use Rattle.core_sending.specs.Fitting.{way}
 use Rattle.core_state.specs.Placing.{PutsAll}
 use Rattle.bind_model.specs.Plain.{asked_of}
 use Rattle.bind_model.specs.Responders.{CountsResponders}

@@ -40,11 +40,11 @@ use Rattle.bind_model.specs.Replies.{legal, pendings_out, request_of, unless, wr
 use Rattle.bind_model.proofs.Kept.{Kept, bound_made}
 use Rattle.core_state.specs.Agreement.{Agrees}
 use Rattle.core_state.specs.Routers.{Routers, found_at}
-use Rattle.core_sending.specs.steps.Calls.{outgoing_named, request_id, sealed_bytes}
-use Rattle.core_sending.specs.steps.Carrying.{all_own}
-use Rattle.core_sending.specs.steps.Fitting.{way, way_open, way_with}
+use Rattle.core_sending.specs.Calls.{outgoing_named, request_id, sealed_bytes}
+use Rattle.core_sending.specs.Carrying.{all_own}
+use Rattle.core_sending.specs.Fitting.{way, way_open, way_with}
 use Rattle.core_state.specs.Opens.{opened}
-use Rattle.core_sending.specs.steps.Ways.{asks_of}
+use Rattle.core_sending.specs.Ways.{asks_of}
 use Rattle.core_sending.specs.declared.carried.CarriedNames.{CarriedNames}
 use Rattle.core_state.proofs.Facts.{closed_is}
 use Rattle.core_sending.proofs.Fitted.{Fits, held_not, own_is, passed, test_if, test_not, test_own, told_of_way, with_fits, with_told}

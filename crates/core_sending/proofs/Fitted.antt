@@ -42,12 +42,12 @@ use Rattle.bind_model.proofs.Kept.{Kept}
 use Rattle.bind_model.proofs.PendingFacts.{next_below, own_below, own_first, pending_there}
 use Rattle.core_state.specs.Agreement.{Agrees, is_out}
 use Rattle.core_state.specs.Routers.{Routers, found_at}
-use Rattle.core_sending.specs.steps.Calls.{outgoing_named}
-use Rattle.core_sending.specs.steps.Carrying.{all_fit, all_own, all_pending, fits, is_made_at, side_of, wrong_pipe}
-use Rattle.core_sending.specs.steps.Fitting.{suits, way_with}
-use Rattle.core_state.specs.steps.Unsent.{is_received}
+use Rattle.core_sending.specs.Calls.{outgoing_named}
+use Rattle.core_sending.specs.Carrying.{all_fit, all_own, all_pending, fits, is_made_at, side_of, wrong_pipe}
+use Rattle.core_sending.specs.Fitting.{suits, way_with}
+use Rattle.core_state.specs.Unsent.{is_received}
 use Rattle.core_state.specs.Placing.{all_out}
-use Rattle.core_sending.specs.steps.Ways.{busy_in, way_at, way_to, way_unless}
+use Rattle.core_sending.specs.Ways.{busy_in, way_at, way_to, way_unless}
 use Rattle.core_sending.specs.declared.carried.CarriedNames.{CarriedNames}
 use Rattle.core_state.proofs.Facts.{closed_is, peer_is, unread_is}
 use Rattle.core_state.proofs.Steady.{found_is}

@@ -2,9 +2,9 @@ mod Fitted
 mod Calling
 mod Sending
 mod Spending
-mod RawWays
-mod Called
+pub mod RawWays
+pub mod Called
 mod Replying
-mod Replied
-mod Notifying
-mod Waiting
+pub mod Replied
+pub mod Notifying
+pub mod Waiting

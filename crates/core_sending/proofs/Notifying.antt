@@ -50,7 +50,7 @@ use Rattle.core_state.specs.Placing.{PutsAll}
 use Rattle.core_state.specs.Routers.{Routers, found_at}
 use Rattle.core_state.specs.declared.state.State.{State}
 use Rattle.core_sending.specs.steps.Notifying.{notice_at, notice_from, notice_way}
-use Rattle.core_sending.specs.steps.Ways.{way_to}
+use Rattle.core_sending.specs.Ways.{way_to}
 use Rattle.core_state.proofs.Facts.{closed_is, peer_is}
 use Rattle.core_state.proofs.Held.{event_of, finish_noting}
 use Rattle.core_state.proofs.Named.{ids_below}

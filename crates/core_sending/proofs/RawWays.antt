@@ -39,7 +39,7 @@ use Rattle.core_state.specs.Routers.{Routers}
 use Rattle.core_state.specs.Doing.{CanDo, Done, told_in}
 use Rattle.core_state.specs.Placing.{PutsAll, all_out}
 use Rattle.core_sending.specs.steps.Raw.{all_out_with, command_of, raw_way, raw_way_from}
-use Rattle.core_sending.specs.steps.Ways.{way_to}
+use Rattle.core_sending.specs.Ways.{way_to}
 use Rattle.core_sending.specs.declared.raw.RawBytes.{RawBytes}
 use Rattle.core_state.specs.declared.state.State.{State}
 use Rattle.core_state.proofs.Facts.{peer_is}

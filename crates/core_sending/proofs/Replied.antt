@@ -37,10 +37,10 @@ use Rattle.wire_model.specs.Message.{AreIds}
 use Rattle.bind_model.specs.Pendings.{KnowsPendings}
 use Rattle.bind_model.specs.Responders.{count_of}
 use Rattle.bind_model.specs.declared.names.EndpointName.{EndpointName}
-use Rattle.core_sending.specs.steps.Answering.{command_of, way_back}
-use Rattle.core_sending.specs.steps.Calls.{AreOf, outgoing_named, sealed_bytes}
+use Rattle.core_sending.specs.Answering.{command_of, way_back}
+use Rattle.core_sending.specs.Calls.{AreOf, outgoing_named, sealed_bytes}
 use Rattle.core_state.specs.steps.Spends.{SpendsAll}
-use Rattle.core_sending.specs.steps.Carrying.{all_own, names_in}
+use Rattle.core_sending.specs.Carrying.{all_own, names_in}
 use Rattle.core_sending.specs.declared.carried.CarriedNames.{CarriedNames}
 use Rattle.core_state.specs.Doing.{CanDo, Done, HasRoom, told_in, told_to}
 use Rattle.core_state.specs.Placing.{PutsAll}

@@ -41,10 +41,10 @@ use Rattle.bind_model.specs.declared.responder.ResponderName.{ResponderName}
 use Rattle.bind_model.proofs.Kept.{Kept, bound_made}
 use Rattle.core_state.specs.Routers.{Routers, found_at}
 use Rattle.core_state.specs.Agreement.{Agrees}
-use Rattle.core_sending.specs.steps.Answering.{answers_to, reached, reached_in, way_back, way_reached}
-use Rattle.core_sending.specs.steps.Calls.{outgoing_named, sealed_bytes}
-use Rattle.core_sending.specs.steps.Carrying.{all_own}
-use Rattle.core_sending.specs.steps.Fitting.{way_with}
+use Rattle.core_sending.specs.Answering.{answers_to, reached, reached_in, way_back, way_reached}
+use Rattle.core_sending.specs.Calls.{outgoing_named, sealed_bytes}
+use Rattle.core_sending.specs.Carrying.{all_own}
+use Rattle.core_sending.specs.Fitting.{way_with}
 use Rattle.core_sending.specs.declared.carried.CarriedNames.{CarriedNames}
 use Rattle.core_sending.proofs.Calling.{sealed_is}
 use Rattle.core_state.proofs.Facts.{closed_is}

@@ -26,7 +26,7 @@ use Rattle.core_state.proofs.Tabled.{tables_noted}
 use Rattle.core_state.specs.Doing.{CanDo, Done, told_in}
 use Rattle.core_state.specs.Routers.{Routers}
 use Rattle.core_state.specs.declared.state.State.{State}
-use Rattle.core_sending.specs.steps.Pausing.{no_pause, or_why, unpaused_by}
+use Rattle.core_sending.specs.Pausing.{no_pause, or_why, unpaused_by}
 use Rattle.core_state.proofs.Facts.{closed_is}
 use Rattle.core_state.proofs.Held.{finish_noting}
 use Rattle.core_state.proofs.Steady.{found_is}

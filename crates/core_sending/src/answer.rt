@@ -5,9 +5,9 @@ ghost use Rattle.message_pipe.specs.Ends.{end_of, is_closed};
 ghost use Rattle.core_state.specs.Routers.{found_at};
 ghost use Rattle.bind_model.specs.declared.asked.Asked.TheVariants as asks;
 ghost use Rattle.bind_model.specs.Responders.{count_of};
-ghost use Rattle.core_sending.specs.steps.Answering.{answers_to, command_of, reached, way_back};
-ghost use Rattle.core_sending.specs.steps.Calls.{outgoing_named};
-ghost use Rattle.core_sending.specs.steps.Carrying.{all_own, names_in};
+ghost use Rattle.core_sending.specs.Answering.{answers_to, command_of, reached, way_back};
+ghost use Rattle.core_sending.specs.Calls.{outgoing_named};
+ghost use Rattle.core_sending.specs.Carrying.{all_own, names_in};
 ghost use Rattle.core_state.specs.Doing.{CanDo, Done, Undone};
 
 use crate::carried::{Carried, CarriedNames, all_own, spend_all};
@@ -24,15 +24,15 @@ use wire_encoder::Prepared;
 use wire_model::{MessageSide, Target};
 
 /// What answers a request: the right to do so, what is sent, and what goes with that, a moment too.
-struct Response {
-    responder: Responder,
-    prepared: Prepared,
-    carried: Carried,
-    moment: Option<i64>,
+pub struct Response {
+    pub responder: Responder,
+    pub prepared: Prepared,
+    pub carried: Carried,
+    pub moment: Option<i64>,
 }
 
 impl Response {
-    ghost use Rattle.core_sending.specs.steps.Answering.{command_of};
+    ghost use Rattle.core_sending.specs.Answering.{command_of};
 
     /// The command that it came with.
     fn into_command(self) -> Command
@@ -136,7 +136,7 @@ fn reached_at(state: &State, seq: SeqId, end: EndId, id: u32) -> Result<Endpoint
 }
 
 /// Whether the target is the response of the method that a responder is for.
-fn answers_to(id: ResponderId, target: Target) -> bool
+pub fn answers_to(id: ResponderId, target: Target) -> bool
     ensures { result ≡ answers_to id target }
 {
     target.interface == id.interface

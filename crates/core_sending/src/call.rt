@@ -5,12 +5,12 @@ ghost use Rattle.mj_base.specs.declared.ids.EndId.{EndId as end_id};
 ghost use Rattle.endpoint_router.specs.Rows.{can_draw, row_at};
 ghost use Rattle.bind_model.specs.Replies as replies;
 ghost use Rattle.bind_model.specs.declared.asked.Asked.TheVariants as asks;
-ghost use Rattle.core_sending.specs.steps.Carrying.{all_own, names_in};
-ghost use Rattle.core_sending.specs.steps.Fitting.{way};
-ghost use Rattle.core_sending.specs.steps.Ways.{asks_of};
+ghost use Rattle.core_sending.specs.Carrying.{all_own, names_in};
+ghost use Rattle.core_sending.specs.Fitting.{way};
+ghost use Rattle.core_sending.specs.Ways.{asks_of};
 ghost use Rattle.core_state.specs.Routers.{router_at};
-ghost use Rattle.core_sending.specs.steps.Calls.{command_of, number_of, outgoing_named, MaySend};
-ghost use Rattle.core_state.specs.steps.Requests.{SendsAt};
+ghost use Rattle.core_sending.specs.Calls.{command_of, number_of, outgoing_named, MaySend};
+ghost use Rattle.core_state.specs.Requests.{SendsAt};
 ghost use Rattle.core_state.specs.Turns.{IsSame};
 ghost use Rattle.core_state.specs.Doing.{CanDo, Done, Undone};
 
@@ -26,16 +26,16 @@ use wire_model::{MessageSide, Target};
 
 /// What is called: the endpoint of an id at an end, what is sent from it, and what goes with that, a moment
 /// too.
-struct Request {
-    end: EndId,
-    id: u32,
-    prepared: Prepared,
-    carried: Carried,
-    moment: Option<i64>,
+pub struct Request {
+    pub end: EndId,
+    pub id: u32,
+    pub prepared: Prepared,
+    pub carried: Carried,
+    pub moment: Option<i64>,
 }
 
 impl Request {
-    ghost use Rattle.core_sending.specs.steps.Calls.{command_of};
+    ghost use Rattle.core_sending.specs.Calls.{command_of};
 
     /// The command that it came with.
     fn into_command(self) -> Command
@@ -107,7 +107,7 @@ fn request_from(
 }
 
 /// The side that makes no calls.
-pub(crate) fn is_receiver(side: EndpointSide) -> bool
+pub fn is_receiver(side: EndpointSide) -> bool
     ensures { result ≡ replies.is_receiver side }
 {
     match side {
@@ -117,7 +117,7 @@ pub(crate) fn is_receiver(side: EndpointSide) -> bool
 }
 
 /// Whether the target is a request of this interface.
-fn asks_of(interface: u32, target: Target) -> bool
+pub fn asks_of(interface: u32, target: Target) -> bool
     ensures { result ≡ asks_of interface target }
 {
     target.interface == interface
@@ -173,7 +173,7 @@ fn request_id_of(state: &State, request: &Request) -> u64
 
 /// Makes a place for the wait of a request with this number at the endpoint of an id; one of number 0
 /// needs none.
-fn reserve_sent(
+pub fn reserve_sent(
     endpoints: &mut Routers,
     end: EndId,
     id: u32,
@@ -191,7 +191,7 @@ fn reserve_sent(
 
 /// Notes that a request with this number was sent from the endpoint of an id; one of number 0 waits for
 /// no response.
-fn note_sent(endpoints: &mut Routers, end: EndId, id: u32, request_id: u64, method: u32)
+pub fn note_sent(endpoints: &mut Routers, end: EndId, id: u32, request_id: u64, method: u32)
     requires { MaySend request_id (router_at endpoints.old end) id }
     ensures { SendsAt end id request_id method endpoints.old endpoints.new }
 {

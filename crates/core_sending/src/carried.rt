@@ -6,7 +6,7 @@ ghost use Rattle.bind_model.specs.Pendings.{is_out, names_of};
 ghost use Rattle.bind_model.specs.Replies.{distinct_pendings};
 ghost use Rattle.bind_model.specs.declared.endpoint.PendingId.{PendingId as pending_id};
 ghost use Rattle.core_state.specs.steps.Spends.{SpendsAll, endpoint_names};
-ghost use Rattle.core_sending.specs.steps.Carrying.{all_own, all_pending, names_in};
+ghost use Rattle.core_sending.specs.Carrying.{all_own, all_pending, names_in};
 
 use bind_model::{EndpointName, PendingId, PendingList, Pendings};
 use core_state::{all_differ, all_out};
@@ -16,20 +16,20 @@ use mj_base::Items;
 use std::alloc::{AllocError, Global};
 
 /// The handles and the pendings that go with a message.
-pub(crate) struct Carried {
-    pub(crate) handles: Handles,
-    pub(crate) pendings: PendingList,
+pub struct Carried {
+    pub handles: Handles,
+    pub pendings: PendingList,
 }
 
 /// What they are of: things, and the names of endpoints.
 #[derive(Drop)]
-pub(crate) struct CarriedNames {
-    pub(crate) things: Items<Thing>,
-    pub(crate) pendings: Items<PendingId>,
+pub struct CarriedNames {
+    pub things: Items<Thing>,
+    pub pendings: Items<PendingId>,
 }
 
 impl Carried {
-    ghost use Rattle.core_sending.specs.steps.Carrying.{names_in};
+    ghost use Rattle.core_sending.specs.Carrying.{names_in};
 
     /// What all are of.
     pub(crate) fn names(&self, alloc: Global) -> Result<CarriedNames, AllocError>
@@ -65,7 +65,7 @@ fn endpoint_names(alloc: Global, pendings: &[PendingId]) -> Result<Vec<EndpointN
 }
 
 /// Whether no pending stands twice. It takes time for sorting them, since a caller may send thousands.
-fn is_distinct(alloc: Global, pendings: &[PendingId]) -> Result<bool, AllocError>
+pub fn is_distinct(alloc: Global, pendings: &[PendingId]) -> Result<bool, AllocError>
     ensures { IfOk result (λ distinct. distinct ≡ distinct_pendings pendings.now) }
 {
     let names = endpoint_names(alloc, pendings)?;

@@ -3,8 +3,8 @@
 ghost use Rattle.std.specs.Prelude.{◌≡◌};
 ghost use Rattle.handle_table.specs.Things as things;
 ghost use Rattle.bind_model.specs.Replies.{same_side};
-ghost use Rattle.core_state.specs.steps.Unsent.{is_received};
-ghost use Rattle.core_sending.specs.steps.Carrying.{all_fit, fits, is_made_at, side_of, wrong_pipe};
+ghost use Rattle.core_state.specs.Unsent.{is_received};
+ghost use Rattle.core_sending.specs.Carrying.{all_fit, fits, is_made_at, side_of, wrong_pipe};
 
 use bind_model::{Endpoint, PendingId, State as EndpointState, Why};
 use core_state::{Routers, other_side};
@@ -95,7 +95,7 @@ fn is_made_at(endpoints: &Routers, end: EndId, pending: PendingId) -> bool
 }
 
 /// Why these pendings don't go with a message from an end: the first is told that was not made there.
-pub(crate) fn wrong_pipe(endpoints: &Routers, end: EndId, pendings: &[PendingId]) -> Option<Why>
+pub fn wrong_pipe(endpoints: &Routers, end: EndId, pendings: &[PendingId]) -> Option<Why>
     ensures { result ≡ wrong_pipe endpoints.now end pendings.now }
 {
     for pending in pendings {

@@ -4,9 +4,9 @@
 
 pub mod answer;
 pub mod call;
-mod carried;
-mod fitting;
+pub mod carried;
+pub mod fitting;
 pub mod notify;
 pub mod pause;
 pub mod raw;
-mod writing;
+pub mod writing;

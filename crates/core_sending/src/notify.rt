@@ -42,7 +42,7 @@ pub fn notify(
 }
 
 /// The endpoint that a notice is written from.
-fn from_id(notice: Notice) -> u32
+pub fn from_id(notice: Notice) -> u32
     ensures { result ≡ replies.from_id notice }
 {
     match notice {
@@ -53,7 +53,7 @@ fn from_id(notice: Notice) -> u32
 }
 
 /// Whether a notice is a flush.
-fn is_flush(notice: Notice) -> bool
+pub fn is_flush(notice: Notice) -> bool
     ensures { result ≡ replies.is_flush notice }
 {
     match notice {
@@ -97,7 +97,7 @@ fn told_of(state: &State, end: EndId, notice: Notice) -> Notified
 }
 
 /// The control that a notice is written as, by what is told of it.
-fn control_of(notice: Notice, told: Notified) -> Control
+pub fn control_of(notice: Notice, told: Notified) -> Control
     ensures { result ≡ machine.control_of notice told }
 {
     match notice {
@@ -111,7 +111,7 @@ fn control_of(notice: Notice, told: Notified) -> Control
 }
 
 /// The message of a control that an end writes. It counts among the unread ones as any other.
-fn message_of(alloc: Global, control: Control) -> Result<Message, AllocError>
+pub fn message_of(alloc: Global, control: Control) -> Result<Message, AllocError>
     requires { HasNumber control }
     ensures { IfOk result (λ message. message ≡ record { bytes = written_control control; handles = []; emitted = false }) }
 {

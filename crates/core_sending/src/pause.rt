@@ -3,7 +3,7 @@
 ghost use Rattle.std.specs.Prelude.{◌≡◌, None, IfOk, IfErr};
 ghost use Rattle.handle_table.specs.Things.{same_end};
 ghost use Rattle.bind_model.specs.Replies as replies;
-ghost use Rattle.core_sending.specs.steps.Pausing.{no_pause, or_why};
+ghost use Rattle.core_sending.specs.Pausing.{no_pause, or_why};
 ghost use Rattle.core_state.specs.Doing.{CanDo, Done, Undone};
 
 use bind_model::{
@@ -38,7 +38,7 @@ pub fn pause(
 }
 
 /// Why a sequence doesn't use an end with this endpoint 0: it is bound on another.
-fn elsewhere(seq: SeqId, main: Endpoint) -> Option<Why>
+pub fn elsewhere(seq: SeqId, main: Endpoint) -> Option<Why>
     ensures { result ≡ replies.elsewhere seq main }
 {
     match main.state {
@@ -48,14 +48,14 @@ fn elsewhere(seq: SeqId, main: Endpoint) -> Option<Why>
 }
 
 /// Whether two ends are one.
-fn is_same(end: EndId, other: EndId) -> bool
+pub fn is_same(end: EndId, other: EndId) -> bool
     ensures { result ≡ same_end end other }
 {
     end == other
 }
 
 /// This reason, or else another.
-fn or_why(why: Option<Why>, other: Option<Why>) -> Option<Why>
+pub fn or_why(why: Option<Why>, other: Option<Why>) -> Option<Why>
     ensures { result ≡ or_why why other }
 {
     match why {

@@ -16,10 +16,10 @@ use mj_base::{EndId, Items, SeqId};
 use std::alloc::{AllocError, Global};
 
 /// What is written: the end that it is written from, bytes, and the handles that go with them.
-struct RawBytes {
-    handle: Handle,
-    bytes: Items<u8>,
-    handles: Handles,
+pub struct RawBytes {
+    pub handle: Handle,
+    pub bytes: Items<u8>,
+    pub handles: Handles,
 }
 
 impl RawBytes {
@@ -133,7 +133,7 @@ fn way(state: &State, raw: &RawBytes, things: &[Thing], own: bool) -> Result<End
 }
 
 /// The end that a thing is; no token is written from.
-fn end_written(thing: Thing) -> EndId
+pub fn end_written(thing: Thing) -> EndId
     ensures { result ≡ end_written thing }
 {
     match thing {
@@ -146,7 +146,7 @@ fn end_written(thing: Thing) -> EndId
 }
 
 /// A message of raw bytes, with these handles.
-fn message_of(
+pub fn message_of(
     alloc: Global,
     bytes: &Items<u8>,
     things: &Items<Thing>,

@@ -7,9 +7,9 @@ ghost use Rattle.message_pipe.specs.Ends.{end_of, peer_of, unread_at, with_messa
 ghost use Rattle.message_pipe.specs.Mail.{weighs};
 ghost use Rattle.wire_model.specs.Message.{AreIds};
 ghost use Rattle.bind_model.specs.Replies.{ids_of};
-ghost use Rattle.core_sending.specs.steps.Calls.{AreOf, outgoing_named, sealed_bytes};
-ghost use Rattle.core_sending.specs.steps.Fitting.{suits, way_with};
-ghost use Rattle.core_sending.specs.steps.Ways.{way_at, way_to};
+ghost use Rattle.core_sending.specs.Calls.{AreOf, outgoing_named, sealed_bytes};
+ghost use Rattle.core_sending.specs.Fitting.{suits, way_with};
+ghost use Rattle.core_sending.specs.Ways.{way_at, way_to};
 
 use crate::carried::CarriedNames;
 use crate::fitting::{all_fit, wrong_pipe};
@@ -64,7 +64,7 @@ pub(crate) fn way_to(
 }
 
 /// Whether there are as many handles as the parameters name, and the pendings that they want.
-fn suits(prepared: &Prepared, names: &CarriedNames, endpoints: &Routers) -> bool
+pub fn suits(prepared: &Prepared, names: &CarriedNames, endpoints: &Routers) -> bool
     ensures { result ≡ suits prepared.now names.now endpoints.now }
 {
     names.things.len() == prepared.handles as usize
@@ -116,7 +116,7 @@ pub(crate) fn put_message(pipes: &mut Pipes, end: EndId, message: Message) -> Re
 }
 
 /// What goes out with these names and this moment, as plain data.
-pub(crate) fn outgoing(
+pub fn outgoing(
     alloc: Global,
     prepared: &Prepared,
     names: CarriedNames,
@@ -148,11 +148,11 @@ fn ids_of(alloc: Global, pendings: &[PendingId]) -> Result<Vec<u32>, AllocError>
 /// All that a call or an answer writes: what goes out as plain data, its message, and the bytes twice, for
 /// the history and for the caller.
 #[derive(Drop)]
-pub(crate) struct Writes {
-    pub(crate) outgoing: Outgoing,
-    pub(crate) message: Message,
-    pub(crate) noted: Items<u8>,
-    pub(crate) told: Items<u8>,
+pub struct Writes {
+    pub outgoing: Outgoing,
+    pub message: Message,
+    pub noted: Items<u8>,
+    pub told: Items<u8>,
 }
 
 /// The bytes of what is prepared, for the endpoint of an id, with this request id, this moment and the ids of these pendings.
@@ -195,7 +195,7 @@ fn message_with(
 }
 
 /// Makes all that is written for the endpoint of an id, with this request id and this moment.
-pub(crate) fn writes_of(
+pub fn writes_of(
     alloc: Global,
     prepared: &Prepared,
     id: u32,

@@ -11,7 +11,7 @@ pub mod Facts
 pub mod Opening
 mod Closing
 pub mod Closed
-mod Placed
+pub mod Placed
 mod Differing
 pub mod Parted
 pub mod Numbers
@@ -19,3 +19,4 @@ pub mod Quiet
 pub mod Responding
 pub mod Pausing
 pub mod Tabled
+pub mod Leaving

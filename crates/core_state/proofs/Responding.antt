@@ -19,7 +19,7 @@ use Rattle.bind_model.specs.Wire.{Wire}
 use Rattle.bind_model.proofs.ResponderCounts.{same-true}
 use Rattle.core_state.specs.Agreement.{Holds, past_of, wire_in}
 use Rattle.bind_model.specs.Responders.{CountsResponders, count_of}
-use Rattle.core_state.specs.steps.Dues.{responder_due, times_in}
+use Rattle.core_state.specs.Dues.{responder_due, times_in}
 use Rattle.bind_model.specs.declared.responder.ResponderName.{ResponderName}
 use Rattle.core_state.specs.declared.state.State.{State}
 

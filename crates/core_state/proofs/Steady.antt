@@ -34,7 +34,7 @@ use Rattle.endpoint_router.proofs.Stepping.{none_enters}
 use Rattle.endpoint_router.proofs.Turning.{bound_row, closed_row, control_row, dropped_row, row_moves, sent_row, taken_row}
 use Rattle.core_state.specs.Agreement.{Agrees}
 use Rattle.core_state.specs.Routers.{Routers, found_at, router_at}
-use Rattle.core_state.specs.steps.Requests.{SendsAt, AnswersAt}
+use Rattle.core_state.specs.Requests.{SendsAt, AnswersAt}
 use Rattle.core_state.specs.Entries.{AllEnterAt}
 use Rattle.core_state.specs.Turns.{EntersAt, IsSame, TurnsAt}
 use Rattle.core_state.proofs.Numbers.{IsFresh}

@@ -3,8 +3,12 @@ pub mod Doing
 pub mod Forgets
 pub mod Emitting
 pub mod Entries
+pub mod Numbering
 pub mod Opens
 pub mod Placing
 pub mod Routers
 pub mod Turns
+pub mod Dues
+pub mod Requests
+pub mod Unsent
 pub mod steps

@@ -35,7 +35,7 @@ pub fn all_differ<T: Ord + Copy>(mut items: Vec<T>) -> bool
 }
 
 /// Whether no thing stands twice. It takes time for sorting them, since a caller may send thousands.
-pub(crate) fn is_distinct(alloc: Global, things: &[Thing]) -> Result<bool, AllocError>
+pub fn is_distinct(alloc: Global, things: &[Thing]) -> Result<bool, AllocError>
     ensures { IfOk result (λ distinct. distinct ≡ is_distinct things.now) }
 {
     let (ends, tokens) = part(alloc, things)?;

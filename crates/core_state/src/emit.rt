@@ -47,7 +47,7 @@ fn is_peer_closed(endpoints: &Routers, end: EndId, id: u32) -> bool
 }
 
 /// The controls of the endpoints of these ids at an end, but of those whose peer is known to be closed.
-fn controls(
+pub fn controls(
     endpoints: &Routers,
     alloc: Global,
     end: EndId,
@@ -107,7 +107,7 @@ pub fn emit_one(
 }
 
 /// The version of the interface of the endpoint of an id at an end, unless its peer is known to be closed.
-fn versions(
+pub fn versions(
     endpoints: &Routers,
     alloc: Global,
     end: EndId,

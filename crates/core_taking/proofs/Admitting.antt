@@ -17,7 +17,7 @@ use Rattle.endpoint_router.specs.Agreement.{entered_row}
 use Rattle.endpoint_router.specs.Rows.{Contents, RowSeen, endpoints_of, row_at, row_of}
 use Rattle.endpoint_router.proofs.Stepping.{last_enters}
 use Rattle.core_taking.specs.declared.admit.Admitted.{Admitted}
-use Rattle.core_taking.specs.steps.Admits.{Admits, AreSlots, Gains, IsAdmitted, by_slot, first_or}
+use Rattle.core_taking.specs.Admits.{Admits, AreSlots, Gains, IsAdmitted, by_slot, first_or}
 
 -- ## Lists with one more
 

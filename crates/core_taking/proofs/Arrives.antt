@@ -26,8 +26,8 @@ use Rattle.core_state.specs.Routers.{found_at}
 use Rattle.core_taking.specs.declared.admit.Admitted.{Admitted}
 use Rattle.core_taking.specs.declared.reading.Arrived.{Arrived}
 use Rattle.core_state.specs.declared.state.State.{State}
-use Rattle.core_taking.specs.steps.Admits.{Admits}
-use Rattle.core_taking.specs.steps.Founds.{IsArriving, IsGot, header_of, is_pending, pending_ids}
+use Rattle.core_taking.specs.Admits.{Admits}
+use Rattle.core_taking.specs.Founds.{IsArriving, IsGot, header_of, is_pending, pending_ids}
 use Rattle.core_state.proofs.Steady.{found_is}
 
 -- ## The ids that are got

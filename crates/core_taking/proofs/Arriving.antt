@@ -22,9 +22,9 @@ use Rattle.endpoint_router.proofs.Agreeing.{unasked_told as router_unasked}
 use Rattle.core_state.specs.Agreement.{Holds, past_of, wire_in}
 use Rattle.core_state.specs.Routers.{found_at, router_at}
 use Rattle.core_taking.specs.declared.admit.Admitted.{Admitted}
-use Rattle.core_taking.specs.steps.Admits.{Admits, by_slot}
+use Rattle.core_taking.specs.Admits.{Admits, by_slot}
 use Rattle.core_state.specs.declared.state.State.{State}
-use Rattle.core_taking.specs.steps.Founds.{IsDropped, IsRead, Tells, carried_ids, front_at, header_of, is_unasked, things_in}
+use Rattle.core_taking.specs.Founds.{IsDropped, IsRead, Tells, carried_ids, front_at, header_of, is_unasked, things_in}
 use Rattle.core_state.proofs.Steady.{found_is}
 use Rattle.core_taking.specs.declared.reading.Found.{Found}
 

@@ -32,7 +32,7 @@ use Rattle.bind_model.proofs.Outcomes.{outcome}
 use Rattle.bind_model.proofs.Responses.{all_stand}
 use Rattle.core_state.specs.Routers.{Routers}
 use Rattle.core_state.specs.Agreement.{Agrees, is_out, is_shut}
-use Rattle.core_taking.specs.steps.Taking.{LieThere}
+use Rattle.core_taking.specs.Taking.{LieThere}
 use Rattle.core_state.proofs.Facts.{unread_is, spread_same}
 
 -- where each thing stands once at most, all are distinct

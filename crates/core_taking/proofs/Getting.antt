@@ -30,7 +30,7 @@ use Rattle.core_state.specs.Placing.{PutsAll}
 use Rattle.core_state.specs.Agreement.{Agrees, end_in, is_out, is_shut}
 use Rattle.core_state.proofs.After.{gone_after, unread_after, end_after}
 use Rattle.core_state.proofs.Steady.{AllAgree, IsSteady}
-use Rattle.core_taking.specs.steps.Founds.{IsSilent}
+use Rattle.core_taking.specs.Founds.{IsSilent}
 use Rattle.core_taking.proofs.HandedOut.{front_shut, moved, one_taken, outs_now, shuts_now, some_moved}
 
 -- an event that consumes the oldest message at y, and makes, takes in and writes nothing

@@ -1,17 +1,14 @@
 -- Handles that come out, one after the other.
-use Rattle.std.proofs.Common.{◌≡◌, ◌≤◌, ◌+◌, Bool, true, false, List, [], ◌∷◌, ◌++◌, refl, sym, ap, ◌∙◌, arith}
-use Rattle.std.specs.Prelude.{if◌then◌else◌, ◌||◌, Option, Some, None}
-use Rattle.std.specs.Option.{option_map}
+use Rattle.std.proofs.Common.{◌≡◌, ◌≤◌, ◌+◌, true, false, List, [], ◌∷◌, ◌++◌, refl, sym, ap, ◌∙◌, arith}
 use Rattle.handle_table.specs.Places.{place_of, is_kept}
 use Rattle.handle_table.specs.Things.{has, same, times, is_distinct}
-use Rattle.handle_table.specs.declared.places.Place.{Place}
 use Rattle.handle_table.specs.declared.places.Place.TheVariants as places
 use Rattle.handle_table.specs.declared.thing.Thing.{Thing}
-use Rattle.handle_table.proofs.ThingsLemmas.{has-append, has-back, or_left, same-refl}
-use Rattle.message_pipe.specs.Contents.{Contents, Puts}
+use Rattle.handle_table.proofs.ThingsLemmas.{has-back, or_left, same-refl}
+use Rattle.message_pipe.specs.Contents.{Contents}
 use Rattle.bind_model.proofs.Counting.{absent, times-append, times-distinct}
 use Rattle.core_state.specs.Placing.{PutsAll}
-use Rattle.core_taking.specs.steps.Taking.{LieThere}
+use Rattle.core_taking.specs.Taking.{LieThere}
 
 -- what stands once doesn't stand before
 before_none : (xs : List Thing) (x : Thing) (rest : List Thing) → is_distinct (xs ++ x ∷ rest) ≡ true → has xs x ≡ false
@@ -33,29 +30,3 @@ module _ (things xs : List Thing) (x : Thing) (rest : List Thing) (old now : Con
 -- a list that gained one
 pub one_longer : (xs ys zs all : List Thing) (x : Thing) → ys ≡ xs ++ x ∷ [] → xs ≡ zs → all ≡ zs ++ x ∷ [] → ys ≡ all
 one_longer xs ys zs all x e f g = e ∙ (ap (λ (ts : List Thing). ts ++ x ∷ []) f ∙ sym g)
-
--- one more came to a place
-module _ (xs : List Thing) (x : Thing) (place : Place) (old now next : Contents) (p : PutsAll xs place old now) (q : Puts x place now next) where
-  both : (b c : Bool) (o : Option Place)
-      → (if c then option_map (λ (before : Place). place) (if b then option_map (λ (before : Place). place) o else o)
-      else (if b then option_map (λ (before : Place). place) o else o))
-      ≡ (if (b || (c || false)) then option_map (λ (before : Place). place) o else o)
-  both true true None = refl
-  both true true (Some r) = refl
-  both true false o = refl
-  both false true o = refl
-  both false false o = refl
-
-  pub one_more : PutsAll (xs ++ x ∷ []) place old next
-  one_more = record {
-    ends = λ y. q.ends y ∙ p.ends y;
-    places = λ z.
-        q.table.places z
-        ∙ (ap (λ (o : Option Place). if same x z then option_map (λ (before : Place). place) o else o) (p.places z)
-        ∙ (both (has xs z) (same x z) (place_of old.table z)
-        ∙ ap (λ (b : Bool). if b then option_map (λ (before : Place). place) (place_of old.table z) else place_of old.table z)
-        (sym (has-append xs (x ∷ []) z))));
-    ends_made = λ s. q.table.ends s ∙ p.ends_made s;
-    tokens_made = λ s. q.table.tokens s ∙ p.tokens_made s;
-    made = q.made ∙ p.made;
-  }

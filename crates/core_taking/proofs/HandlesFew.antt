@@ -18,7 +18,7 @@ use Rattle.bind_model.proofs.Counting.{pigeon, times-append}
 use Rattle.bind_model.proofs.Fresh.{kept}
 use Rattle.bind_model.proofs.Kept.{Kept}
 use Rattle.core_state.specs.Agreement.{Holds, past_of, wire_in}
-use Rattle.core_taking.specs.steps.Founds.{front_at}
+use Rattle.core_taking.specs.Founds.{front_at}
 use Rattle.core_state.specs.declared.state.State.{State}
 use Rattle.core_state.proofs.Facts.{made_few}
 

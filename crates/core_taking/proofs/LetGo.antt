@@ -37,11 +37,11 @@ use Rattle.core_state.specs.Routers.{Routers, router_at}
 use Rattle.control_bytes.specs.declared.control.Control.TheVariants.{Closed}
 use Rattle.core_taking.specs.declared.admit.Admitted.{Admitted}
 use Rattle.core_state.specs.declared.state.State.{State}
-use Rattle.core_taking.specs.steps.Admits.{Admits}
+use Rattle.core_taking.specs.Admits.{Admits}
 use Rattle.core_state.specs.Doing.{Done, HasRoom, told_to}
 use Rattle.core_state.specs.Emitting.{AreNamed, EmitsTo, HasPeer, controls_at}
 use Rattle.core_state.specs.Entries.{AllEnterAt, AreNew, ArePlaced}
-use Rattle.core_taking.specs.steps.Founds.{IsDropped, carried_ids, front_at, things_in}
+use Rattle.core_taking.specs.Founds.{IsDropped, carried_ids, front_at, things_in}
 use Rattle.core_state.specs.Turns.{IsSame}
 use Rattle.core_state.proofs.Emitted.{emits_is, peer_there}
 use Rattle.core_state.proofs.Facts.{unread_is}

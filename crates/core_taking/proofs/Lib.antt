@@ -1,22 +1,22 @@
-mod PendingMade
+pub mod PendingMade
 mod Admitting
 mod CarriedIds
 mod HandedOut
 mod Getting
-mod Looking
+pub mod Looking
 mod Fronts
 mod Taking
 mod SlotsNoted
 mod SlotsNamed
-mod Taken
-mod Obeying
-mod Answering
-mod LetGo
-mod Receiving
+pub mod Taken
+pub mod Obeying
+pub mod Answering
+pub mod LetGo
+pub mod Receiving
 mod Handing
 mod Marking
-mod WireReads
-mod Arriving
-mod Arrives
+pub mod WireReads
+pub mod Arriving
+pub mod Arrives
 mod PendingsOut
-mod HandlesFew
+pub mod HandlesFew

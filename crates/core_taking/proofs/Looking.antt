@@ -24,7 +24,7 @@ use Rattle.bind_model.proofs.Kept.{Kept, bound_made}
 use Rattle.core_state.specs.Routers.{Routers}
 use Rattle.core_state.specs.Agreement.{Agrees, Holds, past_of, wire_in}
 use Rattle.core_state.specs.Doing.{told_to}
-use Rattle.core_taking.specs.steps.Taking.{front_bound, front_found, front_in, front_open}
+use Rattle.core_taking.specs.Taking.{front_bound, front_found, front_in, front_open}
 use Rattle.core_state.specs.declared.state.State.{State}
 use Rattle.core_state.proofs.Facts.{closed_is, unread_is, peer_is}
 use Rattle.core_state.proofs.Steady.{found_is}

@@ -50,7 +50,7 @@ use Rattle.core_state.specs.declared.state.State.{State}
 use Rattle.core_state.proofs.Held.{event_of, finish_noting, goes, unstirred}
 use Rattle.core_state.proofs.Steady.{AllAgree, IsSteady, control_turns, found_is, steady}
 use Rattle.core_taking.specs.declared.reading.Found.{Found}
-use Rattle.core_taking.specs.steps.Founds.{IsSilent, Tells}
+use Rattle.core_taking.specs.Founds.{IsSilent, Tells}
 use Rattle.core_taking.proofs.Fronts.{control_there}
 use Rattle.core_taking.proofs.Getting.{IsReading, control_read, noted_read, noted_steady, read_agrees, silent_read, silent_steady}
 use Rattle.core_taking.proofs.Taken.{none_put}

@@ -12,7 +12,7 @@ use Rattle.bind_model.specs.Replies.{has_pending, pendings_at, same_pending}
 use Rattle.bind_model.specs.declared.endpoint.PendingId.{PendingId}
 use Rattle.bind_model.specs.declared.names.EndpointName.{EndpointName}
 use Rattle.bind_model.specs.Pendings.{has_place}
-use Rattle.core_taking.specs.steps.Founds.{is_pending, pending_ids}
+use Rattle.core_taking.specs.Founds.{is_pending, pending_ids}
 use Rattle.core_taking.specs.steps.Pending.{HavePlaces, half_entered, halves_from, pending_at}
 
 -- ## Lists that are parted

@@ -22,7 +22,7 @@ use Rattle.bind_model.specs.declared.event.Event.{Event}
 use Rattle.bind_model.specs.declared.names.EndpointName.{EndpointName}
 use Rattle.bind_model.proofs.Entering.{entry_or}
 use Rattle.bind_model.proofs.PendingLists.{more_is}
-use Rattle.core_taking.specs.steps.Founds.{is_pending, pending_ids}
+use Rattle.core_taking.specs.Founds.{is_pending, pending_ids}
 use Rattle.core_taking.specs.steps.Pending.{half_entered, halves_from, pending_at}
 use Rattle.core_state.proofs.Held.{event_of}
 

@@ -43,12 +43,12 @@ use Rattle.core_state.specs.declared.state.State.{State}
 use Rattle.core_state.specs.Doing.{Done, HasRoom, told_to}
 use Rattle.core_state.specs.Emitting.{AreNamed, EmitsTo, HasPeer, controls_at}
 use Rattle.core_state.specs.Entries.{AllEnterAt, AreNew, ArePlaced}
-use Rattle.core_taking.specs.steps.Founds.{IsGot, front_at, pending_ids}
+use Rattle.core_taking.specs.Founds.{IsGot, front_at, pending_ids}
 use Rattle.core_taking.specs.steps.Pending.{halves_from}
 use Rattle.core_state.specs.Placing.{PutsAll}
-use Rattle.core_state.specs.steps.Requests.{AnswersAt}
-use Rattle.core_taking.specs.steps.Taking.{IsBrought, LieThere}
-use Rattle.core_state.specs.steps.Dues.{responder_due, times_in}
+use Rattle.core_state.specs.Requests.{AnswersAt}
+use Rattle.core_taking.specs.Taking.{Bringing, IsBringing, IsBrought, LieThere}
+use Rattle.core_state.specs.Dues.{responder_due, times_in}
 use Rattle.core_state.specs.Turns.{IsSame}
 use Rattle.core_state.proofs.Emitted.{emits_is}
 use Rattle.core_taking.proofs.Fronts.{goes_is, got_there, lie_there}
@@ -90,6 +90,13 @@ some_stands wire None m c h = absurd cc
 some_stands wire (Some e) m c h = refl
 
 -- ## A request or a response that is got
+
+-- what was brought, but for the room
+abbrev pub bringing_of : Brings → Bringing
+bringing_of b = record { noted = b.noted; things = b.things; gone = b.gone }
+
+pub as_bringing : (pipes : Contents) (y : EndId) (a : Arrived) (b : Brings) → IsBrought pipes y a b → IsBringing pipes y a (bringing_of b)
+as_bringing pipes y a b brought = record { noted = brought.noted; gone = brought.gone; things = brought.things }
 
 module _ (s : State) (seq : SeqId) (able : HasRoom s seq) (y : EndId) (a : Arrived)
     (got : IsGot (wire_in s) (past_of s) y a (told_to s seq (asks.Take y))) where
@@ -167,7 +174,7 @@ module _ (s : State) (seq : SeqId) (able : HasRoom s seq) (y : EndId) (a : Arriv
 
   -- ### With what it brings
 
-  module _ (b : Brings) (brought : IsBrought s.pipes y a b) where
+  module _ (b : Bringing) (brought : IsBringing s.pipes y a b) where
     abbrev g : Got
     g = got_of names b.gone
 

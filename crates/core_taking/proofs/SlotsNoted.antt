@@ -16,7 +16,7 @@ use Rattle.wire_model.specs.declared.value.Value.TheVariants as values
 use Rattle.bind_model.specs.Machine.{closed_endpoint, endpoint_named, pending_as}
 use Rattle.bind_model.specs.Wire.{Named}
 use Rattle.bind_model.specs.declared.endpoint.Endpoint.{Endpoint}
-use Rattle.core_taking.specs.steps.Admits.{by_slot}
+use Rattle.core_taking.specs.Admits.{by_slot}
 use Rattle.core_taking.specs.steps.Slots.{each_names, field_names, filled, is_vacant, names, noted}
 
 -- places, and what is said of each

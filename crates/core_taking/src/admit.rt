@@ -7,7 +7,7 @@ ghost use Rattle.endpoint_router.specs.Rows.{endpoints_of};
 ghost use Rattle.bind_model.specs.Machine.{endpoint_named, is_closed, is_own};
 ghost use Rattle.bind_model.specs.Wire.{Named};
 ghost use Rattle.core_state.specs.Routers.{found_at};
-ghost use Rattle.core_taking.specs.steps.Admits.{Admits, AreSlots, Gains, IsAdmitted, by_slot, first_or};
+ghost use Rattle.core_taking.specs.Admits.{Admits, AreSlots, Gains, IsAdmitted, by_slot, first_or};
 
 use bind_model::limits::REMOTE_IDS;
 use bind_model::{Endpoint, State as EndpointState};
@@ -20,14 +20,14 @@ use wire_encoder::{EndpointSide, WantedEndpoint};
 /// What the ids of a message are to the table of an end: the first strange one, the endpoints that enter
 /// under the others, and the ids of those that enter as closed.
 #[derive(Drop)]
-pub(crate) struct Admitted {
-    pub(crate) strange: Option<u32>,
-    pub(crate) entries: Vec<Entering>,
-    pub(crate) closed: Vec<u32>,
+pub struct Admitted {
+    pub strange: Option<u32>,
+    pub entries: Vec<Entering>,
+    pub closed: Vec<u32>,
 }
 
 /// The ids that a message carries, by where its header says that they lie.
-pub(crate) fn carried_ids(alloc: Global, bytes: &[u8], span: Span) -> Result<Vec<u32>, AllocError>
+pub fn carried_ids(alloc: Global, bytes: &[u8], span: Span) -> Result<Vec<u32>, AllocError>
     requires said { span ≡ ids_span bytes.now }
     requires within { span.start + span.len ≤ length bytes.now }
     requires counted { span.len ≡ 4 * length (ids_read bytes.now) }
@@ -149,7 +149,7 @@ fn admit_one(
 }
 
 /// What the ids of a message are to the table of an end, by the endpoints that its value names.
-pub(crate) fn admit(
+pub fn admit(
     endpoints: &Routers,
     alloc: Global,
     end: EndId,

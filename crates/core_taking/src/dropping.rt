@@ -4,7 +4,7 @@ ghost use Rattle.std.specs.Prelude.{IfOk, IfErr};
 ghost use Rattle.bind_model.specs.declared.asked.Asked.TheVariants as asks;
 ghost use Rattle.core_state.specs.Agreement.{past_of, wire_in};
 ghost use Rattle.core_state.specs.Doing.{Done, HasRoom, Undone, told_to};
-ghost use Rattle.core_taking.specs.steps.Founds.{IsDropped};
+ghost use Rattle.core_taking.specs.Founds.{IsDropped};
 
 use crate::admit::Admitted;
 use crate::take::goes_with_front;

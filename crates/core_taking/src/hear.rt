@@ -7,7 +7,7 @@ ghost use Rattle.bind_model.specs.Replies.{heard, is_older, version_of};
 ghost use Rattle.bind_model.specs.WireOf.{version_in, wire_of};
 ghost use Rattle.core_state.specs.Agreement.{Holds, past_of, wire_in};
 ghost use Rattle.end_notices.specs.Agreement.{is_awaited};
-ghost use Rattle.core_taking.specs.steps.Founds.{Tells};
+ghost use Rattle.core_taking.specs.Founds.{Tells};
 
 use crate::reading::Found;
 use bind_model::{BadWhy, Endpoint, Noted, State as EndpointState};
@@ -29,7 +29,7 @@ fn version_in(schema: &Schema, interface: u32) -> u32
 
 /// The version of an endpoint that is a receiver and isn't closed.
 #[tactic(auto, unfolding(bind_model::specs::WireOf::wire_of))]
-fn version_of(schema: &Schema, endpoint: Option<Endpoint>) -> Option<u32>
+pub fn version_of(schema: &Schema, endpoint: Option<Endpoint>) -> Option<u32>
     ensures { result ≡ version_of (wire_of schema.now) endpoint }
 {
     let Some(found) = endpoint else {
@@ -55,7 +55,7 @@ fn version_at(state: &State, end: EndId, id: u32) -> Option<u32>
 }
 
 /// Whether a receiver is older than a version.
-fn is_older(version: Option<u32>, least: u32) -> bool
+pub fn is_older(version: Option<u32>, least: u32) -> bool
     ensures { result ≡ is_older version least }
 {
     match version {
@@ -66,7 +66,7 @@ fn is_older(version: Option<u32>, least: u32) -> bool
 
 /// Whether a version is awaited at an endpoint where so many queries wait: none is once it is closed, or
 /// knows that its peer is.
-fn is_awaited(queries: u32, endpoint: Option<Endpoint>) -> bool
+pub fn is_awaited(queries: u32, endpoint: Option<Endpoint>) -> bool
     ensures { result ≡ is_awaited queries endpoint }
 {
     let Some(found) = endpoint else {

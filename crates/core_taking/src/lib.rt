@@ -2,13 +2,13 @@
 //! answer that come out of it.
 #![tactic(auto)]
 
-mod admit;
+pub mod admit;
 mod dropping;
-mod hear;
+pub mod hear;
 mod indexes;
-mod obey;
-mod pendings;
-mod reading;
-mod receive;
-mod slots;
+pub mod obey;
+pub mod pendings;
+pub mod reading;
+pub mod receive;
+pub mod slots;
 pub mod take;

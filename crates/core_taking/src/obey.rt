@@ -7,7 +7,7 @@ ghost use Rattle.bind_model.specs.declared.told.Told.TheVariants as tells;
 ghost use Rattle.endpoint_router.specs.Changes.{marked};
 ghost use Rattle.core_state.specs.Doing.{Done, HasRoom, Undone, told_to};
 ghost use Rattle.core_state.specs.Turns.{TurnsAt};
-ghost use Rattle.core_taking.specs.steps.Founds.{IsSilent};
+ghost use Rattle.core_taking.specs.Founds.{IsSilent};
 
 use bind_model::{Asked, Command, Event, Noted, Refused, Reply, Told};
 use core_state::emit::emit_version;
@@ -16,7 +16,7 @@ use mj_base::{EndId, SeqId};
 use std::alloc::Global;
 
 /// Notes that the peer of the endpoint of an id at an end is closed; nothing where the end has no such one.
-fn mark_peer(endpoints: &mut Routers, end: EndId, id: u32)
+pub fn mark_peer(endpoints: &mut Routers, end: EndId, id: u32)
     ensures { TurnsAt marked end id endpoints.old endpoints.new }
 {
     if endpoints.find(end, id).is_some() {

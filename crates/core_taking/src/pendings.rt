@@ -4,7 +4,7 @@ ghost use Rattle.std.specs.Prelude.{◌≡◌, ◌≤◌, ◌<◌, ◌||◌, ◌
 ghost use Rattle.bind_model.specs.Pendings.{has_place, is_out};
 ghost use Rattle.bind_model.specs.Replies.{has_pending, pendings_at};
 ghost use Rattle.bind_model.specs.declared.endpoint.PendingId.{PendingId as pending_id};
-ghost use Rattle.core_taking.specs.steps.Founds.{is_pending, pending_ids};
+ghost use Rattle.core_taking.specs.Founds.{is_pending, pending_ids};
 ghost use Rattle.core_taking.specs.steps.Pending.{HavePlaces, halves_from, pending_at};
 
 use bind_model::{Endpoint, Pending, PendingId, PendingList, Pendings, State as EndpointState};
@@ -13,7 +13,7 @@ use mj_base::EndId;
 use std::alloc::{AllocError, Global};
 
 /// Whether an endpoint waits to be bound.
-pub(crate) fn is_pending(endpoint: Endpoint) -> bool
+pub fn is_pending(endpoint: Endpoint) -> bool
     ensures { result ≡ is_pending endpoint }
 {
     match endpoint.state {

@@ -16,8 +16,8 @@ ghost use Rattle.bind_model.specs.WireOf.{comes_to, content_in, endpoints_named}
 ghost use Rattle.wire_encoder.specs.Checks.{checks};
 ghost use Rattle.wire_model.specs.Tight.{value_of};
 ghost use Rattle.wire_model.specs.Trees.{view};
-ghost use Rattle.core_taking.specs.steps.Admits.{Admits};
-ghost use Rattle.core_taking.specs.steps.Founds.{IsArriving, IsRead, Tells, front_at, header_of};
+ghost use Rattle.core_taking.specs.Admits.{Admits};
+ghost use Rattle.core_taking.specs.Founds.{IsArriving, IsRead, Tells, front_at, header_of};
 ghost use Rattle.core_state.specs.Routers.{found_at, router_at};
 ghost use Rattle.endpoint_router.specs.Rows.{is_pending, row_at};
 ghost use Rattle.core_state.specs.Agreement.{Holds, past_of, wire_in};
@@ -41,7 +41,7 @@ use wire_model::{Expected, MessageSide, Target, Value};
 
 /// What a take finds at the front of an end's mail.
 #[derive(Drop)]
-pub(crate) enum Found {
+pub enum Found {
     /// Nothing that may be taken here.
     Nothing(Why),
     /// A bad message.
@@ -58,19 +58,19 @@ pub(crate) enum Found {
 /// (0 where it has none), the things of the handles that the parameters name in the order of their
 /// indexes, those of the others, its moment, and what its ids are to the end.
 #[derive(Drop)]
-pub(crate) struct Arrived {
-    pub(crate) id: u32,
-    pub(crate) target: Target,
-    pub(crate) parameters: Parameters,
-    pub(crate) request: u64,
-    pub(crate) named: Items<Thing>,
-    pub(crate) left: Items<Thing>,
-    pub(crate) moment: Option<i64>,
-    pub(crate) admitted: Admitted,
+pub struct Arrived {
+    pub id: u32,
+    pub target: Target,
+    pub parameters: Parameters,
+    pub request: u64,
+    pub named: Items<Thing>,
+    pub left: Items<Thing>,
+    pub moment: Option<i64>,
+    pub admitted: Admitted,
 }
 
 /// The side of the messages that come to an endpoint: a receiver gets requests, a remote responses.
-fn comes_to(side: EndpointSide) -> MessageSide
+pub fn comes_to(side: EndpointSide) -> MessageSide
     ensures { result ≡ comes_to side }
 {
     match side {
@@ -100,7 +100,7 @@ fn dropped(
 }
 
 /// Whether a message of this side is a response.
-pub(crate) fn is_response(side: MessageSide) -> bool
+pub fn is_response(side: MessageSide) -> bool
     ensures { result ≡ is_response side }
 {
     match side {
@@ -121,7 +121,7 @@ fn is_unasked(state: &State, end: EndId, id: u32, checked: &Checked<'_>) -> bool
 }
 
 /// What a message whose parameters these are stands for, where none of its ids is strange.
-fn arrive_known(
+pub fn arrive_known(
     alloc: Global,
     header: &Header,
     message: &Message,

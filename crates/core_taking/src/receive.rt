@@ -21,12 +21,12 @@ ghost use Rattle.core_state.specs.Routers.{router_at};
 ghost use Rattle.bind_model.specs.Responders.{count_of, has_count};
 ghost use Rattle.core_state.specs.Doing.{Done, HasRoom, Undone, told_to};
 ghost use Rattle.core_state.specs.Entries.{ArePlaced};
-ghost use Rattle.core_taking.specs.steps.Founds.{IsGot, is_pending, pending_ids};
+ghost use Rattle.core_taking.specs.Founds.{IsGot, is_pending, pending_ids};
 ghost use Rattle.core_taking.specs.steps.Pending.{HavePlaces};
 ghost use Rattle.core_state.specs.Placing.{PutsAll};
-ghost use Rattle.core_state.specs.steps.Requests.{AnswersAt};
-ghost use Rattle.core_taking.specs.steps.Taking.{IsBrought, LieThere, noted_as};
-ghost use Rattle.core_state.specs.steps.Dues.{responder_due, times_in};
+ghost use Rattle.core_state.specs.Requests.{AnswersAt};
+ghost use Rattle.core_taking.specs.Taking.{IsBrought, LieThere, noted_as};
+ghost use Rattle.core_state.specs.Dues.{responder_due, times_in};
 ghost use Rattle.core_state.specs.Turns.{IsSame};
 
 use crate::pendings::{is_pending, make_pending, reserve_pending, room_for};
@@ -81,7 +81,7 @@ fn names_at(alloc: Global, end: EndId, entries: &[Entering]) -> Result<Items<Pen
 }
 
 /// What arrived at an end as it is noted, with the things that go.
-fn note_got(
+pub fn note_got(
     alloc: Global,
     end: EndId,
     arrived: &Arrived,
@@ -184,14 +184,14 @@ fn has_response(schema: &Schema, target: Target) -> bool
 
 /// Whether a message for a target gives a responder: a request of a method with a response does.
 #[tactic(auto, unfolding(bind_model::specs::WireOf::wire_of))]
-fn gives_responder(schema: &Schema, target: Target) -> bool
+pub fn gives_responder(schema: &Schema, target: Target) -> bool
     ensures { result ≡ (not (is_response target.side) && (wire_of schema.now).responds target.interface target.method) }
 {
     !is_response(target.side) && has_response(schema, target)
 }
 
 /// The name of the responder that what arrived at an end gives.
-fn responder_due(schema: &Schema, end: EndId, arrived: &Arrived) -> Option<ResponderId>
+pub fn responder_due(schema: &Schema, end: EndId, arrived: &Arrived) -> Option<ResponderId>
     ensures { result ≡ responder_due (wire_of schema.now) end arrived.now.id arrived.now.target arrived.now.request }
 {
     let target = arrived.target;
@@ -232,7 +232,7 @@ fn make_due(responders: &mut Responders, due: Option<ResponderId>) -> Option<Res
 }
 
 /// Ends the request whose response arrived at an end; what is no response ends none.
-fn note_answered(endpoints: &mut Routers, end: EndId, arrived: &Arrived)
+pub fn note_answered(endpoints: &mut Routers, end: EndId, arrived: &Arrived)
     ensures { AnswersAt end arrived.now.id arrived.now.request arrived.now.target.side endpoints.old endpoints.new }
 {
     match arrived.target.side {
@@ -244,7 +244,7 @@ fn note_answered(endpoints: &mut Routers, end: EndId, arrived: &Arrived)
 }
 
 /// The event of a take that got a request or a response.
-fn event_of(seq: SeqId, end: EndId, noted: Got) -> Event
+pub fn event_of(seq: SeqId, end: EndId, noted: Got) -> Event
     ensures { result ≡ record { seq = seq; asked = asks.Take end; told = tells.Taken noted } }
 {
     Event {

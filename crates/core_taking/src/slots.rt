@@ -9,7 +9,7 @@ ghost use Rattle.wire_model.specs.Rows.{member_kind, row_of};
 ghost use Rattle.wire_model.specs.Trees.{trees, view};
 ghost use Rattle.bind_model.specs.Machine.{endpoint_named};
 ghost use Rattle.bind_model.specs.WireOf.{endpoints_named};
-ghost use Rattle.core_taking.specs.steps.Admits.{by_slot};
+ghost use Rattle.core_taking.specs.Admits.{by_slot};
 ghost use Rattle.core_taking.specs.steps.Slots.{array_names, each_names, field_names, filled, is_vacant, member_names};
 ghost use Rattle.core_taking.specs.steps.Slots.{names, noted, receiver_names, remote_names, struct_names};
 
@@ -226,7 +226,7 @@ fn vacant(alloc: Global, ids: usize) -> Result<Vec<Option<WantedEndpoint>>, Allo
 
 /// What the parameters of a message, a struct of this number, say of the places of so many ids that come
 /// with it: which endpoint stands there.
-pub(crate) fn slots_of(
+pub fn slots_of(
     alloc: Global,
     schema: &Schema,
     number: u32,

@@ -5,10 +5,10 @@ ghost use Rattle.message_pipe.specs.Ends.{carried_in, end_of, peer_of, spread, u
 ghost use Rattle.message_pipe.specs.Mail.{front_of};
 ghost use Rattle.bind_model.specs.declared.asked.Asked.TheVariants as asks;
 ghost use Rattle.bind_model.specs.Replies.{bad};
-ghost use Rattle.core_taking.specs.steps.Founds.{Tells, things_in};
+ghost use Rattle.core_taking.specs.Founds.{Tells, things_in};
 ghost use Rattle.core_state.specs.Agreement.{Holds, past_of, wire_in};
 ghost use Rattle.core_state.specs.Doing.{CanDo, Done, HasRoom, Undone, told_to};
-ghost use Rattle.core_taking.specs.steps.Taking.{front_in, nothing_at};
+ghost use Rattle.core_taking.specs.Taking.{front_in, nothing_at};
 
 use crate::dropping::discard;
 use crate::obey::obey;

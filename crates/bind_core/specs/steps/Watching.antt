@@ -8,7 +8,7 @@ use Rattle.bind_model.specs.Machine.{peer}
 use Rattle.bind_model.specs.declared.event.Event.{Event}
 use Rattle.bind_core.specs.EndSets.{has_end}
 use Rattle.core_state.specs.Agreement.{past_of}
-use Rattle.bind_core.specs.steps.Takers.{ready_taker}
+use Rattle.bind_core.specs.Takers.{ready_taker}
 use Rattle.bind_model.specs.declared.commands.Command.{Command}
 use Rattle.bind_model.specs.declared.commands.Command.TheVariants.{Associate, Attach, Bind, Call, Answer, Raw, Take, Close, Notify, Pause}
 use Rattle.core_state.specs.declared.state.State.{State}

@@ -11,7 +11,7 @@ use Rattle.bind_model.specs.declared.told.Why.TheVariants.{WrongSide}
 use Rattle.bind_model.specs.Replies.{from_id, is_flush, is_receiver}
 use Rattle.core_state.specs.Opens.{opened}
 use Rattle.core_state.specs.Routers.{Routers, found_at}
-use Rattle.core_sending.specs.steps.Ways.{way_to}
+use Rattle.core_sending.specs.Ways.{way_to}
 use Rattle.data_pipe.specs.Table.{Lines}
 
 -- from an open endpoint: only a remote asks of versions, but any end flushes

@@ -14,7 +14,7 @@ use Rattle.bind_model.specs.declared.commands.Command.{Command}
 use Rattle.bind_model.specs.declared.commands.Command.TheVariants as commands
 use Rattle.core_state.specs.Agreement.{is_out}
 use Rattle.core_state.specs.Placing.{all_out}
-use Rattle.core_sending.specs.steps.Ways.{way_to}
+use Rattle.core_sending.specs.Ways.{way_to}
 use Rattle.core_sending.specs.declared.raw.RawBytes.{RawBytes}
 use Rattle.data_pipe.specs.Table.{Lines}
 

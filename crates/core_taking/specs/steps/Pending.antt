@@ -7,7 +7,7 @@ use Rattle.bind_model.specs.Pendings.{Half}
 use Rattle.bind_model.specs.declared.endpoint.PendingId.{PendingId}
 use Rattle.bind_model.specs.declared.names.EndpointName.{EndpointName}
 use Rattle.bind_model.specs.Pendings.{has_place}
-use Rattle.core_taking.specs.steps.Founds.{is_pending, pending_ids}
+use Rattle.core_taking.specs.Founds.{is_pending, pending_ids}
 
 -- the name of a pending at an end
 abbrev pub pending_at : EndId → ℕ → PendingId

@@ -1,19 +1,15 @@
-use Rattle.std.proofs.Common.{ap, ◌∙◌, ◌++◌}
-use Rattle.bind_core.specs.steps.Numbering.{all_made, open_in}
-use Rattle.bind_core.specs.declared.left.Sort.TheVariants.{Ends, Tokens}
-use Rattle.bind_core.proofs.Leaving.{few_by, left_is}
+use Rattle.std.proofs.Common.{◌<◌, sym, subst, ◌∙◌}
+use Rattle.std.proofs.lemmas.Result.{IfOk-weaker}
+use Rattle.handle_table.specs.Places.{Store}
+use Rattle.core_state.specs.Numbering.{count_by}
+use Rattle.core_state.proofs.Leaving.{few_by, left_is}
 use Rattle.bind_core.proofs.left.left.Goals as goal
 
-pub push_all-requires : goal.push_all-requires
-push_all-requires c = few_by c.args.state.now c.requires Ends
-
-pub push_all-requires-2 : goal.push_all-requires-2
-push_all-requires-2 c = few_by c.args.state.now c.requires Tokens
+pub open_things-requires : goal.open_things-requires
+open_things-requires c = λ sort seq.
+    subst (λ (table : Store). count_by sort table seq < 4294967296) (sym c.places.ensures) (few_by c.args.state.now c.requires sort seq)
 
 pub returns : goal.returns
 returns c =
-    let s = c.args.state.now in
-    c.in_ok-push_all-2.ensures
-    ∙ (ap (λ things. things ++ open_in s.pipes.table (all_made Tokens s.pipes.table s.seqs))
-    (c.in_ok-push_all.ensures ∙ ap (λ things. things ++ open_in s.pipes.table (all_made Ends s.pipes.table s.seqs)) c.new-things.ensures.items)
-    ∙ left_is s c.requires)
+    let still = rw c.places.ensures at c.open_things.ensures in
+    IfOk-weaker c.open_things.result _ _ (λ things e. e ∙ left_is c.args.state.now c.requires) still

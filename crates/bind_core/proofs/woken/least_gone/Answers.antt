@@ -4,7 +4,7 @@ use Rattle.mj_base.specs.declared.ids.EndId.{EndId}
 use Rattle.mj_base.specs.declared.ids.SeqId.{SeqId}
 use Rattle.handle_table.specs.declared.thing.Thing.TheVariants.{End}
 use Rattle.bind_core.specs.steps.FirstTaken.{least_among}
-use Rattle.bind_core.specs.steps.Takers.{ready_taker}
+use Rattle.bind_core.specs.Takers.{ready_taker}
 use Rattle.bind_core.specs.Causes.{all_for, ends_for, gone_cause, gone_causes}
 use Rattle.bind_core.proofs.Leastness.{least_append}
 use Rattle.bind_core.proofs.Waking.{gone_end, gone_token}

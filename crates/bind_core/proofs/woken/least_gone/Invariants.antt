@@ -1,6 +1,6 @@
 use Rattle.std.proofs.Common.{◌≡◌, drop}
 use Rattle.bind_core.specs.steps.FirstTaken.{least_among}
-use Rattle.bind_core.specs.steps.Takers.{ready_taker}
+use Rattle.bind_core.specs.Takers.{ready_taker}
 use Rattle.bind_core.specs.Causes.{all_for, gone_causes}
 use Rattle.bind_core.proofs.woken.least_gone.Given as goal
 

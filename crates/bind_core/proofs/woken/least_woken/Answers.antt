@@ -4,7 +4,7 @@ use Rattle.mj_base.specs.declared.ids.EndId.{EndId}
 use Rattle.handle_table.specs.declared.thing.Thing.{Thing}
 use Rattle.bind_model.specs.declared.event.Event.{Event}
 use Rattle.bind_core.specs.steps.FirstTaken.{least_among}
-use Rattle.bind_core.specs.steps.Takers.{ready_taker}
+use Rattle.bind_core.specs.Takers.{ready_taker}
 use Rattle.bind_core.specs.Causes.{all_for, gone_causes, woken}
 use Rattle.bind_core.proofs.Waking.{no_flush, one_cause}
 use Rattle.bind_core.proofs.woken.least_woken.Goals as goal

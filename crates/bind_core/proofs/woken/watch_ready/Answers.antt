@@ -1,4 +1,4 @@
-use Rattle.bind_core.specs.steps.Takers.{ready_taker}
+use Rattle.bind_core.specs.Takers.{ready_taker}
 use Rattle.bind_core.proofs.Waking.{all_looked, looked_at}
 use Rattle.bind_core.proofs.woken.watch_ready.Goals as goal
 

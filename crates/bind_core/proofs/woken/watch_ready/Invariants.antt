@@ -2,7 +2,7 @@ use Rattle.std.proofs.Common.{◌≡◌, true, drop}
 use Rattle.std.specs.Prelude.{◌||◌, is_some}
 use Rattle.mj_base.specs.declared.ids.EndId.{EndId}
 use Rattle.bind_core.specs.EndSets.{has_end}
-use Rattle.bind_core.specs.steps.Takers.{ready_taker}
+use Rattle.bind_core.specs.Takers.{ready_taker}
 use Rattle.bind_core.specs.steps.Watching.{IsWithin}
 use Rattle.bind_core.proofs.woken.watch_ready.Given as goal
 

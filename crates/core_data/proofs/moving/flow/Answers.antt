@@ -1,6 +1,6 @@
 use Rattle.std.proofs.Common.{ap, sym, ◌∙◌}
 use Rattle.handle_table.specs.declared.thing.Thing.{Thing}
-use Rattle.core_data.specs.steps.Spots.{spot_in}
+use Rattle.core_data.specs.Spots.{spot_in}
 use Rattle.core_data.proofs.Spotted.{nowhere}
 use Rattle.core_data.proofs.moving.flow.Goals as goal
 

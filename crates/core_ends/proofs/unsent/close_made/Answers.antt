@@ -4,7 +4,7 @@ use Rattle.bind_model.specs.Pendings.{is_out}
 use Rattle.bind_model.specs.Replies.{same_pending}
 use Rattle.bind_model.specs.declared.endpoint.PendingId.{PendingId}
 use Rattle.core_state.specs.Routers.{found_at}
-use Rattle.core_state.specs.steps.Unsent.{is_received}
+use Rattle.core_state.specs.Unsent.{is_received}
 use Rattle.core_ends.proofs.Retiring.{row_here, unsent_done}
 use Rattle.core_ends.proofs.unsent.close_made.Goals as goal
 

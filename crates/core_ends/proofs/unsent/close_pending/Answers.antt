@@ -2,7 +2,7 @@ use Rattle.std.proofs.Common.{ap, sym, ◌∙◌}
 use Rattle.bind_model.specs.Pendings.{is_out}
 use Rattle.bind_model.specs.declared.endpoint.PendingId.{PendingId}
 use Rattle.core_state.specs.Routers.{found_at}
-use Rattle.core_state.specs.steps.Unsent.{is_received}
+use Rattle.core_state.specs.Unsent.{is_received}
 use Rattle.core_ends.proofs.Retiring.{pending_refused}
 use Rattle.core_ends.proofs.unsent.close_pending.Goals as goal
 

@@ -3,8 +3,8 @@ use Rattle.std.specs.Prelude.{◌==◌, ◌&&◌, not}
 use Rattle.bind_model.specs.declared.endpoint.ResponderId.{ResponderId}
 use Rattle.bind_model.specs.Responders.{count_of}
 use Rattle.core_sending.specs.declared.carried.CarriedNames.{CarriedNames}
-use Rattle.core_sending.specs.steps.Answering.{way_back}
-use Rattle.core_sending.specs.steps.Carrying.{all_own}
+use Rattle.core_sending.specs.Answering.{way_back}
+use Rattle.core_sending.specs.Carrying.{all_own}
 use Rattle.core_sending.proofs.Replied.{answer_refused, way_named}
 use Rattle.core_sending.proofs.answer.respond.Goals as goal
 

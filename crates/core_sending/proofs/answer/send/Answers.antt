@@ -7,8 +7,8 @@ use Rattle.bind_model.specs.declared.told.Told.TheVariants as tells
 use Rattle.bind_model.specs.declared.commands.Reply.TheVariants as replies
 use Rattle.core_sending.specs.declared.carried.CarriedNames.{CarriedNames}
 use Rattle.core_state.specs.declared.state.State.{State}
-use Rattle.core_sending.specs.steps.Answering.{command_of}
-use Rattle.core_sending.specs.steps.Calls.{AreOf, sealed_bytes}
+use Rattle.core_sending.specs.Answering.{command_of}
+use Rattle.core_sending.specs.Calls.{AreOf, sealed_bytes}
 use Rattle.core_state.specs.Doing.{Done}
 use Rattle.core_sending.proofs.Replied.{answer_done, are_ids, room, spendable, there, wanted}
 use Rattle.core_sending.proofs.answer.send.Goals as goal

@@ -2,8 +2,8 @@ use Rattle.std.proofs.Common.{Bool, ap, sym, ◌∙◌}
 use Rattle.bind_model.specs.Plain.{asked_of}
 use Rattle.bind_model.specs.declared.asked.Asked.TheVariants as asks
 use Rattle.core_sending.specs.declared.carried.CarriedNames.{CarriedNames}
-use Rattle.core_sending.specs.steps.Calls.{outgoing_named}
-use Rattle.core_sending.specs.steps.Fitting.{way}
+use Rattle.core_sending.specs.Calls.{outgoing_named}
+use Rattle.core_sending.specs.Fitting.{way}
 use Rattle.core_sending.proofs.Called.{call_refused, way_named}
 use Rattle.core_sending.proofs.call.request_from.Goals as goal
 

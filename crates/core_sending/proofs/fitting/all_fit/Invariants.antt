@@ -1,5 +1,5 @@
 use Rattle.std.proofs.Common.{◌≡◌, drop}
-use Rattle.core_sending.specs.steps.Carrying.{all_fit}
+use Rattle.core_sending.specs.Carrying.{all_fit}
 use Rattle.core_sending.proofs.fitting.all_fit.Given as goal
 
 -- what is left decides

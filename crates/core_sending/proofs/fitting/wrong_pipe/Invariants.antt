@@ -1,5 +1,5 @@
 use Rattle.std.proofs.Common.{◌≡◌, drop}
-use Rattle.core_sending.specs.steps.Carrying.{wrong_pipe}
+use Rattle.core_sending.specs.Carrying.{wrong_pipe}
 use Rattle.core_sending.proofs.fitting.wrong_pipe.Given as goal
 
 -- what is left decides

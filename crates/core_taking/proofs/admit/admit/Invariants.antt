@@ -1,7 +1,7 @@
 use Rattle.std.proofs.Common.{List, length, take}
 use Rattle.bind_model.specs.Wire.{Named}
 use Rattle.core_state.specs.Routers.{found_at}
-use Rattle.core_taking.specs.steps.Admits.{AreSlots, IsAdmitted}
+use Rattle.core_taking.specs.Admits.{AreSlots, IsAdmitted}
 use Rattle.core_taking.proofs.admit.admit.Given as goal
 
 -- those so far

@@ -4,7 +4,7 @@ use Rattle.bind_model.specs.Machine.{Entry}
 use Rattle.bind_model.specs.Pendings.{is_out}
 use Rattle.bind_model.specs.Replies.{has_pending, pendings_at}
 use Rattle.bind_model.specs.declared.endpoint.PendingId.{PendingId}
-use Rattle.core_taking.specs.steps.Founds.{pending_ids}
+use Rattle.core_taking.specs.Founds.{pending_ids}
 use Rattle.core_taking.specs.steps.Pending.{halves_from}
 use Rattle.core_state.proofs.Entered.{longer_here, split_here}
 use Rattle.core_taking.proofs.PendingMade.{more_made, more_out, next_placed, next_room}

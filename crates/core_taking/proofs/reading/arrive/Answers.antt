@@ -8,7 +8,7 @@ use Rattle.wire_model.specs.Trees.{Tree, view}
 use Rattle.bind_model.specs.Replies.{got_known}
 use Rattle.bind_model.specs.WireOf.{content_in, endpoints_named}
 use Rattle.core_state.specs.Agreement.{past_of, wire_in}
-use Rattle.core_taking.specs.steps.Founds.{header_of}
+use Rattle.core_taking.specs.Founds.{header_of}
 use Rattle.core_taking.proofs.Arrives.{admits_read, read_value}
 use Rattle.core_taking.proofs.Arriving.{strange_is}
 use Rattle.core_taking.proofs.reading.arrive.Goals as goal

@@ -12,7 +12,7 @@ use Rattle.bind_model.specs.Replies.{judged}
 use Rattle.bind_model.specs.WireOf.{content_in}
 use Rattle.bind_model.specs.declared.told.Told.{Told}
 use Rattle.core_state.specs.Agreement.{past_of, schema_of, wire_in}
-use Rattle.core_taking.specs.steps.Founds.{Tells, header_of}
+use Rattle.core_taking.specs.Founds.{Tells, header_of}
 use Rattle.core_taking.proofs.Arrives.{content_stands}
 use Rattle.core_taking.proofs.Arriving.{asked_told, unasked_is, unasked_told}
 use Rattle.core_taking.proofs.WireReads.{failed, passed}

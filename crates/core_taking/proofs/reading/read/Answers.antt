@@ -8,7 +8,7 @@ use Rattle.wire_model.specs.Message.{ids_read}
 use Rattle.wire_model.specs.Stands.{IsFine}
 use Rattle.bind_model.specs.Replies.{headed}
 use Rattle.bind_model.specs.WireOf.{wire_of}
-use Rattle.core_taking.specs.steps.Founds.{IsRead, header_of}
+use Rattle.core_taking.specs.Founds.{IsRead, header_of}
 use Rattle.core_state.specs.Agreement.{past_of, schema_of, wire_in}
 use Rattle.core_taking.proofs.Arriving.{delivers, obeys}
 use Rattle.core_taking.proofs.HandlesFew.{handles_fit}

@@ -5,7 +5,8 @@ use Rattle.handle_table.specs.declared.places.Place.TheVariants as places
 use Rattle.handle_table.specs.declared.thing.Thing.{Thing}
 use Rattle.handle_table.specs.declared.thing.Thing.TheVariants.{End}
 use Rattle.core_state.specs.Placing.{PutsAll}
-use Rattle.core_taking.proofs.Handing.{next_kept, one_longer, one_more}
+use Rattle.core_state.proofs.Placed.{one_more}
+use Rattle.core_taking.proofs.Handing.{next_kept, one_longer}
 use Rattle.core_taking.proofs.receive.hand_out.Goals as goal
 
 pub hand_one-requires-clause-kept : goal.hand_one-requires-clause-kept

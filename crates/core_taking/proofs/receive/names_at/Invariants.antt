@@ -1,6 +1,6 @@
 use Rattle.std.proofs.Common.{◌≡◌, take}
 use Rattle.bind_model.specs.Replies.{pendings_at}
-use Rattle.core_taking.specs.steps.Founds.{pending_ids}
+use Rattle.core_taking.specs.Founds.{pending_ids}
 use Rattle.core_taking.proofs.receive.names_at.Given as goal
 
 -- the names of those so far

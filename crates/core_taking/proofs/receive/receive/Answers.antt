@@ -15,12 +15,12 @@ use Rattle.bind_model.specs.Responders.{count_of}
 use Rattle.core_state.specs.Routers.{router_at}
 use Rattle.core_state.specs.Emitting.{AreNamed, EmitsTo, controls_at}
 use Rattle.core_state.specs.Entries.{AllEnterAt, AreNew, ArePlaced}
-use Rattle.core_taking.specs.steps.Founds.{pending_ids}
+use Rattle.core_taking.specs.Founds.{pending_ids}
 use Rattle.core_taking.specs.steps.Pending.{halves_from}
 use Rattle.core_state.specs.Placing.{PutsAll}
-use Rattle.core_taking.specs.steps.Taking.{LieThere}
-use Rattle.core_state.specs.steps.Dues.{responder_due, times_in}
-use Rattle.core_taking.proofs.Receiving.{got_done, got_lie, got_main, got_named, got_new, got_peer, got_still}
+use Rattle.core_taking.specs.Taking.{LieThere}
+use Rattle.core_state.specs.Dues.{responder_due, times_in}
+use Rattle.core_taking.proofs.Receiving.{as_bringing, bringing_of, got_done, got_lie, got_main, got_named, got_new, got_peer, got_still}
 use Rattle.core_state.proofs.Responding.{count_few}
 use Rattle.core_taking.proofs.receive.receive.Goals as goal
 
@@ -37,13 +37,15 @@ emit-requires-clause-peer c = got_peer c.args.state.now c.args.seq c.requires.ab
 
 pub pop_front-front-requires : goal.pop_front-front-requires
 pop_front-front-requires c =
-    got_still c.args.state.now c.args.seq c.requires.able c.args.end c.args.arrived c.requires.told c.in-Ok-gather.brings c.in-Ok-gather.ensures
+    got_still c.args.state.now c.args.seq c.requires.able c.args.end c.args.arrived c.requires.told (bringing_of c.in-Ok-gather.brings)
+    (as_bringing c.args.state.now.pipes c.args.end c.args.arrived c.in-Ok-gather.brings c.in-Ok-gather.ensures)
     _ _ c.emit.new.pipes c.in-Ok-emit.ensures.ok
 
 pub hand_out-handles-requires-clause-there : goal.hand_out-handles-requires-clause-there
 hand_out-handles-requires-clause-there c =
     subst (λ (ts : List Thing). LieThere c.close.new.self ts) (sym c.as_slice-2.ensures)
-    (got_lie c.args.state.now c.args.seq c.requires.able c.args.end c.args.arrived c.requires.told c.in-Ok-gather.brings c.in-Ok-gather.ensures
+    (got_lie c.args.state.now c.args.seq c.requires.able c.args.end c.args.arrived c.requires.told (bringing_of c.in-Ok-gather.brings)
+    (as_bringing c.args.state.now.pipes c.args.end c.args.arrived c.in-Ok-gather.brings c.in-Ok-gather.ensures)
     _ _ c.emit.new.pipes c.pop_front-front.new.self c.close.new.self c.in-Ok-emit.ensures.ok c.pop_front-front.ensures.rest
     (subst (λ (ts : List Thing). Closes ts c.pop_front-front.new.self c.close.new.self) c.as_slice.ensures c.close.ensures))
 
@@ -61,7 +63,8 @@ enter_all-requires c =
 
 pub returns-clause-done : goal.returns-clause-done
 returns-clause-done c =
-    got_done c.args.state.now c.args.seq c.requires.able c.args.end c.args.arrived c.requires.told c.in-Ok-gather.brings c.in-Ok-gather.ensures
+    got_done c.args.state.now c.args.seq c.requires.able c.args.end c.args.arrived c.requires.told (bringing_of c.in-Ok-gather.brings)
+    (as_bringing c.args.state.now.pipes c.args.end c.args.arrived c.in-Ok-gather.brings c.in-Ok-gather.ensures)
     _ c.make_due-responder.result c.hand_out-handles.result c.make_pending-pendings.result c.make_places.new.endpoints c.enter_all.new.self
     c.emit.new.pipes c.pop_front-front.new.self c.close.new.self refl refl refl
     (c.hand_out-handles.ensures.handles ∙ c.as_slice-2.ensures)

@@ -3,7 +3,7 @@ use Rattle.mj_schema.specs.KindTrees.{StructKind}
 use Rattle.wire_model.specs.Trees.{view}
 use Rattle.bind_model.specs.Machine.{endpoint_named}
 use Rattle.bind_model.specs.Wire.{Named}
-use Rattle.core_taking.specs.steps.Admits.{by_slot}
+use Rattle.core_taking.specs.Admits.{by_slot}
 use Rattle.core_taking.specs.steps.Slots.{names, noted}
 use Rattle.core_taking.proofs.SlotsNoted.{Places, noted_length, places_say, written_whole}
 use Rattle.core_taking.proofs.SlotsNamed.{names_are}

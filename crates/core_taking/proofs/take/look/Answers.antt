@@ -1,7 +1,7 @@
 use Rattle.std.proofs.Common.{subst}
 use Rattle.std.specs.Prelude.{IfOk}
 use Rattle.bind_model.specs.declared.told.Told.{Told}
-use Rattle.core_taking.specs.steps.Founds.{Tells}
+use Rattle.core_taking.specs.Founds.{Tells}
 use Rattle.core_state.specs.Agreement.{past_of, wire_in}
 use Rattle.core_taking.specs.declared.reading.Found.{Found}
 use Rattle.core_taking.proofs.Looking.{front_read, front_refused}

@@ -1,6 +1,6 @@
 use Rattle.std.proofs.Common.{◌≡◌}
 use Rattle.bind_core.specs.steps.FirstTaken.{first_taken}
-use Rattle.bind_core.specs.steps.Takers.{ready_taker}
+use Rattle.bind_core.specs.Takers.{ready_taker}
 use Rattle.bind_core.proofs.end_set.EndSet.first_taken.Given as goal
 
 -- the first of what is left is the first of all

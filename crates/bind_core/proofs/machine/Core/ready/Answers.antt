@@ -4,7 +4,7 @@ use Rattle.mj_base.specs.declared.ids.EndId.{EndId}
 use Rattle.mj_base.specs.declared.ids.SeqId.{SeqId}
 use Rattle.core_state.specs.Agreement.{past_of}
 use Rattle.bind_core.specs.steps.FirstTaken.{least_among}
-use Rattle.bind_core.specs.steps.Takers.{ready_taker}
+use Rattle.bind_core.specs.Takers.{ready_taker}
 use Rattle.bind_core.specs.Causes.{newest, woken}
 use Rattle.bind_core.proofs.Covering.{ready_is}
 use Rattle.bind_core.proofs.machine.Core.ready.Goals as goal

@@ -15,9 +15,9 @@ use Rattle.bind_model.specs.Machine.{made, gone}
 use Rattle.bind_model.specs.Replies.{serials, tokens}
 use Rattle.bind_model.specs.Left.{ends_by, tokens_by, left}
 use Rattle.core_state.specs.Agreement.{Holds, past_of, wire_in, is_shut}
-use Rattle.bind_core.specs.steps.Numbering.{numbered, count_by, all_by, all_made, open_in}
-use Rattle.bind_core.specs.declared.left.Sort.{Sort}
-use Rattle.bind_core.specs.declared.left.Sort.TheVariants.{Ends, Tokens}
+use Rattle.core_state.specs.Numbering.{numbered, count_by, all_by, all_made, open_in}
+use Rattle.core_state.specs.declared.left.Sort.{Sort}
+use Rattle.core_state.specs.declared.left.Sort.TheVariants.{Ends, Tokens}
 use Rattle.core_state.specs.declared.state.State.{State}
 use Rattle.core_state.proofs.Facts.{made_few, serials_few, tokens_few}
 

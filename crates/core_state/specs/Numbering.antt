@@ -1,4 +1,4 @@
--- What isn't closed, as the table of handles has it.
+-- What isn't closed, as the places of things have it.
 use Rattle.std.specs.Prelude.{ℕ, List, map, not}
 use Rattle.std.specs.List.{flat_map, filter}
 use Rattle.handle_table.specs.Places.{Store, place_of, ends_made, tokens_made}
@@ -6,8 +6,8 @@ use Rattle.handle_table.specs.declared.thing.Thing.{Thing}
 use Rattle.handle_table.specs.declared.thing.Thing.TheVariants.{End, Token}
 use Rattle.bind_model.specs.Laws.{up_from}
 use Rattle.core_state.specs.Agreement.{is_shut}
-use Rattle.bind_core.specs.declared.left.Sort.{Sort}
-use Rattle.bind_core.specs.declared.left.Sort.TheVariants.{Ends, Tokens}
+use Rattle.core_state.specs.declared.left.Sort.{Sort}
+use Rattle.core_state.specs.declared.left.Sort.TheVariants.{Ends, Tokens}
 
 -- a thing by its number
 abbrev pub numbered : Sort → ℕ → ℕ → Thing

@@ -10,9 +10,9 @@ use Rattle.bind_model.specs.declared.endpoint.Endpoint.{Endpoint}
 use Rattle.bind_model.specs.declared.told.Why.{Why}
 use Rattle.bind_model.specs.declared.told.Why.TheVariants.{NoName, WrongSide, WrongMethod, WrongTokens}
 use Rattle.core_state.specs.Routers.{Routers, found_at}
-use Rattle.core_sending.specs.steps.Carrying.{all_fit, wrong_pipe}
+use Rattle.core_sending.specs.Carrying.{all_fit, wrong_pipe}
 use Rattle.core_state.specs.Opens.{opened}
-use Rattle.core_sending.specs.steps.Ways.{asks_of, way_to, way_unless}
+use Rattle.core_sending.specs.Ways.{asks_of, way_to, way_unless}
 use Rattle.data_pipe.specs.Table.{Lines}
 use Rattle.core_sending.specs.declared.carried.CarriedNames.{CarriedNames}
 

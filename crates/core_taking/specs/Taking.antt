@@ -17,7 +17,7 @@ use Rattle.bind_model.specs.declared.told.Why.TheVariants.{NoName, Disconnected,
 use Rattle.core_state.specs.Agreement.{past_of}
 use Rattle.core_state.specs.Routers.{Routers, found_at}
 use Rattle.core_state.specs.declared.state.State.{State}
-use Rattle.core_taking.specs.steps.Founds.{pending_ids}
+use Rattle.core_taking.specs.Founds.{pending_ids}
 use Rattle.core_taking.specs.declared.reading.Arrived.{Arrived}
 use Rattle.core_taking.specs.declared.receive.Brings.{Brings}
 
@@ -66,6 +66,18 @@ noted_as y a gone = record {
   gone = gone;
   moment = a.moment;
 }
+
+-- what a message brings: the reply as it is noted, the things that come out, and those that go
+pub record Bringing : Type 0 where
+  pub noted : Got
+  pub things : List Thing
+  pub gone : List Thing
+
+-- it is that of what arrived at an end
+pub record IsBringing (pipes : Contents) (y : EndId) (a : Arrived) (b : Bringing) : Type 0 where
+  pub noted : b.noted ≡ noted_as y a b.gone
+  pub gone : b.gone ≡ spread (carried_in pipes.ends (Some y)) pipes.made a.left
+  pub things : b.things ≡ a.named
 
 -- all that a message at y brings was made
 pub record IsBrought (pipes : Contents) (y : EndId) (a : Arrived) (b : Brings) : Type 0 where

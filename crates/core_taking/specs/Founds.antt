@@ -21,7 +21,7 @@ use Rattle.wire_model.specs.declared.target.MessageSide.{MessageSide}
 use Rattle.core_taking.specs.declared.admit.Admitted.{Admitted}
 use Rattle.core_taking.specs.declared.reading.Arrived.{Arrived}
 use Rattle.core_taking.specs.declared.reading.Found.{Found}
-use Rattle.core_taking.specs.steps.Admits.{Admits}
+use Rattle.core_taking.specs.Admits.{Admits}
 use Rattle.core_taking.specs.declared.reading.Found.TheVariants.{Nothing, Bad, Control, Dropped, Value}
 
 -- the oldest unread message at an end

@@ -14,7 +14,7 @@ use Rattle.bind_model.specs.declared.told.Why.{Why}
 use Rattle.bind_model.specs.declared.told.Why.TheVariants.{NoName, Disconnected, Elsewhere, WrongMethod}
 use Rattle.bind_model.specs.Replies.{is_response}
 use Rattle.core_state.specs.Routers.{Routers, found_at}
-use Rattle.core_sending.specs.steps.Fitting.{way_with}
+use Rattle.core_sending.specs.Fitting.{way_with}
 use Rattle.core_sending.specs.declared.carried.CarriedNames.{CarriedNames}
 use Rattle.core_sending.specs.declared.answer.Response.{Response}
 use Rattle.bind_model.specs.declared.commands.Command.{Command}

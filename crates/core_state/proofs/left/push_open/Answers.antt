@@ -1,14 +1,14 @@
 use Rattle.std.proofs.Common.{sym, ap, ◌∙◌, ◌≡◌, ◌++◌, [], ◌∷◌, arith, Some, None, Vec, Global}
 use Rattle.handle_table.specs.declared.thing.Thing.{Thing}
 use Rattle.handle_table.specs.Places.{place_of}
-use Rattle.bind_core.specs.steps.Numbering.{count_by, numbered}
-use Rattle.bind_core.proofs.Leaving.{is_numbered, is_past, open_more, shut_more}
-use Rattle.bind_core.proofs.left.push_open.Goals as goal
-use Rattle.bind_core.proofs.left.push_open.Goals.{then-not-is_shut+in_ok-push, else-not-is_shut}
+use Rattle.core_state.specs.Numbering.{count_by, numbered}
+use Rattle.core_state.proofs.Leaving.{is_numbered, is_past, open_more, shut_more}
+use Rattle.core_state.proofs.left.push_open.Goals as goal
+use Rattle.core_state.proofs.left.push_open.Goals.{then-not-is_shut+in_ok-push, else-not-is_shut}
 
 pub loop-place-preserved : goal.loop-place-preserved
 loop-place-preserved c =
-    let table = c.args.pipes.now.table in
+    let table = c.args.places.now in
     let there : place_of table (numbered c.args.sort c.args.seq c.loop-place.serial) ≡ Some c.in-Some.place =
     ap (place_of table) (sym c.numbered.ensures) ∙ (sym c.place.ensures ∙ c.in-Some.is) in
     record {
@@ -29,7 +29,7 @@ loop-place-preserved c =
 
 pub returns : goal.returns
 returns c =
-    let table = c.args.pipes.now.table in
+    let table = c.args.places.now in
     let none : place_of table (numbered c.args.sort c.args.seq c.loop-place.serial) ≡ None =
     ap (place_of table) (sym c.numbered.ensures) ∙ (sym c.place.ensures ∙ c.in_default.is) in
     let past = is_past c.args.sort table c.args.seq c.loop-place.serial none in

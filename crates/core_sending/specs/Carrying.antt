@@ -15,7 +15,7 @@ use Rattle.bind_model.specs.declared.names.EndpointName.{EndpointName}
 use Rattle.bind_model.specs.declared.told.Why.{Why}
 use Rattle.bind_model.specs.declared.told.Why.TheVariants.{WrongPipe}
 use Rattle.core_state.specs.Routers.{Routers, found_at}
-use Rattle.core_state.specs.steps.Unsent.{is_received}
+use Rattle.core_state.specs.Unsent.{is_received}
 use Rattle.core_state.specs.Placing.{all_out}
 use Rattle.core_sending.specs.declared.carried.Carried.{Carried}
 use Rattle.core_sending.specs.declared.carried.CarriedNames.{CarriedNames}
