@@ -1,0 +1,3 @@
+mod Losing
+mod Sent
+pub mod Stepping

@@ -1,0 +1,79 @@
+use Rattle.std.proofs.Common.{◌≡◌, List, ap, refl, subst, sym, ◌∙◌}
+use Rattle.handle_table.specs.declared.places.Place.TheVariants as places
+use Rattle.handle_table.specs.declared.thing.Thing.{Thing}
+use Rattle.bind_model.specs.declared.asked.Outgoing.{Outgoing}
+use Rattle.bind_model.specs.declared.commands.Reply.TheVariants as replies
+use Rattle.bind_model.specs.declared.endpoint.PendingId.{PendingId}
+use Rattle.core_sending.specs.declared.carried.CarriedNames.{CarriedNames}
+use Rattle.core_sending.specs.Calls.{command_of}
+use Rattle.core_state.specs.Placing.{PutsAll}
+use Rattle.core_state.specs.steps.Spends.{SpendsAll}
+use Rattle.core_sending.proofs.Called.{call_done, may_send, row_here, there}
+use Rattle.event_tables.specs.AsCore.{state_of}
+use Rattle.event_tables.proofs.Sent.{call_asked, call_free, call_ids, call_wanted, can_call, named, request}
+use Rattle.event_tables.proofs.Stepping.{steps_as, steps_of}
+use Rattle.event_tables.proofs.calling.send.Goals as goal
+
+pub writes_of-requires-clause-wanted : goal.writes_of-requires-clause-wanted
+writes_of-requires-clause-wanted c =
+    let w = c.args.sending in
+    call_wanted (state_of c.args.tables.now) c.args.seq c.requires.able w.end w.id w.prepared.now c.args.names w.moment c.requires.prepared
+    c.args.peer c.requires.free
+
+pub writes_of-requires-clause-ids : goal.writes_of-requires-clause-ids
+writes_of-requires-clause-ids c =
+    let w = c.args.sending in
+    call_ids (state_of c.args.tables.now) c.args.seq c.requires.able w.end w.id w.prepared.now c.args.names w.moment c.requires.prepared
+    c.args.peer c.requires.free
+
+pub reserve_sent-requires : goal.reserve_sent-requires
+reserve_sent-requires c =
+    let w = c.args.sending in
+    let s = state_of c.args.tables.now in
+    let ns = c.args.names in
+    row_here s c.args.seq (request s c.args.seq c.requires.able w.end w.id w.prepared.now ns w.moment c.requires.prepared)
+    (can_call s c.args.seq c.requires.able w.end w.id w.prepared.now ns w.moment c.requires.prepared) c.args.peer
+    (call_free s c.args.seq c.requires.able w.end w.id w.prepared.now ns w.moment c.requires.prepared c.args.peer c.requires.free)
+
+pub put_message-requires : goal.put_message-requires
+put_message-requires c =
+    let w = c.args.sending in
+    let s = state_of c.args.tables.now in
+    let ns = c.args.names in
+    there s c.args.seq (request s c.args.seq c.requires.able w.end w.id w.prepared.now ns w.moment c.requires.prepared)
+    (can_call s c.args.seq c.requires.able w.end w.id w.prepared.now ns w.moment c.requires.prepared) c.args.peer
+    (call_free s c.args.seq c.requires.able w.end w.id w.prepared.now ns w.moment c.requires.prepared c.args.peer c.requires.free)
+
+pub note_sent-requires : goal.note_sent-requires
+note_sent-requires c =
+    let w = c.args.sending in
+    let s = state_of c.args.tables.now in
+    let ns = c.args.names in
+    may_send s c.args.seq (request s c.args.seq c.requires.able w.end w.id w.prepared.now ns w.moment c.requires.prepared)
+    (can_call s c.args.seq c.requires.able w.end w.id w.prepared.now ns w.moment c.requires.prepared) c.args.peer
+    (call_free s c.args.seq c.requires.able w.end w.id w.prepared.now ns w.moment c.requires.prepared c.args.peer c.requires.free)
+    c.request_id_of-request_id.result c.reserve_sent.new.endpoints c.reserve_sent.ensures.same c.in_ok-reserve_sent.ensures.room
+
+pub returns : goal.returns
+returns c =
+    let w = c.args.sending in
+    let s = state_of c.args.tables.now in
+    let ns = c.args.names in
+    let writes = c.in_ok-writes.writes in
+    let are = c.in_ok-writes.ensures in
+    let r = request s c.args.seq c.requires.able w.end w.id w.prepared.now ns w.moment c.requires.prepared in
+    let can = can_call s c.args.seq c.requires.able w.end w.id w.prepared.now ns w.moment c.requires.prepared in
+    let free = call_free s c.args.seq c.requires.able w.end w.id w.prepared.now ns w.moment c.requires.prepared c.args.peer c.requires.free in
+    let things : c.as_slice.result.now ≡ ns.things = c.as_slice.ensures ∙ ap (λ (o : Outgoing). o.handles) are.outgoing in
+    let pendings : c.as_slice-2.result.now ≡ ns.pendings = c.as_slice-2.ensures ∙ ap (λ (o : Outgoing). o.pendings) are.outgoing in
+    let spent : SpendsAll ns.pendings s.rights.pendings c.remove_all.new.table =
+    subst (λ (ps : List PendingId). SpendsAll ps s.rights.pendings c.remove_all.new.table) pendings c.remove_all.ensures in
+    steps_as s _ c.args.seq _ _ (call_asked s c.args.seq c.requires.able w.end w.id w.prepared.now ns w.moment c.requires.prepared)
+    (steps_of s _ c.args.seq (command_of r) (replies.Sent c.request_id_of-request_id.result writes.told)
+    (call_done s c.args.seq r can c.args.peer free _ refl refl refl refl
+    c.request_id_of-request_id.result ns writes c.put_message.new.pipes c.reserve_sent.new.endpoints
+    c.request_id_of-request_id.ensures (sym (named ns)) are
+    c.in_ok-put_message.ensures
+    (subst (λ (zs : List Thing). PutsAll zs (places.Unread c.args.peer) c.put_message.new.pipes c.put_all.new.pipes) things c.put_all.ensures)
+    (subst (λ (ms : CarriedNames). SpendsAll ms.pendings s.rights.pendings c.remove_all.new.table) (sym (named ns)) spent)
+    c.push_reserved.ensures.events c.reserve_sent.ensures.same c.note_sent.ensures))

@@ -1,0 +1,2 @@
+pub mod AsCore
+pub mod steps
