@@ -1,0 +1,4 @@
+pub mod Held
+pub mod Commands
+pub mod Settled
+pub mod steps

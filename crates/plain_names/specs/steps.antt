@@ -1,0 +1,3 @@
+-- Definitions that serve proofs alone: no public clause cites them.
+pub mod Sending
+pub mod Spent
