@@ -45,29 +45,29 @@ abbrev named_by : (NameId → Option Thing) → (NameId → Option Thing) → (N
 named_by stands handle pending responder =
     record { stands = stands; handle = handle; pending = pending; responder = responder }
 
-same_named : (a b : Named) → a.stands ≡ b.stands → a.handle ≡ b.handle → a.pending ≡ b.pending → a.responder ≡ b.responder → a ≡ b
+pub same_named : (a b : Named) → a.stands ≡ b.stands → a.handle ≡ b.handle → a.pending ≡ b.pending → a.responder ≡ b.responder → a ≡ b
 same_named a b e f g h =
     ap (λ (x : NameId → Option Thing). named_by x a.handle a.pending a.responder) e
     ∙ (ap (λ (x : NameId → Option Thing). named_by b.stands x a.pending a.responder) f
     ∙ (ap (λ (x : NameId → Option PendingId). named_by b.stands b.handle x a.responder) g
     ∙ ap (λ (x : NameId → Option ResponderId). named_by b.stands b.handle b.pending x) h))
 
-or_or : {X : Type 0} (a b c : Option X) → or_before a (or_before b c) ≡ or_before (or_before a b) c
+pub or_or : {X : Type 0} (a b c : Option X) → or_before a (or_before b c) ≡ or_before (or_before a b) c
 or_or (Some x) b c = refl
 or_or None b c = refl
 
 -- what is held under a name after an end came for this sequence
-held_if : (b : Bool) (table : List (Option Thing)) (m : NameId) (x : Thing) (n : NameId) → m.0 < length table
+pub held_if : (b : Bool) (table : List (Option Thing)) (m : NameId) (x : Thing) (n : NameId) → m.0 < length table
     → held_at (filled_if b table m x) n ≡ or_before (came_to b (m ∷ []) (x ∷ []) n) (held_at table n)
 held_if true table m x n within = held_given (m ∷ []) (x ∷ []) table (within, tt) n
 held_if false table m x n within = refl
 
-length_if : (b : Bool) (table : List (Option Thing)) (m : NameId) (x : Thing) → length (filled_if b table m x) ≡ length table
+pub length_if : (b : Bool) (table : List (Option Thing)) (m : NameId) (x : Thing) → length (filled_if b table m x) ≡ length table
 length_if true table m x = length-set table m.0 (Some x)
 length_if false table m x = refl
 
 -- the line of a join
-abbrev line_of : Joint → ℕ → Line
+abbrev pub line_of : Joint → ℕ → Line
 line_of joint number = record { number = number; seq = joint.seq; command = Join joint.other joint.first joint.second }
 
 module _ (joint : Joint) (number names : ℕ) (x y : Thing) (t : SeqId) (before after : Rooms) (have : HaveNames names before)
@@ -181,7 +181,7 @@ abbrev pub joins_in : List Line → List Line
 joins_in lines = filter (λ (line : Line). is_join line.command) lines
 
 -- a line by its number, its sequence and its command
-abbrev given_line : ℕ → SeqId → Command → Line
+abbrev pub given_line : ℕ → SeqId → Command → Line
 given_line number seq command = record { number = number; seq = seq; command = command }
 
 -- a line that joins is the next of them
@@ -200,7 +200,7 @@ join_here (l ∷ lines) (suc i) line at is = by (is_join l.command) (join_here l
     by false e = e
 
 -- how many there are up to a line
-abbrev step_if : Bool → ℕ → ℕ
+abbrev pub step_if : Bool → ℕ → ℕ
 step_if true n = suc n
 step_if false n = n
 

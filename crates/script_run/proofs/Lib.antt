@@ -1,21 +1,21 @@
 mod AllLines
-mod Coming
+pub mod Coming
 mod Ending
 pub mod JoinDone
 mod Later
-mod Traces
+pub mod Traces
 mod Gates
 pub mod Joining
-mod LineDone
+pub mod LineDone
 mod LineTurns
 mod OneEvent
-mod OrderLists
+pub mod OrderLists
 mod OrderSteps
 pub mod RunParts
-mod Sequences
+pub mod Sequences
 pub mod Serving
-mod TakeTurns
-mod TurnLemmas
+pub mod TakeTurns
+pub mod TurnLemmas
 pub mod Waking
 mod DueReplies
 mod EventShares

@@ -52,7 +52,7 @@ use Rattle.script_run.proofs.TurnLemmas.{AreCounted, line_holds, over_left}
 
 -- ## Names that stand for nothing
 
-none_held : {X : Type 0} (size : ℕ) (n : NameId) → held_at (replicate {A = Option X} size None) n ≡ None
+pub none_held : {X : Type 0} (size : ℕ) (n : NameId) → held_at (replicate {A = Option X} size None) n ≡ None
 none_held {X} size n = go size n.0
   where
     go : (k m : ℕ) → option_and_then (λ (held : Option X). held) (slice_get (replicate {A = Option X} k None) m) ≡ None
@@ -60,7 +60,7 @@ none_held {X} size n = go size n.0
     go (suc k) zero = refl
     go (suc k) (suc m) = go k m
 
-none_there : {X : Type 0} (xs : List X) → length xs ≡ 0 → xs ≡ []
+pub none_there : {X : Type 0} (xs : List X) → length xs ≡ 0 → xs ≡ []
 none_there [] e = refl
 none_there (x ∷ xs) e = absurd (omega (arith, e))
 

@@ -57,7 +57,7 @@ each_added {A} P xs new count last long is own others k x e =
     go false at h = others k x h
 
 -- what was set at a number stands there
-set_here : {A : Type 0} (x : A) (xs : List A) (n : ℕ) (y : A) → slice_get (set xs n x) n ≡ Some y → x ≡ y
+pub set_here : {A : Type 0} (x : A) (xs : List A) (n : ℕ) (y : A) → slice_get (set xs n x) n ≡ Some y → x ≡ y
 set_here {A} x xs n y e =
     found (slice_get xs n)
     (subst (λ (b : Bool). (if b then option_map (λ (before : A). x) (slice_get xs n) else slice_get xs n) ≡ Some y) (eq-eqb n n refl)
@@ -68,7 +68,7 @@ set_here {A} x xs n y e =
     found None h = absurd cc
 
 -- and the others stand where they stood
-set_other : {A : Type 0} (x : A) (xs : List A) (n k : ℕ) → (n == k) ≡ false → slice_get (set xs n x) k ≡ slice_get xs k
+pub set_other : {A : Type 0} (x : A) (xs : List A) (n k : ℕ) → (n == k) ≡ false → slice_get (set xs n x) k ≡ slice_get xs k
 set_other {A} x xs n k other =
     get-set x xs n k ∙ ap (λ (b : Bool). if b then option_map (λ (before : A). x) (slice_get xs k) else slice_get xs k) other
 
@@ -77,11 +77,11 @@ take_one [] k event e = absurd cc
 take_one (x ∷ events) zero event e = let same : x ≡ event = cc in ap (λ (y : Event). y ∷ []) same
 take_one (x ∷ events) (suc k) event e = ap (λ (es : List Event). x ∷ es) (take_one events k event e)
 
-take_more : (events : List Event) (k : ℕ) (event : Event) → slice_get events k ≡ Some event → take (k + 1) events ≡ take k events ++ event ∷ []
+pub take_more : (events : List Event) (k : ℕ) (event : Event) → slice_get events k ≡ Some event → take (k + 1) events ≡ take k events ++ event ∷ []
 take_more events k event e = ap (λ (n : ℕ). take n events) (add-one k) ∙ take_one events k event e
 
 -- where none of a list passes, and where one does
-none_passes : {A : Type 0} (p : A → Bool) (xs : List A) (k : ℕ) (x : A) → length (filter p xs) ≡ 0 → slice_get xs k ≡ Some x → p x ≡ false
+pub none_passes : {A : Type 0} (p : A → Bool) (xs : List A) (k : ℕ) (x : A) → length (filter p xs) ≡ 0 → slice_get xs k ≡ Some x → p x ≡ false
 none_passes p [] k x e h = absurd cc
 none_passes {A} p (y ∷ ys) k x e h = go (p y) refl e k h (λ i f g. none_passes p ys i x f g)
   where
@@ -92,13 +92,13 @@ none_passes {A} p (y ∷ ys) k x e h = go (p y) refl e k h (λ i f g. none_passe
     go false f long (suc i) g others = others i long g
 
 -- one that passes
-record Passes {A : Type 0} (p : A → Bool) (xs : List A) : Type 0 where
-  at : ℕ
-  it : A
-  here : slice_get xs at ≡ Some it
-  passes : p it ≡ true
+pub record Passes {A : Type 0} (p : A → Bool) (xs : List A) : Type 0 where
+  pub at : ℕ
+  pub it : A
+  pub here : slice_get xs at ≡ Some it
+  pub passes : p it ≡ true
 
-some_passes : {A : Type 0} (p : A → Bool) (xs : List A) → (length (filter p xs) ≡ 0 → ⊥) → Passes p xs
+pub some_passes : {A : Type 0} (p : A → Bool) (xs : List A) → (length (filter p xs) ≡ 0 → ⊥) → Passes p xs
 some_passes p [] some = absurd (some refl)
 some_passes {A} p (y ∷ ys) some = go (p y) refl some (some_passes p ys)
   where
@@ -109,7 +109,7 @@ some_passes {A} p (y ∷ ys) some = go (p y) refl some (some_passes p ys)
         let one = rest more in
         record { at = suc one.at; it = one.it; here = one.here; passes = one.passes }
 
-none_some : {A : Type 0} (o : Option A) (x : A) → o ≡ None → o ≡ Some x → ⊥
+pub none_some : {A : Type 0} (o : Option A) (x : A) → o ≡ None → o ≡ Some x → ⊥
 none_some None x e f = absurd cc
 none_some (Some y) x e f = absurd cc
 
@@ -411,7 +411,7 @@ module _ (schema : Schema) (script : Script) (after_joins : List Event) where
       go None e f = e
       go (Some d) e f = absurd (none_some (Some (replied d)) (replied d) f refl)
 
-  none_last : (middle : List Event) → legal (wire_of schema) script.seqs (middle ++ after_joins) → GoesOn (next_join script) after_joins
+  pub none_last : (middle : List Event) → legal (wire_of schema) script.seqs (middle ++ after_joins) → GoesOn (next_join script) after_joins
       → ((s : SeqId) → s.0 < script.seqs → next_of (wire_of schema) script after_joins s (own_of s middle) ≡ None)
       → due (wire_of schema) script.autos (middle ++ after_joins) ≡ None
   none_last [] h joins over = none_joined (wire_of schema) script after_joins joins

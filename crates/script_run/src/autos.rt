@@ -21,7 +21,7 @@ fn replies_to(seq: SeqId, responder: ResponderId, reply: &AutoReply) -> bool
 }
 
 /// The first one of a sequence that is for this responder.
-fn reply_to(autos: &[AutoReply], seq: SeqId, responder: ResponderId) -> Option<&AutoReply>
+pub fn reply_to(autos: &[AutoReply], seq: SeqId, responder: ResponderId) -> Option<&AutoReply>
     ensures { option_copied result ≡ find (replies_to seq responder) autos.now }
 {
     autos

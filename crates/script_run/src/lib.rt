@@ -21,11 +21,13 @@ mod single;
 mod tracing;
 mod worker;
 
+pub use autos::reply_to;
 pub use commands::serve;
 pub use cut::Cut;
 pub use desks::at_rest;
 pub use draining::{Drained, cut_off, drain};
 pub use joins::{Joint, settle};
+pub use order::lines_of;
 pub use plain::Plain;
 pub use run::open_rooms;
 pub use runner::{Ran, end, run_alone};

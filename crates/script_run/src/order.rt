@@ -60,7 +60,7 @@ impl<'s> Queue<'s> {
 
 /// The lines of one sequence, the joins left out.
 pub fn lines_of(alloc: Global, all: &[Line], seq: u32) -> Result<Vec<&Line>, AllocError>
-    ensures { IfOk result (λ lines. map (λ line. line.now) lines.items ≡ filter (is_own (numbered seq)) all.now) }
+    ensures { IfOk result (λ lines. map (λ line. line.now) lines.items ≡ filter (is_own (record { 0 = seq })) all.now) }
 {
     let mut lines = Vec::new(alloc);
     for line in all {

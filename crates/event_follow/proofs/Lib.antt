@@ -1,0 +1,6 @@
+mod Running
+mod PlacesLemmas
+mod Turning
+mod Joining
+mod FollowingLemmas
+mod DrainingLemmas
