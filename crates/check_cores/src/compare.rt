@@ -1,15 +1,21 @@
-//! Comparing a core with the literal machine, step by step.
+//! Comparing a core with the literal machine, and with the machine by names, step by step.
 
-ghost use Rattle.std.specs.Prelude.{◌≡◌, IfOk};
+ghost use Rattle.std.specs.Prelude.{◌≡◌, ◌<◌, IfOk};
 ghost use Rattle.std.specs.Arc.{arc_value};
+ghost use Rattle.bind_model.specs.Plain.{IsOf};
+ghost use Rattle.core_state.specs.Agreement.{schema_of};
+ghost use Rattle.event_tables.specs.AsCore.{state_of};
+ghost use Rattle.event_steps.specs.Standing.{Stands};
 
+use crate::by_names::{are_alike, do_named, machine_of, plain_of};
 use crate::held::Held;
 use crate::moves::{Turn, Walk};
 use crate::play::command_of;
 use crate::tally::Tally;
 use bind_core::Core;
-use bind_model::{Event, Refused};
+use bind_model::{Command, Event, Refused};
 use bind_reference::{answer, left, ready};
+use event_steps::Machine;
 use handle_table::Ended;
 use mj_base::SeqId;
 use mj_schema::Schema;
@@ -19,6 +25,31 @@ use std::sync::Arc;
 
 /// How many sequences a core of a walk has.
 const SEQUENCES: u32 = 2;
+
+/// Does a command on a core.
+fn do_command(
+    core: &mut Core,
+    held: &mut Held<'_>,
+    alloc: Global,
+    seq: SeqId,
+    command: Command,
+) -> Result<(), AllocError>
+    requires seq { seq.0 < core.old.seqs }
+    requires prepared { IsOf core.old.schema command }
+    ensures same { (core.new.schema ≡ core.old.schema) × (core.new.seqs ≡ core.old.seqs) }
+{
+    match core.step(alloc, seq, command) {
+        Ok(reply) => held.put(reply),
+        Err(Refused::Memory(command) | Refused::Spent(command)) => {
+            held.put_back(command);
+            return Err(AllocError);
+        }
+    }
+    if held.is_short {
+        return Err(AllocError);
+    }
+    Ok(())
+}
 
 /// Does a turn on a core of so many sequences; it isn't done where something that it takes isn't held.
 pub fn play(
@@ -39,16 +70,38 @@ pub fn play(
     let Some(command) = command_of(held, alloc, schema, step)? else {
         return Ok(false);
     };
-    match core.step(alloc, SeqId(seq), command) {
-        Ok(reply) => held.put(reply),
-        Err(Refused::Memory(command) | Refused::Spent(command)) => {
-            held.put_back(command);
-            return Err(AllocError);
-        }
+    do_command(core, held, alloc, SeqId(seq), command)?;
+    Ok(true)
+}
+
+/// Does a turn on a core and on the machine by names; it isn't done where something that it takes isn't held.
+fn play_both(
+    core: &mut Core,
+    machine: &mut Machine,
+    held: &mut Held<'_>,
+    alloc: Global,
+    schema: &Schema,
+    turn: Turn,
+) -> Result<bool, AllocError>
+    requires core { (core.old.schema ≡ schema.now) × (core.old.seqs ≡ SEQUENCES) }
+    requires machine { Stands machine.old × (schema_of (state_of machine.old.tables) ≡ schema.now) × (machine.old.tables.seqs ≡ SEQUENCES) }
+    ensures core { (core.new.schema ≡ core.old.schema) × (core.new.seqs ≡ core.old.seqs) }
+    ensures machine { IfOk result (λ done. Stands machine.new × (schema_of (state_of machine.new.tables) ≡ schema.now)
+        × (machine.new.tables.seqs ≡ SEQUENCES)) }
+{
+    let Turn(seq, step) = turn;
+    if seq >= SEQUENCES {
+        return Ok(false);
     }
-    if held.is_short {
+    let Some(command) = command_of(held, alloc, schema, step)? else {
+        return Ok(false);
+    };
+    let Ok(plain) = plain_of(alloc, &command) else {
+        held.put_back(command);
         return Err(AllocError);
-    }
+    };
+    do_command(core, held, alloc, SeqId(seq), command)?;
+    do_named(machine, alloc, SeqId(seq), plain)?;
     Ok(true)
 }
 
@@ -59,14 +112,22 @@ fn has_left(core: &Core, alloc: Global, events: &[Event]) -> Result<bool, AllocE
     Ok(found == wanted)
 }
 
-/// Compares the newest reply of a core, to the turn of a place, which end is ready then, and what isn't gone, with what the events say.
+/// Compares the newest reply of a core, to the turn of a place, which end is ready then, and what isn't gone, with what the events say,
+/// and with what the machine by names has, where that is from this place on.
 fn compare(
     core: &Core,
+    machine: &Machine,
     alloc: Global,
     schema: &Schema,
     turn: usize,
+    from: usize,
     tally: &mut Tally,
-) -> Result<(), AllocError> {
+) -> Result<(), AllocError>
+    requires { Stands machine.now }
+{
+    if turn < from {
+        return Ok(());
+    }
     let events = core.history().as_slice();
     let Some((event, past)) = events.split_last() else {
         return Ok(());
@@ -75,12 +136,15 @@ fn compare(
     let is_left = has_left(core, alloc, events)?;
     let wanted = answer(alloc, schema, SEQUENCES, past, event.seq, &event.asked)?;
     let is_told = are_same_told(alloc, &event.told, &wanted)?;
-    tally.add_step(turn, &event.told, &wanted, is_told && is_ready && is_left)
+    let is_alike = are_alike(core, machine, alloc)?;
+    let is_right = is_told && is_ready && is_left && is_alike;
+    tally.add_step(turn, &event.told, &wanted, is_right)
 }
 
-/// Does turns on a core until one isn't done, and compares those from a place on.
+/// Does turns on a core and on the machine by names until one isn't done, and compares those from a place on.
 fn do_turns(
     core: &mut Core,
+    machine: &mut Machine,
     held: &mut Held<'_>,
     alloc: Global,
     schema: &Schema,
@@ -89,14 +153,13 @@ fn do_turns(
     tally: &mut Tally,
 ) -> Result<(), AllocError>
     requires core { (core.old.schema ≡ schema.now) × (core.old.seqs ≡ SEQUENCES) }
+    requires machine { Stands machine.old × (schema_of (state_of machine.old.tables) ≡ schema.now) × (machine.old.tables.seqs ≡ SEQUENCES) }
 {
     for (place, turn) in turns.iter().enumerate() {
-        if !play(core, held, alloc, schema, SEQUENCES, *turn)? {
+        if !play_both(core, machine, held, alloc, schema, *turn)? {
             return Ok(());
         }
-        if place >= from {
-            compare(core, alloc, schema, place, tally)?;
-        }
+        compare(core, machine, alloc, schema, place, from, tally)?;
     }
     Ok(())
 }
@@ -111,7 +174,7 @@ pub fn core_of(alloc: Global, schema: &Arc<Schema>, seqs: u32) -> Result<Core, A
     }
 }
 
-/// Does turns on a new core, and compares those from a place on.
+/// Does turns on a new core and a new machine by names, and compares those from a place on.
 fn compare_list(
     alloc: Global,
     schema: &Arc<Schema>,
@@ -120,10 +183,20 @@ fn compare_list(
     from: usize,
     tally: &mut Tally,
 ) -> Result<(), AllocError> {
+    let mut machine = machine_of(alloc, schema, SEQUENCES)?;
     let mut core = core_of(alloc, schema, SEQUENCES)?;
     let mut held = Held::new(alloc, spare);
     tally.lists = tally.lists.saturating_add(1);
-    let done = do_turns(&mut core, &mut held, alloc, schema, turns, from, tally);
+    let done = do_turns(
+        &mut core,
+        &mut machine,
+        &mut held,
+        alloc,
+        schema,
+        turns,
+        from,
+        tally,
+    );
     let (_history, over) = core.end();
     held.retire(&over);
     done

@@ -3,14 +3,15 @@
 #![tactic(auto)]
 
 mod at_once;
-mod callbacks;
+pub mod callbacks;
 mod compare;
+mod followed;
 mod gate;
 mod held;
 mod played;
 mod tally;
 mod threaded;
-mod walk;
+pub mod walk;
 
 pub use compare::run;
 pub use played::Played;

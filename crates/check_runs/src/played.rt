@@ -6,6 +6,7 @@ ghost use Rattle.mj_base.specs.declared.limits.TheConstants.{MAX_FILE_BYTES};
 ghost use Rattle.call_script.specs.Sound.{IsScript};
 
 use crate::callbacks::callbacks;
+use crate::followed::both_agree;
 use bind_model::History;
 use bind_reference::left;
 use call_script::{Script, ScriptError, read_script};
@@ -24,13 +25,14 @@ use std::io::Print;
 use std::sync::Arc;
 
 /// What comes of a script: what its run left, and all events, what became of callbacks and what isn't closed by
-/// the definition.
+/// the definition; and whether the events are followed alike on a core and by tables.
 #[derive(Drop)]
 pub struct Played {
     ran: Ran,
     pub events: History,
     notes: Vec<Note>,
     left: Vec<Thing>,
+    agrees: bool,
 }
 
 /// What a run of a script in an order leaves.
@@ -65,6 +67,7 @@ impl Played {
         }
         let ran = run(alloc, schema, &script, order)?;
         let events = events_of(alloc, schema, &script, order)?;
+        let agrees = both_agree(alloc, schema, &script, &events)?;
         let notes = callbacks(alloc, script.seqs, &events)?;
         let left = left(alloc, script.seqs, &events)?;
         Ok(Some(Played {
@@ -72,10 +75,11 @@ impl Played {
             events: History::from_items(Items::from_vec(events)),
             notes,
             left,
+            agrees,
         }))
     }
 
-    /// Whether the run is the one that the definition gives.
+    /// Whether the run is the one that the definition gives, and both engines that follow events agree.
     pub fn is_right(&self, alloc: Global) -> Result<bool, AllocError> {
         let is_history = are_same_events(
             alloc,
@@ -83,7 +87,8 @@ impl Played {
             self.events.as_slice(),
         )?;
         let are_notes = self.ran.notes.as_slice() == self.notes.as_slice();
-        Ok(is_history && are_notes && self.ran.left.as_slice() == self.left.as_slice())
+        let is_left = self.ran.left.as_slice() == self.left.as_slice();
+        Ok(is_history && are_notes && is_left && self.agrees)
     }
 
     /// Prints both histories.

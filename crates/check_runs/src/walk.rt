@@ -61,12 +61,17 @@ impl Walk {
         }
     }
 
-    /// The schema of its definitions; none where they are refused.
-    pub fn schema(&self, alloc: Global) -> Result<Option<Schema>, AllocError> {
-        let source = Source {
+    /// The file of its definitions.
+    pub fn source(&self, alloc: Global) -> Result<Source, AllocError> {
+        Ok(Source {
             name: Text::from_str(alloc, "t.mojom")?,
             bytes: Items::from_vec(Vec::from_slice(alloc, self.definitions.as_bytes())?),
-        };
+        })
+    }
+
+    /// The schema of its definitions; none where they are refused.
+    pub fn schema(&self, alloc: Global) -> Result<Option<Schema>, AllocError> {
+        let source = self.source(alloc)?;
         Ok(compile(alloc, &[source]).ok())
     }
 
@@ -95,7 +100,7 @@ impl Walk {
 }
 
 /// Adds a line.
-fn push_line(text: &mut String, line: &str) -> Result<(), AllocError> {
+pub fn push_line(text: &mut String, line: &str) -> Result<(), AllocError> {
     text.push_str(line)?;
     text.push_str("\n")
 }

@@ -13,10 +13,10 @@ ghost use Rattle.history_audit.specs.Audited.{Audits};
 
 use crate::judge::judge;
 use call_script::Script;
+use event_follow::follow;
 use history_reader::{Printed, read_history};
 use mj_schema::Schema;
 use printed_runs::runs_in_any_order_can_be_printed;
-use script_run::follow;
 use std::alloc::Global;
 use std::sync::Arc;
 use thiserror::Error;
@@ -58,7 +58,7 @@ fn read(alloc: Global, schema: &Schema, bytes: &[u8]) -> Result<Printed, AuditEr
     }
 }
 
-/// Judges what a text says by a script over a schema that is shared with a core.
+/// Judges what a text says by a script over a schema that is shared.
 fn audit_printed(
     alloc: Global,
     schema: &Schema,
@@ -85,7 +85,7 @@ fn audit_printed(
     }
 }
 
-/// Judges a text by a script over a schema that is shared with a core.
+/// Judges a text by a script over a schema that is shared.
 fn audit_over(
     alloc: Global,
     schema: &Schema,
@@ -107,8 +107,9 @@ fn audit_over(
 }
 
 /// Judges a text by a script: whether it is that of a run of the script, in whatever order its sequences did
-/// their lines. A core of its own does what the script asks, in the order in which the text says that the
-/// sequences came, and what it prints is compared. Takes time in proportion to the text and to a run.
+/// their lines. What the script asks is looked up in tables of the events before, in the order in which the
+/// text says that the sequences came, and what a run would print is compared: no core runs, and nobody has
+/// handles. Takes time in proportion to the text and to a run, and to the logarithm of how much there is.
 pub fn audit(
     alloc: Global,
     schema: Arc<Schema>,

@@ -40,7 +40,7 @@ use Rattle.mojo_tool.specs.Work.{Gathering, Loads, Comparing, Pairing}
 use Rattle.mojo_tool.specs.Work.{Listing, Valuing, Sealing, Preparing, Writing, Finding, Encoding, Unhexing, IsShown, Judged, Judging, Showing, Decoding}
 use Rattle.mojo_tool.specs.Work.{parameters_kind, without_line_end, unchecked, audited, Auditing, Scripted, Historying, AuditingAll, IsWork}
 use Rattle.history_audit.proofs.Counted as counts
-use Rattle.mojo_tool.proofs.Ran.{printable_of_files}
+use Rattle.printed_schemas.proofs.OfFiles.{printable_of_files}
 use Rattle.mojo_tool.proofs.OneValue.{one_value}
 use Rattle.mojom_compile.proofs.OneSchemaOfFiles.{one_schema as one_schema_of_files}
 

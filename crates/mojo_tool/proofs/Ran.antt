@@ -1,5 +1,5 @@
 -- What a run leaves is the text of its script.
-use Rattle.std.proofs.Common.{◌≡◌, ◌≤◌, ℕ, List, [], ◌∷◌, length, reverse, Ok, Option, sym, ap, ◌∙◌, subst}
+use Rattle.std.proofs.Common.{◌≡◌, ◌≤◌, ℕ, List, length, reverse, Ok, Option, sym, ap, ◌∙◌, subst}
 use Rattle.std.proofs.lemmas.List.{length-reverse}
 use Rattle.mj_base.specs.declared.limits.TheConstants.{MAX_EVENTS}
 use Rattle.mj_schema.specs.declared.schema.Schema.{Schema}
@@ -15,10 +15,7 @@ use Rattle.bind_model.proofs.FlushLemmas.{flushes_numbered}
 use Rattle.bind_model.proofs.OriginLemmas.{have_writers}
 use Rattle.bind_model.proofs.Pauses.{all_unpaused}
 use Rattle.bind_model.specs.Left.{left}
-use Rattle.mojom_ast.specs.declared.file.File.{File}
-use Rattle.mojom_files.specs.declared.named_file.NamedFile.{NamedFile}
-use Rattle.mojom_compile.specs.Compiled.{IsParsed}
-use Rattle.mojom_compile.specs.Schemas.{AreTreesOf, IsSchemaOfFiles}
+use Rattle.mojom_compile.specs.Schemas.{IsSchemaOfFiles}
 use Rattle.mojom_compile.specs.declared.source.Source.{Source}
 use Rattle.call_script.specs.Script.{IsScriptOf}
 use Rattle.call_script.specs.declared.script.Script.{Script}
@@ -34,8 +31,7 @@ use Rattle.history_text.specs.declared.notes.Note.{Note}
 use Rattle.history_reader.specs.Texts.{Tells}
 use Rattle.history_reader.specs.Whole as texts
 use Rattle.line_parts.specs.Schemas.{IsPrintableSchema}
-use Rattle.printed_schemas.specs.Spelled.{AreSpelled, IsSpelled}
-use Rattle.printed_schemas.proofs.Schemas.{printable_schema}
+use Rattle.printed_schemas.proofs.OfFiles.{printable_of_files}
 use Rattle.printed_histories.specs.Runs.{run_said, run_text}
 use Rattle.printed_histories.proofs.ValueSent.{PassedIsEncodable}
 use Rattle.printed_runs.specs.Fitting.{AllFit}
@@ -63,24 +59,6 @@ keeps_laws law schema seqs past is few fit = record {
   one_owner = one_owner (wire_of schema) seqs past is;
   groups = groups_apart (wire_of schema) seqs past is;
 }
-
--- ## The schema
-
-spelled_of : (bytes : List ℕ) (tree : File) → IsParsed bytes tree → IsSpelled tree
-spelled_of bytes tree parsed = record { bytes = bytes; tokens = parsed.tokens; are = parsed.are; spelled = parsed.spelled }
-
-trees_spelled : (sources : List Source) (files : List NamedFile) → AreTreesOf sources files → AreSpelled files
-trees_spelled [] [] trees = tt
-trees_spelled [] (file ∷ files) trees = absurd trees
-trees_spelled (source ∷ sources) [] trees = absurd trees
-trees_spelled (source ∷ sources) (file ∷ files) trees = (spelled_of source.bytes file.tree trees.0.parsed, trees_spelled sources files trees.1)
-
--- the schema of files has names and numbers that a text can say
-pub printable_of_files : (sources : List Source) (schema : Schema) → IsSchemaOfFiles sources schema → IsPrintableSchema schema
-printable_of_files sources schema is =
-    let t = is.tables.tables in
-    let same = is.layout.interfaces ∙ ap (λ draft. draft.interfaces) t.are in
-    printable_schema is.tables.files t.order t.names t.consts schema (trees_spelled sources is.tables.files is.tables.trees) t.passed same
 
 -- ## The text
 

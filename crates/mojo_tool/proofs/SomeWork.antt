@@ -69,7 +69,7 @@ use Rattle.mojo_tool.specs.Complete.{AreTooMany, HaveTooManyRows}
 use Rattle.printed_histories.proofs.ValueSent.{has_struct}
 use Rattle.printed_runs.proofs.SentWords.{named_parameters}
 use Rattle.history_audit.proofs.Counted.{some_answer}
-use Rattle.mojo_tool.proofs.Ran.{printable_of_files}
+use Rattle.printed_schemas.proofs.OfFiles.{printable_of_files}
 use Rattle.mojo_tool.proofs.Sealed.{is_sealed}
 use Rattle.mojo_tool.proofs.Shown.{struct_by, text_read}
 

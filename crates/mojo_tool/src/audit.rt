@@ -75,7 +75,7 @@ fn say<'a>(alloc: Global, answer: AuditFinding) -> Result<Items<u8>, Stop<'a>>
     }
 }
 
-/// What an audit says of a history's bytes, over a schema that is shared with its core.
+/// What an audit says of a history's bytes, over a schema that is shared with its tables.
 #[tactic(auto, using(crate::proofs::Histories::bad_stops))]
 fn audit_shared<'a>(
     alloc: Global,

@@ -7,3 +7,4 @@ mod WordsOfTables
 mod SmallVersions
 mod SmallNumbers
 pub mod Schemas
+pub mod OfFiles

@@ -25,7 +25,7 @@ fn owed(
 
 /// What a sequence asks next behind these events, which begin with all joins: the automatic reply that it owes, or
 /// else its next line; none where it has done all.
-fn next_asked(
+pub fn next_asked(
     alloc: Global,
     schema: &Schema,
     script: &Script,
@@ -74,7 +74,7 @@ fn do_turns(
 }
 
 /// Whether all sequences have done all behind these events.
-fn are_done(
+pub fn are_done(
     alloc: Global,
     schema: &Schema,
     script: &Script,

@@ -3,7 +3,7 @@ use Rattle.mojo_tool.specs.Work.{Auditing}
 use Rattle.mojo_tool.specs.steps.Messages.{IsTextOfWork}
 use Rattle.mojo_tool.specs.steps.Stops.{StopsAt}
 use Rattle.mojo_tool.proofs.Histories.{said_stop, said_text}
-use Rattle.mojo_tool.proofs.Ran.{printable_of_files}
+use Rattle.printed_schemas.proofs.OfFiles.{printable_of_files}
 use Rattle.mojo_tool.proofs.audit.audit_shared.Goals as goal
 
 pub audit-requires-clause-words : goal.audit-requires-clause-words
