@@ -19,6 +19,7 @@ TRIED = (('crates/conformance/stdout', r'^(\d+) passed', ('README.md', 'docs/pro
          ('crates/checks/stdout', r'^(\d+) passed', ('README.md',)),
          ('crates/checks/stdout', r'^(\d+) compared, 0 differences', ('README.md', 'docs/promise.md')),
          ('crates/checks/stdout', r'^(\d+) scripts, 0 differences$', ('README.md', 'docs/promise.md')),
+         ('crates/checks/stdout', r'^(\d+) texts of histories, 0 differences$', ('README.md', 'docs/promise.md')),
          ('crates/checks/stdout', r', (\d+) steps, differ 0$', ('README.md', 'docs/promise.md')))
 
 # How pages write small numbers.
