@@ -16,7 +16,7 @@ ghost use Rattle.bind_core.specs.steps.Watching.{IsWithin};
 use crate::end_set::EndSet;
 use crate::takers::ready_taker;
 use crate::waiting::{Cause, Waiting};
-use bind_model::{Asked, Command, Event, Noted, Told};
+use bind_model::{Asked, Boxed, Command, Event, Got, Noted, Told};
 use core_state::{State, forget_met};
 use end_notices::NoticeTable;
 use handle_table::Thing;
@@ -44,12 +44,19 @@ fn flush_of(event: &Event) -> Option<Cause>
     }
 }
 
+/// What went with a message that was got.
+fn gone_in(got: &Boxed<Got>) -> &[Thing]
+    ensures { result.now ≡ got.now.gone }
+{
+    got.get().gone.as_slice()
+}
+
 /// What went with an event.
 pub fn gone_of(told: &Told) -> &[Thing]
     ensures { result.now ≡ gone_by told.now }
 {
     match told {
-        Told::Taken(got) => got.gone.as_slice(),
+        Told::Taken(got) => gone_in(got),
         Told::Dropped(_, gone) | Told::Bad(_, gone) | Told::Closed(gone) => gone.as_slice(),
         _ => &[],
     }

@@ -33,4 +33,5 @@ pub mod ResponderCounts
 pub mod PendingTable
 pub mod CoreFacts
 pub mod Crossing
+mod KeptLists
 pub mod PeerLemmas

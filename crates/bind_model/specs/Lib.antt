@@ -14,6 +14,7 @@ pub mod Tables
 pub mod Origins
 pub mod Left
 pub mod Histories
+pub mod KeptTrees
 pub mod Names
 pub mod Pendings
 pub mod Plain

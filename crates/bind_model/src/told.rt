@@ -1,10 +1,15 @@
 //! What a sequence may be told.
 
+ghost use Rattle.std.specs.Prelude.{◌≡◌, IfOk};
+
+use crate::boxed::Boxed;
 use crate::endpoint::PendingId;
+use crate::few_things::FewThings;
 use crate::flow::Flowed;
-use crate::parameters::Parameters;
+use crate::kept_parameters::KeptParameters;
 use handle_table::{Thing, TokenId};
 use mj_base::{EndId, Fault, Items, SeqId};
+use std::alloc::{AllocError, Global};
 use wire_model::Target;
 
 /// What a take got: the id of the endpoint that the message was for, its method and side, its
@@ -14,12 +19,53 @@ use wire_model::Target;
 pub struct Got {
     pub id: u32,
     pub target: Target,
-    pub parameters: Parameters,
+    pub parameters: KeptParameters,
     pub request: u64,
-    pub handles: Items<Thing>,
+    pub handles: FewThings,
     pub pendings: Items<PendingId>,
-    pub gone: Items<Thing>,
+    pub gone: FewThings,
     pub moment: Option<i64>,
+}
+
+impl Got {
+    /// What a take got, in a place of its own.
+    pub fn apart(
+        alloc: Global,
+        id: u32,
+        target: Target,
+        parameters: KeptParameters,
+        request: u64,
+        handles: Items<Thing>,
+        pendings: Items<PendingId>,
+        gone: Items<Thing>,
+        moment: Option<i64>,
+    ) -> Result<Boxed<Got>, AllocError>
+        ensures { IfOk result (λ got. got ≡ record {
+          id = id;
+          target = target;
+          parameters = parameters;
+          request = request;
+          handles = handles;
+          pendings = pendings;
+          gone = gone;
+          moment = moment;
+        }) }
+    {
+        let handles = FewThings::of(alloc, handles)?;
+        let gone = FewThings::of(alloc, gone)?;
+        let got = Got {
+            id,
+            target,
+            parameters,
+            request,
+            handles,
+            pendings,
+            gone,
+            moment,
+        };
+        let apart = Boxed::new(alloc, got)?;
+        Ok(apart)
+    }
 }
 
 /// Why a message is bad.
@@ -124,7 +170,7 @@ pub enum Told {
     /// The request id (0 where no response is expected) and the bytes that were sent.
     Sent(u64, Items<u8>),
     Wrote(EndId),
-    Taken(Got),
+    Taken(Boxed<Got>),
     /// A message for the endpoint of this id, which isn't there or is closed, and what went with it.
     Dropped(u32, Items<Thing>),
     /// The oldest message was a control.

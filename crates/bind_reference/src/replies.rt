@@ -87,9 +87,11 @@ fn reply(
         Asked::Bind(thing, _, interface) => Ok(bind(schema, past, *thing, *interface)),
         Asked::Associate(end, _, interface) => Ok(associated(schema, mail, *end, *interface)),
         Asked::Attach(pending, on) => Ok(attached(seqs, mail, *pending, *on)),
-        Asked::Call(end, id, outgoing) => { called(alloc, schema, mail, seq, *end, *id, outgoing) }
+        Asked::Call(end, id, outgoing) => {
+            called(alloc, schema, mail, seq, *end, *id, outgoing.get())
+        }
         Asked::Answer(responder, outgoing) => {
-            answered(alloc, schema, mail, seq, *responder, outgoing)
+            answered(alloc, schema, mail, seq, *responder, outgoing.get())
         }
         Asked::Raw(thing, bytes, handles) => {
             wrote(alloc, mail, *thing, bytes.as_slice(), handles.as_slice())

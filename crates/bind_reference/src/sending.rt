@@ -56,9 +56,9 @@ pub fn has_tokens(
     mail: &Mail<'_>,
     outgoing: &Outgoing,
 ) -> Result<bool, AllocError> {
-    let parameters = outgoing.parameters.value();
-    let handles = handles_named(alloc, parameters)?;
-    let named = endpoints_named(alloc, schema, outgoing.target, parameters)?;
+    let parameters = outgoing.parameters.value(alloc)?;
+    let handles = handles_named(alloc, &parameters)?;
+    let named = endpoints_named(alloc, schema, outgoing.target, &parameters)?;
     let pendings = outgoing.pendings.as_slice();
     Ok(
         handles.len() == outgoing.handles.len()

@@ -1,6 +1,6 @@
 //! The reply to a take.
 
-use bind_model::{BadWhy, Endpoint, Got, Noted, Parameters, PendingId, State, Told, Why};
+use bind_model::{BadWhy, Endpoint, Got, KeptParameters, Noted, PendingId, State, Told, Why};
 use control_bytes::Control;
 use handle_table::Thing;
 use mj_base::{EndId, Items, SeqId};
@@ -91,28 +91,25 @@ fn accept(
     end: EndId,
     id: u32,
     letter: Letter<'_>,
-    content: Content,
+    content: &Content,
 ) -> Result<Told, AllocError> {
-    let gone = things_of(alloc, letter, &content, false)?;
+    let gone = things_of(alloc, letter, content, false)?;
     let gone = goes(alloc, mail, Some(end), gone)?;
-    let handles = things_of(alloc, letter, &content, true)?;
-    let pendings = pendings_of(alloc, schema, end, letter, &content)?;
-    let Content {
-        target,
-        request,
-        parameters,
-        moment,
-    } = content;
-    Ok(Told::Taken(Got {
+    let handles = things_of(alloc, letter, content, true)?;
+    let pendings = pendings_of(alloc, schema, end, letter, content)?;
+    let parameters = KeptParameters::of(alloc, &content.parameters)?;
+    let got = Got::apart(
+        alloc,
         id,
-        target,
-        parameters: Parameters::new(parameters),
-        request,
-        handles: Items::from_vec(handles),
-        pendings: Items::from_vec(pendings),
-        gone: Items::from_vec(gone),
-        moment,
-    }))
+        content.target,
+        parameters,
+        content.request,
+        Items::from_vec(handles),
+        Items::from_vec(pendings),
+        Items::from_vec(gone),
+        content.moment,
+    )?;
+    Ok(Told::Taken(got))
 }
 
 /// Whether it is a response that nobody waits for: the endpoint knows that its peer is closed, or there is no such
@@ -158,7 +155,7 @@ fn judged(
     }
     match strange_in(alloc, mail, end, letter)? {
         Some(strange) => bad(alloc, mail, end, BadWhy::StrangeId(strange)),
-        None => accept(alloc, schema, mail, end, id, letter, content),
+        None => accept(alloc, schema, mail, end, id, letter, &content),
     }
 }
 

@@ -1,6 +1,6 @@
 //! What was compared.
 
-use bind_model::{BadWhy, Told};
+use bind_model::{BadWhy, Got, Told};
 use past_reference::refusals::refusal;
 use std::alloc::{AllocError, Global};
 use wire_model::MessageSide;
@@ -42,6 +42,14 @@ fn flaw(why: BadWhy) -> &'static str {
     }
 }
 
+/// The word for what a take got.
+fn got_word(got: &Got) -> &'static str {
+    match got.target.side {
+        MessageSide::Request => "got",
+        MessageSide::Response => "got response",
+    }
+}
+
 /// The word for a reply.
 fn word(told: &Told) -> &'static str {
     match told {
@@ -51,10 +59,7 @@ fn word(told: &Told) -> &'static str {
         Told::Attached(_) => "attached",
         Told::Sent(_, _) => "sent",
         Told::Wrote(_) => "wrote",
-        Told::Taken(got) => match got.target.side {
-            MessageSide::Request => "got",
-            MessageSide::Response => "got response",
-        },
+        Told::Taken(got) => got_word(got.get()),
         Told::Dropped(_, _) => "dropped",
         Told::Control(_) => "control",
         Told::Notified(_) => "notified",

@@ -10,6 +10,7 @@ use wire_model::MessageSide;
 fn gets_response(event: &Event, call: Note) -> bool {
     match (&event.told, &event.asked) {
         (Told::Taken(got), Asked::Take(end)) => {
+            let got = got.get();
             *end == call.end
                 && got.id == call.id
                 && got.request == call.request

@@ -1,6 +1,6 @@
 //! What was compared.
 
-use bind_model::{Event, Told};
+use bind_model::{Event, Got, Told};
 use past_reference::refusals::refusal;
 use std::alloc::{AllocError, Global};
 use wire_model::MessageSide;
@@ -22,16 +22,21 @@ pub struct Tally {
     pub counts: Vec<Count>,
 }
 
+/// The word for what a take got.
+fn got_word(got: &Got) -> &'static str {
+    match got.target.side {
+        MessageSide::Request => "got",
+        MessageSide::Response => "got response",
+    }
+}
+
 /// The word for a reply.
 fn word(told: &Told) -> &'static str {
     match told {
         Told::Made(_) => "made",
         Told::Bound(_) => "bound",
         Told::Sent(_, _) => "sent",
-        Told::Taken(got) => match got.target.side {
-            MessageSide::Request => "got",
-            MessageSide::Response => "got response",
-        },
+        Told::Taken(got) => got_word(got.get()),
         Told::Dropped(_, _) => "dropped",
         Told::Bad(_, _) => "bad",
         Told::Closed(_) => "closed",

@@ -13,8 +13,8 @@ ghost use Rattle.core_sending.specs.Ways.{way_at, way_to};
 
 use crate::carried::CarriedNames;
 use crate::fitting::{all_fit, wrong_pipe};
-use bind_model::{Outgoing, Parameters, PendingId, Why};
-use core_state::{Routers, State, contains, copy_value};
+use bind_model::{Boxed, KeptParameters, Outgoing, PendingId, Why};
+use core_state::{Routers, State, contains};
 use data_pipe::DataTable;
 use handle_table::Thing;
 use message_pipe::{Message, Pipes, PushRefused};
@@ -121,17 +121,14 @@ pub fn outgoing(
     prepared: &Prepared,
     names: CarriedNames,
     moment: Option<i64>,
-) -> Result<Outgoing, AllocError>
+) -> Result<Boxed<Outgoing>, AllocError>
     ensures { IfOk result (λ outgoing. outgoing ≡ outgoing_named prepared.now names moment) }
 {
-    let parameters = Parameters::new(copy_value(alloc, &prepared.value)?);
-    Ok(Outgoing {
-        target: prepared.target,
-        parameters,
-        handles: names.things,
-        pendings: names.pendings,
-        moment,
-    })
+    let CarriedNames { things, pendings } = names;
+    let parameters = KeptParameters::of(alloc, &prepared.value)?;
+    let target = prepared.target;
+    let outgoing = Outgoing::apart(alloc, target, parameters, things, pendings, moment)?;
+    Ok(outgoing)
 }
 
 /// The ids of pendings, in order.
@@ -149,7 +146,7 @@ fn ids_of(alloc: Global, pendings: &[PendingId]) -> Result<Vec<u32>, AllocError>
 /// the history and for the caller.
 #[derive(Drop)]
 pub struct Writes {
-    pub outgoing: Outgoing,
+    pub outgoing: Boxed<Outgoing>,
     pub message: Message,
     pub noted: Items<u8>,
     pub told: Items<u8>,

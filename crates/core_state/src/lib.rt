@@ -3,7 +3,6 @@
 //! and the controls that the machine writes.
 #![tactic(auto)]
 
-mod copy;
 mod distinct;
 pub mod emit;
 mod entries;
@@ -19,7 +18,6 @@ mod tables;
 mod things;
 mod turns;
 
-pub use copy::copy_value;
 pub use distinct::{all_differ, is_distinct};
 pub use entries::Entering;
 pub use goes::{Goes, goes_with};

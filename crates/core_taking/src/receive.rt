@@ -33,11 +33,11 @@ use crate::pendings::{is_pending, make_pending, reserve_pending, room_for};
 use crate::reading::{Arrived, is_response};
 use crate::take::goes_behind;
 use bind_model::{
-    Asked, Command, Event, Got, Parameters, Pending, PendingId, Received, Refused, Reply,
-    Responder, ResponderId, Responders, Told,
+    Asked, Boxed, Command, Event, Got, KeptParameters, Pending, PendingId, Received, Refused,
+    Reply, Responder, ResponderId, Responders, Told,
 };
 use core_state::emit::emit;
-use core_state::{Entering, Rights, Routers, State, Turn, copy_value};
+use core_state::{Entering, Rights, Routers, State, Turn};
 use handle_table::{Handle, Handles, Thing};
 use message_pipe::Pipes;
 use mj_base::{EndId, Items, SeqId};
@@ -48,7 +48,7 @@ use wire_model::{MessageSide, Target};
 /// All that a message brings: the reply as it is noted, the things whose handles come out, what goes, and
 /// room for the handles and the pendings.
 pub(crate) struct Brings {
-    pub(crate) noted: Got,
+    pub(crate) noted: Boxed<Got>,
     pub(crate) things: Items<Thing>,
     pub(crate) gone: Items<Thing>,
     pub(crate) room: Vec<Handle>,
@@ -86,22 +86,24 @@ pub fn note_got(
     end: EndId,
     arrived: &Arrived,
     gone: Items<Thing>,
-) -> Result<Got, AllocError>
+) -> Result<Boxed<Got>, AllocError>
     ensures { IfOk result (λ noted. noted ≡ noted_as end arrived.now gone) }
 {
-    let parameters = Parameters::new(copy_value(alloc, arrived.parameters.value())?);
+    let parameters = KeptParameters::of(alloc, arrived.parameters.value())?;
     let handles = arrived.named.copy(alloc)?;
     let pendings = names_at(alloc, end, arrived.admitted.entries.as_slice())?;
-    Ok(Got {
-        id: arrived.id,
-        target: arrived.target,
+    let noted = Got::apart(
+        alloc,
+        arrived.id,
+        arrived.target,
         parameters,
-        request: arrived.request,
+        arrived.request,
         handles,
         pendings,
         gone,
-        moment: arrived.moment,
-    })
+        arrived.moment,
+    )?;
+    Ok(noted)
 }
 
 /// Makes all that a message at an end brings.
@@ -244,7 +246,7 @@ pub fn note_answered(endpoints: &mut Routers, end: EndId, arrived: &Arrived)
 }
 
 /// The event of a take that got a request or a response.
-pub fn event_of(seq: SeqId, end: EndId, noted: Got) -> Event
+pub fn event_of(seq: SeqId, end: EndId, noted: Boxed<Got>) -> Event
     ensures { result ≡ record { seq = seq; asked = asks.Take end; told = tells.Taken noted } }
 {
     Event {

@@ -3,17 +3,36 @@
 ghost use Rattle.std.specs.Prelude.{◌≡◌, ◌<◌, ◌==◌, ◌++◌, ◌∷◌, List, Some, length, reverse, slice_get, IfOk, OnOk};
 ghost use Rattle.bind_model.specs.Names.{request_name};
 ghost use Rattle.bind_model.specs.Seen.{own_of};
+ghost use Rattle.bind_model.specs.declared.asked.Asked.TheVariants as asks;
 ghost use Rattle.bind_model.specs.declared.event.Event.{Event as event_of};
+ghost use Rattle.bind_model.specs.declared.told.Told.TheVariants as tells;
 ghost use Rattle.callback_laws.specs.Callbacks.{callback_of, callbacks, callbacks_in, fate_of};
 ghost use Rattle.history_text.specs.declared.notes.Note.{Note as any_note};
 ghost use Rattle.event_notes.specs.steps.Got.{Knows, called, has_request, listed, noted, response_of};
 
 use crate::answered::Answered;
-use bind_model::{Asked, Event, RequestName, Told};
+use bind_model::{Asked, Boxed, Event, Got, RequestName, Told};
 use history_text::{Fate, Note};
 use mj_base::{EndId, Items, SeqId};
 use std::alloc::{AllocError, Global};
 use wire_model::MessageSide;
+
+/// The request whose response was got at an end.
+fn answered_by(end: EndId, got: &Got) -> Option<RequestName>
+    ensures { result ≡ response_of (tells.Taken got.now) (asks.Take end) }
+{
+    match got.target.side {
+        MessageSide::Response => Some(RequestName::new(end, got.id, got.request)),
+        MessageSide::Request => None,
+    }
+}
+
+/// The same, where what was got lies apart.
+fn answered_in(end: EndId, got: &Boxed<Got>) -> Option<RequestName>
+    ensures { result ≡ response_of (tells.Taken got.now) (asks.Take end) }
+{
+    answered_by(end, got.get())
+}
 
 /// The request whose response an event got.
 fn response_of(event: &Event) -> Option<RequestName>
@@ -21,10 +40,7 @@ fn response_of(event: &Event) -> Option<RequestName>
 {
     match &event.told {
         Told::Taken(got) => match &event.asked {
-            Asked::Take(end) => match got.target.side {
-                MessageSide::Response => Some(RequestName::new(*end, got.id, got.request)),
-                MessageSide::Request => None,
-            },
+            Asked::Take(end) => answered_in(*end, got),
             _ => None,
         },
         _ => None,

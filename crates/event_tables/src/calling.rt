@@ -126,12 +126,13 @@ fn send(
         told: _,
     } = writes;
     put_message(&mut tables.pipes, peer, message)?;
+    let sent = outgoing.get();
     put_all(
         &mut tables.pipes,
-        outgoing.handles.as_slice(),
+        sent.handles.as_slice(),
         Place::Unread(peer),
     );
-    remove_all(&mut tables.pendings, outgoing.pendings.as_slice());
+    remove_all(&mut tables.pendings, sent.pendings.as_slice());
     let method = prepared.target.method;
     note_sent(
         &mut tables.endpoints,

@@ -21,7 +21,7 @@ ghost use Rattle.core_taking.specs.Taking.{IsBringing};
 ghost use Rattle.event_tables.specs.AsCore.{Steps, past_by, state_of, wire_by};
 
 use crate::taking::goes_behind;
-use bind_model::{Got, PendingId, PendingNames, ResponderId, ResponderTable};
+use bind_model::{Boxed, Got, PendingId, PendingNames, ResponderId, ResponderTable};
 use core_state::{Entering, Routers};
 use core_taking::pendings::is_pending;
 use core_taking::reading::Arrived;
@@ -129,7 +129,7 @@ fn add_pending(pendings: &mut PendingNames, end: EndId, entries: &[Entering])
 /// What a message that is got brings: the reply as it is noted, and the things that go.
 #[derive(Drop)]
 struct Gathered {
-    noted: Got,
+    noted: Boxed<Got>,
     gone: Items<Thing>,
 }
 

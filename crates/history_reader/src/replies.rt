@@ -8,7 +8,7 @@ ghost use Rattle.history_reader.specs.Replies.{dropped, bad_reply, gone_reply, t
 use crate::flowed::{FlowedWord, flowed_after};
 use crate::noted::{NotedWord, NotifiedWord, noted_after, notified_after};
 use crate::reasons::{bad, ends, refusal};
-use bind_model::{Got, Parameters, Told};
+use bind_model::{Got, KeptParameters, Told};
 use byte_rules::{Stop, expect};
 use line_parts::hexadecimal::hexadecimal;
 use line_parts::ids::{end, pending};
@@ -158,7 +158,7 @@ fn got_lists<'a>(
     moment: Option<i64>,
     id: u32,
     target: Target,
-    parameters: Parameters,
+    parameters: KeptParameters,
     request: u64,
     bytes: &'a [u8],
 ) -> Result<(Told, &'a [u8]), Stop>
@@ -169,17 +169,11 @@ fn got_lists<'a>(
     let (pendings, rest) = pendings(alloc, rest)?;
     let rest = expect(rest, b' ')?;
     let (gone, rest) = things(alloc, rest)?;
-    let got = Got {
-        id,
-        target,
-        parameters,
-        request,
-        handles,
-        pendings,
-        gone,
-        moment,
-    };
-    ends(Told::Taken(got), rest)
+    let got = Got::apart(
+        alloc, id, target, parameters, request, handles, pendings, gone, moment,
+    )?;
+    let rest = expect(rest, b'\n')?;
+    Ok((Told::Taken(got), rest))
 }
 
 /// What a take got at this moment, which stands before it, and the bytes after the line's end.

@@ -1,7 +1,7 @@
 //! How commands stand in a line.
 
 ghost use Rattle.std.specs.Prelude.{◌≡◌, ◌++◌, OnOk, IfSome, codes};
-ghost use Rattle.bind_model.specs.declared.asked.Asked.TheVariants.{Associate, Bind};
+ghost use Rattle.bind_model.specs.declared.asked.Asked.TheVariants.{Answer, Associate, Bind, Call};
 ghost use Rattle.history_text.specs.History.{all_text, asked_text, at_text, flow_text, hex_text, notice_text, outgoing_text, thing_text, things_text};
 
 use crate::message_text::{push_outgoing, push_text};
@@ -12,7 +12,7 @@ use crate::shown::{
 };
 use crate::shown_lists::ShownThings;
 use crate::words::{side_word, sort_word};
-use bind_model::{Asked, Flow, Notice, Outgoing};
+use bind_model::{Asked, Boxed, Flow, Notice, Outgoing, ResponderId};
 use handle_table::Thing;
 use mj_base::EndId;
 use mj_schema::Schema;
@@ -35,6 +35,67 @@ fn push_sent<A: fmt::Display + Copy>(
     push_pair(alloc, out, word, ShownAt(outgoing.moment), sender)?;
     push_text(out, " ")?;
     push_outgoing(alloc, out, schema, outgoing)
+}
+
+/// Adds a request.
+fn push_request(
+    alloc: Global,
+    out: &mut Vec<u8>,
+    schema: &Schema,
+    end: EndId,
+    id: u32,
+    outgoing: &Outgoing,
+) -> Result<(), AllocError>
+    ensures { OnOk result (out.new.items ≡ out.old.items ++ asked_text schema.now (Call end id outgoing.now)) }
+{
+    push_sent(alloc, out, schema, "call", ShownEndpoint(end, id), outgoing)
+}
+
+/// The same, where what is sent lies apart.
+fn push_call(
+    alloc: Global,
+    out: &mut Vec<u8>,
+    schema: &Schema,
+    end: EndId,
+    id: u32,
+    outgoing: &Boxed<Outgoing>,
+) -> Result<(), AllocError>
+    ensures { OnOk result (out.new.items ≡ out.old.items ++ asked_text schema.now (Call end id outgoing.now)) }
+{
+    push_request(alloc, out, schema, end, id, outgoing.get())
+}
+
+/// Adds a response.
+fn push_response(
+    alloc: Global,
+    out: &mut Vec<u8>,
+    schema: &Schema,
+    responder: ResponderId,
+    outgoing: &Outgoing,
+) -> Result<(), AllocError>
+    ensures { OnOk result (out.new.items ≡ out.old.items ++ asked_text schema.now (Answer responder outgoing.now)) }
+{
+    push_sent(
+        alloc,
+        out,
+        schema,
+        "answer",
+        ShownResponder(responder),
+        outgoing,
+    )
+}
+
+/// The same, where what is sent lies apart.
+fn push_answer(
+    alloc: Global,
+    out: &mut Vec<u8>,
+    schema: &Schema,
+    responder: ResponderId,
+    outgoing: &Boxed<Outgoing>,
+) -> Result<(), AllocError>
+    ensures { OnOk result (out.new.items ≡ out.old.items ++ asked_text schema.now (Answer responder outgoing.now)) }
+{
+    push_response(alloc, out, schema, responder, outgoing.get())
 }
 
 /// Adds the making of an associated endpoint.
@@ -161,12 +222,8 @@ pub(crate) fn push_asked(
             push_associate(alloc, out, schema, *x, *side, *number)
         }
         Asked::Attach(p, t) => push_pair(alloc, out, "attach ", ShownPending(*p), t.0),
-        Asked::Call(x, id, outgoing) => {
-            push_sent(alloc, out, schema, "call", ShownEndpoint(*x, *id), outgoing)
-        }
-        Asked::Answer(r, outgoing) => {
-            push_sent(alloc, out, schema, "answer", ShownResponder(*r), outgoing)
-        }
+        Asked::Call(x, id, outgoing) => { push_call(alloc, out, schema, *x, *id, outgoing) }
+        Asked::Answer(r, outgoing) => { push_answer(alloc, out, schema, *r, outgoing) }
         Asked::Raw(x, bytes, handles) => {
             push_raw(alloc, out, *x, bytes.as_slice(), handles.as_slice())
         }

@@ -8,7 +8,7 @@ ghost use Rattle.history_text.specs.History.{hex_text, message_text, outgoing_te
 use crate::names::{name_of_method, push_interface};
 use crate::parts::push_shown;
 use crate::shown_lists::ShownTokens;
-use bind_model::{Outgoing, Parameters};
+use bind_model::{KeptParameters, Outgoing};
 use mj_schema::{Kind, KindNode, Schema};
 use std::alloc::{AllocError, Global};
 use value_text::write_value;
@@ -64,7 +64,7 @@ pub(crate) fn push_message(
     out: &mut Vec<u8>,
     schema: &Schema,
     target: Target,
-    parameters: &Parameters,
+    parameters: &KeptParameters,
 ) -> Result<(), AllocError>
     ensures { OnOk result (out.new.items ≡ out.old.items ++ message_text schema.now target parameters.now) }
 {
@@ -73,8 +73,9 @@ pub(crate) fn push_message(
     push_text(out, name_of_method(schema, target.interface, target.method))?;
     push_text(out, " ")?;
     let kind = parameters_kind(schema, target);
-    let value = write_value(alloc, schema, &kind, parameters.value())?;
-    out.extend_from_slice(value.as_slice())
+    let value = parameters.value(alloc)?;
+    let text = write_value(alloc, schema, &kind, &value)?;
+    out.extend_from_slice(text.as_slice())
 }
 
 /// Adds what a call or an answer sends.

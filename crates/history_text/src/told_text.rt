@@ -8,7 +8,7 @@ use crate::parts::{push_bytes, push_pair, push_shown};
 use crate::shown::{ShownAt, ShownEnd, ShownPending, ShownToken};
 use crate::shown_lists::{ShownPendings, ShownThings};
 use crate::words::{fault_word, message_word};
-use bind_model::{BadWhy, Flowed, Got, Noted, Notified, Told, Why};
+use bind_model::{BadWhy, Boxed, Flowed, Got, Noted, Notified, Told, Why};
 use handle_table::TokenId;
 use mj_schema::Schema;
 use std::alloc::{AllocError, Global};
@@ -91,6 +91,18 @@ fn push_taken(
     push_got(alloc, out, schema, got)
 }
 
+/// The same, where what was got lies apart.
+fn push_apart(
+    alloc: Global,
+    out: &mut Vec<u8>,
+    schema: &Schema,
+    got: &Boxed<Got>,
+) -> Result<(), AllocError>
+    ensures { OnOk result (out.new.items ≡ out.old.items ++ (codes "got" ++ (at_text got.now.moment ++ (codes " " ++ got_text schema.now got.now)))) }
+{
+    push_taken(alloc, out, schema, got.get())
+}
+
 /// Adds what a control says.
 fn push_noted(alloc: Global, out: &mut Vec<u8>, noted: Noted) -> Result<(), AllocError>
     ensures { OnOk result (out.new.items ≡ out.old.items ++ noted_text noted) }
@@ -142,7 +154,7 @@ pub(crate) fn push_told(
             push_bytes(alloc, out, "sent ", *request, bytes.as_slice())
         }
         Told::Wrote(x) => push_shown(alloc, out, "wrote ", ShownEnd(*x)),
-        Told::Taken(got) => push_taken(alloc, out, schema, got),
+        Told::Taken(got) => push_apart(alloc, out, schema, got),
         Told::Dropped(id, gone) => {
             push_pair(alloc, out, "dropped ", *id, ShownThings(gone.as_slice()))
         }

@@ -1,16 +1,17 @@
 //! Messages: the method, the parameters, and what goes with them.
 
+ghost use Rattle.std.specs.Prelude.{◌≡◌, IfOk};
 ghost use Rattle.wire_model.specs.Trees.{view};
 ghost use Rattle.byte_rules.specs.Reading.{Gives};
-ghost use Rattle.line_parts.specs.Messages.{value_and_blank, parameters_of, message, outgoing};
+ghost use Rattle.line_parts.specs.Messages.{value_and_blank, parameters_of, message, outgoing, outgoing_of};
 
-use crate::items::tokens;
+use crate::items::{Listed, tokens};
 use crate::names::{Message, Names, named};
-use bind_model::{Outgoing, Parameters};
+use bind_model::{Boxed, KeptParameters, Outgoing};
 use byte_rules::{Stop, expect};
 use mj_base::Items;
 use mj_schema::{Kind, KindNode, Schema};
-use std::alloc::Global;
+use std::alloc::{AllocError, Global};
 use value_text::{TextError, read_value};
 use wire_model::{MessageSide, Target, Value};
 
@@ -45,7 +46,7 @@ fn parameters_of<'a>(
     schema: &Schema,
     message: Message,
     bytes: &'a [u8],
-) -> Result<(Target, Parameters, &'a [u8]), Stop>
+) -> Result<(Target, KeptParameters, &'a [u8]), Stop>
     ensures { Gives (λ x. ((x.0, x.1), x.2.now)) result ((parameters_of schema.now message).read bytes.now) }
 {
     let rest = expect(bytes, b' ')?;
@@ -54,7 +55,8 @@ fn parameters_of<'a>(
         nullable: false,
     });
     let (value, rest) = value_and_blank(alloc, schema, &kind, rest)?;
-    Ok((message.target, Parameters::new(value), rest))
+    let parameters = KeptParameters::of(alloc, &value)?;
+    Ok((message.target, parameters, rest))
 }
 
 /// A message of this side: its method, its parameters and a blank, and the bytes after them.
@@ -65,7 +67,7 @@ pub fn message<'a>(
     names: &Names,
     side: MessageSide,
     bytes: &'a [u8],
-) -> Result<(Target, Parameters, &'a [u8]), Stop>
+) -> Result<(Target, KeptParameters, &'a [u8]), Stop>
     ensures { Gives (λ x. ((x.0, x.1), x.2.now)) result ((message schema.now names.now side).read bytes.now) }
 {
     let (found, rest) = named(names.messages(side), bytes)?;
@@ -73,6 +75,22 @@ pub fn message<'a>(
         Some(message) => parameters_of(alloc, schema, message, rest),
         None => Err(Stop::Left(rest.len())),
     }
+}
+
+/// What is sent at a moment: a message, and what goes with it.
+fn sent_at(
+    alloc: Global,
+    target: Target,
+    parameters: KeptParameters,
+    tokens: Listed,
+    moment: Option<i64>,
+) -> Result<Boxed<Outgoing>, AllocError>
+    ensures { IfOk result (λ sent. sent ≡ outgoing_of moment (target, parameters) (tokens.handles.items, tokens.pendings.items)) }
+{
+    let handles = Items::from_vec(tokens.handles);
+    let pendings = Items::from_vec(tokens.pendings);
+    let sent = Outgoing::apart(alloc, target, parameters, handles, pendings, moment)?;
+    Ok(sent)
 }
 
 /// What a call or an answer sends at this moment, which stands before it, and the bytes after it.
@@ -84,17 +102,11 @@ pub fn outgoing<'a>(
     side: MessageSide,
     moment: Option<i64>,
     bytes: &'a [u8],
-) -> Result<(Outgoing, &'a [u8]), Stop>
+) -> Result<(Boxed<Outgoing>, &'a [u8]), Stop>
     ensures { Gives (λ x. (x.0, x.1.now)) result ((outgoing schema.now names.now side moment).read bytes.now) }
 {
     let (target, parameters, rest) = message(alloc, schema, names, side, bytes)?;
     let (tokens, rest) = tokens(alloc, rest)?;
-    let outgoing = Outgoing {
-        target,
-        parameters,
-        handles: Items::from_vec(tokens.handles),
-        pendings: Items::from_vec(tokens.pendings),
-        moment,
-    };
+    let outgoing = sent_at(alloc, target, parameters, tokens, moment)?;
     Ok((outgoing, rest))
 }

@@ -104,16 +104,17 @@ impl<'a> Mail<'a> {
     fn add(&mut self, alloc: Global, schema: &Schema, event: &'a Event) -> Result<(), AllocError> {
         match (&event.told, &event.asked) {
             (Told::Sent(_, bytes), Asked::Call(end, _, outgoing)) => {
-                self.write(*end, bytes.as_slice(), outgoing.handles.as_slice())
+                self.write(*end, bytes.as_slice(), outgoing.get().handles.as_slice())
             }
             (Told::Sent(_, bytes), Asked::Answer(responder, outgoing)) => {
-                self.write(responder.end, bytes.as_slice(), outgoing.handles.as_slice())
+                let handles = outgoing.get().handles.as_slice();
+                self.write(responder.end, bytes.as_slice(), handles)
             }
             (Told::Wrote(end), Asked::Raw(_, bytes, handles)) => {
                 self.write(*end, bytes.as_slice(), handles.as_slice())
             }
             (Told::Taken(got), Asked::Take(end)) => {
-                let named = named_in(alloc, schema, got)?;
+                let named = named_in(alloc, schema, got.get())?;
                 self.enter(alloc, *end, &named)
             }
             (Told::Dropped(_, _), Asked::Take(end)) => self.enter(alloc, *end, &[]),
@@ -270,5 +271,6 @@ fn bound(seq: SeqId, side: EndpointSide, interface: u32) -> Endpoint {
 
 /// The endpoints that got parameters name.
 fn named_in(alloc: Global, schema: &Schema, got: &Got) -> Result<Vec<Named>, AllocError> {
-    endpoints_named(alloc, schema, got.target, got.parameters.value())
+    let parameters = got.parameters.value(alloc)?;
+    endpoints_named(alloc, schema, got.target, &parameters)
 }

@@ -51,7 +51,7 @@ pub fn peer(past: &[Event], x: EndId) -> EndId {
 /// What went with a reply.
 fn gone_by(told: &Told) -> &[Thing] {
     match told {
-        Told::Taken(got) => got.gone.as_slice(),
+        Told::Taken(got) => got.get().gone.as_slice(),
         Told::Dropped(_, gone) | Told::Bad(_, gone) | Told::Closed(gone) => gone.as_slice(),
         _ => &[],
     }
@@ -68,7 +68,7 @@ fn is_given(event: &Event, thing: Thing) -> bool {
     match (&event.told, &event.asked) {
         (Told::Bound(_), Asked::Bind(end, _, _)) => *end == thing,
         (Told::Sent(_, _), Asked::Call(_, _, outgoing) | Asked::Answer(_, outgoing)) => {
-            outgoing.handles.as_slice().contains(&thing)
+            outgoing.get().handles.as_slice().contains(&thing)
         }
         (Told::Wrote(_), Asked::Raw(_, _, handles)) => handles.as_slice().contains(&thing),
         (Told::Closed(_), Asked::Close(Closing::Handle(closed))) => *closed == thing,
@@ -80,7 +80,7 @@ fn is_given(event: &Event, thing: Thing) -> bool {
 pub fn handed(told: &Told) -> &[Thing] {
     match told {
         Told::Made(things) => things.as_slice(),
-        Told::Taken(got) => got.handles.as_slice(),
+        Told::Taken(got) => got.get().handles.as_slice(),
         _ => &[],
     }
 }
@@ -131,7 +131,7 @@ pub fn drawn(past: &[Event], x: EndId, id: u32) -> usize {
 fn asks(event: &Event, x: EndId, id: u32, request: u64, method: u32) -> bool {
     match (&event.told, &event.asked) {
         (Told::Sent(number, _), Asked::Call(_, _, outgoing)) => {
-            draws(event, x, id) && *number == request && outgoing.target.method == method
+            draws(event, x, id) && *number == request && outgoing.get().target.method == method
         }
         _ => false,
     }
@@ -141,6 +141,7 @@ fn asks(event: &Event, x: EndId, id: u32, request: u64, method: u32) -> bool {
 fn gets_response(event: &Event, x: EndId, id: u32, request: u64) -> bool {
     match (&event.told, &event.asked) {
         (Told::Taken(got), Asked::Take(end)) => {
+            let got = got.get();
             *end == x
                 && got.id == id
                 && got.request == request

@@ -29,7 +29,7 @@ fn is_given(event: &Event, pending: PendingId) -> bool {
     match (&event.told, &event.asked) {
         (Told::Attached(_), Asked::Attach(attached, _)) => *attached == pending,
         (Told::Sent(_, _), Asked::Call(_, _, outgoing) | Asked::Answer(_, outgoing)) => {
-            outgoing.pendings.as_slice().contains(&pending)
+            outgoing.get().pendings.as_slice().contains(&pending)
         }
         (Told::Closed(_), Asked::Close(Closing::Pending(closed))) => *closed == pending,
         _ => false,
@@ -40,7 +40,7 @@ fn is_given(event: &Event, pending: PendingId) -> bool {
 fn is_handed(event: &Event, pending: PendingId) -> bool {
     match &event.told {
         Told::Associated(made) => *made == pending,
-        Told::Taken(got) => got.pendings.as_slice().contains(&pending),
+        Told::Taken(got) => got.get().pendings.as_slice().contains(&pending),
         _ => false,
     }
 }

@@ -1,24 +1,30 @@
 //! The rights to answer requests. A past is the list of the events before, the oldest first.
 
 use crate::wire::responds;
-use bind_model::{Asked, Closing, Event, ResponderId, Told};
+use bind_model::{Asked, Closing, Event, Got, ResponderId, Told};
+use mj_base::EndId;
 use mj_schema::Schema;
 use std::alloc::{AllocError, Global};
 use wire_model::MessageSide;
 
+/// The responder of what was got at an end, where that is a request and its method has a response.
+fn responder_of(schema: &Schema, end: EndId, got: &Got) -> Option<ResponderId> {
+    if got.target.side == MessageSide::Response || !responds(schema, got.target) {
+        return None;
+    }
+    Some(ResponderId {
+        end,
+        id: got.id,
+        request: got.request,
+        interface: got.target.interface,
+        method: got.target.method,
+    })
+}
+
 /// The responder that an event handed out: that of a request which was got, where its method has a response.
 pub fn handed(schema: &Schema, event: &Event) -> Option<ResponderId> {
     match (&event.told, &event.asked) {
-        (Told::Taken(got), Asked::Take(end))
-            if got.target.side == MessageSide::Request && responds(schema, got.target) => {
-            Some(ResponderId {
-                end: *end,
-                id: got.id,
-                request: got.request,
-                interface: got.target.interface,
-                method: got.target.method,
-            })
-        }
+        (Told::Taken(got), Asked::Take(end)) => responder_of(schema, *end, got.get()),
         _ => None,
     }
 }

@@ -1,12 +1,23 @@
 //! Whether replies, commands and histories are the same.
 
-use bind_model::{Asked, Event, Flow, Flowed, Got, Outgoing, Told};
+use bind_model::{Asked, Event, Flow, Flowed, Got, KeptParameters, Outgoing, Told};
 use std::alloc::{AllocError, Global};
 use wire_reference::are_same;
 
+/// Whether two have the same value.
+fn are_same_parameters(
+    alloc: Global,
+    one: &KeptParameters,
+    two: &KeptParameters,
+) -> Result<bool, AllocError> {
+    let first = one.value(alloc)?;
+    let second = two.value(alloc)?;
+    are_same(alloc, &first, &second)
+}
+
 /// Whether two calls or answers send the same.
 fn are_same_outgoing(alloc: Global, one: &Outgoing, two: &Outgoing) -> Result<bool, AllocError> {
-    let values = are_same(alloc, one.parameters.value(), two.parameters.value())?;
+    let values = are_same_parameters(alloc, &one.parameters, &two.parameters)?;
     Ok(
         values
             && one.target == two.target
@@ -48,10 +59,10 @@ fn are_same_flowed(one: &Flowed, two: &Flowed) -> bool {
 fn are_same_asked(alloc: Global, one: &Asked, two: &Asked) -> Result<bool, AllocError> {
     match (one, two) {
         (Asked::Call(x, id, one), Asked::Call(y, other, two)) => {
-            Ok(x == y && id == other && are_same_outgoing(alloc, one, two)?)
+            Ok(x == y && id == other && are_same_outgoing(alloc, one.get(), two.get())?)
         }
         (Asked::Answer(name, one), Asked::Answer(other, two)) => {
-            Ok(name == other && are_same_outgoing(alloc, one, two)?)
+            Ok(name == other && are_same_outgoing(alloc, one.get(), two.get())?)
         }
         (Asked::Bind(x, side, number), Asked::Bind(y, other, another)) => {
             Ok(x == y && side == other && number == another)
@@ -81,7 +92,7 @@ fn are_same_asked(alloc: Global, one: &Asked, two: &Asked) -> Result<bool, Alloc
 
 /// Whether two takes got the same.
 fn are_same_got(alloc: Global, one: &Got, two: &Got) -> Result<bool, AllocError> {
-    let values = are_same(alloc, one.parameters.value(), two.parameters.value())?;
+    let values = are_same_parameters(alloc, &one.parameters, &two.parameters)?;
     Ok(
         values
             && one.id == two.id
@@ -97,7 +108,7 @@ fn are_same_got(alloc: Global, one: &Got, two: &Got) -> Result<bool, AllocError>
 /// Whether two replies are the same.
 pub fn are_same_told(alloc: Global, one: &Told, two: &Told) -> Result<bool, AllocError> {
     match (one, two) {
-        (Told::Taken(one), Told::Taken(two)) => are_same_got(alloc, one, two),
+        (Told::Taken(one), Told::Taken(two)) => are_same_got(alloc, one.get(), two.get()),
         (Told::Made(one), Told::Made(two)) | (Told::Closed(one), Told::Closed(two)) => {
             Ok(one.as_slice() == two.as_slice())
         }

@@ -7,7 +7,6 @@ ghost use Rattle.wire_encoder.specs.Prepared.{HasTarget};
 use bind_model::{Endpoint, Outgoing, State};
 use check_files::push_words;
 use control_bytes::{Control, read_control};
-use core_state::copy_value;
 use message_header::{CONTROL_ID, read_header};
 use message_validator::check;
 use mj_base::{Fault, FaultKind};
@@ -208,7 +207,7 @@ pub fn sealed(
     let Some(target) = known(schema, outgoing.target) else {
         return Ok(Vec::new(alloc));
     };
-    let value = copy_value(alloc, outgoing.parameters.value())?;
+    let value = outgoing.parameters.value(alloc)?;
     match prepare(alloc, schema, target, value) {
         Ok(prepared) => joined(alloc, &prepared, id, request, outgoing),
         Err((error, _value)) => match error {

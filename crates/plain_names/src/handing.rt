@@ -9,12 +9,26 @@ ghost use Rattle.bind_model.specs.declared.told.Told.TheVariants as tells;
 ghost use Rattle.script_names.specs.Names.{is_done, pendings_handed};
 ghost use Rattle.script_names.specs.Settling.{list_of};
 
-use bind_model::{Asked, Event, Got, PendingId, ResponderId, Told};
+use bind_model::{Asked, Boxed, Event, Got, PendingId, ResponderId, Told};
 use core_taking::receive::gives_responder;
 use handle_table::Thing;
 use mj_base::EndId;
 use mj_schema::Schema;
 use std::alloc::{AllocError, Global};
+
+/// The things that came with a message that was got.
+fn handles_in(got: &Boxed<Got>) -> &[Thing]
+    ensures { result.now ≡ got.now.handles }
+{
+    got.get().handles.as_slice()
+}
+
+/// The pendings that came with a message that was got.
+fn pendings_in(got: &Boxed<Got>) -> &[PendingId]
+    ensures { result.now ≡ got.now.pendings }
+{
+    got.get().pendings.as_slice()
+}
 
 /// The things that come with a reply.
 pub(crate) fn handed(told: &Told) -> &[Thing]
@@ -22,7 +36,7 @@ pub(crate) fn handed(told: &Told) -> &[Thing]
 {
     match told {
         Told::Made(things) => things.as_slice(),
-        Told::Taken(got) => got.handles.as_slice(),
+        Told::Taken(got) => handles_in(got),
         _ => &[],
     }
 }
@@ -33,7 +47,7 @@ pub(crate) fn pendings_handed(alloc: Global, told: &Told) -> Result<Vec<PendingI
 {
     match told {
         Told::Associated(pending) => Vec::from_slice(alloc, &[*pending]),
-        Told::Taken(got) => Vec::from_slice(alloc, got.pendings.as_slice()),
+        Told::Taken(got) => Vec::from_slice(alloc, pendings_in(got)),
         _ => Ok(Vec::new(alloc)),
     }
 }
@@ -65,13 +79,20 @@ fn right_of(schema: &Schema, end: EndId, got: &Got) -> Option<ResponderId>
     })
 }
 
+/// The same, where what was got lies apart.
+fn right_in(schema: &Schema, end: EndId, got: &Boxed<Got>) -> Option<ResponderId>
+    ensures { list_of result ≡ responders_handed (wire_of schema.now) (tells.Taken got.now) (asks.Take end) }
+{
+    right_of(schema, end, got.get())
+}
+
 /// The right to answer that comes with an event.
 pub fn responder_of(schema: &Schema, event: &Event) -> Option<ResponderId>
     ensures { list_of result ≡ responders_handed (wire_of schema.now) event.now.told event.now.asked }
 {
     match &event.told {
         Told::Taken(got) => match &event.asked {
-            Asked::Take(end) => right_of(schema, *end, got),
+            Asked::Take(end) => right_in(schema, *end, got),
             _ => None,
         },
         _ => None,

@@ -5,7 +5,7 @@ ghost use Rattle.mj_schema.specs.declared.schema.Schema.{Schema};
 ghost use Rattle.wire_encoder.specs.Prepared.{IsPrepared};
 ghost use Rattle.wire_model.specs.Trees.{view};
 
-use core_state::copy_value;
+use bind_model::copy_value;
 use std::alloc::{AllocError, Global};
 use wire_encoder::Prepared;
 

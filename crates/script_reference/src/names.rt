@@ -72,7 +72,7 @@ fn set_by(alloc: Global, line: Option<&Line>) -> Result<Vec<NameId>, AllocError>
 fn handed_pendings(alloc: Global, event: &Event) -> Result<Vec<PendingId>, AllocError> {
     match &event.told {
         Told::Associated(pending) => Ok(vec![in alloc; *pending]?),
-        Told::Taken(got) => Ok(Vec::from_slice(alloc, got.pendings.as_slice())?),
+        Told::Taken(got) => Ok(Vec::from_slice(alloc, got.get().pendings.as_slice())?),
         _ => Ok(Vec::new(alloc)),
     }
 }

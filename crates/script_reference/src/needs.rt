@@ -1,9 +1,8 @@
 //! What the lines of a script ask, where all that they need is there.
 
 use crate::names::{Held, Names};
-use bind_model::{Asked, Closing, Flow, Outgoing, Parameters, PendingId};
+use bind_model::{Asked, Boxed, Closing, Flow, KeptParameters, Outgoing, PendingId};
 use call_script::{Command, NameId};
-use core_state::copy_value;
 use handle_table::Thing;
 use mj_base::{EndId, Items, SeqId};
 use std::alloc::{AllocError, Global};
@@ -16,14 +15,18 @@ pub fn outgoing(
     handles: Vec<Thing>,
     pendings: Vec<PendingId>,
     moment: Option<i64>,
-) -> Result<Outgoing, AllocError> {
-    Ok(Outgoing {
-        target: prepared.target,
-        parameters: Parameters::new(copy_value(alloc, &prepared.value)?),
-        handles: Items::from_vec(handles),
-        pendings: Items::from_vec(pendings),
+) -> Result<Boxed<Outgoing>, AllocError> {
+    let parameters = KeptParameters::of(alloc, &prepared.value)?;
+    let handles = Items::from_vec(handles);
+    let pendings = Items::from_vec(pendings);
+    Outgoing::apart(
+        alloc,
+        prepared.target,
+        parameters,
+        handles,
+        pendings,
         moment,
-    })
+    )
 }
 
 /// The things whose handles a sequence holds under these names, in order; none where one of them holds none or
@@ -108,7 +111,7 @@ fn sent_with(
     prepared: &Prepared,
     list: &[NameId],
     moment: Option<i64>,
-) -> Result<Option<Outgoing>, AllocError> {
+) -> Result<Option<Boxed<Outgoing>>, AllocError> {
     let Some(handles) = handles_in(alloc, names, seq, list)? else {
         return Ok(None);
     };

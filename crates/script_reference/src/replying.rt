@@ -9,6 +9,7 @@ pub fn reply_to<'a>(autos: &'a [AutoReply], event: &Event) -> Option<&'a AutoRep
     let Told::Taken(got) = &event.told else {
         return None;
     };
+    let got = got.get();
     if got.target.side == MessageSide::Response {
         return None;
     }

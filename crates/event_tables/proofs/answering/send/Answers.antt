@@ -47,8 +47,8 @@ returns c =
     let r = response s c.args.seq c.requires.able c.args.id c.args.prepared.now ns c.args.moment c.requires.prepared in
     let can = can_answer s c.args.seq c.requires.able c.args.id c.args.prepared.now ns c.args.moment c.requires.prepared in
     let free = answer_free s c.args.seq c.requires.able c.args.id c.args.prepared.now ns c.args.moment c.requires.prepared c.args.peer c.requires.free in
-    let things : c.as_slice.result.now ≡ ns.things = c.as_slice.ensures ∙ ap (λ (o : Outgoing). o.handles) are.outgoing in
-    let pendings : c.as_slice-2.result.now ≡ ns.pendings = c.as_slice-2.ensures ∙ ap (λ (o : Outgoing). o.pendings) are.outgoing in
+    let things : c.as_slice.result.now ≡ ns.things = c.as_slice.ensures ∙ ap (λ (o : Outgoing). o.handles) (c.get-sent.ensures ∙ are.outgoing) in
+    let pendings : c.as_slice-2.result.now ≡ ns.pendings = c.as_slice-2.ensures ∙ ap (λ (o : Outgoing). o.pendings) (c.get-sent.ensures ∙ are.outgoing) in
     let spent : SpendsAll ns.pendings s.rights.pendings c.remove_all.new.table =
     subst (λ (ps : List PendingId). SpendsAll ps s.rights.pendings c.remove_all.new.table) pendings c.remove_all.ensures in
     steps_as s _ c.args.seq _ _ (answer_asked s c.args.seq c.requires.able c.args.id c.args.prepared.now ns c.args.moment c.requires.prepared)

@@ -64,8 +64,8 @@ returns c =
     let r = request s c.args.seq c.requires.able w.end w.id w.prepared.now ns w.moment c.requires.prepared in
     let can = can_call s c.args.seq c.requires.able w.end w.id w.prepared.now ns w.moment c.requires.prepared in
     let free = call_free s c.args.seq c.requires.able w.end w.id w.prepared.now ns w.moment c.requires.prepared c.args.peer c.requires.free in
-    let things : c.as_slice.result.now ≡ ns.things = c.as_slice.ensures ∙ ap (λ (o : Outgoing). o.handles) are.outgoing in
-    let pendings : c.as_slice-2.result.now ≡ ns.pendings = c.as_slice-2.ensures ∙ ap (λ (o : Outgoing). o.pendings) are.outgoing in
+    let things : c.as_slice.result.now ≡ ns.things = c.as_slice.ensures ∙ ap (λ (o : Outgoing). o.handles) (c.get-sent.ensures ∙ are.outgoing) in
+    let pendings : c.as_slice-2.result.now ≡ ns.pendings = c.as_slice-2.ensures ∙ ap (λ (o : Outgoing). o.pendings) (c.get-sent.ensures ∙ are.outgoing) in
     let spent : SpendsAll ns.pendings s.rights.pendings c.remove_all.new.table =
     subst (λ (ps : List PendingId). SpendsAll ps s.rights.pendings c.remove_all.new.table) pendings c.remove_all.ensures in
     steps_as s _ c.args.seq _ _ (call_asked s c.args.seq c.requires.able w.end w.id w.prepared.now ns w.moment c.requires.prepared)

@@ -1,6 +1,6 @@
 use Rattle.std.proofs.Common.{◌≡◌, map, take}
 use Rattle.wire_model.specs.Trees.{view}
-use Rattle.core_state.proofs.copy.+copy.Given as goal
+use Rattle.bind_model.proofs.copy.+copy.Given as goal
 
 -- so far the copies have the trees of the values
 abbrev pub invariant-copy_values-loop-value : goal.invariant-copy_values-loop-value

@@ -49,7 +49,7 @@ pub fn copy_value(alloc: Global, value: &Value) -> Result<Value, AllocError>
 fn copy_values(alloc: Global, values: &[Value]) -> Result<Vec<Value>, AllocError>
     ensures { IfOk result (λ copies. map view copies.items ≡ map view values.now) }
 {
-    let mut copies = Vec::new(alloc);
+    let mut copies = Vec::with_capacity(alloc, values.len())?;
     for value in values {
         copies.push(copy_value(alloc, value)?)?;
     }
