@@ -1,0 +1,17 @@
+use Rattle.std.proofs.Common.{◌≡◌, ℕ, List, length, get_or, set, ◌<◌}
+use Rattle.std.specs.Prelude.{Result, Ok, Err, OnOk}
+use Rattle.handle_table.specs.Numbered.{changed_at}
+use Rattle.handle_table.proofs.NumberedLemmas.{put-changed}
+use Rattle.queued_keys.specs.Ends.{with_keys}
+use Rattle.queued_keys.specs.declared.key.Key.{Key}
+use Rattle.queued_keys.specs.declared.keyed_end.KeyedEnd.{KeyedEnd}
+use Rattle.queued_keys.proofs.keyed_list.KeyedList.append.Goals as goal
+
+pushed : {E : Type 0} (r : Result Unit E) (ks : List Key) (n : ℕ) (xs : List KeyedEnd) (x new : KeyedEnd) → n < length xs → x ≡ get_or xs n x
+    → OnOk r (new ≡ with_keys ks x) → OnOk r (set xs n new ≡ changed_at (with_keys ks) n xs)
+pushed (Ok u) ks n xs x new h is e = put-changed (with_keys ks) n xs x new h is e
+pushed (Err back) ks n xs x new h is e = tt
+
+pub returns-clause-ok : goal.returns-clause-ok
+returns-clause-ok c = rw (← c.self.view_is) (pushed c.append.result c.args.more.now.items c.args.number c.self.inside.items.items c.index_mut.result.now
+    c.append.new.self (rw c.self.view_is c.requires.there) c.index_mut.ensures.value c.append.ensures.ok)
