@@ -15,6 +15,8 @@ mod packing_tests;
 #[cfg(test)]
 mod pipe_tests;
 #[cfg(test)]
+mod queue_tests;
+#[cfg(test)]
 mod response_tests;
 #[cfg(test)]
 mod router_tests;

@@ -11,8 +11,8 @@ ghost use Rattle.message_pipe.specs.Ends.{carried_in, end_of, is_closed, peer_of
 ghost use Rattle.message_pipe.specs.Mail.{are_emitted, front_of, weighs};
 
 use crate::cascade::goes_with;
-use crate::ends::Ends;
 use crate::message::Message;
+use crate::slab_ends::SlabEnds;
 use handle_table::{Place, PlaceTable, Thing};
 use mj_base::{EndId, SeqId};
 use std::alloc::{AllocError, Global};
@@ -22,7 +22,7 @@ use std::marker::Model;
 /// himself what is done with which thing. Contracts see what they see of pipes with handles.
 #[derive(Drop)]
 pub struct ThingPipes {
-    ends: Ends,
+    ends: SlabEnds,
     table: PlaceTable,
     made: usize,
 }
@@ -44,7 +44,7 @@ impl ThingPipes {
         ensures { result ≡ record { ends = []; table = record { ends = []; tokens = [] }; made = 0 } }
     {
         ThingPipes {
-            ends: Ends::new(alloc),
+            ends: SlabEnds::new(alloc),
             table: PlaceTable::new(alloc),
             made: 0,
         }
@@ -75,35 +75,28 @@ impl ThingPipes {
     pub fn peer(&self, end: EndId) -> Option<EndId>
         ensures { result ≡ peer_of (end_of self.now.ends end) }
     {
-        let found = self.ends.get(end)?;
-        Some(found.peer)
+        self.ends.peer(end)
     }
 
     /// Whether an end is closed.
     pub fn is_closed(&self, end: EndId) -> bool
         ensures { result ≡ is_closed (end_of self.now.ends end) }
     {
-        match self.ends.get(end) {
-            Some(found) => found.closed,
-            None => false,
-        }
+        self.ends.is_closed(end)
     }
 
     /// Whether 4,096 messages that weren't emitted lie unread at an end.
     pub fn is_full(&self, end: EndId) -> bool
         ensures { result ≡ nat_le MAX_UNREAD_MESSAGES (weighs (unread_at self.now.ends end)) }
     {
-        match self.ends.get(end) {
-            Some(found) => found.unread.is_full(),
-            None => false,
-        }
+        self.ends.is_full(end)
     }
 
     /// The oldest unread message at an end.
     pub fn front(&self, end: EndId) -> Option<&Message>
         ensures { option_copied result ≡ front_of (unread_at self.now.ends end) }
     {
-        self.ends.get(end)?.unread.front()
+        self.ends.front(end)
     }
 
     /// Makes a pipe: its first end of one sequence, its second of another or of the same. Without memory

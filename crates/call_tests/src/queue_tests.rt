@@ -1,0 +1,205 @@
+//! Ends whose messages stand in one slab: many at once, and beside the plain form.
+
+ghost use Rattle.std.specs.Prelude.{◌≡◌, ◌+◌, ◌<◌, ◌≤◌};
+
+use handle_table::Place;
+use message_pipe::{Message, Pipes, PushRefused, SlabEnds, Steps};
+use mj_base::{EndId, Items, SeqId};
+use pipe_runs::{Ends, QueueCommand, QueueReply, run_queues};
+use std::alloc::Global;
+use std::marker::Brand;
+use std::process::Abort;
+use std::sync::ledger::{Blank, Ledger};
+use std::test::Fail;
+
+const ONLY: SeqId = SeqId(0);
+
+const PIPES: u32 = 8;
+
+const ENDS: u32 = 16;
+
+const MESSAGES: u32 = 4096;
+
+const LENGTH: u32 = 4;
+
+/// How many commands are tried at each place of a list.
+const COMMANDS: u32 = 8;
+
+/// A pipe of the only sequence, both ends of which the table has.
+fn make<R: Abort>(rt: &R, alloc: Global, pipes: &mut Pipes)
+    requires { pipes.old.made ≤ 100 }
+    ensures { pipes.new.made ≡ pipes.old.made + 2 }
+{
+    match pipes.make(alloc, ONLY, ONLY) {
+        Ok((one, other)) => {
+            pipes.put(one, Place::Bound);
+            pipes.put(other, Place::Bound);
+        }
+        Err(_error) => panic!(rt; "no memory"),
+    }
+}
+
+/// The message of this number at this end.
+fn message(alloc: Global, end: u32, number: u32) -> Result<Message, Fail> {
+    let bytes = [
+        (end % 256) as u8,
+        (number % 256) as u8,
+        (number / 256 % 256) as u8,
+    ];
+    Ok(Message {
+        bytes: Items::from_vec(Vec::from_slice(alloc, &bytes)?),
+        handles: Items::from_vec(Vec::new(alloc)),
+        emitted: false,
+    })
+}
+
+/// Writes a message at an end that is there.
+fn write<R: Abort>(rt: &R, pipes: &mut Pipes, end: EndId, message: Message) {
+    let Some(_peer) = pipes.peer(end) else {
+        panic!(rt; "no end");
+    };
+    match pipes.push(end, message) {
+        Ok(()) => {}
+        Err(PushRefused::Full(_message) | PushRefused::Memory(_message)) => panic!(rt;
+            "not written"
+        ),
+    }
+}
+
+/// Takes the oldest message at an end that is there, and counts the look-ups.
+fn read<L: Ledger, R: Abort>(
+    rt: &R,
+    pipes: &mut Pipes,
+    end: EndId,
+    steps: &mut Steps<L>,
+) -> Message {
+    let Some(_peer) = pipes.peer(end) else {
+        panic!(rt; "no end");
+    };
+    match pipes.pop_front_counted(end, steps) {
+        Some(message) => message,
+        None => panic!(rt; "nothing unread"),
+    }
+}
+
+/// Fills each end.
+fn fill<R: Abort>(rt: &R, alloc: Global, pipes: &mut Pipes) -> Result<(), Fail> {
+    for number in 0..MESSAGES {
+        for serial in 0..ENDS {
+            write(
+                rt,
+                pipes,
+                EndId { seq: 0, serial },
+                message(alloc, serial, number)?,
+            );
+        }
+    }
+    Ok(())
+}
+
+/// Takes all in turn: each end has its own, in order.
+fn take_all<L: Ledger, R: Abort>(
+    rt: &R,
+    alloc: Global,
+    pipes: &mut Pipes,
+    blank: Blank,
+) -> Result<(), Fail>
+    requires name { blank.name ≡ L.name }
+    requires parts { blank.parts ≡ L.parts }
+    requires some { 0 < blank.parts }
+{
+    let mut steps = Steps::<L>::new(blank);
+    for number in 0..MESSAGES {
+        for serial in 0..ENDS {
+            let wanted = message(alloc, serial, number)?;
+            let got = read(rt, pipes, EndId { seq: 0, serial }, &mut steps);
+            assert!(rt; got.bytes.as_slice() == wanted.bytes.as_slice());
+        }
+    }
+    Ok(())
+}
+
+#[test]
+fn each_end_has_its_own_in_order(rt: HostRuntime) -> Result<(), Fail> {
+    let alloc = rt.alloc();
+    let mut pipes = Pipes::new(alloc);
+    for _number in 0..PIPES {
+        make(&rt, alloc, &mut pipes);
+    }
+    fill(&rt, alloc, &mut pipes)?;
+    assert!(rt; pipes.is_full(EndId { seq: 0, serial: 3 }));
+    take_all::<Brand, _>(&rt, alloc, &mut pipes, Blank::new(1))?;
+    assert!(rt; pipes.front(EndId { seq: 0, serial: 3 }).is_none());
+    Ok(())
+}
+
+/// The command of this number: two messages, a reading and a closing at each of two ends, and a reading and
+/// a message where no end is.
+fn command(alloc: Global, number: u32) -> Result<QueueCommand, Fail> {
+    let end = EndId {
+        seq: 0,
+        serial: number / 3,
+    };
+    Ok(match number % 3 {
+        0 => QueueCommand::Write(end, message(alloc, end.serial, number)?),
+        1 => QueueCommand::Read(end),
+        _ => QueueCommand::Close(end),
+    })
+}
+
+/// The list of this number.
+fn commands(alloc: Global, list: u32) -> Result<Vec<QueueCommand>, Fail> {
+    let mut commands = Vec::new(alloc);
+    let mut left = list;
+    for _place in 0..LENGTH {
+        commands.push(command(alloc, left % COMMANDS)?)?;
+        left /= COMMANDS;
+    }
+    Ok(commands)
+}
+
+/// Whether two replies are the same.
+fn is_same(one: &QueueReply, other: &QueueReply) -> bool {
+    match (one, other) {
+        (QueueReply::Written, QueueReply::Written) => true,
+        (QueueReply::Full, QueueReply::Full) => true,
+        (QueueReply::NoEnd, QueueReply::NoEnd) => true,
+        (QueueReply::Shut, QueueReply::Shut) => true,
+        (QueueReply::Got(None), QueueReply::Got(None)) => true,
+        (QueueReply::Got(Some(one)), QueueReply::Got(Some(other))) => {
+            one.bytes.as_slice() == other.bytes.as_slice()
+        }
+        _ => false,
+    }
+}
+
+/// Whether two lists of replies are the same.
+fn are_same(one: &[QueueReply], other: &[QueueReply]) -> bool {
+    if one.len() != other.len() {
+        return false;
+    }
+    for at in 0..one.len() {
+        if at < other.len() && !is_same(&one[at], &other[at]) {
+            return false;
+        }
+    }
+    true
+}
+
+#[test]
+fn both_forms_give_the_same_replies(rt: HostRuntime) -> Result<(), Fail> {
+    let alloc = rt.alloc();
+    let one = EndId { seq: 0, serial: 0 };
+    let other = EndId { seq: 0, serial: 1 };
+    for list in 0..COMMANDS * COMMANDS * COMMANDS * COMMANDS {
+        let mut plain = Ends::new(alloc);
+        let mut slab = SlabEnds::new(alloc);
+        plain.push_pair(alloc, one, other)?;
+        slab.push_pair(alloc, one, other)?;
+        let asked = commands(alloc, list)?;
+        let replies = run_queues(alloc, &mut plain, asked.as_slice())?;
+        let again = run_queues(alloc, &mut slab, asked.as_slice())?;
+        assert!(rt; are_same(replies.as_slice(), again.as_slice()));
+    }
+    Ok(())
+}
