@@ -2,6 +2,7 @@
 use denote.Param.Send.{IsSend, sendable}
 use Rattle.std.proofs.Crossing as vecs
 use Rattle.wire_model.proofs.value.Value.TheLaws.TheKnot as values
+use Rattle.kept_values.proofs.Crossing.{kept_send, few_send}
 use Rattle.bind_model.proofs.asked.Closing.TheSendSync as closing
 use Rattle.bind_model.proofs.asked.Notice.TheSendSync as notice
 use Rattle.bind_model.proofs.flow.Flow.TheSendSync as flow
@@ -17,10 +18,6 @@ use Rattle.bind_model.specs.contracts.told.Told as told
 use Rattle.bind_model.specs.contracts.told.Got as got
 use Rattle.bind_model.specs.contracts.history.History as history
 use Rattle.bind_model.specs.contracts.parameters.Parameters as parameters
-use Rattle.bind_model.specs.contracts.parts.Part as part
-use Rattle.bind_model.specs.contracts.parts.Held as held
-use Rattle.bind_model.specs.contracts.kept_parameters.KeptParameters as kept
-use Rattle.bind_model.specs.contracts.few_things.FewThings as few
 use Rattle.wire_encoder.specs.contracts.prepared.Prepared as prepared
 use Rattle.handle_table.proofs.handle.Handle.TheSendSync as handle
 use Rattle.handle_table.proofs.handle.Handles.TheSendSync as handles
@@ -35,18 +32,6 @@ use Rattle.bind_model.specs.contracts.commands.Refused as refused
 
 pub parameters_send : IsSend parameters.the_field.row
 parameters_send = search (values.crosses, vecs.crosses, sendable) depth 60 fits 20000
-
-part_send : IsSend part.the_field.row
-part_send = search (values.crosses, vecs.crosses, sendable) depth 60 fits 20000
-
-held_send : IsSend held.the_field.row
-held_send = search (part_send, values.crosses, vecs.crosses, sendable) depth 60 fits 20000
-
-kept_send : IsSend kept.the_field.row
-kept_send = search (held_send, vecs.crosses, sendable) depth 60 fits 20000
-
-few_send : IsSend few.the_field.row
-few_send = search (vecs.crosses, sendable) depth 60 fits 20000
 
 outgoing_send : IsSend outgoing.the_field.row
 outgoing_send = search (kept_send, few_send, vecs.crosses, sendable) depth 60 fits 20000

@@ -33,5 +33,4 @@ pub mod ResponderCounts
 pub mod PendingTable
 pub mod CoreFacts
 pub mod Crossing
-mod KeptLists
 pub mod PeerLemmas

@@ -14,10 +14,8 @@ pub mod Tables
 pub mod Origins
 pub mod Left
 pub mod Histories
-pub mod KeptTrees
 pub mod Names
 pub mod Pendings
 pub mod Plain
 pub mod Responders
 pub mod Seen
-pub mod steps

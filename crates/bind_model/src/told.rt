@@ -2,12 +2,10 @@
 
 ghost use Rattle.std.specs.Prelude.{◌≡◌, IfOk};
 
-use crate::boxed::Boxed;
 use crate::endpoint::PendingId;
-use crate::few_things::FewThings;
 use crate::flow::Flowed;
-use crate::kept_parameters::KeptParameters;
 use handle_table::{Thing, TokenId};
+use kept_values::{Boxed, FewThings, KeptParameters};
 use mj_base::{EndId, Fault, Items, SeqId};
 use std::alloc::{AllocError, Global};
 use wire_model::Target;

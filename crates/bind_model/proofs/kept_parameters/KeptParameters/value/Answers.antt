@@ -1,5 +1,0 @@
-use Rattle.std.proofs.Common.{◌∙◌}
-use Rattle.bind_model.proofs.kept_parameters.KeptParameters.value.Goals as goal
-
-pub returns : goal.returns
-returns c = c.in_ok-value.ensures ∙ c.self.view_is

@@ -1,6 +1,0 @@
-use Rattle.std.proofs.Common.{ap, ◌∙◌}
-use Rattle.wire_model.specs.Trees.{view}
-use Rattle.bind_model.proofs.kept_parameters.copy_apart.Goals as goal
-
-pub returns : goal.returns
-returns c = ap view c.in_ok-apart.ensures ∙ c.in_ok-copy.ensures

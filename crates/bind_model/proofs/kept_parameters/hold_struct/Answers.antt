@@ -1,6 +1,0 @@
-use Rattle.std.proofs.Common.{List, ap}
-use Rattle.wire_model.specs.Trees.{Tree, Fields, trees}
-use Rattle.bind_model.proofs.kept_parameters.hold_struct.Goals as goal
-
-pub returns : goal.returns
-returns c = ap (λ (ts : List Tree). Fields (trees ts)) c.in_ok-parts.ensures

@@ -1,0 +1,2 @@
+pub mod KeptTrees
+pub mod steps
