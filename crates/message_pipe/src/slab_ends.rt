@@ -1,6 +1,6 @@
 //! The ends that all sequences made, with all of their unread messages in one slab.
 
-ghost use Rattle.std.specs.Prelude.{List, ◌≡◌, ◌+◌, ◌-◌, ◌<◌, ◌≤◌, ◌==◌, ◌++◌, ℕ, [], ◌∷◌, drop, length, nat_le, take, true, OnOk, OnErr, IfErr, if◌then◌else◌};
+ghost use Rattle.std.specs.Prelude.{List, ◌≡◌, ◌+◌, ◌-◌, ◌<◌, ◌==◌, ◌++◌, ℕ, [], ◌∷◌, drop, length, nat_le, take, true, OnOk, OnErr, IfErr, if◌then◌else◌};
 ghost use Rattle.std.specs.Option.{option_copied, option_map};
 ghost use Rattle.mj_base.specs.declared.ids.EndId.{EndId as end_id};
 ghost use Rattle.mj_base.specs.declared.limits.TheConstants.{MAX_UNREAD_MESSAGES};
@@ -118,7 +118,8 @@ impl SlabEnds {
         self.pop(one.seq);
     }
 
-    /// One message more at an end. Without memory it comes back.
+    /// One message more at an end. Without memory it comes back, and so it does where its place in the slab would be
+    /// past 4,294,967,295.
     pub fn push_message(&mut self, end: EndId, message: Message) -> Result<(), Message>
         requires { end.serial < length (listed self.old end.seq) }
         ensures ok { OnOk result ((s : ℕ) → listed self.new s
@@ -128,7 +129,8 @@ impl SlabEnds {
         enter(&mut self.keys, &mut self.messages, end, message)
     }
 
-    /// More messages at an end, all of them emitted. Without memory nothing changes.
+    /// More messages at an end, all of them emitted. Without memory, or where a place would be past 4,294,967,295,
+    /// nothing changes.
     pub(crate) fn push_emitted(
         &mut self,
         end: EndId,
@@ -153,7 +155,7 @@ impl SlabEnds {
         removed(&mut self.messages, key)
     }
 
-    /// The same, with a step for each look-up by key.
+    /// The same, with a step for the look-up by key.
     pub(crate) fn pop_counted<L: Ledger>(
         &mut self,
         end: EndId,
@@ -162,7 +164,7 @@ impl SlabEnds {
         requires { end.serial < length (listed self.old end.seq) }
         ensures front { result ≡ front_of (unread_at self.old end) }
         ensures rest { (s : ℕ) → listed self.new s ≡ (if end.seq == s then changed_at without_front end.serial (listed self.old s) else listed self.old s) }
-        ensures steps { steps.new ≤ steps.old + 4 }
+        ensures steps { steps.new ≡ steps.old + 1 }
     {
         let key = self.keys.pop_key(end);
         removed_counted(&mut self.messages, key, steps)

@@ -1,6 +1,6 @@
 //! Messages in a slab, and their keys.
 
-ghost use Rattle.std.specs.Prelude.{◌≡◌, ◌+◌, ◌≤◌, ◌++◌, List, [], ◌∷◌, drop, IfOk, IfErr, IfSome, OnOk, OnErr, OnSome};
+ghost use Rattle.std.specs.Prelude.{◌≡◌, ◌+◌, ◌++◌, List, [], ◌∷◌, drop, IfOk, IfErr, IfSome, OnOk, OnErr, OnSome};
 ghost use Rattle.std.specs.Option.{option_copied, option_to_list};
 ghost use Rattle.slab.specs.Slab.{HasRoomFor, SameValues};
 ghost use Rattle.queued_keys.specs.declared.key.Key.{Key as a_key};
@@ -113,7 +113,7 @@ pub(crate) fn removed(messages: &mut Slab<Message>, key: Option<Key>) -> Option<
     }
 }
 
-/// The same, with a step for the look-up.
+/// The same, with a step for the look-up: one too where there is no key.
 pub(crate) fn removed_counted<L: Ledger>(
     messages: &mut Slab<Message>,
     key: Option<Key>,
@@ -121,7 +121,7 @@ pub(crate) fn removed_counted<L: Ledger>(
 ) -> Option<Message>
     ensures value { result ≡ found_in messages.old key }
     ensures loses { Loses messages.old messages.new (option_to_list key) }
-    ensures steps { steps.new ≤ steps.old + 4 }
+    ensures steps { steps.new ≡ steps.old + 1 }
 {
     steps.tick();
     removed(messages, key)

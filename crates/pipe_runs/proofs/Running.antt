@@ -122,6 +122,11 @@ same_all : (commands : List QueueCommand) (old new : EndId → Option PipeEnd) �
 same_all [] old new e x = e x
 same_all (command ∷ commands) old new e x = same_all commands (after command old) (after command new) (same_after command old new e) x
 
+-- both at once
+pub runs_alike : (commands : List QueueCommand) (one other : EndId → Option PipeEnd) → Stay one other
+    → (replies_to commands other ≡ replies_to commands one) × Stay (after_all commands one) (after_all commands other)
+runs_alike commands one other e = (same_replies commands one other e, λ x. same_all commands one other e x)
+
 -- one command more
 pub replied_more : (commands rest : List QueueCommand) (command : QueueCommand) (reply : QueueReply) (told_now whole : List QueueReply)
     (old new : EndId → Option PipeEnd) → commands ≡ command ∷ rest → reply ≡ told command (old (named command)) → Stay (after command old) new

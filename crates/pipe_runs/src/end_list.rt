@@ -1,10 +1,10 @@
 //! The ends that one sequence made.
 
-ghost use Rattle.std.specs.Prelude.{◌≡◌, ◌-◌, ◌<◌, ◌++◌, [], ◌∷◌, length, slice_get, take, true, OnOk, OnErr, IfErr};
+ghost use Rattle.std.specs.Prelude.{◌≡◌, ◌-◌, ◌<◌, ◌++◌, [], ◌∷◌, length, slice_get, take, OnOk, OnErr, IfErr};
 ghost use Rattle.std.specs.Option.{option_copied};
 ghost use Rattle.handle_table.specs.Numbered.{changed_at};
-ghost use Rattle.message_pipe.specs.Ends.{shut, with_message, with_messages, without_front, unread_of};
-ghost use Rattle.message_pipe.specs.Mail.{are_emitted, front_of};
+ghost use Rattle.message_pipe.specs.Ends.{shut, with_message, without_front, unread_of};
+ghost use Rattle.message_pipe.specs.Mail.{front_of};
 
 use message_pipe::{Message, PipeEnd};
 use std::alloc::{AllocError, Global};
@@ -33,13 +33,6 @@ impl EndList {
         EndList {
             items: Vec::new(alloc),
         }
-    }
-
-    /// How many were made.
-    pub(crate) fn len(&self) -> usize
-        ensures { result ≡ length self.now }
-    {
-        self.items.len()
     }
 
     /// The end of a number; none where it was never made.
@@ -72,20 +65,6 @@ impl EndList {
         ensures err { IfErr result (λ back. (back ≡ message) × (self.new ≡ self.old)) }
     {
         self.items[number as usize].push(message)
-    }
-
-    /// More messages at an end, all of them emitted. Without memory nothing changes.
-    pub(crate) fn push_emitted(
-        &mut self,
-        number: u32,
-        messages: Vec<Message>,
-    ) -> Result<(), AllocError>
-        requires there { number < length self.old }
-        requires emitted { are_emitted messages.items ≡ true }
-        ensures ok { OnOk result (self.new ≡ changed_at (with_messages messages.items) number self.old) }
-        ensures err { OnErr result (self.new ≡ self.old) }
-    {
-        self.items[number as usize].push_emitted(messages)
     }
 
     /// Takes the oldest message at an end away.

@@ -1,12 +1,12 @@
 //! The ends that all sequences made, in the plain form: each has a list of its own unread messages.
 
-ghost use Rattle.std.specs.Prelude.{◌≡◌, ◌-◌, ◌<◌, ◌==◌, ◌++◌, ℕ, [], ◌∷◌, length, nat_le, take, true, OnOk, OnErr, IfErr, if◌then◌else◌};
+ghost use Rattle.std.specs.Prelude.{◌≡◌, ◌-◌, ◌<◌, ◌==◌, ◌++◌, ℕ, [], ◌∷◌, length, nat_le, take, OnOk, OnErr, IfErr, if◌then◌else◌};
 ghost use Rattle.std.specs.Option.{option_copied};
 ghost use Rattle.mj_base.specs.declared.limits.TheConstants.{MAX_UNREAD_MESSAGES};
 ghost use Rattle.handle_table.specs.Numbered.{listed, changed_at};
-ghost use Rattle.message_pipe.specs.Ends.{end_of, is_closed, peer_of, shut, with_message, with_messages, without_front, unread_at};
+ghost use Rattle.message_pipe.specs.Ends.{end_of, peer_of, shut, with_message, without_front, unread_at};
 ghost use Rattle.message_pipe.specs.Pairs.{with_pair};
-ghost use Rattle.message_pipe.specs.Mail.{are_emitted, front_of, weighs};
+ghost use Rattle.message_pipe.specs.Mail.{front_of, weighs};
 
 use crate::end_list::EndList;
 use crate::queues::Queues;
@@ -56,16 +56,6 @@ impl Ends {
         Some(found.peer)
     }
 
-    /// Whether an end is closed.
-    pub fn is_closed(&self, end: EndId) -> bool
-        ensures { result ≡ is_closed (end_of self.now end) }
-    {
-        match self.get(end) {
-            Some(found) => found.closed,
-            None => false,
-        }
-    }
-
     /// Whether 4,096 messages that weren't emitted lie unread at an end.
     pub fn is_full(&self, end: EndId) -> bool
         ensures { result ≡ nat_le MAX_UNREAD_MESSAGES (weighs (unread_at self.now end)) }
@@ -74,13 +64,6 @@ impl Ends {
             Some(found) => found.unread.is_full(),
             None => false,
         }
-    }
-
-    /// The oldest unread message at an end.
-    pub fn front(&self, end: EndId) -> Option<&Message>
-        ensures { option_copied result ≡ front_of (unread_at self.now end) }
-    {
-        self.get(end)?.unread.front()
     }
 
     /// Makes a list for each sequence up to this one.
@@ -121,17 +104,6 @@ impl Ends {
         ensures err { IfErr result (λ back. (back ≡ message) × (self.new ≡ self.old)) }
     {
         self.sequences[end.seq as usize].push_message(end.serial, message)
-    }
-
-    /// More messages at an end, all of them emitted. Without memory nothing changes.
-    pub fn push_emitted(&mut self, end: EndId, messages: Vec<Message>) -> Result<(), AllocError>
-        requires there { end.serial < length (listed self.old end.seq) }
-        requires emitted { are_emitted messages.items ≡ true }
-        ensures ok { OnOk result ((s : ℕ) → listed self.new s
-            ≡ (if end.seq == s then changed_at (with_messages messages.items) end.serial (listed self.old s) else listed self.old s)) }
-        ensures err { OnErr result (self.new ≡ self.old) }
-    {
-        self.sequences[end.seq as usize].push_emitted(end.serial, messages)
     }
 
     /// Takes the oldest message at an end away.

@@ -3,6 +3,7 @@
 
 mod end_list;
 mod ends;
+pub mod laws;
 mod queues;
 mod run;
 mod slab_queues;

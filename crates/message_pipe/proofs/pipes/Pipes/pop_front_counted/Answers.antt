@@ -14,3 +14,6 @@ pub returns-clause-rest : goal.returns-clause-rest
 returns-clause-rest g c =
     rw (← c.self.view_is) (becomes c.args.end without_front c.self.inside.ends c.pop_counted.new.self c.pop_counted.ensures.rest c.self.inside.table
     c.self.inside.made)
+
+pub returns-clause-steps : goal.returns-clause-steps
+returns-clause-steps g c = c.pop_counted.ensures.steps

@@ -25,3 +25,6 @@ returns-clause-rest g c = rw (← c.self.view_is) (popped_seen c.args.end c.self
     c.removed_counted.new.messages c.self.invariant
     (subst (λ (o : Option Key). Loses c.self.inside.messages c.removed_counted.new.messages (option_to_list o)) c.pop_key-key.ensures.front
     c.removed_counted.ensures.loses) c.pop_key-key.ensures.rest)
+
+pub returns-clause-steps : goal.returns-clause-steps
+returns-clause-steps g c = c.removed_counted.ensures.steps
