@@ -46,7 +46,8 @@ use Rattle.core_state.specs.Routers.{Routers, found_at, router_at}
 use Rattle.core_ends.specs.steps.Associating.{why_not}
 use Rattle.core_ends.specs.steps.Attaching as attaching
 use Rattle.core_state.specs.Doing.{Done, HasRoom, told_to}
-use Rattle.core_state.specs.Turns.{AssociatesAt, CanAssociate, IsSame, TurnsAt}
+use Rattle.endpoint_router.specs.Turns.{CanAssociate, IsSame}
+use Rattle.core_state.specs.Turns.{AssociatesAt, TurnsAt}
 use Rattle.core_state.specs.declared.state.State.{State}
 use Rattle.core_ends.proofs.Binding.{interfaces_of}
 use Rattle.core_state.proofs.Facts.{closed_is}

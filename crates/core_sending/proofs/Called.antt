@@ -45,7 +45,7 @@ use Rattle.wire_model.specs.Message.{AreIds}
 use Rattle.core_state.specs.Agreement.{Agrees, past_of, schema_of, wire_in}
 use Rattle.core_state.specs.Doing.{CanDo, Done, told_in}
 use Rattle.core_state.specs.Opens.{opened}
-use Rattle.core_state.specs.Turns.{IsSame}
+use Rattle.endpoint_router.specs.Turns.{IsSame}
 use Rattle.core_sending.specs.declared.call.Request.{Request}
 use Rattle.core_sending.specs.declared.carried.CarriedNames.{CarriedNames}
 use Rattle.bind_model.specs.declared.commands.Reply.{Reply}

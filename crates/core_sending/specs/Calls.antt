@@ -9,7 +9,7 @@ use Rattle.bind_model.specs.Replies.{drawn}
 use Rattle.bind_model.specs.declared.asked.Outgoing.{Outgoing}
 use Rattle.endpoint_router.specs.Rows.{Contents, next_number, row_at}
 use Rattle.core_state.specs.Routers.{Routers, router_at}
-use Rattle.core_state.specs.Turns.{CanSend}
+use Rattle.endpoint_router.specs.Turns.{CanSend}
 use Rattle.core_sending.specs.declared.call.Request.{Request}
 use Rattle.core_sending.specs.declared.carried.CarriedNames.{CarriedNames}
 use Rattle.core_sending.specs.declared.writing.Writes.{Writes}

@@ -11,7 +11,7 @@ ghost use Rattle.core_sending.specs.Ways.{asks_of};
 ghost use Rattle.core_state.specs.Routers.{router_at};
 ghost use Rattle.core_sending.specs.Calls.{command_of, number_of, outgoing_named, MaySend};
 ghost use Rattle.core_state.specs.Requests.{SendsAt};
-ghost use Rattle.core_state.specs.Turns.{IsSame};
+ghost use Rattle.endpoint_router.specs.Turns.{IsSame};
 ghost use Rattle.core_state.specs.Doing.{CanDo, Done, Undone};
 
 use crate::carried::{Carried, CarriedNames, all_own, spend_all};

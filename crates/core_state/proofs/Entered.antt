@@ -1,17 +1,22 @@
 -- Endpoints that enter one after the other, and those of which each is new.
-use Rattle.std.proofs.Common.{◌≡◌, ◌<◌, ◌+◌, ℕ, suc, Bool, true, false, List, [], ◌∷◌, ◌++◌, length, take, drop, get_or, refl, sym, ap, ◌∙◌}
+use Rattle.std.proofs.Common.{◌≡◌, ◌<◌, ◌+◌, ℕ, suc, Bool, true, false, List, [], ◌∷◌, ◌++◌, length, take, drop, get_or, refl, sym, ap, subst, ◌∙◌}
 use Rattle.std.proofs.Math.Seq.{split_at}
 use Rattle.std.proofs.lemmas.List.{take_more}
-use Rattle.std.specs.Prelude.{if◌then◌else◌, ◌==◌, not, Option, Some, None, IsTrue}
+use Rattle.std.specs.Prelude.{if◌then◌else◌, ◌==◌, ◌&&◌, not, Option, Some, None, IsTrue}
 use Rattle.std.proofs.lemmas.Bool.{eq-eqb, eqb-true}
-use Rattle.handle_table.proofs.ThingsLemmas.{and_left, and_right, not-true, or_left, or_right}
+use Rattle.mj_base.specs.declared.ids.EndId.{EndId}
+use Rattle.handle_table.specs.Things.{same_end}
+use Rattle.handle_table.proofs.ThingsLemmas.{and_left, and_right, not-true, or_left, or_right, same_end-refl}
 use Rattle.bind_model.specs.Laws.{all_differ, has_number}
 use Rattle.bind_model.specs.Machine.{Entry}
 use Rattle.bind_model.specs.Tables.{ids_of_entries}
-use Rattle.endpoint_router.specs.Changes.{Stays}
-use Rattle.endpoint_router.specs.Rows.{Contents, RowSeen, has_place, no_endpoints, row_at, row_of}
+use Rattle.endpoint_router.specs.Agreement.{entered_row}
+use Rattle.endpoint_router.specs.Rows.{RowSeen, has_place, row_at, row_of}
+use Rattle.endpoint_router.specs.Turns.{PlacesStay}
 use Rattle.endpoint_router.proofs.Stepping.{last_enters, none_enters}
-use Rattle.core_state.specs.Entries.{AllEnterIf, AreNew}
+use Rattle.core_state.specs.Entries.{AllEnterAt, AllEnterIf, AreNew}
+use Rattle.core_state.specs.Routers.{Routers, router_at}
+use Rattle.core_state.specs.Turns.{EntersAt}
 
 -- the next one of a list whose ids differ
 module _ (xs : List Entry) (e : Entry) (rest : List Entry) where
@@ -47,48 +52,52 @@ module _ (xs : List Entry) (e : Entry) (rest : List Entry) where
 
 -- ## Rows
 
--- those so far entered, and the places are the same
-pub record EnteredSoFar (xs : List Entry) (old now : Contents) : Type 0 where
-  pub enters : AllEnterIf xs true old now
-  pub places : (n : ℕ) → has_place now n ≡ has_place old n
+-- those so far entered at an end, and its places stay
+pub record EnteredSoFar (xs : List Entry) (x : EndId) (old now : Routers) : Type 0 where
+  pub enters : AllEnterAt xs x old now
+  pub stay : PlacesStay (router_at old x) (router_at now x)
 
-module _ (all xs : List Entry) (e : Entry) (rest : List Entry) (old now : Contents) (split : all ≡ xs ++ e ∷ rest) (new : AreNew old all)
-    (so_far : EnteredSoFar xs old now) where
+module _ (all xs : List Entry) (e : Entry) (rest : List Entry) (x : EndId) (old now : Routers) (split : all ≡ xs ++ e ∷ rest)
+    (new : AreNew (router_at old x) all) (so_far : EnteredSoFar xs x old now) where
   apart : has_number (ids_of_entries xs) e.id ≡ false
   apart = not_before xs e rest (ap (λ (es : List Entry). all_differ (ids_of_entries es)) (sym split) ∙ new.once)
 
   here : has_number (ids_of_entries all) e.id ≡ true
   here = ap (λ (es : List Entry). has_number (ids_of_entries es) e.id) split ∙ among xs e rest
 
-  pub next_absent : row_at now e.id ≡ None
-  next_absent = so_far.enters.rows e.id ∙ (none_enters xs e.id (row_at old e.id) apart ∙ new.absent e.id here)
+  at_end : AllEnterIf xs true (router_at old x) (router_at now x)
+  at_end = subst (λ (b : Bool). AllEnterIf xs b (router_at old x) (router_at now x)) (same_end-refl x) (so_far.enters x)
 
-  pub next_placed : IsTrue (has_place now e.id)
-  next_placed = so_far.places e.id ∙ new.places e.id here
+  pub next_absent : row_at (router_at now x) e.id ≡ None
+  next_absent = at_end.rows e.id ∙ (none_enters xs e.id (row_at (router_at old x) e.id) apart ∙ new.absent e.id here)
 
-  pub next_entered : (next : Contents) (row : RowSeen) → row ≡ row_of e.endpoint
-      → ((n : ℕ) → row_at next n ≡ (if e.id == n then Some row else row_at now n)) → Stays now next → EnteredSoFar (xs ++ e ∷ []) old next
-  next_entered next row is rows rest = record {
-    enters = record {
-      rows = λ n.
-          rows n
-          ∙ (ap (λ (r : RowSeen). if e.id == n then Some r else row_at now n) is
-          ∙ (ap (λ (o : Option RowSeen). if e.id == n then Some (row_of e.endpoint) else o) (so_far.enters.rows n)
-          ∙ sym (last_enters xs e n (row_at old n) apart)));
-      drawn = rest.drawn ∙ so_far.enters.drawn;
+  pub next_placed : IsTrue (has_place (router_at now x) e.id)
+  next_placed = so_far.stay e.id (new.places e.id here)
+
+  pub next_entered : (next : Routers) → EntersAt e.endpoint x e.id now next → PlacesStay (router_at now x) (router_at next x)
+      → EnteredSoFar (xs ++ e ∷ []) x old next
+  next_entered next one stay = record {
+    enters = λ y. record {
+      rows = λ n. go (same_end x y) n (row_at (router_at old y) n) (row_at (router_at now y) n) (row_at (router_at next y) n)
+          ((one y).rows n) ((so_far.enters y).rows n);
+      drawn = (one y).drawn ∙ (so_far.enters y).drawn;
     };
-    places = λ n. rest.places n ∙ so_far.places n;
+    stay = λ n h. stay n (so_far.stay n h);
   }
+    where
+      go : (b : Bool) (n : ℕ) (o p q : Option RowSeen) → q ≡ (if b && (e.id == n) then Some (row_of e.endpoint) else p)
+          → p ≡ (if b then entered_row xs n o else o) → q ≡ (if b then entered_row (xs ++ e ∷ []) n o else o)
+      go true n o p q f g =
+          f ∙ (ap (λ (r : Option RowSeen). if e.id == n then Some (row_of e.endpoint) else r) g ∙ sym (last_enters xs e n o apart))
+      go false n o p q f g = f ∙ g
 
--- ## Routers where nothing enters
-
-pub all_enter_none : (es : List Entry) (c : Contents) → AllEnterIf es false c c
-all_enter_none es c = record { rows = λ n. refl; drawn = refl }
-
--- a router without places takes none
-pub none_new : (es : List Entry) → AreNew no_endpoints es → es ≡ []
-none_new [] h = refl
-none_new (e ∷ es) h = absurd (let p : false ≡ true = h.places e.id (among [] e es) in cc)
+-- none have entered
+pub none_entered : (x : EndId) (routers : Routers) → EnteredSoFar [] x routers routers
+none_entered x routers = record { enters = λ y. record { rows = λ n. go (same_end x y) (row_at (router_at routers y) n); drawn = refl }; stay = λ n h. h }
+  where
+    go : (b : Bool) (o : Option RowSeen) → o ≡ (if b then o else o)
+    go true o = refl
+    go false o = refl
 
 -- ## By numbers
 
@@ -98,10 +107,3 @@ split_here all k e lt is = split_at all k e lt ∙ ap (λ (z : Entry). take k al
 
 pub longer_here : (all : List Entry) (k : ℕ) (e : Entry) → k < length all → e ≡ get_or all k e → take (k + 1) all ≡ take k all ++ e ∷ []
 longer_here all k e lt is = take_more all k e lt ∙ ap (λ (z : Entry). take k all ++ z ∷ []) (sym is)
-
-pub nothing_enters : (here : Bool) (c : Contents) → AllEnterIf [] here c c
-nothing_enters here c = record { rows = λ n. go here (row_at c n); drawn = refl }
-  where
-    go : (b : Bool) (o : Option RowSeen) → o ≡ (if b then o else o)
-    go true o = refl
-    go false o = refl

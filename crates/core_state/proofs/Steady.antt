@@ -36,7 +36,8 @@ use Rattle.core_state.specs.Agreement.{Agrees}
 use Rattle.core_state.specs.Routers.{Routers, found_at, router_at}
 use Rattle.core_state.specs.Requests.{SendsAt, AnswersAt}
 use Rattle.core_state.specs.Entries.{AllEnterAt}
-use Rattle.core_state.specs.Turns.{EntersAt, IsSame, TurnsAt}
+use Rattle.endpoint_router.specs.Turns.{IsSame}
+use Rattle.core_state.specs.Turns.{EntersAt, TurnsAt}
 use Rattle.core_state.proofs.Numbers.{IsFresh}
 
 -- all routers are those that the events give

@@ -13,11 +13,17 @@ use Rattle.bind_model.specs.declared.asked.Asked.{Asked}
 use Rattle.bind_model.specs.declared.told.Told.TheVariants.{No, Skipped}
 use Rattle.bind_model.specs.declared.told.Why.{Why}
 use Rattle.bind_model.specs.declared.event.Event.{Event}
+use Rattle.bind_model.specs.declared.endpoint.PendingId.{PendingId}
+use Rattle.bind_model.specs.declared.endpoint.ResponderId.{ResponderId}
+use Rattle.bind_model.specs.Pendings.{is_out}
+use Rattle.bind_model.specs.Responders.{count_of}
 use Rattle.bind_model.specs.Wire.{Wire}
 use Rattle.bind_model.specs.Machine.{made, made_by, peer, peer_by, gone, gone_by, out, given, handed, takes, written, puts, endpoint_at}
 use Rattle.core_state.specs.Routers.{Routers, router_at}
-use Rattle.core_state.specs.Turns.{IsSame}
-use Rattle.core_state.specs.Agreement.{Agrees, end_in}
+use Rattle.endpoint_router.specs.Turns.{IsSame}
+use Rattle.core_state.specs.declared.state.Rights.{Rights}
+use Rattle.core_state.specs.declared.state.State.{State}
+use Rattle.core_state.specs.Agreement.{Agrees, Holds, end_in, past_of, wire_in}
 use Rattle.core_state.proofs.After.{out_after, gone_still, end_still}
 use Rattle.core_state.proofs.Steady.{AllAgree, IsSteady, all_same, steady}
 
@@ -95,4 +101,17 @@ unseen wire past pipes before after s a = record {
   serials = a.serials;
   tokens = a.tokens;
   routers = all_same wire past before after s a.routers;
+}
+
+-- a state holds where its routers look the same, and the rights are out that were
+pub unseen_holds : (s : State) (endpoints : Routers) (rights : Rights) → ((x : EndId) → IsSame (router_at s.endpoints x) (router_at endpoints x))
+    → ((r : ResponderId) → count_of rights.responders r ≡ count_of s.rights.responders r)
+    → ((p : PendingId) → is_out rights.pendings p ≡ is_out s.rights.pendings p) → Holds s → Holds (record s { endpoints = endpoints; rights = rights })
+unseen_holds s endpoints rights same counts outs h = record {
+  legal = h.legal;
+  agrees = unseen (wire_in s) (past_of s) s.pipes s.endpoints endpoints same h.agrees;
+  tables = h.tables;
+  responders = λ r. counts r ∙ h.responders r;
+  pendings = λ p. outs p ∙ h.pendings p;
+  few = h.few;
 }

@@ -1,7 +1,6 @@
 -- What a turn makes of one router, and of those that it leaves as they were.
-use Rattle.std.proofs.Common.{◌≡◌, ℕ, List, ◌≤◌, ◌+◌, arith, Bool, true, false, refl, sym, ap, ◌∙◌, subst}
+use Rattle.std.proofs.Common.{◌≡◌, ℕ, ◌≤◌, ◌+◌, Bool, true, false, refl, sym, ap, ◌∙◌, subst}
 use Rattle.std.specs.Prelude.{◌==◌, ◌&&◌, if◌then◌else◌, Option, Some, None, is_some, IsSome, IsTrue}
-use Rattle.std.specs.Map.{lookup}
 use Rattle.std.specs.Option.{option_map}
 use Rattle.std.proofs.lemmas.Bool.{eqb-true}
 use Rattle.mj_base.specs.declared.ids.EndId.{EndId}
@@ -12,28 +11,10 @@ use Rattle.bind_model.specs.Machine.{is_remote}
 use Rattle.bind_model.specs.declared.endpoint.Endpoint.{Endpoint}
 use Rattle.bind_model.specs.declared.limits.TheConstants.{REMOTE_IDS}
 use Rattle.endpoint_router.specs.Changes.{IsBound}
-use Rattle.endpoint_router.specs.Rows.{Contents, RowSeen, can_draw, endpoints_of, has_place, next_number, no_endpoints, own_id, row_at, row_in, seen_in}
-use Rattle.endpoint_router.specs.declared.row.Row.{Row}
+use Rattle.endpoint_router.specs.Rows.{Contents, RowSeen, can_draw, endpoints_of, next_number, own_id, row_at}
+use Rattle.endpoint_router.specs.Turns.{CanSend, IsSame, TurnsIf}
 use Rattle.core_state.specs.Routers.{Routers, found_at, router_at}
-use Rattle.core_state.specs.Turns.{AssociatesIf, CanSend, EntersIf, IsSame, TurnsAt, TurnsIf}
-
--- what doesn't change
-pub turns_none : (f : RowSeen → RowSeen) (id : ℕ) (c : Contents) → TurnsIf f id false c c
-turns_none f id c = record { rows = λ n. refl; drawn = refl }
-
-pub enters_none : (endpoint : Endpoint) (id : ℕ) (c : Contents) → EntersIf endpoint id false c c
-enters_none endpoint id c = record { rows = λ n. refl; drawn = refl }
-
-pub same_none : (c : Contents) → IsSame c c
-same_none c = record { rows = λ n. refl; drawn = refl }
-
--- where there are no endpoints, none turns
-pub turns_nothing : (f : RowSeen → RowSeen) (id : ℕ) → TurnsIf f id true no_endpoints no_endpoints
-turns_nothing f id = record { rows = λ n. go (id == n); drawn = refl }
-  where
-    go : (b : Bool) → ◌≡◌ {A = Option RowSeen} None (if◌then◌else◌ {A = Option RowSeen} b (option_map f None) None)
-    go true = refl
-    go false = refl
+use Rattle.core_state.specs.Turns.{TurnsAt}
 
 -- a turn behind a change that nobody sees
 pub turns_after : (f : RowSeen → RowSeen) (id : ℕ) (here : Bool) (old mid new : Contents) → IsSame old mid → TurnsIf f id here mid new
@@ -95,14 +76,3 @@ no_row c id h = go (row_at c id) h
 -- the next id that the end makes is the same where nothing changes that can be seen
 pub own_same : (old new : Contents) → IsSame old new → own_id new ≡ own_id old
 own_same old new s = λ i. s.drawn i + 1 + (if is_remote (option_map (λ (row : RowSeen). row.endpoint) (s.rows 0 i)) then REMOTE_IDS else 0)
-
--- what nothing enters
-pub associates_none : (endpoint : Endpoint) (c : Contents) → AssociatesIf endpoint false c c
-associates_none endpoint c = record { rows = λ n. refl; drawn = omega arith }
-
--- rows and places by the table alone
-pub row_still : (old new : Contents) → new.rows ≡ old.rows → (n : ℕ) → row_at new n ≡ row_at old n
-row_still old new e n = ap (λ (rows : List (ℕ × Option Row)). seen_in (row_in rows n)) e
-
-pub place_still : (old new : Contents) → new.rows ≡ old.rows → (n : ℕ) → has_place new n ≡ has_place old n
-place_still old new e n = ap (λ (rows : List (ℕ × Option Row)). is_some (lookup (λ k. n == k) rows)) e

@@ -4,7 +4,7 @@ use Rattle.mj_base.specs.declared.ids.EndId.{EndId}
 use Rattle.handle_table.specs.Things.{same_end}
 use Rattle.endpoint_router.specs.Changes.{with_request, without_request}
 use Rattle.core_state.specs.Routers.{Routers, router_at}
-use Rattle.core_state.specs.Turns.{TurnsIf}
+use Rattle.endpoint_router.specs.Turns.{TurnsIf}
 use Rattle.wire_model.specs.declared.target.MessageSide.{MessageSide}
 use Rattle.bind_model.specs.Replies.{is_response}
 

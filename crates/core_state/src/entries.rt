@@ -1,11 +1,14 @@
 //! Endpoints that enter the table of an end with a message.
 
-ghost use Rattle.std.specs.Prelude.{◌≡◌, true, OnOk};
-ghost use Rattle.core_state.specs.Entries.{AllEnterIf, AreNew, ArePlaced};
-ghost use Rattle.core_state.specs.Turns.{IsSame};
+ghost use Rattle.std.specs.Prelude.{◌≡◌, IsSome, OnOk};
+ghost use Rattle.endpoint_router.specs.Rows.{row_at};
+ghost use Rattle.core_state.specs.Entries.{AllEnterAt, AreNew, ArePlaced};
+ghost use Rattle.core_state.specs.Routers.{router_at};
+ghost use Rattle.core_state.specs.steps.Same.{AllSame};
 
 use bind_model::Endpoint;
-use endpoint_router::{Router, Row};
+use endpoint_router::{EndpointTable, Endpoints};
+use mj_base::EndId;
 use std::alloc::{AllocError, Global};
 use std::marker::Model;
 
@@ -47,23 +50,28 @@ impl Entering {
     }
 }
 
-/// Makes a place for each of these in the table of one end.
-pub(crate) fn place_all(router: &mut Router, entries: &[Entering]) -> Result<(), AllocError>
-    ensures same { IsSame router.old router.new }
-    ensures places { OnOk result (ArePlaced router.new entries.now) }
+/// Makes a place for each of these at an end, which has an endpoint 0.
+pub(crate) fn place_all(
+    table: &mut EndpointTable,
+    end: EndId,
+    entries: &[Entering],
+) -> Result<(), AllocError>
+    requires { IsSome (row_at (router_at table.old end) 0) }
+    ensures same { AllSame table.old table.new }
+    ensures places { OnOk result (ArePlaced (router_at table.new end) entries.now) }
 {
     for entry in entries {
-        router.reserve(entry.id())?;
+        table.reserve(end, entry.id())?;
     }
     Ok(())
 }
 
-/// Enters these into the table of one end, where there are places for them.
-pub(crate) fn enter_all(alloc: Global, router: &mut Router, entries: &[Entering])
-    requires { AreNew router.old entries.now }
-    ensures { AllEnterIf entries.now true router.old router.new }
+/// Enters these at an end, where there are places for them.
+pub(crate) fn enter_all(alloc: Global, table: &mut EndpointTable, end: EndId, entries: &[Entering])
+    requires { AreNew (router_at table.old end) entries.now }
+    ensures { AllEnterAt entries.now end table.old table.new }
 {
     for entry in entries {
-        router.enter(entry.id(), Row::new(alloc, entry.endpoint()));
+        table.put(alloc, end, entry.id(), entry.endpoint());
     }
 }

@@ -1,44 +1,43 @@
 //! The routers of all ends: their endpoints, and the requests that were sent from these.
 
-ghost use Rattle.std.specs.Prelude.{ℕ, ◌≡◌, ◌<◌, [], None, length, IsTrue, IsSome, OnOk, OnErr};
+ghost use Rattle.std.specs.Prelude.{◌≡◌, ◌<◌, None, IsTrue, IsSome, OnOk, OnErr};
 ghost use Rattle.mj_base.specs.declared.ids.EndId.{EndId as end_id};
-ghost use Rattle.handle_table.specs.Numbered.{listed};
-ghost use Rattle.endpoint_router.specs.Rows.{can_draw, has_place, is_pending, next_number, own_id, row_at};
 ghost use Rattle.mj_base.specs.declared.limits.TheConstants.{MAX_EVENTS};
+ghost use Rattle.endpoint_router.specs.Rows.{can_draw, has_place, is_pending, next_number, own_id, row_at};
+ghost use Rattle.endpoint_router.specs.Table.{no_ends};
 ghost use Rattle.core_state.specs.Routers.{found_at, router_at};
 ghost use Rattle.core_state.specs.Entries.{AllEnterAt, AreNew, ArePlaced};
-ghost use Rattle.core_state.specs.Turns.{AssociatesAt, CanAssociate, CanTurn, EntersAt, IsSame, TurnsAt, turn_of};
+ghost use Rattle.endpoint_router.specs.Turns.{CanAssociate, CanTurn, IsSame, turn_of};
+ghost use Rattle.core_state.specs.Turns.{AssociatesAt, EntersAt, TurnsAt};
 
-use crate::entries::Entering;
-use crate::router_list::RouterList;
-use crate::turns::Turn;
+use crate::entries::{Entering, enter_all, place_all};
 use bind_model::Endpoint;
+use endpoint_router::{EndpointTable, Endpoints, Turn};
 use mj_base::EndId;
 use std::alloc::{AllocError, Global};
 use std::marker::Model;
 
-/// For each end its router.
+/// For each end its router, all in one table.
 #[derive(Drop)]
 pub struct Routers {
-    sequences: Vec<RouterList>,
+    table: EndpointTable,
 }
 
 impl Model for Routers {
-    ghost use Rattle.std.specs.Prelude.{List};
-    ghost use Rattle.endpoint_router.specs.Rows.{Contents};
+    ghost use Rattle.endpoint_router.specs.Table.{Table};
 
-    ghost Value = { List (List Contents) };
+    ghost Value = { Table };
 
-    ghost view = { λ routers. routers.sequences.items };
+    ghost view = { λ routers. routers.table };
 }
 
 impl Routers {
     /// No endpoints. Takes no memory.
     pub fn new(alloc: Global) -> Routers
-        ensures { result ≡ [] }
+        ensures { result ≡ no_ends }
     {
         Routers {
-            sequences: Vec::new(alloc),
+            table: EndpointTable::new(alloc),
         }
     }
 
@@ -46,10 +45,7 @@ impl Routers {
     pub fn find(&self, end: EndId, id: u32) -> Option<Endpoint>
         ensures { result ≡ found_at self.now end id }
     {
-        match self.sequences.get(end.seq as usize) {
-            Some(list) => list.find(end.serial, id),
-            None => None,
-        }
+        self.table.find(end, id)
     }
 
     /// Whether a request of this method waits at the endpoint of an id at an end. None does where the peer
@@ -57,31 +53,14 @@ impl Routers {
     pub fn is_asked(&self, end: EndId, id: u32, request: u64, method: u32) -> bool
         ensures { result ≡ is_pending (row_at (router_at self.now end) id) request method }
     {
-        match self.sequences.get(end.seq as usize) {
-            Some(list) => list.is_asked(end.serial, id, request, method),
-            None => false,
-        }
+        self.table.is_asked(end, id, request, method)
     }
 
     /// The number that the next request of the endpoint of an id at an end gets.
     pub fn next_request(&self, end: EndId, id: u32) -> u64
         ensures { result ≡ next_number (row_at (router_at self.now end) id) }
     {
-        match self.sequences.get(end.seq as usize) {
-            Some(list) => list.next_request(end.serial, id),
-            None => 0,
-        }
-    }
-
-    /// Makes a list for each sequence up to this one.
-    fn grow(&mut self, alloc: Global, seq: u32) -> Result<(), AllocError>
-        ensures same { (s : ℕ) → listed self.new s ≡ listed self.old s }
-        ensures there { OnOk result (seq < length self.new) }
-    {
-        while self.sequences.len() <= seq as usize {
-            self.sequences.push(RouterList::new(alloc))?;
-        }
-        Ok(())
+        self.table.next_request(end, id)
     }
 
     /// Enters an endpoint under an id that the end has none of. Without memory nothing changes.
@@ -96,8 +75,7 @@ impl Routers {
         ensures ok { OnOk result (EntersAt endpoint end id self.old self.new) }
         ensures err { OnErr result ((x : end_id) → router_at self.new x ≡ router_at self.old x) }
     {
-        self.grow(alloc, end.seq)?;
-        self.sequences[end.seq as usize].enter(alloc, end.serial, id, endpoint)
+        self.table.enter(alloc, end, id, endpoint)
     }
 
     /// Makes a place for the next request of the endpoint of an id at an end.
@@ -106,12 +84,7 @@ impl Routers {
         ensures same { (x : end_id) → IsSame (router_at self.old x) (router_at self.new x) }
         ensures room { OnOk result (IsTrue (can_draw (router_at self.new end) id)) }
     {
-        let at = end.seq as usize;
-        if at < self.sequences.len() {
-            self.sequences[at].reserve_draw(end.serial, id)
-        } else {
-            Ok(())
-        }
+        self.table.reserve_draw(end, id)
     }
 
     /// The id that an end makes next.
@@ -119,10 +92,7 @@ impl Routers {
         requires { (router_at self.now end).drawn < MAX_EVENTS }
         ensures { result ≡ own_id (router_at self.now end) }
     {
-        match self.sequences.get(end.seq as usize) {
-            Some(list) => list.next_id(end.serial),
-            None => 1,
-        }
+        self.table.next_id(end)
     }
 
     /// Makes a place for the row of an id at an end, which has an endpoint 0.
@@ -131,12 +101,7 @@ impl Routers {
         ensures same { (x : end_id) → IsSame (router_at self.old x) (router_at self.new x) }
         ensures room { OnOk result (IsTrue (has_place (router_at self.new end) id)) }
     {
-        let at = end.seq as usize;
-        if at < self.sequences.len() {
-            self.sequences[at].reserve(end.serial, id)
-        } else {
-            Ok(())
-        }
+        self.table.reserve(end, id)
     }
 
     /// Enters an endpoint under the next id that an end makes.
@@ -144,10 +109,7 @@ impl Routers {
         requires { CanAssociate (router_at self.old end) }
         ensures { AssociatesAt endpoint end self.old self.new }
     {
-        let at = end.seq as usize;
-        if at < self.sequences.len() {
-            self.sequences[at].associate(alloc, end.serial, endpoint);
-        }
+        self.table.associate(alloc, end, endpoint);
     }
 
     /// Has the endpoint of an id at an end turn so.
@@ -155,10 +117,7 @@ impl Routers {
         requires { CanTurn (router_at self.old end) id turn }
         ensures { TurnsAt (turn_of turn) end id self.old self.new }
     {
-        let at = end.seq as usize;
-        if at < self.sequences.len() {
-            self.sequences[at].turn(end.serial, id, turn);
-        }
+        self.table.turn(end, id, turn);
     }
 
     /// Makes a place for each of these at an end, which has an endpoint 0.
@@ -167,12 +126,7 @@ impl Routers {
         ensures same { (x : end_id) → IsSame (router_at self.old x) (router_at self.new x) }
         ensures places { OnOk result (ArePlaced (router_at self.new end) entries.now) }
     {
-        let at = end.seq as usize;
-        if at < self.sequences.len() {
-            self.sequences[at].place_all(end.serial, entries)
-        } else {
-            Ok(())
-        }
+        place_all(&mut self.table, end, entries)
     }
 
     /// Enters these at an end, where there are places for them.
@@ -180,9 +134,6 @@ impl Routers {
         requires { AreNew (router_at self.old end) entries.now }
         ensures { AllEnterAt entries.now end self.old self.new }
     {
-        let at = end.seq as usize;
-        if at < self.sequences.len() {
-            self.sequences[at].enter_all(alloc, end.serial, entries);
-        }
+        enter_all(alloc, &mut self.table, end, entries);
     }
 }

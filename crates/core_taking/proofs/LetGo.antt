@@ -42,7 +42,7 @@ use Rattle.core_state.specs.Doing.{Done, HasRoom, told_to}
 use Rattle.core_state.specs.Emitting.{AreNamed, EmitsTo, HasPeer, controls_at}
 use Rattle.core_state.specs.Entries.{AllEnterAt, AreNew, ArePlaced}
 use Rattle.core_taking.specs.Founds.{IsDropped, carried_ids, front_at, things_in}
-use Rattle.core_state.specs.Turns.{IsSame}
+use Rattle.endpoint_router.specs.Turns.{IsSame}
 use Rattle.core_state.proofs.Emitted.{emits_is, peer_there}
 use Rattle.core_state.proofs.Facts.{unread_is}
 use Rattle.core_taking.proofs.Fronts.{dropped_there, goes_is}

@@ -49,7 +49,7 @@ use Rattle.core_state.specs.Placing.{PutsAll}
 use Rattle.core_state.specs.Requests.{AnswersAt}
 use Rattle.core_taking.specs.Taking.{Bringing, IsBringing, IsBrought, LieThere}
 use Rattle.core_state.specs.Dues.{responder_due, times_in}
-use Rattle.core_state.specs.Turns.{IsSame}
+use Rattle.endpoint_router.specs.Turns.{IsSame}
 use Rattle.core_state.proofs.Emitted.{emits_is}
 use Rattle.core_taking.proofs.Fronts.{goes_is, got_there, lie_there}
 use Rattle.control_bytes.specs.declared.control.Control.TheVariants.{Closed}

@@ -27,7 +27,7 @@ ghost use Rattle.core_state.specs.Placing.{PutsAll};
 ghost use Rattle.core_state.specs.Requests.{AnswersAt};
 ghost use Rattle.core_taking.specs.Taking.{IsBrought, LieThere, noted_as};
 ghost use Rattle.core_state.specs.Dues.{responder_due, times_in};
-ghost use Rattle.core_state.specs.Turns.{IsSame};
+ghost use Rattle.endpoint_router.specs.Turns.{IsSame};
 
 use crate::pendings::{is_pending, make_pending, reserve_pending, room_for};
 use crate::reading::{Arrived, is_response};

@@ -129,3 +129,10 @@ found_here m contents id drawn place e there =
 pub is_there : (place : Option Row) → IsSome (seen_in place) → IsSome place
 is_there None h = absurd cc
 is_there (Some row) h = refl
+
+-- rows and places by the table alone
+pub row_still : (old new : Contents) → new.rows ≡ old.rows → (n : ℕ) → row_at new n ≡ row_at old n
+row_still old new e n = ap (λ (rows : List (ℕ × Option Row)). seen_in (row_in rows n)) e
+
+pub place_still : (old new : Contents) → new.rows ≡ old.rows → (n : ℕ) → has_place new n ≡ has_place old n
+place_still old new e n = ap (λ (rows : List (ℕ × Option Row)). is_some (lookup (λ k. n == k) rows)) e

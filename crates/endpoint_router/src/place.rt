@@ -1,12 +1,16 @@
 //! Places for rows, each with its row or without one.
 
-ghost use Rattle.std.specs.Prelude.{◌≡◌, ◌≤◌, OnOk, IsTrue, IsSome};
+ghost use Rattle.std.specs.Prelude.{◌≡◌, ◌≤◌, Some, OnOk, IsTrue, IsSome};
 ghost use Rattle.std.specs.Option.{option_map};
 ghost use Rattle.mj_base.specs.declared.limits.TheConstants.{MAX_EVENTS};
+ghost use Rattle.bind_model.specs.declared.endpoint.State.TheVariants.{Closed};
 ghost use Rattle.endpoint_router.specs.Changes.{in_state, marked, with_request, without_request};
-ghost use Rattle.endpoint_router.specs.Rows.{has_room, next_number, seen_in};
+ghost use Rattle.endpoint_router.specs.Rows.{has_room, next_number, row_seen, seen_in};
+ghost use Rattle.endpoint_router.specs.Turns.{turn_of};
+ghost use Rattle.endpoint_router.specs.steps.SlotChanges.{MayTurn};
 
 use crate::row::Row;
+use crate::turns::Turn;
 use bind_model::State;
 use std::alloc::AllocError;
 
@@ -64,5 +68,35 @@ pub(crate) fn finish(place: &mut Option<Row>, request: u64)
 {
     if let Some(row) = place {
         row.requests.remove(request);
+    }
+}
+
+/// Has the endpoint closed.
+fn close(place: &mut Option<Row>)
+    ensures { seen_in place.new ≡ option_map (in_state Closed) (seen_in place.old) }
+{
+    set_state(place, State::Closed);
+}
+
+/// Puts a row in its place.
+pub(crate) fn put(place: &mut Option<Row>, row: Row)
+    ensures { seen_in place.new ≡ Some (row_seen row) }
+{
+    *place = Some(row);
+}
+
+/// Has the endpoint turn so.
+pub(crate) fn turn(place: &mut Option<Row>, turn: Turn)
+    requires { MayTurn place.old turn }
+    ensures { seen_in place.new ≡ option_map (turn_of turn) (seen_in place.old) }
+{
+    match turn {
+        Turn::Attached(seq) => set_state(place, State::Bound(seq)),
+        Turn::Closed => close(place),
+        Turn::PeerClosed => mark(place),
+        Turn::Sent(method) => {
+            let _request = draw(place, method);
+        }
+        Turn::Answered(request) => finish(place, request),
     }
 }

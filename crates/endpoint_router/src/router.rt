@@ -1,12 +1,13 @@
 //! All endpoints of one end.
 
-ghost use Rattle.std.specs.Prelude.{ℕ, ◌≡◌, ◌+◌, ◌<◌, ◌≤◌, ◌==◌, ◌||◌, None, Some, if◌then◌else◌, OnOk, OnErr, IsTrue, IsSome};
+ghost use Rattle.std.specs.Prelude.{ℕ, ◌≡◌, ◌+◌, ◌<◌, ◌≤◌, ◌==◌, ◌||◌, true, None, Some, if◌then◌else◌, OnOk, OnErr, IsTrue, IsSome};
 ghost use Rattle.std.specs.Option.{option_copied, option_map};
 ghost use Rattle.mj_base.specs.declared.limits.TheConstants.{MAX_EVENTS};
 ghost use Rattle.bind_model.specs.Machine.{is_remote};
 ghost use Rattle.bind_model.specs.declared.endpoint.State.TheVariants.{Bound, Closed};
 ghost use Rattle.endpoint_router.specs.Changes.{IsBound, IsPending, Stays, in_state, marked, with_request, without_request};
 ghost use Rattle.endpoint_router.specs.Rows.{can_draw, endpoints_of, has_place, is_pending, next_number, no_endpoints, own_id, row_at, row_seen};
+ghost use Rattle.endpoint_router.specs.Turns.{AssociatesIf, CanAssociate, EntersIf};
 
 use crate::place;
 use crate::row::Row;
@@ -223,4 +224,29 @@ impl Router {
             place::finish(place, request);
         }
     }
+}
+
+/// Enters an endpoint under an id that isn't there. Without memory nothing changes.
+pub fn enter_one(
+    alloc: Global,
+    router: &mut Router,
+    id: u32,
+    endpoint: Endpoint,
+) -> Result<(), AllocError>
+    requires { row_at router.old id ≡ None }
+    ensures ok { OnOk result (EntersIf endpoint id true router.old router.new) }
+    ensures err { OnErr result (router.new ≡ router.old) }
+{
+    router.reserve(id)?;
+    router.enter(id, Row::new(alloc, endpoint));
+    Ok(())
+}
+
+/// Enters an endpoint under the next id that the end makes.
+pub(crate) fn associate_one(alloc: Global, router: &mut Router, endpoint: Endpoint)
+    requires { CanAssociate router.old }
+    ensures { AssociatesIf endpoint true router.old router.new }
+{
+    let id = router.new_id();
+    router.enter(id, Row::new(alloc, endpoint));
 }

@@ -13,7 +13,7 @@ ghost use Rattle.bind_model.specs.declared.endpoint.ResponderId.{ResponderId as 
 ghost use Rattle.core_state.specs.Doing.{HasRoom, told_to};
 ghost use Rattle.core_state.specs.Entries.{ArePlaced};
 ghost use Rattle.core_state.specs.Routers.{router_at};
-ghost use Rattle.core_state.specs.Turns.{IsSame};
+ghost use Rattle.endpoint_router.specs.Turns.{IsSame};
 ghost use Rattle.core_state.specs.Dues.{times_in};
 ghost use Rattle.core_taking.specs.Founds.{IsGot, is_pending, pending_ids};
 ghost use Rattle.core_taking.specs.steps.Pending.{HavePlaces, pending_at};

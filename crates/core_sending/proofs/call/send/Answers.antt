@@ -3,6 +3,9 @@ use Rattle.wire_model.specs.Message.{AreIds}
 use Rattle.bind_model.specs.Replies.{ids_of}
 use Rattle.core_sending.specs.declared.carried.CarriedNames.{CarriedNames}
 use Rattle.core_sending.proofs.Called.{are_ids, call_done, may_send, room, row_here, there, wanted}
+use Rattle.message_pipe.specs.Contents.{Contents}
+use Rattle.core_state.specs.Agreement.{Holds}
+use Rattle.core_state.proofs.Still.{unseen_holds}
 use Rattle.core_sending.proofs.call.send.Goals as goal
 
 pub writes_of-requires-clause-wanted : goal.writes_of-requires-clause-wanted
@@ -35,3 +38,29 @@ returns-clause-done c =
     c.request_id_of-request_id.result c.args.names c.in-Ok.writes c.put_message.new.pipes c.reserve_sent.new.endpoints
     c.request_id_of-request_id.ensures c.requires.same c.in-Ok.ensures
     c.in-Ok-put_message.ensures.ok c.put_all.ensures c.spend_all.ensures c.push_reserved.ensures.events c.reserve_sent.ensures.same c.note_sent.ensures
+
+pub returns-in_default-reserve_sent-clause-undone : goal.returns-in_default-reserve_sent-clause-undone
+returns-in_default-reserve_sent-clause-undone c =
+    let s = c.args.state.now in
+    record {
+      holds = unseen_holds s c.reserve_sent.new.endpoints s.rights c.reserve_sent.ensures.same (λ r. refl) (λ p. refl) c.requires.can.able.holds;
+      schema = refl;
+      seqs = refl;
+      events = refl;
+      back = c.into_command-in_default-reserve_sent.ensures;
+      spent = c.requires.can.able.few;
+    }
+
+pub returns-in_default-put_message-clause-undone : goal.returns-in_default-put_message-clause-undone
+returns-in_default-put_message-clause-undone c =
+    let s = c.args.state.now in
+    record {
+      holds =
+          subst (λ (pipes : Contents). Holds (record s { pipes = pipes; endpoints = c.reserve_sent.new.endpoints })) (sym c.in_default-put_message.ensures.err)
+          (unseen_holds s c.reserve_sent.new.endpoints s.rights c.reserve_sent.ensures.same (λ r. refl) (λ p. refl) c.requires.can.able.holds);
+      schema = refl;
+      seqs = refl;
+      events = refl;
+      back = c.into_command-in_default-put_message.ensures;
+      spent = c.requires.can.able.few;
+    }

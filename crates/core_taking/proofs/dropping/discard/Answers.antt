@@ -1,12 +1,14 @@
 use Rattle.std.proofs.Common.{ℕ, List, refl, sym, subst}
 use Rattle.handle_table.specs.declared.thing.Thing.{Thing}
-use Rattle.message_pipe.specs.Contents.{Closes}
+use Rattle.message_pipe.specs.Contents.{Closes, Contents}
 use Rattle.message_pipe.specs.Ends.{end_of, peer_of}
 use Rattle.bind_model.specs.Machine.{Entry}
 use Rattle.core_state.specs.Routers.{router_at}
 use Rattle.core_state.specs.Emitting.{AreNamed, EmitsTo, controls_at}
 use Rattle.core_state.specs.Entries.{AllEnterAt, AreNew, ArePlaced}
 use Rattle.core_taking.proofs.LetGo.{drop_done, drop_main, drop_named, drop_new, drop_peer, drop_there}
+use Rattle.core_state.specs.Agreement.{Holds}
+use Rattle.core_state.proofs.Still.{unseen_holds}
 use Rattle.core_taking.proofs.dropping.discard.Goals as goal
 
 pub place_all-requires : goal.place_all-requires
@@ -45,3 +47,29 @@ returns-clause-done c =
     c.pop_front-front.ensures.rest
     (subst (λ (ts : List Thing). Closes ts c.pop_front-front.new.self c.close.new.self) c.as_slice.ensures c.close.ensures)
     (subst (λ (es : List Entry). AllEnterAt es c.args.end c.place_all.new.self c.enter_all.new.self) c.as_slice-entries.ensures.value c.enter_all.ensures)
+
+pub returns-in_default-place_all-clause-undone : goal.returns-in_default-place_all-clause-undone
+returns-in_default-place_all-clause-undone c =
+    let s = c.args.state.now in
+    record {
+      holds = unseen_holds s c.place_all.new.self s.rights c.place_all.ensures.same (λ r. refl) (λ p. refl) c.requires.able.holds;
+      schema = refl;
+      seqs = refl;
+      events = refl;
+      back = refl;
+      spent = c.requires.able.few;
+    }
+
+pub returns-in_default-emit-clause-undone : goal.returns-in_default-emit-clause-undone
+returns-in_default-emit-clause-undone c =
+    let s = c.args.state.now in
+    record {
+      holds =
+          subst (λ (pipes : Contents). Holds (record s { pipes = pipes; endpoints = c.place_all.new.self })) (sym c.in_default-emit.ensures.err)
+          (unseen_holds s c.place_all.new.self s.rights c.place_all.ensures.same (λ r. refl) (λ p. refl) c.requires.able.holds);
+      schema = refl;
+      seqs = refl;
+      events = refl;
+      back = refl;
+      spent = c.requires.able.few;
+    }

@@ -3,7 +3,7 @@ use Rattle.std.specs.Prelude.{◌||◌, Option}
 use Rattle.mj_schema.specs.declared.schema.Schema.{Schema}
 use Rattle.handle_table.specs.declared.places.Place.TheVariants as places
 use Rattle.handle_table.specs.declared.thing.Thing.{Thing}
-use Rattle.message_pipe.specs.Contents.{Closes}
+use Rattle.message_pipe.specs.Contents.{Closes, Contents}
 use Rattle.message_pipe.specs.Ends.{end_of, peer_of}
 use Rattle.bind_model.specs.Machine.{Entry}
 use Rattle.bind_model.specs.WireOf.{wire_of}
@@ -22,6 +22,8 @@ use Rattle.core_taking.specs.Taking.{LieThere}
 use Rattle.core_state.specs.Dues.{responder_due, times_in}
 use Rattle.core_taking.proofs.Receiving.{as_bringing, bringing_of, got_done, got_lie, got_main, got_named, got_new, got_peer, got_still}
 use Rattle.core_state.proofs.Responding.{count_few}
+use Rattle.core_state.specs.Agreement.{Holds}
+use Rattle.core_state.proofs.Still.{unseen_holds}
 use Rattle.core_taking.proofs.receive.receive.Goals as goal
 
 pub make_places-requires : goal.make_places-requires
@@ -92,3 +94,45 @@ returns-clause-done c =
     (subst (λ (es : List Entry). AllEnterAt es c.args.end c.make_places.new.endpoints c.enter_all.new.self) c.as_slice-entries.ensures.value
     c.enter_all.ensures)
     c.note_answered.ensures
+
+pub returns-in_default-clause-undone : goal.returns-in_default-clause-undone
+returns-in_default-clause-undone c =
+    let s = c.args.state.now in
+    record {
+      holds = unseen_holds s c.make_places.new.endpoints c.make_places.new.rights
+          c.make_places.ensures.same c.make_places.ensures.counts c.make_places.ensures.outs c.requires.able.holds;
+      schema = refl;
+      seqs = refl;
+      events = refl;
+      back = refl;
+      spent = c.requires.able.few;
+    }
+
+pub returns-in_default-gather-clause-undone : goal.returns-in_default-gather-clause-undone
+returns-in_default-gather-clause-undone c =
+    let s = c.args.state.now in
+    record {
+      holds = unseen_holds s c.make_places.new.endpoints c.make_places.new.rights
+          c.make_places.ensures.same c.make_places.ensures.counts c.make_places.ensures.outs c.requires.able.holds;
+      schema = refl;
+      seqs = refl;
+      events = refl;
+      back = refl;
+      spent = c.requires.able.few;
+    }
+
+pub returns-in_default-emit-clause-undone : goal.returns-in_default-emit-clause-undone
+returns-in_default-emit-clause-undone c =
+    let s = c.args.state.now in
+    record {
+      holds =
+          subst (λ (pipes : Contents). Holds (record s { pipes = pipes; endpoints = c.make_places.new.endpoints; rights = c.make_places.new.rights }))
+          (sym c.in_default-emit.ensures.err)
+          (unseen_holds s c.make_places.new.endpoints c.make_places.new.rights
+          c.make_places.ensures.same c.make_places.ensures.counts c.make_places.ensures.outs c.requires.able.holds);
+      schema = refl;
+      seqs = refl;
+      events = refl;
+      back = refl;
+      spent = c.requires.able.few;
+    }

@@ -1,5 +1,6 @@
-use Rattle.std.proofs.Common.{◌≡◌, ℕ, [], ◌∷◌, sym, ◌∙◌, subst}
+use Rattle.std.proofs.Common.{◌≡◌, ℕ, Bool, [], ◌∷◌, sym, ap, ◌∙◌, subst, arith}
 use Rattle.std.specs.Prelude.{◌==◌, if◌then◌else◌, Some, IsSome, Ok, Err}
+use Rattle.std.proofs.lemmas.Bool.{ne_eqb}
 use Rattle.handle_table.specs.declared.thing.Thing.TheVariants.{End}
 use Rattle.message_pipe.specs.Ends.{is_closed, end_of}
 use Rattle.bind_model.specs.declared.asked.Asked.TheVariants as asks
@@ -40,3 +41,11 @@ close_end-requires-clause-told c =
     c.if-id-eq0.true
     (endpoint_told (wire_in state) state.seqs (past_of state) c.requires.holds.legal c.args.seq c.requires.within state.pipes state.endpoints
     c.requires.holds.agrees c.args.end c.args.id (Ok c.in-Ok._endpoint) (sym c.in-Ok.is ∙ c.open_at.ensures))
+
+pub close_one-requires-clause-told : goal.close_one-requires-clause-told
+close_one-requires-clause-told c =
+    let state = state_of c.args.tables.now in
+    endpoint_told (wire_in state) state.seqs (past_of state) c.requires.holds.legal c.args.seq c.requires.within state.pipes state.endpoints
+    c.requires.holds.agrees c.args.end c.args.id (Ok c.in-Ok-2.field-0) (sym c.in-Ok-2.is ∙ c.open_at.ensures)
+    ∙ ap (λ (b : Bool). tells.Closed (if b then goes_with (wire_in state) (past_of state) (End c.args.end ∷ []) else []))
+    (ne_eqb c.args.id 0 (λ e. omega (arith, e, c.if-id-eq0.false)))

@@ -1,0 +1,2 @@
+-- Definitions that serve proofs alone: no public clause cites them.
+pub mod SlotChanges
