@@ -6,6 +6,7 @@ mod Leasts
 pub mod Leastness
 pub mod FirstReady
 pub mod Covering
+pub mod Settled
 pub mod SoleStepper
 mod CauseLists
 pub mod Waking

@@ -38,7 +38,9 @@ use Rattle.bind_model.proofs.CoreFacts.{ready_takeable, takeable_ready}
 use Rattle.bind_model.proofs.Fresh.{kept}
 use Rattle.core_state.specs.Routers.{found_at}
 use Rattle.core_state.specs.Agreement.{Holds, past_of, schema_of, wire_in}
-use Rattle.bind_core.specs.Takers.{id_in, id_meant, ready_taker, taker_at, taker_for, taker_front, taker_in, taker_meant, taker_of, taker_open, unless_paused}
+use Rattle.bind_core.specs.Takers.{id_in, id_meant, ready_taker, taker_at, taker_for, taker_front, taker_in, taker_meant, taker_of, taker_open}
+use Rattle.bind_core.specs.Takers.{unless_paused}
+use Rattle.bind_core.specs.steps.UnreadTakers.{taker_opened, taker_unread}
 use Rattle.core_state.specs.declared.state.State.{State}
 use Rattle.core_state.proofs.Facts.{closed_is, unread_is}
 use Rattle.core_state.proofs.Steady.{found_is}
@@ -84,6 +86,29 @@ pub taker_closed : (f : Message → Option ℕ) (a : ℕ → Option Endpoint) (f
 taker_closed f a front = go (a 0)
   where
     go : (o : Option Endpoint) → taker_open f a true front o ≡ None
+    go None = refl
+    go (Some main) = refl
+
+-- nor where nothing is unread
+pub nothing_takes : (s : State) (x : EndId) → front_of (unread_at s.pipes.ends x) ≡ None → None ≡ taker_of s x
+nothing_takes s x h =
+    sym (ap (taker_at (λ (m : Message). id_meant m.bytes) (found_at s.endpoints x) (is_closed (end_of s.pipes.ends x))) h
+    ∙ go (is_closed (end_of s.pipes.ends x)) (found_at s.endpoints x 0))
+  where
+    go : (c : Bool) (o : Option Endpoint) → taker_open (λ (m : Message). id_meant m.bytes) (found_at s.endpoints x) c None o ≡ None
+    go c None = refl
+    go true (Some main) = refl
+    go false (Some main) = refl
+
+-- where the oldest message is known
+pub unread_takes : (s : State) (x : EndId) (m : Message) → front_of (unread_at s.pipes.ends x) ≡ Some m → taker_unread s x m.bytes ≡ taker_of s x
+unread_takes s x m h =
+    go (found_at s.endpoints x 0)
+    ∙ ap (taker_at (λ (n : Message). id_meant n.bytes) (found_at s.endpoints x) (is_closed (end_of s.pipes.ends x))) (sym h)
+  where
+    go : (o : Option Endpoint)
+        → taker_opened (λ (n : Message). id_meant n.bytes) (found_at s.endpoints x) (is_closed (end_of s.pipes.ends x)) (id_meant m.bytes) o
+        ≡ taker_open (λ (n : Message). id_meant n.bytes) (found_at s.endpoints x) (is_closed (end_of s.pipes.ends x)) (Some m) o
     go None = refl
     go (Some main) = refl
 

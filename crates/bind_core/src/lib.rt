@@ -8,11 +8,10 @@ mod left;
 mod machine;
 mod takers;
 mod waiting;
+pub mod waits;
 mod watch;
-mod woken;
 
 pub use alone::Alone;
 pub use machine::Core;
 pub use takers::{bound_on, id_meant, taker_for};
 pub use waiting::{Cause, Waiting};
-pub use woken::{clear_event, gone_of, note, push_woken};

@@ -19,8 +19,8 @@ ghost use Rattle.bind_core.specs.Play.{told_at};
 
 use crate::end_set::EndSet;
 use crate::waiting::Waiting;
+use crate::waits::{forget_all, least_woken};
 use crate::watch::{end_named, unwatch, watch};
-use crate::woken::{forget_all, least_woken};
 use crate::{commands, left};
 use bind_model::{Command, History, Pendings, Refused, Reply, Responders};
 use core_state::{Rights, Routers, State, Tables};
@@ -51,7 +51,7 @@ impl Model for Core {
     ghost use Rattle.bind_core.specs.Play.{Play};
     ghost use Rattle.bind_core.specs.Covers.{Stands};
     ghost use Rattle.core_state.specs.Agreement.{schema_of};
-    ghost use Rattle.bind_model.specs.steps.TreeCodes.{tree_code};
+    ghost use Rattle.kept_values.specs.steps.TreeCodes.{tree_code};
 
     ghost Value = { Play };
 

@@ -9,7 +9,7 @@ ghost use Rattle.core_state.specs.Agreement.{Holds, past_of};
 
 use crate::end_set::EndSet;
 use crate::waiting::Waiting;
-use crate::woken::{clear_woken, note_wait, watch_ready, woken_ends};
+use crate::waits::{clear_woken, note_wait, watch_ready, woken_ends};
 use bind_model::{Command, Refused, Reply, ToClose};
 use core_state::State;
 use handle_table::Thing;

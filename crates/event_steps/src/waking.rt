@@ -7,7 +7,8 @@ ghost use Rattle.plain_names.specs.Commands.{asked_in};
 ghost use Rattle.event_steps.specs.steps.Near.{NotesWait};
 
 use crate::newest::last_event;
-use bind_core::{Waiting, clear_event, note, push_woken};
+use bind_core::Waiting;
+use bind_core::waits::{clear_event, note, push_woken};
 use bind_model::Event;
 use event_tables::EventTables;
 use mj_base::EndId;

@@ -13,7 +13,7 @@ ghost use Rattle.event_tables.specs.AsCore.{state_of};
 use crate::near::peer;
 use crate::newest::last_event;
 use crate::takers::ready_taker;
-use bind_core::gone_of;
+use bind_core::waits::gone_of;
 use event_tables::EventTables;
 use handle_table::Thing;
 use mj_base::{EndId, SeqId};

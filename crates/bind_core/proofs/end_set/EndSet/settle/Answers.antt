@@ -1,0 +1,11 @@
+use Rattle.std.proofs.Common.{Bool, sym, ap, ◌∙◌}
+use Rattle.std.specs.Prelude.{not, is_some, Option}
+use Rattle.mj_base.specs.declared.ids.SeqId.{SeqId}
+use Rattle.bind_core.proofs.Settled.{unready_left}
+use Rattle.bind_core.proofs.end_set.EndSet.settle.Goals as goal
+
+pub returns-then-is_none : goal.returns-then-is_none
+returns-then-is_none c =
+    unready_left c.args.state.now c.args.end c.args.self.now c.remove.new.self
+    (ap (λ (taker : Option SeqId). is_some taker) (sym c.ready_taker.ensures) ∙ (c.is_none.ensures ∙ ap (λ (b : Bool). not b) c.if-is_none.true))
+    c.remove.ensures
