@@ -1,5 +1,5 @@
-//! Times the packing of structs, data pipes, the message of a file, and the run of a script, in processor time; and turns of a lock, and runs
-//! with a thread for each sequence, by the clock. `tools/time_program` makes the files.
+//! Times the packing of structs, data pipes, takes at ends with unread messages, the message of a file, and the run of a script, in processor
+//! time; and turns of a lock, and runs with a thread for each sequence, by the clock. `tools/time_program` makes the files.
 #![tactic(auto)]
 
 mod data;
@@ -10,6 +10,7 @@ mod sealing;
 mod threads;
 mod timing;
 mod turns;
+mod unread;
 mod viewing;
 mod wire;
 
@@ -22,7 +23,7 @@ use std::time::{Clock, CpuClock};
 /// Says which words there are.
 fn print_usage<R: Print>(rt: &R) -> io::Result<()> {
     println!(rt;
-        "usage: benchmarks packing | data | turns | wire MOJOM MESSAGE | run MOJOM SCRIPT | threads MOJOM SCRIPT"
+        "usage: benchmarks packing | data | turns | unread | wire MOJOM MESSAGE | run MOJOM SCRIPT | threads MOJOM SCRIPT"
     )
 }
 
@@ -36,6 +37,7 @@ pub fn run<R: std::rt::Files + Print + AllocGlobal + CpuClock + Clock + Wait + T
             "data" => data::time_all(rt),
             "packing" => packing::time_all(rt),
             "turns" => turns::time_all(rt),
+            "unread" => unread::time_all(rt),
             _ => print_usage(rt),
         },
         [what, mojom, file] => match what.as_str() {

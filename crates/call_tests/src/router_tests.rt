@@ -1,11 +1,12 @@
-//! The ids that ends make, requests until they end, and endpoints until they are bound.
+//! The ids that ends make, requests until they end, and endpoints until they are bound; and both forms of what keeps them for all ends.
 
 ghost use Rattle.std.specs.Prelude.{◌≡◌, Some, IfOk};
-ghost use Rattle.endpoint_router.specs.Rows.{row_at, row_of};
+ghost use Rattle.mj_base.specs.declared.ids.EndId.{EndId as end_id};
+ghost use Rattle.endpoint_router.specs.Rows.{no_endpoints, row_at, row_of};
 
 use bind_model::{Endpoint, State};
-use endpoint_router::{Router, Row};
-use mj_base::SeqId;
+use endpoint_router::{EndpointTable, Endpoints, Router, Row, Turn, plain};
+use mj_base::{EndId, SeqId};
 use std::alloc::Global;
 use std::process::Abort;
 use std::test::Fail;
@@ -118,5 +119,98 @@ fn an_endpoint_waits_until_it_is_attached(rt: HostRuntime) -> Result<(), Fail> {
     router.attach(1, ONLY);
     assert!(rt; router.endpoint(1) == Some(RECEIVER));
     router.detach(1);
+    Ok(())
+}
+
+/// The end whose endpoint 0 is entered.
+const NEAR: EndId = EndId { seq: 0, serial: 1 };
+
+/// Ends and ids at which two forms are compared.
+const ASKED: [(EndId, u32); 4] = [
+    (NEAR, 0),
+    (NEAR, 1),
+    (EndId { seq: 0, serial: 0 }, 0),
+    (EndId { seq: 1, serial: 1 }, 0),
+];
+
+/// Whether the endpoint is there where it is asked for, and whether two forms say the same.
+fn say_the_same<A: Endpoints, B: Endpoints>(
+    rt: &impl Abort,
+    first: &A,
+    second: &B,
+) -> Result<(), Fail> {
+    for (end, id) in ASKED.as_slice() {
+        assert!(rt; first.find(*end, *id) == second.find(*end, *id));
+        assert_eq!(rt;
+            first.next_request(*end, *id),
+            second.next_request(*end, *id)
+        );
+        assert!(rt; first.is_asked(*end, *id, 1, 7) == second.is_asked(*end, *id, 1, 7));
+    }
+    assert!(rt; first.find(NEAR, 0) == Some(REMOTE) && first.find(NEAR, 1).is_none());
+    Ok(())
+}
+
+#[test]
+fn the_table_says_what_its_plain_form_says(rt: HostRuntime) -> Result<(), Fail> {
+    let alloc = rt.alloc();
+    let mut table = EndpointTable::new(alloc);
+    let mut routers = plain::Routers::new(alloc);
+    table.enter(alloc, NEAR, 0, REMOTE)?;
+    routers.enter(alloc, NEAR, 0, REMOTE)?;
+    say_the_same(&rt, &table, &routers)?;
+    table.turn(NEAR, 1, Turn::Answered(1));
+    routers.turn(NEAR, 1, Turn::Answered(1));
+    say_the_same(&rt, &table, &routers)
+}
+
+/// Has an end without endpoints get endpoint 0, then another in a place that was made for it, and a place for the
+/// first request of this.
+fn put_one<T: Endpoints>(alloc: Global, table: &mut T, end: EndId) -> Result<(), Fail>
+    requires { (x : end_id) → T.router table.old x ≡ no_endpoints }
+{
+    table.enter(alloc, end, 0, REMOTE)?;
+    table.reserve(end, 1)?;
+    table.put(alloc, end, 1, RECEIVER);
+    table.reserve_draw(end, 1)?;
+    Ok(())
+}
+
+/// Has an end without endpoints get endpoint 0, then another under the next id that the end makes, which it tells.
+fn associate_one<T: Endpoints>(alloc: Global, table: &mut T, end: EndId) -> Result<u32, Fail>
+    requires { (x : end_id) → T.router table.old x ≡ no_endpoints }
+{
+    table.enter(alloc, end, 0, REMOTE)?;
+    let id = table.next_id(end);
+    table.reserve(end, id)?;
+    table.associate(alloc, end, RECEIVER);
+    Ok(id)
+}
+
+#[test]
+fn the_table_has_places(rt: HostRuntime) -> Result<(), Fail> {
+    let alloc = rt.alloc();
+    let mut first = EndpointTable::new(alloc);
+    put_one(alloc, &mut first, NEAR)?;
+    assert!(rt; first.find(NEAR, 1) == Some(RECEIVER));
+    assert_eq!(rt; first.next_request(NEAR, 1), 1);
+    let mut second = EndpointTable::new(alloc);
+    let id = associate_one(alloc, &mut second, NEAR)?;
+    assert_eq!(rt; id, 2_147_483_649);
+    assert!(rt; second.find(NEAR, id) == Some(RECEIVER));
+    Ok(())
+}
+
+#[test]
+fn the_plain_form_has_places(rt: HostRuntime) -> Result<(), Fail> {
+    let alloc = rt.alloc();
+    let mut first = plain::Routers::new(alloc);
+    put_one(alloc, &mut first, NEAR)?;
+    assert!(rt; first.find(NEAR, 1) == Some(RECEIVER));
+    assert_eq!(rt; first.next_request(NEAR, 1), 1);
+    let mut second = plain::Routers::new(alloc);
+    let id = associate_one(alloc, &mut second, NEAR)?;
+    assert_eq!(rt; id, 2_147_483_649);
+    assert!(rt; second.find(NEAR, id) == Some(RECEIVER));
     Ok(())
 }

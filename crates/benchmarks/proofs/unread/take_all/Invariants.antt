@@ -1,0 +1,5 @@
+use Rattle.std.proofs.Common.{◌≡◌}
+use Rattle.benchmarks.proofs.unread.take_all.Given as goal
+
+abbrev pub invariant-loop : goal.invariant-loop
+invariant-loop l = l.core.seqs ≡ l.fn.core.seqs
