@@ -30,7 +30,7 @@ use Rattle.script_run.specs.AtDesk.{AnswersZero, SawAt, Served, step_by, steps_o
 use Rattle.script_run.specs.Draining.{HasRested}
 use Rattle.script_run.specs.declared.plain.Plain.{Plain}
 use Rattle.load_run.specs.Commands.{event_of}
-use Rattle.script_run.specs.declared.seat.Seat.{Seat}
+use Rattle.load_run.specs.declared.seat.Seat.{Seat}
 use Rattle.load_run.specs.steps.Doing.{IsUnspent, OneMore, at_seat}
 
 -- ## What a command did at a seat that nobody else has

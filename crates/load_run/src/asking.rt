@@ -18,14 +18,14 @@ ghost use Rattle.load_run.specs.steps.Doing.{AskedOne, IsLast, IsUnspent, OneMor
 
 use crate::desks::step;
 use crate::ends::end_of;
-use bind_core::Core;
+use crate::seat::{BoxedCore, Seat};
 use bind_model::{Command, PendingList, Refused, Reply, Responder, ResponderId};
 use handle_table::Handles;
 use mj_base::{EndId, SeqId};
 use mj_schema::Schema;
 use remote_receiver::Rest;
 use script_names::{Names, NoMemory, Rooms};
-use script_run::{Plain, Seat};
+use script_run::Plain;
 use std::alloc::Global;
 use wire_encoder::Prepared;
 
@@ -44,14 +44,14 @@ fn keep_refused(rooms: &mut Rooms, refused: Refused)
 /// Does a command of a sequence, with room for what comes back. One that comes back without an event is
 /// kept: there was no memory for it.
 pub fn ask(
-    core: Core,
+    core: BoxedCore,
     rest: Rest<Plain>,
     rooms: &mut Rooms,
     alloc: Global,
     schema: &Schema,
     seq: SeqId,
     command: Command,
-) -> (Core, Rest<Plain>, Result<Reply, NoMemory>)
+) -> (BoxedCore, Rest<Plain>, Result<Reply, NoMemory>)
     requires seq { seq.0 < core.seqs }
     requires schema { core.schema ≡ schema.now }
     requires prepared { IsOf core.schema command }
@@ -134,14 +134,18 @@ pub fn keep_reply(rooms: &mut Rooms, alloc: Global, reply: Reply)
 
 /// Does a command of a sequence, and holds what comes back: the right to answer, by its name.
 pub fn tell(
-    core: Core,
+    core: BoxedCore,
     rest: Rest<Plain>,
     rooms: &mut Rooms,
     alloc: Global,
     schema: &Schema,
     seq: SeqId,
     command: Command,
-) -> (Core, Rest<Plain>, Result<Option<ResponderId>, NoMemory>)
+) -> (
+    BoxedCore,
+    Rest<Plain>,
+    Result<Option<ResponderId>, NoMemory>,
+)
     requires seq { seq.0 < core.seqs }
     requires schema { core.schema ≡ schema.now }
     requires prepared { IsOf core.schema command }
@@ -195,14 +199,14 @@ fn answer_of(alloc: Global, responder: Responder, prepared: Prepared) -> Command
 
 /// Calls from an end with a request that was prepared.
 pub fn call(
-    core: Core,
+    core: BoxedCore,
     rest: Rest<Plain>,
     rooms: &mut Rooms,
     alloc: Global,
     schema: &Schema,
     seq: SeqId,
     prepared: Prepared,
-) -> (Core, Rest<Plain>, Result<(), NoMemory>)
+) -> (BoxedCore, Rest<Plain>, Result<(), NoMemory>)
     requires seq { seq.0 < core.seqs }
     requires schema { core.schema ≡ schema.now }
     requires prepared { IsPrepared core.schema prepared }
@@ -224,13 +228,17 @@ pub fn call(
 
 /// Takes at a sequence's end: the right to answer, by its name, which is then the last one held.
 pub fn take(
-    core: Core,
+    core: BoxedCore,
     rest: Rest<Plain>,
     rooms: &mut Rooms,
     alloc: Global,
     schema: &Schema,
     seq: SeqId,
-) -> (Core, Rest<Plain>, Result<Option<ResponderId>, NoMemory>)
+) -> (
+    BoxedCore,
+    Rest<Plain>,
+    Result<Option<ResponderId>, NoMemory>,
+)
     requires seq { seq.0 < core.seqs }
     requires schema { core.schema ≡ schema.now }
     requires rested { HasRested core seq rest }
@@ -248,14 +256,14 @@ pub fn take(
 
 /// Answers with the last right to answer that is held, and a response that was prepared.
 pub fn answer(
-    core: Core,
+    core: BoxedCore,
     rest: Rest<Plain>,
     rooms: &mut Rooms,
     alloc: Global,
     schema: &Schema,
     seq: SeqId,
     prepared: Prepared,
-) -> (Core, Rest<Plain>, Result<(), NoMemory>)
+) -> (BoxedCore, Rest<Plain>, Result<(), NoMemory>)
     requires seq { seq.0 < core.seqs }
     requires schema { core.schema ≡ schema.now }
     requires prepared { IsPrepared core.schema prepared }

@@ -14,7 +14,7 @@ ghost use Rattle.load_run.specs.steps.Doing.{HasAll, HasBoth};
 
 use crate::desks::finish;
 use crate::pairs::{Pair, Pairs, caller, taker};
-use bind_core::Core;
+use crate::seat::BoxedCore;
 use bind_model::{Event, Told};
 
 /// The numbers of a load: its events, the messages written, those got, the callbacks that ran, and the bytes
@@ -121,7 +121,7 @@ fn count_bytes(events: &[Event]) -> u128
 }
 
 /// Ends the desks of a pair: the core, and how many of their callbacks ran.
-fn finish_pair(core: Core, pair: Pair, is_second: bool) -> (Core, u128)
+fn finish_pair(core: BoxedCore, pair: Pair, is_second: bool) -> (BoxedCore, u128)
     requires rested { HasBoth core is_second pair }
     requires legal { Legal (wire_of core.schema) core.seqs core.events }
     requires few { length core.events ≤ MAX_EVENTS }
@@ -141,7 +141,7 @@ fn finish_pair(core: Core, pair: Pair, is_second: bool) -> (Core, u128)
 }
 
 /// Ends the desks: the core, and how many callbacks ran.
-fn count_ran(core: Core, pairs: Pairs) -> (Core, u128)
+fn count_ran(core: BoxedCore, pairs: Pairs) -> (BoxedCore, u128)
     requires rested { HasAll core pairs }
     requires legal { Legal (wire_of core.schema) core.seqs core.events }
     requires few { length core.events ≤ MAX_EVENTS }
@@ -155,7 +155,7 @@ fn count_ran(core: Core, pairs: Pairs) -> (Core, u128)
 }
 
 /// Ends the desks, and counts: the core, and the numbers of its history.
-pub fn counted(core: Core, pairs: Pairs) -> (Core, Counts)
+pub fn counted(core: BoxedCore, pairs: Pairs) -> (BoxedCore, Counts)
     requires rested { HasAll core pairs }
     ensures legal { Legal (wire_of core.schema) core.seqs core.events }
     ensures counted { AreCounted core.events result.1 }

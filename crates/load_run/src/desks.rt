@@ -15,12 +15,12 @@ ghost use Rattle.script_run.specs.AtDesk.{Served};
 ghost use Rattle.load_run.specs.Counts.{ran_of};
 ghost use Rattle.load_run.specs.steps.Doing.{at_seat};
 
-use bind_core::Core;
+use crate::seat::{BoxedCore, Seat};
 use bind_model::{Command, Refused, Reply};
 use mj_base::SeqId;
 use mj_schema::Schema;
 use remote_receiver::{Note, Rest};
-use script_run::{Plain, Seat, serve};
+use script_run::{Plain, serve};
 use std::alloc::Global;
 
 /// Does a command at the desk of a sequence, which has the core meanwhile.
@@ -52,7 +52,7 @@ fn count_ran(notes: &[Note]) -> u64
 }
 
 /// Ends the desk of a sequence: the core, and how many of its callbacks ran.
-pub fn finish(core: Core, seq: SeqId, rest: Rest<Plain>) -> (Core, u64)
+pub fn finish(core: BoxedCore, seq: SeqId, rest: Rest<Plain>) -> (BoxedCore, u64)
     requires rested { HasRested core seq rest }
     requires legal { Legal (wire_of core.schema) core.seqs core.events }
     requires few { length core.events ≤ MAX_EVENTS }

@@ -14,7 +14,7 @@ ghost use Rattle.load_run.specs.Commands.{end_of};
 ghost use Rattle.load_run.specs.steps.Doing.{AskedOne, Joined};
 
 use crate::asking::{ask, keep_reply, tell};
-use bind_core::Core;
+use crate::seat::BoxedCore;
 use bind_model::{Command, Reply};
 use handle_table::{Ended, Handle, Handles};
 use mj_base::{EndId, SeqId};
@@ -68,14 +68,14 @@ fn ends_made(rooms: &mut Rooms, alloc: Global, reply: Reply) -> (Vec<Handle>, Re
 
 /// Makes a pipe, whose second end is for another sequence: its ends. Neither sequence has made one before.
 pub fn join(
-    core: Core,
+    core: BoxedCore,
     rest: Rest<Plain>,
     rooms: &mut Rooms,
     alloc: Global,
     schema: &Schema,
     seq: SeqId,
     other: SeqId,
-) -> (Core, Rest<Plain>, Vec<Handle>, Result<(), NoMemory>)
+) -> (BoxedCore, Rest<Plain>, Vec<Handle>, Result<(), NoMemory>)
     requires seq { seq.0 < core.seqs }
     requires schema { core.schema ≡ schema.now }
     requires rested { HasRested core seq rest }
@@ -103,7 +103,7 @@ pub fn join(
 
 /// Binds the first of some ends, which is the sequence's, as a side of an interface.
 pub fn bind(
-    core: Core,
+    core: BoxedCore,
     rest: Rest<Plain>,
     rooms: &mut Rooms,
     ends: &mut Vec<Handle>,
@@ -112,7 +112,7 @@ pub fn bind(
     seq: SeqId,
     side: EndpointSide,
     interface: u32,
-) -> (Core, Rest<Plain>, Result<(), NoMemory>)
+) -> (BoxedCore, Rest<Plain>, Result<(), NoMemory>)
     requires seq { seq.0 < core.seqs }
     requires schema { core.schema ≡ schema.now }
     requires rested { HasRested core seq rest }

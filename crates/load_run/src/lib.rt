@@ -9,6 +9,7 @@ pub mod laws;
 mod messages;
 mod outgoing;
 mod pairs;
+mod seat;
 mod sending;
 mod start;
 mod targets;

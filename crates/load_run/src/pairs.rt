@@ -11,7 +11,7 @@ ghost use Rattle.load_run.specs.Commands.{SEQUENCES, alone, caller, end_of, take
 ghost use Rattle.load_run.specs.steps.Doing.{Answered, AskedOne, HasBoth, IsLast, ToldOne};
 
 use crate::asking;
-use bind_core::Core;
+use crate::seat::BoxedCore;
 use bind_model::ResponderId;
 use mj_base::SeqId;
 use mj_schema::Schema;
@@ -51,14 +51,14 @@ pub fn taker(is_second: bool) -> SeqId
 
 /// The caller of a pair calls with a request that was prepared.
 pub fn call(
-    core: Core,
+    core: BoxedCore,
     pair: Pair,
     rooms: &mut Rooms,
     alloc: Global,
     schema: &Schema,
     is_second: bool,
     prepared: Prepared,
-) -> (Core, Pair, Result<(), NoMemory>)
+) -> (BoxedCore, Pair, Result<(), NoMemory>)
     requires seqs { core.seqs ≡ SEQUENCES }
     requires schema { core.schema ≡ schema.now }
     requires prepared { IsPrepared core.schema prepared }
@@ -79,13 +79,13 @@ pub fn call(
 
 /// The other one takes: the right to answer, by its name, which is then the last one held.
 pub fn receive(
-    core: Core,
+    core: BoxedCore,
     pair: Pair,
     rooms: &mut Rooms,
     alloc: Global,
     schema: &Schema,
     is_second: bool,
-) -> (Core, Pair, Result<Option<ResponderId>, NoMemory>)
+) -> (BoxedCore, Pair, Result<Option<ResponderId>, NoMemory>)
     requires seqs { core.seqs ≡ SEQUENCES }
     requires schema { core.schema ≡ schema.now }
     requires rested { HasBoth core is_second pair }
@@ -105,14 +105,14 @@ pub fn receive(
 
 /// It answers with the last right to answer that is held, and a response that was prepared.
 fn answer(
-    core: Core,
+    core: BoxedCore,
     pair: Pair,
     rooms: &mut Rooms,
     alloc: Global,
     schema: &Schema,
     is_second: bool,
     prepared: Prepared,
-) -> (Core, Pair, Result<(), NoMemory>)
+) -> (BoxedCore, Pair, Result<(), NoMemory>)
     requires seqs { core.seqs ≡ SEQUENCES }
     requires schema { core.schema ≡ schema.now }
     requires prepared { IsPrepared core.schema prepared }
@@ -134,13 +134,13 @@ fn answer(
 
 /// The caller takes the response.
 fn hear(
-    core: Core,
+    core: BoxedCore,
     pair: Pair,
     rooms: &mut Rooms,
     alloc: Global,
     schema: &Schema,
     is_second: bool,
-) -> (Core, Pair, Result<(), NoMemory>)
+) -> (BoxedCore, Pair, Result<(), NoMemory>)
     requires seqs { core.seqs ≡ SEQUENCES }
     requires schema { core.schema ≡ schema.now }
     requires rested { HasBoth core is_second pair }
@@ -163,14 +163,14 @@ fn hear(
 
 /// It answers with the last right to answer that is held, and the caller takes the response.
 pub fn reply(
-    core: Core,
+    core: BoxedCore,
     pair: Pair,
     rooms: &mut Rooms,
     alloc: Global,
     schema: &Schema,
     is_second: bool,
     prepared: Prepared,
-) -> (Core, Pair, Result<(), NoMemory>)
+) -> (BoxedCore, Pair, Result<(), NoMemory>)
     requires seqs { core.seqs ≡ SEQUENCES }
     requires schema { core.schema ≡ schema.now }
     requires prepared { IsPrepared core.schema prepared }

@@ -11,8 +11,8 @@ ghost use Rattle.load_run.specs.steps.Doing.{AreThere, HasBoth, IsFor, IsLast, I
 use crate::messages::Message;
 use crate::outgoing::{answer_out, request_out};
 use crate::pairs::{Pair, call, receive, reply};
+use crate::seat::BoxedCore;
 use crate::targets::Targets;
-use bind_core::Core;
 use bind_model::ResponderId;
 use mj_schema::Schema;
 use script_names::{NoMemory, Rooms};
@@ -22,7 +22,7 @@ use wire_encoder::Prepared;
 /// The answer to a message with the last right to answer that is held, and the take of it; nothing where
 /// none is prepared.
 fn reply_with(
-    core: Core,
+    core: BoxedCore,
     pair: Pair,
     rooms: &mut Rooms,
     alloc: Global,
@@ -30,7 +30,7 @@ fn reply_with(
     targets: Targets,
     message: Message,
     prepared: Option<Prepared>,
-) -> (Core, Pair, Result<(), NoMemory>)
+) -> (BoxedCore, Pair, Result<(), NoMemory>)
     requires seqs { core.seqs ≡ SEQUENCES }
     requires schema { core.schema ≡ schema.now }
     requires targets { targets ≡ targets_in schema.now }
@@ -51,14 +51,14 @@ fn reply_with(
 
 /// What comes of the last right to answer that is held: the answer, and the take of it.
 fn reply_to(
-    core: Core,
+    core: BoxedCore,
     pair: Pair,
     rooms: &mut Rooms,
     alloc: Global,
     schema: &Schema,
     targets: Targets,
     message: Message,
-) -> (Core, Pair, Result<(), NoMemory>)
+) -> (BoxedCore, Pair, Result<(), NoMemory>)
     requires seqs { core.seqs ≡ SEQUENCES }
     requires schema { core.schema ≡ schema.now }
     requires targets { targets ≡ targets_in schema.now }
@@ -78,7 +78,7 @@ fn reply_to(
 
 /// What comes of a take: where it handed out the right to answer, the answer.
 fn reply_if(
-    core: Core,
+    core: BoxedCore,
     pair: Pair,
     rooms: &mut Rooms,
     alloc: Global,
@@ -86,7 +86,7 @@ fn reply_if(
     targets: Targets,
     message: Message,
     found: Option<ResponderId>,
-) -> (Core, Pair, Result<(), NoMemory>)
+) -> (BoxedCore, Pair, Result<(), NoMemory>)
     requires seqs { core.seqs ≡ SEQUENCES }
     requires schema { core.schema ≡ schema.now }
     requires targets { targets ≡ targets_in schema.now }
@@ -105,14 +105,14 @@ fn reply_if(
 
 /// The take of a message that was called, and what comes of it.
 fn take_and_reply(
-    core: Core,
+    core: BoxedCore,
     pair: Pair,
     rooms: &mut Rooms,
     alloc: Global,
     schema: &Schema,
     targets: Targets,
     message: Message,
-) -> (Core, Pair, Result<(), NoMemory>)
+) -> (BoxedCore, Pair, Result<(), NoMemory>)
     requires seqs { core.seqs ≡ SEQUENCES }
     requires schema { core.schema ≡ schema.now }
     requires targets { targets ≡ targets_in schema.now }
@@ -132,7 +132,7 @@ fn take_and_reply(
 
 /// The call with a request that was prepared, and what comes of it.
 fn call_out(
-    core: Core,
+    core: BoxedCore,
     pair: Pair,
     rooms: &mut Rooms,
     alloc: Global,
@@ -140,7 +140,7 @@ fn call_out(
     targets: Targets,
     message: Message,
     prepared: Prepared,
-) -> (Core, Pair, Result<(), NoMemory>)
+) -> (BoxedCore, Pair, Result<(), NoMemory>)
     requires seqs { core.seqs ≡ SEQUENCES }
     requires schema { core.schema ≡ schema.now }
     requires targets { targets ≡ targets_in schema.now }
@@ -161,7 +161,7 @@ fn call_out(
 
 /// The call with what was prepared, and what comes of it; nothing where nothing was.
 fn call_if(
-    core: Core,
+    core: BoxedCore,
     pair: Pair,
     rooms: &mut Rooms,
     alloc: Global,
@@ -169,7 +169,7 @@ fn call_if(
     targets: Targets,
     message: Message,
     prepared: Option<Prepared>,
-) -> (Core, Pair, Result<(), NoMemory>)
+) -> (BoxedCore, Pair, Result<(), NoMemory>)
     requires seqs { core.seqs ≡ SEQUENCES }
     requires schema { core.schema ≡ schema.now }
     requires targets { targets ≡ targets_in schema.now }
@@ -188,14 +188,14 @@ fn call_if(
 
 /// Sends a message over a pair, and does what comes of it; nothing where it doesn't go out.
 pub fn send(
-    core: Core,
+    core: BoxedCore,
     pair: Pair,
     rooms: &mut Rooms,
     alloc: Global,
     schema: &Schema,
     targets: Targets,
     message: Message,
-) -> (Core, Pair, Result<(), NoMemory>)
+) -> (BoxedCore, Pair, Result<(), NoMemory>)
     requires seqs { core.seqs ≡ SEQUENCES }
     requires schema { core.schema ≡ schema.now }
     requires targets { targets ≡ targets_in schema.now }

@@ -11,7 +11,7 @@ ghost use Rattle.load_run.specs.steps.Doing.{AskedAll, AskedOne, HasAll, HasBoth
 
 use crate::ends::{Ends, bind, join};
 use crate::pairs::{Pair, Pairs, caller, taker};
-use bind_core::Core;
+use crate::seat::BoxedCore;
 use handle_table::Handle;
 use mj_schema::Schema;
 use script_names::{NoMemory, Rooms};
@@ -20,13 +20,13 @@ use wire_encoder::EndpointSide;
 
 /// Makes the pipe of a pair: its ends. Neither of its sequences has made one before.
 fn join_pair(
-    core: Core,
+    core: BoxedCore,
     pair: Pair,
     rooms: &mut Rooms,
     alloc: Global,
     schema: &Schema,
     is_second: bool,
-) -> (Core, Pair, Vec<Handle>, Result<(), NoMemory>)
+) -> (BoxedCore, Pair, Vec<Handle>, Result<(), NoMemory>)
     requires seqs { core.seqs ≡ SEQUENCES }
     requires schema { core.schema ≡ schema.now }
     requires rested { HasBoth core is_second pair }
@@ -52,12 +52,12 @@ fn join_pair(
 
 /// Makes both pipes: their ends.
 fn join_both(
-    core: Core,
+    core: BoxedCore,
     pairs: Pairs,
     rooms: &mut Rooms,
     alloc: Global,
     schema: &Schema,
-) -> (Core, Pairs, Ends, Result<(), NoMemory>)
+) -> (BoxedCore, Pairs, Ends, Result<(), NoMemory>)
     requires seqs { core.seqs ≡ SEQUENCES }
     requires schema { core.schema ≡ schema.now }
     requires rested { HasAll core pairs }
@@ -94,7 +94,7 @@ fn join_both(
 
 /// Binds the end of a pair's caller as a remote.
 fn bind_caller(
-    core: Core,
+    core: BoxedCore,
     pair: Pair,
     rooms: &mut Rooms,
     ends: &mut Vec<Handle>,
@@ -102,7 +102,7 @@ fn bind_caller(
     schema: &Schema,
     is_second: bool,
     interface: u32,
-) -> (Core, Pair, Result<(), NoMemory>)
+) -> (BoxedCore, Pair, Result<(), NoMemory>)
     requires seqs { core.seqs ≡ SEQUENCES }
     requires schema { core.schema ≡ schema.now }
     requires rested { HasBoth core is_second pair }
@@ -124,7 +124,7 @@ fn bind_caller(
 
 /// Binds the end of the other one as a receiver.
 fn bind_taker(
-    core: Core,
+    core: BoxedCore,
     pair: Pair,
     rooms: &mut Rooms,
     ends: &mut Vec<Handle>,
@@ -132,7 +132,7 @@ fn bind_taker(
     schema: &Schema,
     is_second: bool,
     interface: u32,
-) -> (Core, Pair, Result<(), NoMemory>)
+) -> (BoxedCore, Pair, Result<(), NoMemory>)
     requires seqs { core.seqs ≡ SEQUENCES }
     requires schema { core.schema ≡ schema.now }
     requires rested { HasBoth core is_second pair }
@@ -153,14 +153,14 @@ fn bind_taker(
 
 /// Binds the callers' ends, one after the other.
 fn bind_callers(
-    core: Core,
+    core: BoxedCore,
     pairs: Pairs,
     rooms: &mut Rooms,
     ends: &mut Ends,
     alloc: Global,
     schema: &Schema,
     interface: u32,
-) -> (Core, Pairs, Result<(), NoMemory>)
+) -> (BoxedCore, Pairs, Result<(), NoMemory>)
     requires seqs { core.seqs ≡ SEQUENCES }
     requires schema { core.schema ≡ schema.now }
     requires rested { HasAll core pairs }
@@ -187,14 +187,14 @@ fn bind_callers(
 
 /// Binds the others' ends, one after the other.
 fn bind_takers(
-    core: Core,
+    core: BoxedCore,
     pairs: Pairs,
     rooms: &mut Rooms,
     ends: &mut Ends,
     alloc: Global,
     schema: &Schema,
     interface: u32,
-) -> (Core, Pairs, Result<(), NoMemory>)
+) -> (BoxedCore, Pairs, Result<(), NoMemory>)
     requires seqs { core.seqs ≡ SEQUENCES }
     requires schema { core.schema ≡ schema.now }
     requires rested { HasAll core pairs }
@@ -218,14 +218,14 @@ fn bind_takers(
 
 /// Binds all four ends.
 fn bind_all(
-    core: Core,
+    core: BoxedCore,
     pairs: Pairs,
     rooms: &mut Rooms,
     ends: &mut Ends,
     alloc: Global,
     schema: &Schema,
     interface: u32,
-) -> (Core, Pairs, Result<(), NoMemory>)
+) -> (BoxedCore, Pairs, Result<(), NoMemory>)
     requires seqs { core.seqs ≡ SEQUENCES }
     requires schema { core.schema ≡ schema.now }
     requires rested { HasAll core pairs }
@@ -243,13 +243,13 @@ fn bind_all(
 
 /// Makes both pipes and binds their ends: the ends that aren't bound, where there was no memory.
 pub fn start(
-    core: Core,
+    core: BoxedCore,
     pairs: Pairs,
     rooms: &mut Rooms,
     alloc: Global,
     schema: &Schema,
     interface: u32,
-) -> (Core, Pairs, Ends, Result<(), NoMemory>)
+) -> (BoxedCore, Pairs, Ends, Result<(), NoMemory>)
     requires seqs { core.seqs ≡ SEQUENCES }
     requires schema { core.schema ≡ schema.now }
     requires rested { HasAll core pairs }

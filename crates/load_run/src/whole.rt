@@ -13,10 +13,10 @@ use crate::counts::{Counts, counted};
 use crate::ends::Ends;
 use crate::messages::{Message, message_of, next_draw};
 use crate::pairs::{Pair, Pairs};
+use crate::seat::{BoxedCore, new_core};
 use crate::sending::send;
 use crate::start::start;
 use crate::targets::{Targets, targets_in};
-use bind_core::Core;
 use mj_schema::Schema;
 use remote_receiver::Rest;
 use script_names::{NoMemory, Rooms};
@@ -43,14 +43,14 @@ fn new_pairs(alloc: Global) -> Pairs
 
 /// Sends a message of the first pair.
 fn send_first(
-    core: Core,
+    core: BoxedCore,
     pairs: Pairs,
     rooms: &mut Rooms,
     alloc: Global,
     schema: &Schema,
     targets: Targets,
     message: Message,
-) -> (Core, Pairs, Result<(), NoMemory>)
+) -> (BoxedCore, Pairs, Result<(), NoMemory>)
     requires seqs { core.seqs ≡ SEQUENCES }
     requires schema { core.schema ≡ schema.now }
     requires targets { targets ≡ targets_in schema.now }
@@ -68,14 +68,14 @@ fn send_first(
 
 /// Sends a message of the second pair.
 fn send_second(
-    core: Core,
+    core: BoxedCore,
     pairs: Pairs,
     rooms: &mut Rooms,
     alloc: Global,
     schema: &Schema,
     targets: Targets,
     message: Message,
-) -> (Core, Pairs, Result<(), NoMemory>)
+) -> (BoxedCore, Pairs, Result<(), NoMemory>)
     requires seqs { core.seqs ≡ SEQUENCES }
     requires schema { core.schema ≡ schema.now }
     requires targets { targets ≡ targets_in schema.now }
@@ -93,14 +93,14 @@ fn send_second(
 
 /// Sends a message over its pair.
 fn send_over(
-    core: Core,
+    core: BoxedCore,
     pairs: Pairs,
     rooms: &mut Rooms,
     alloc: Global,
     schema: &Schema,
     targets: Targets,
     message: Message,
-) -> (Core, Pairs, Result<(), NoMemory>)
+) -> (BoxedCore, Pairs, Result<(), NoMemory>)
     requires seqs { core.seqs ≡ SEQUENCES }
     requires schema { core.schema ≡ schema.now }
     requires targets { targets ≡ targets_in schema.now }
@@ -119,7 +119,7 @@ fn send_over(
 
 /// Sends so many messages, by the numbers that are drawn behind the one that is given.
 fn send_all(
-    core: Core,
+    core: BoxedCore,
     pairs: Pairs,
     rooms: &mut Rooms,
     alloc: Global,
@@ -127,7 +127,7 @@ fn send_all(
     targets: Targets,
     seed: u64,
     messages: u64,
-) -> (Core, Pairs, Result<(), NoMemory>)
+) -> (BoxedCore, Pairs, Result<(), NoMemory>)
     requires targets { targets ≡ targets_in schema.now }
     requires there { AreThere schema.now targets }
     requires messages { messages ≤ 1000000 }
@@ -153,7 +153,7 @@ fn send_all(
 
 /// The messages, and the counts.
 fn go_on(
-    core: Core,
+    core: BoxedCore,
     pairs: Pairs,
     rooms: &mut Rooms,
     alloc: Global,
@@ -161,7 +161,7 @@ fn go_on(
     targets: Targets,
     seed: u64,
     messages: u64,
-) -> (Core, Result<Counts, NoMemory>)
+) -> (BoxedCore, Result<Counts, NoMemory>)
     requires targets { targets ≡ targets_in schema.now }
     requires there { AreThere schema.now targets }
     requires messages { messages ≤ 1000000 }
@@ -180,14 +180,14 @@ fn go_on(
 
 /// The start, the messages, and the counts. The ends that aren't bound are left, where there was no memory.
 fn run(
-    core: Core,
+    core: BoxedCore,
     pairs: Pairs,
     rooms: &mut Rooms,
     alloc: Global,
     schema: &Schema,
     seed: u64,
     messages: u64,
-) -> (Core, Ends, Result<Counts, NoMemory>)
+) -> (BoxedCore, Ends, Result<Counts, NoMemory>)
     requires schema { core.schema ≡ schema.now }
     requires seqs { core.seqs ≡ SEQUENCES }
     requires none { core.events ≡ [] }
@@ -223,11 +223,13 @@ pub fn load(
     let Ok(shared) = Arc::try_clone(&schema) else {
         return Err(NoMemory);
     };
-    let core = Core::new(alloc, shared, 4);
+    let Ok(core) = new_core(alloc, shared) else {
+        return Err(NoMemory);
+    };
     let mut rooms = Rooms::new(alloc);
     let pairs = new_pairs(alloc);
     let (core, ends, counts) = run(core, pairs, &mut rooms, alloc, &schema, seed, messages);
-    let (_history, over) = core.end();
+    let (_history, over) = core.into_core().end();
     rooms.retire(&over);
     ends.retire(&over);
     counts

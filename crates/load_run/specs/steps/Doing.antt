@@ -34,7 +34,7 @@ use Rattle.load_run.specs.declared.ends.Ends.{Ends}
 use Rattle.load_run.specs.declared.messages.Message.{Message}
 use Rattle.load_run.specs.declared.pairs.Pair.{Pair}
 use Rattle.load_run.specs.declared.pairs.Pairs.{Pairs}
-use Rattle.script_run.specs.declared.seat.Seat.{Seat}
+use Rattle.load_run.specs.declared.seat.Seat.{Seat}
 use Rattle.load_run.specs.declared.targets.Targets.{Targets}
 
 -- ## Targets and values

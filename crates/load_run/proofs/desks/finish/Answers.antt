@@ -4,7 +4,7 @@ use Rattle.remote_receiver.specs.Held.{kept_of}
 use Rattle.remote_receiver.specs.Notes.{Kept}
 use Rattle.remote_receiver.specs.declared.note.Note.{Note}
 use Rattle.script_run.specs.declared.plain.Plain.{Plain}
-use Rattle.script_run.specs.declared.seat.Seat.{Seat}
+use Rattle.load_run.specs.declared.seat.Seat.{Seat}
 use Rattle.load_run.proofs.Noting.{seq_ran}
 use Rattle.load_run.proofs.desks.finish.Goals as goal
 

@@ -1,7 +1,7 @@
 use Rattle.std.proofs.Common.{◌≡◌, ◌<◌, subst, sym}
 use Rattle.bind_model.specs.Plain.{IsOf}
 use Rattle.remote_receiver.specs.Held.{kept_of}
-use Rattle.script_run.specs.declared.seat.Seat.{Seat}
+use Rattle.load_run.specs.declared.seat.Seat.{Seat}
 use Rattle.load_run.proofs.Events.{served_back}
 use Rattle.load_run.proofs.desks.step.Goals as goal
 

@@ -9,10 +9,10 @@ use Rattle.load_run.proofs.whole.load.Goals as goal
 
 pub run-core-requires-clause-rested : goal.run-core-requires-clause-rested
 run-core-requires-clause-rested c =
-    subst (λ (p : Play). HasAll p c.new_pairs-pairs.result) (sym c.new-core.ensures) (c.new_pairs-pairs.ensures _)
+    subst (λ (p : Play). HasAll p c.new_pairs-pairs.result) (sym c.in-Ok-new_core.ensures) (c.new_pairs-pairs.ensures _)
 
 pub returns : goal.returns
 returns c =
     let schema = arc_value c.args.schema in
-    let is : c.new-core.result.schema ≡ schema = ap (λ (p : Play). p.schema) c.new-core.ensures ∙ c.in-Ok.ensures in
+    let is : c.in-Ok-new_core.core.schema ≡ schema = ap (λ (p : Play). p.schema) c.in-Ok-new_core.ensures ∙ c.in-Ok.ensures in
     subst (λ (s : Schema). IfOk c.run-core.result.2 (AreLoadCounts s c.args.seed c.args.messages)) is c.run-core.ensures
